@@ -8,12 +8,12 @@ ghost use Rattle.std.specs.Prelude.{[], IfOk};
 ghost use Rattle.harmonics_text.specs.Books.{IsBook};
 ghost use Rattle.question.specs.Asked.{IsAsked};
 ghost use Rattle.tide_answer.specs.Givens.{IsGiven};
-ghost use Rattle.tide_fault.specs.Faults.{IsTold};
+ghost use Rattle.tide_fault.specs.Faults.{IsPrintable};
 
 use case::{Case, asked, written};
 use decimal_text::{Bytes, Text};
 use harmonics_text::{Book, BookFault, read_book};
-use question::SoundQuestion;
+use question::ValidQuestion;
 use rows::{
     ANSWERS, ASK_FAULTS, CUT_SHORT, HALF_SLACK, PEAK_VERDICTS, REFUSALS, STREAMS, VERDICTS,
 };
@@ -25,7 +25,7 @@ use std::test::Fail;
 use tide_answer::{
     Fault, Listed, Slot, accepted_is_short, accepted_is_true, accepted_peak_is_short,
     accepted_peak_is_true, answer_alone, certified_is_accepted, fault_line, fault_status,
-    highest_is_told, peak_certified_is_accepted, peak_certified_is_short, station_events,
+    highest_is_reported, peak_certified_is_accepted, peak_certified_is_short, station_events,
     worked_rows,
 };
 use tide_edge::MemorySink;
@@ -68,14 +68,14 @@ fn pier_case(alloc: Global, line: &str, certificate: &str) -> Result<Case, Fail>
 }
 
 // Returns the answer's text, or the line of its refusal.
-fn told(alloc: Global, line: &str, certificate: &str) -> Result<Bytes, Fail> {
-    pier_case(alloc, line, certificate)?.told(alloc)
+fn printed(alloc: Global, line: &str, certificate: &str) -> Result<Bytes, Fail> {
+    pier_case(alloc, line, certificate)?.printed(alloc)
 }
 
 #[test]
 fn questions_have_their_answers(rt: HostRuntime) -> Result<(), Fail> {
     for &(line, expected) in ANSWERS {
-        let text = told(rt.alloc(), line, "")?;
+        let text = printed(rt.alloc(), line, "")?;
         assert_eq!(rt; text.as_slice(), expected.as_bytes());
     }
     Ok(())
@@ -116,7 +116,7 @@ fn streamed(
 fn answers_are_written_as_they_are_found(rt: HostRuntime) -> Result<(), Fail> {
     let alloc = rt.alloc();
     for &(line, calls) in STREAMS {
-        let text = told(alloc, line, "")?;
+        let text = printed(alloc, line, "")?;
         for &(most, failing, expected) in calls {
             let (sink, sent) = streamed(alloc, line, most, failing)?;
             assert_eq!(rt;
@@ -139,7 +139,7 @@ fn certificates_are_judged(rt: HostRuntime) -> Result<(), Fail> {
         ("peakcheck|file=f|certificate=c", PEAK_VERDICTS),
     ] {
         for &(certificate, expected) in verdicts {
-            let text = told(rt.alloc(), line, certificate)?;
+            let text = printed(rt.alloc(), line, certificate)?;
             assert_eq!(rt; text.as_slice(), expected.as_bytes());
         }
     }
@@ -150,12 +150,12 @@ fn certificates_are_judged(rt: HostRuntime) -> Result<(), Fail> {
 fn seeds_have_their_trials(rt: HostRuntime) -> Result<(), Fail> {
     let alloc = rt.alloc();
     let question = asked(alloc, "trial|seed=0")?;
-    match answer_alone(alloc, &SoundQuestion::new(&question)) {
+    match answer_alone(alloc, &ValidQuestion::new(&question)) {
         Ok(answer) => assert_eq!(rt; answer.text.as_slice(), TRIAL),
         Err(_) => return Err(Fail::from(AllocError)),
     }
-    assert_eq!(rt; told(alloc, "trial|seed=0", "")?.as_slice(), TRIAL);
-    let sample = told(alloc, "sample|seed=0", "")?;
+    assert_eq!(rt; printed(alloc, "trial|seed=0", "")?.as_slice(), TRIAL);
+    let sample = printed(alloc, "sample|seed=0", "")?;
     assert_eq!(rt;
         sample.as_slice().iter().filter(|b| **b == b'\n').count(),
         8192
@@ -166,18 +166,18 @@ fn seeds_have_their_trials(rt: HostRuntime) -> Result<(), Fail> {
 const TRIAL: &[u8] = b"seed 0\nstations 40\nminutes 4285440\nevents 10902\ncells 325629\n\
     quiet 237516\naccepted 40\n";
 
-fn assert_told(
+fn assert_printed(
     rt: &impl Abort,
     alloc: Global,
     fault: &Fault,
     status: u8,
     line: &str,
 ) -> Result<(), AllocError>
-    requires { IsTold [] fault.now }
+    requires { IsPrintable [] fault.now }
 {
-    let told = fault_line(alloc, fault, &OffsetTable::new(alloc))?;
+    let printed = fault_line(alloc, fault, &OffsetTable::new(alloc))?;
     assert_eq!(rt; fault_status(fault).number(), status);
-    assert_eq!(rt; told.as_slice(), line.as_bytes());
+    assert_eq!(rt; printed.as_slice(), line.as_bytes());
     Ok(())
 }
 
@@ -185,10 +185,10 @@ fn assert_told(
 fn faults_have_their_lines(rt: HostRuntime) -> Result<(), Fail> {
     let alloc = rt.alloc();
     for &(fault, status, line) in ASK_FAULTS {
-        assert_told(&rt, alloc, &Fault::Ask(fault), status, line)?;
+        assert_printed(&rt, alloc, &Fault::Ask(fault), status, line)?;
     }
     for &(refusal, status, line) in REFUSALS {
-        assert_told(&rt, alloc, &Fault::Refused(refusal), status, line)?;
+        assert_printed(&rt, alloc, &Fault::Refused(refusal), status, line)?;
     }
     let word = Text::from_str(alloc, "graph")?;
     for (fault, status, line) in [
@@ -202,7 +202,7 @@ fn faults_have_their_lines(rt: HostRuntime) -> Result<(), Fail> {
         ),
         (Fault::BadZone, 3, "zone: bad zone file\n"),
     ] {
-        assert_told(&rt, alloc, &fault, status, line)?;
+        assert_printed(&rt, alloc, &fault, status, line)?;
     }
     Ok(())
 }
@@ -216,7 +216,7 @@ fn laws_and_rows_stand(_rt: HostRuntime) {
     certified_is_accepted();
     accepted_is_true();
     accepted_is_short();
-    highest_is_told();
+    highest_is_reported();
     peak_certified_is_accepted();
     peak_certified_is_short();
     accepted_peak_is_true();

@@ -7,7 +7,7 @@ ghost use Rattle.question.specs.Asked.{IsAsked};
 use calendar_sheet::calendar_text;
 use cert_text::{CertFault, read_certificate, write_certificate};
 use decimal_text::{Bytes, Text};
-use harmonics_text::{Book, SoundBook, read_book};
+use harmonics_text::{Book, ValidBook, read_book};
 use listing::plain_events;
 use question::{AskFault, Question, pairs_of_words, read_question};
 use station_span::{
@@ -57,7 +57,7 @@ const CERTIFICATE: &str =
 fn a_station_has_its_events(rt: HostRuntime) -> Result<(), Refusal> {
     let alloc = rt.alloc();
     let book = pier(alloc)?;
-    let book = SoundBook::new(&book);
+    let book = ValidBook::new(&book);
     let table = OffsetTable::new(alloc);
     let name = Text::from_str(alloc, "Pier")?;
     let asked = Asked {
@@ -75,7 +75,7 @@ fn a_station_has_its_events(rt: HostRuntime) -> Result<(), Refusal> {
 fn a_span_has_its_highest_water(rt: HostRuntime) -> Result<(), Refusal> {
     let alloc = rt.alloc();
     let book = pier(alloc)?;
-    let book = SoundBook::new(&book);
+    let book = ValidBook::new(&book);
     let table = OffsetTable::new(alloc);
     let name = Text::from_str(alloc, "Pier")?;
     let asked = Asked {

@@ -18,7 +18,9 @@ use Rattle.book_loading.specs.Loading.{loaded, fault_of_reading, source_of}
 use Rattle.book_loading.specs.Workings.Feeding.{bytes_fed}
 
 -- the result if reading the file fails
-pub excuses_reading : (limit : ℕ) (firm : Type 0) (file : Option (List ℕ)) (fault : ReadAllFault) → Excuses (source_of_reading fault) firm (whole limit file) fault → Excuses (source_of (fault_of_reading fault)) firm (loaded limit file) (fault_of_reading fault)
+pub excuses_reading : (limit : ℕ) (firm : Type 0) (file : Option (List ℕ)) (fault : ReadAllFault)
+    → Excuses (source_of_reading fault) firm (whole limit file) fault
+    → Excuses (source_of (fault_of_reading fault)) firm (loaded limit file) (fault_of_reading fault)
 unfolding loaded
 excuses_reading limit firm file reading.Failed excused = λ s. rw (excused s) refl
 excuses_reading limit firm file reading.TooLong excused = rw excused refl
@@ -31,15 +33,18 @@ failed_meets limit reader file (Err it) none is = rw (is, none) (λ firm. refl)
 failed_meets limit reader file (Ok done) none is = absurd is
 
 -- the result if a line is bad
-pub excuses_form : (limit : ℕ) (firm : Type 0) (file : Option (List ℕ)) (bytes : List ℕ) (fault : BookFault) → whole limit file ≡ Ok bytes → FailsBook fault (book_of bytes) → Excuses (source_of (Book fault)) firm (loaded limit file) (Book fault)
+pub excuses_form : (limit : ℕ) (firm : Type 0) (file : Option (List ℕ)) (bytes : List ℕ) (fault : BookFault)
+    → whole limit file ≡ Ok bytes → FailsBook fault (book_of bytes)
+    → Excuses (source_of (Book fault)) firm (loaded limit file) (Book fault)
 unfolding loaded
 excuses_form limit firm file bytes form.NoMemory read fails = tt
 excuses_form limit firm file bytes (form.At line why) read fails = rw (read, fails) refl
 
 -- the result if neither reading nor a line fails
-pub loaded_whole : (limit : ℕ) (file : Option (List ℕ)) (bytes : List ℕ) (book : TheBook) → whole limit file ≡ Ok bytes → book_of bytes ≡ Ok book → loaded limit file ≡ Ok book
+pub loaded_whole : (limit : ℕ) (file : Option (List ℕ)) (bytes : List ℕ) (book : TheBook) → whole limit file ≡ Ok bytes
+    → book_of bytes ≡ Ok book → loaded limit file ≡ Ok book
 unfolding loaded
-loaded_whole limit file bytes book read gives = rw (read, gives) refl
+loaded_whole limit file bytes book read returned = rw (read, returned) refl
 
 -- the result if no file was opened
 pub unopened : (limit : ℕ) (firm : Type 0) (file : Option (List ℕ)) → (firm → file ≡ None) → firm → loaded limit file ≡ Err Failed
@@ -49,7 +54,8 @@ unopened limit firm file absent = λ s. rw (absent s) refl
 -- the result of loading the rest of an opened file is that of loading the file
 pub loaded_opened : {T : Type 0} (opened : T) (limit : ℕ) (name : List ℕ) (s : FilesState) (result : Result TheBook LoadFault)
     → (IsTrue s.store.is_observable → IsSome (s.store.folder name))
-    → (IsTrue s.store.is_observable → Meets source_of (IsTrue s.store.is_steady) (loaded limit (Some (files_after_open (Ok opened) name s).rest)) result)
+    → (IsTrue s.store.is_observable → Meets source_of (IsTrue s.store.is_steady)
+    (loaded limit (Some (files_after_open (Ok opened) name s).rest)) result)
     → IsTrue s.store.is_observable → Meets source_of (IsTrue s.store.is_steady) (loaded limit (s.store.folder name)) result
 loaded_opened opened limit name s result found meets t = rw (begun_whole s name t (found t)) (meets t)
 
@@ -61,7 +67,8 @@ abbrev all_fed : Result (Unit {0}) ReadAllFault
 all_fed = Ok record {}
 
 -- a fault of reading is passed on
-pub fed_passed : (P : Type 0) (fault : ReadAllFault) (result : Result TheBook LoadFault) → IsErrAnd result (λ it. it ≡ fault_of_reading fault)
+pub fed_passed : (P : Type 0) (fault : ReadAllFault) (result : Result TheBook LoadFault)
+    → IsErrAnd result (λ it. it ≡ fault_of_reading fault)
     → (fed_fault fault ≡ fed_fault reading.TooLong) ↔ P → (result ≡ Err TooLong) ↔ P
 fed_passed P fault (Ok book) is passed = absurd is
 fed_passed P reading.TooLong (Err it) is passed = (λ e. passed.0 refl, λ p. rw is refl)
@@ -73,6 +80,7 @@ pub fed_unpassed : (P : Type 0) (result : Result TheBook LoadFault) → (result 
     → (result ≡ Err TooLong) ↔ P
 fed_unpassed P result unlike passed = (λ e. absurd (unlike e), λ p. absurd (let same = passed.1 p in cc))
 
-pub book_unlike : (fault : BookFault) (result : Result TheBook LoadFault) → IsErrAnd result (λ it. it ≡ Book fault) → result ≡ Err TooLong → ⊥
+pub book_unlike : (fault : BookFault) (result : Result TheBook LoadFault) → IsErrAnd result (λ it. it ≡ Book fault)
+    → result ≡ Err TooLong → ⊥
 book_unlike fault (Ok book) is e = absurd is
 book_unlike fault (Err it) is e = absurd cc

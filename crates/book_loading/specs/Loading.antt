@@ -42,8 +42,8 @@ source_of (Book form.NoMemory) = memory
 source_of (Book (form.At line why)) = given
 
 -- a fault is out of memory
-abbrev pub wants_memory : LoadFault → Bool
-wants_memory Failed = false
-wants_memory TooLong = false
-wants_memory (Book form.NoMemory) = true
-wants_memory (Book (form.At line why)) = false
+abbrev pub is_out_of_memory : LoadFault → Bool
+is_out_of_memory Failed = false
+is_out_of_memory TooLong = false
+is_out_of_memory (Book form.NoMemory) = true
+is_out_of_memory (Book (form.At line why)) = false

@@ -52,7 +52,7 @@ pub fn load_book<F: Files>(
     ensures own { IsTrue (F.state files.old).store.is_observable
         → Meets source_of (IsTrue (F.state files.old).store.is_steady) (loaded limit ((F.state files.old).store.folder name.now)) result }
     ensures came { OpenedOnce source_of (loaded limit) limit name.now (F.state files.old).openings (F.state files.new).openings result }
-    ensures sound { IfOk result IsBook }
+    ensures valid { IfOk result IsBook }
     ensures too_long { (result ≡ Err LoadFault.TooLong) ↔ HasPassed limit (F.state files.old).openings (F.state files.new).openings }
     ensures read { ReadWithin (one_file limit) (is_outside_fault source_of result) (F.state files.old) (F.state files.new) }
 {
@@ -76,7 +76,7 @@ fn load_rest<F: Files>(
     ensures own { IsTrue (F.state files.old).store.is_observable
         → Meets source_of (IsTrue (F.state files.old).store.is_steady) (loaded limit (Some (F.state files.old).rest)) result }
     ensures came { HasCome source_of (loaded limit) limit (F.state files.old).openings (F.state files.new).openings result }
-    ensures sound { IfOk result IsBook }
+    ensures valid { IfOk result IsBook }
     ensures too_long { (result ≡ Err LoadFault.TooLong) ↔ IsPassed limit (F.state files.new).openings }
     ensures read { IsReadOn limit (is_outside_fault source_of result) (F.state files.old) (F.state files.new) }
 {
@@ -101,8 +101,10 @@ fn feed_rest<F: Files>(
     requires unfed { reader.old.bytes ≡ [] }
     requires most { limit ≤ MOST_BYTES }
     ensures whole { IsTrue (F.state files.old).store.is_observable
-        → Meets source_of_reading (IsTrue (F.state files.old).store.is_steady) (whole limit (Some (F.state files.old).rest)) (bytes_fed reader.new result) }
-    ensures came { HasCome source_of_reading (whole limit) limit (F.state files.old).openings (F.state files.new).openings (bytes_fed reader.new result) }
+        → Meets source_of_reading (IsTrue (F.state files.old).store.is_steady)
+        (whole limit (Some (F.state files.old).rest)) (bytes_fed reader.new result) }
+    ensures came { HasCome source_of_reading (whole limit) limit (F.state files.old).openings
+        (F.state files.new).openings (bytes_fed reader.new result) }
     ensures within { OnOk result (length reader.new.bytes ≤ limit) }
     ensures too_long { (result ≡ Err ReadAllFault.TooLong) ↔ IsPassed limit (F.state files.new).openings }
     ensures read { IsReadOn limit (is_outside_fault source_of_reading result) (F.state files.old) (F.state files.new) }

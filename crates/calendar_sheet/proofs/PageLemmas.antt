@@ -12,10 +12,10 @@ use Rattle.event_text.specs.Lines.{IsListed}
 use Rattle.zone_time.specs.declared.zone.Zone.{Zone}
 use Rattle.zone_time.specs.Dates.{IsDay}
 use Rattle.calendar_sheet.specs.Calendars.{day_in, days_from, days_through, events_on}
-use Rattle.calendar_sheet.specs.Workings.Dates.{AreDays, IsAmong, Page, page_of, pages_of}
+use Rattle.calendar_sheet.specs.Workings.Dates.{AreDays, IsAmong, CalendarPage, page_of, pages_of}
 use Rattle.calendar_sheet.proofs.DayLemmas.{dated_days, get_or-days_from, length-days_from}
 
-abbrev page : ℤ → List Event → Page
+abbrev page : ℤ → List Event → CalendarPage
 page day events = record { day = day; events = events }
 
 cons_equal : {X : Type 0} {x y : X} {xs ys : List X} → x ≡ y → xs ≡ ys → x ∷ xs ≡ y ∷ ys
@@ -50,7 +50,8 @@ pages-later zone events event first (suc n) before =
 pages-push : (zone : Zone) (events : List Event) (event : Event) (first : ℤ) (n place : ℕ) → place < n
     → day_in zone event.minute ≡ first +ℤ pos place
     → map (page_of zone (events ++ event ∷ [])) (days_from first n)
-    ≡ set (map (page_of zone events) (days_from first n)) place (page (first +ℤ pos place) (events_on zone events (first +ℤ pos place) ++ event ∷ []))
+    ≡ set (map (page_of zone events) (days_from first n)) place
+    (page (first +ℤ pos place) (events_on zone events (first +ℤ pos place) ++ event ∷ []))
 unfolding days_from
 pages-push zone events event first zero place within at = absurd (omega arith)
 pages-push zone events event first (suc n) zero within at =
@@ -65,17 +66,20 @@ pages-push zone events event first (suc n) (suc place) within at =
     cons_equal head (rw later at tail)
 
 -- the page at the index of a day
-page_at : (zone : Zone) (events : List Event) (first : ℤ) (n place : ℕ) (found : Page) → place < n
+page_at : (zone : Zone) (events : List Event) (first : ℤ) (n place : ℕ) (found : CalendarPage) → place < n
     → get_or (map (page_of zone events) (days_from first n)) place found ≡ found → found ≡ page_of zone events (first +ℤ pos place)
 page_at zone events first n place found within at =
     let many : place < length (days_from first n) = rw (length-days_from first n) within in
-    sym at ∙ get_or-map (page_of zone events) (days_from first n) place first found many ∙ ap (page_of zone events) (get_or-days_from first n place first within)
+    sym at ∙ get_or-map (page_of zone events) (days_from first n) place first found many
+    ∙ ap (page_of zone events) (get_or-days_from first n place first within)
 
-pub length-pages_of : (zone : Zone) (events : List Event) (first last : ℤ) → length (pages_of zone events first last) ≡ unsigned_abs (last -ℤ first) + 1
+pub length-pages_of : (zone : Zone) (events : List Event) (first last : ℤ)
+    → length (pages_of zone events first last) ≡ unsigned_abs (last -ℤ first) + 1
 length-pages_of zone events first last = rw length-map (length-days_from first (unsigned_abs (last -ℤ first) + 1))
 
 -- one more event is put on the page of its date
-pub pages_of-push : (zone : Zone) (events : List Event) (event : Event) (first last : ℤ) (place : ℕ) (pages : List Page) (found pushed : Page)
+pub pages_of-push : (zone : Zone) (events : List Event) (event : Event) (first last : ℤ) (place : ℕ)
+    (pages : List CalendarPage) (found pushed : CalendarPage)
     → pages ≡ pages_of zone events first last
     → pos place ≡ day_in zone event.minute -ℤ first
     → IsAmong zone first last event
@@ -90,15 +94,15 @@ pages_of-push zone events event first last place pages found pushed are at among
 
 -- each page has a date that can be written
 pub dated_pages : (zone : Zone) (events : List Event) (first last : ℤ) → AreDays first last
-    → All (λ (page : Page). IsDay page.day) (pages_of zone events first last)
+    → All (λ (page : CalendarPage). IsDay page.day) (pages_of zone events first last)
 dated_pages zone events first last days =
-    All-map (λ (page : Page). IsDay page.day) (page_of zone events) (days_through first last) (dated_days first last days)
+    All-map (λ (page : CalendarPage). IsDay page.day) (page_of zone events) (days_through first last) (dated_days first last days)
 
 -- each page has only events that can be listed
 pub listed_pages : (zone : Zone) (events : List Event) (units : Units) (days : List ℤ) → All (IsListed units) events
-    → All (λ (page : Page). All (IsListed units) page.events) (map (page_of zone events) days)
+    → All (λ (page : CalendarPage). All (IsListed units) page.events) (map (page_of zone events) days)
 listed_pages zone events units days listed =
-    All-map (λ (page : Page). All (IsListed units) page.events) (page_of zone events) days
+    All-map (λ (page : CalendarPage). All (IsListed units) page.events) (page_of zone events) days
     (λ k d within. All-filter (λ (e : Event). int_eq (day_in zone e.minute) (get_or days k d)) (IsListed units) events listed)
 
 pub flat_map-map : {X Y A : Type 0} (f : Y → List A) (g : X → Y) (xs : List X) → flat_map f (map g xs) ≡ flat_map (λ x. f (g x)) xs

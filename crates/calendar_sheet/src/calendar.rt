@@ -8,7 +8,7 @@ ghost use Rattle.event_text.specs.Lines.{IsListed};
 ghost use Rattle.zone_time.specs.Dates.{IsDay, date_text};
 ghost use Rattle.zone_time.specs.Zones.{IsZone, InZoneYears};
 
-use crate::page::Page;
+use crate::calendar_page::CalendarPage;
 use crate::pages::pages_shown;
 use arrayvec::ArrayString;
 use curve_law::{Event, Events};
@@ -59,7 +59,7 @@ pub fn calendar_text(
 fn push_pages(
     text: &mut Vec<u8>,
     units: Units,
-    pages: &[Page],
+    pages: &[CalendarPage],
     zone: &ZoneClock<'_>,
 ) -> Result<(), AllocError>
     requires days { All (λ page. IsDay page.day) pages.now }
@@ -76,7 +76,7 @@ fn push_pages(
 fn push_page(
     text: &mut Vec<u8>,
     units: Units,
-    page: &Page,
+    page: &CalendarPage,
     zone: &ZoneClock<'_>,
 ) -> Result<(), AllocError>
     requires day { IsDay page.now.day }

@@ -35,7 +35,10 @@ impl Days {
     fn with_event(self, event: &Event, zone: &ZoneClock<'_>) -> Days
         requires days { AreDays self.first self.last }
         requires year { InZoneYears event.now.minute }
-        ensures exact { result ≡ record { first = int_min self.first (day_in zone.now event.now.minute); last = int_max self.last (day_in zone.now event.now.minute) } }
+        ensures exact { result ≡ record {
+          first = int_min self.first (day_in zone.now event.now.minute);
+          last = int_max self.last (day_in zone.now event.now.minute);
+        } }
         ensures days { AreDays result.first result.last }
     {
         self.with_day(local_day(zone, event.minute))
@@ -45,7 +48,10 @@ impl Days {
     fn with_events(self, events: &[Event], zone: &ZoneClock<'_>) -> Days
         requires days { AreDays self.first self.last }
         requires years { All (λ event. InZoneYears event.minute) events.now }
-        ensures exact { result ≡ record { first = fold int_min self.first (event_days zone.now events.now); last = fold int_max self.last (event_days zone.now events.now) } }
+        ensures exact { result ≡ record {
+          first = fold int_min self.first (event_days zone.now events.now);
+          last = fold int_max self.last (event_days zone.now events.now);
+        } }
         ensures days { AreDays result.first result.last }
     {
         let mut days = self;
@@ -112,7 +118,10 @@ pub fn days_of(events: &[Event], zone: &ZoneClock<'_>, begin: i64, end: i64) -> 
 fn days_between(zone: &ZoneClock<'_>, minute: i64, other: i64) -> Days
     requires minute { InZoneYears minute }
     requires other { InZoneYears other }
-    ensures exact { result ≡ record { first = int_min (day_in zone.now minute) (day_in zone.now other); last = int_max (day_in zone.now minute) (day_in zone.now other) } }
+    ensures exact { result ≡ record {
+      first = int_min (day_in zone.now minute) (day_in zone.now other);
+      last = int_max (day_in zone.now minute) (day_in zone.now other);
+    } }
     ensures days { AreDays result.first result.last }
 {
     let day = local_day(zone, minute);

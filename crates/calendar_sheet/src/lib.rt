@@ -6,8 +6,8 @@
 #![tactic(auto)]
 
 mod calendar;
+mod calendar_page;
 mod days;
-mod page;
 mod pages;
 mod worked;
 

@@ -6,8 +6,8 @@ ghost use Rattle.calendar_sheet.specs.Workings.Dates.{AreDays, IsAmong, empty_pa
 ghost use Rattle.zone_time.specs.Dates.{IsDay};
 ghost use Rattle.zone_time.specs.Zones.{InZoneYears};
 
+use crate::calendar_page::CalendarPage;
 use crate::days::{Days, days_of, local_day};
-use crate::page::Page;
 use curve_law::Event;
 use std::alloc::{AllocError, Global};
 use zone_time::ZoneClock;
@@ -21,7 +21,7 @@ pub fn pages_shown(
     zone: &ZoneClock<'_>,
     begin: i64,
     end: i64,
-) -> Result<Vec<Page>, AllocError>
+) -> Result<Vec<CalendarPage>, AllocError>
     requires years { All (λ event. InZoneYears event.minute) events.now }
     requires begin { InZoneYears begin }
     requires end { InZoneYears end }
@@ -42,7 +42,7 @@ fn pages_of(
     events: &[Event],
     zone: &ZoneClock<'_>,
     days: Days,
-) -> Result<Vec<Page>, AllocError>
+) -> Result<Vec<CalendarPage>, AllocError>
     requires days { AreDays days.first days.last }
     requires years { All (λ event. InZoneYears event.minute) events.now }
     requires among { All (IsAmong zone.now days.first days.last) events.now }
@@ -58,13 +58,13 @@ fn pages_of(
 }
 
 /// Returns the dates of `days` without events.
-fn empty_pages(alloc: Global, days: Days) -> Result<Vec<Page>, AllocError>
+fn empty_pages(alloc: Global, days: Days) -> Result<Vec<CalendarPage>, AllocError>
     requires days { AreDays days.first days.last }
     ensures { IfOk result (λ pages. pages.items ≡ map empty_page (days_through days.first days.last)) }
 {
     let mut pages = Vec::new(alloc);
     for place in 0..days.count() {
-        pages.push(Page::new(alloc, days.day_at(place)))?;
+        pages.push(CalendarPage::new(alloc, days.day_at(place)))?;
     }
     Ok(pages)
 }

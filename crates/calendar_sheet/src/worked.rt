@@ -12,9 +12,11 @@ ghost use Rattle.zone_time.specs.declared.zone.Zone.{Zone};
 pub fn worked_calendars()
     ensures universal { calendar_text_of (codes "Pier") Units.Feet (low_tide ∷ high_tide ∷ []) Zone.Utc (pos 15791040) (pos 15792480)
         ≡ codes "Pier\n2000-01-10  06:00 -1.00 Low Tide  11:59 1.00 High Tide\n" }
-    ensures behind { calendar_text_of (codes "Pier") Units.Feet (low_tide ∷ high_tide ∷ []) (Zone.Fixed (negsuc 299)) (pos 15791040) (pos 15792480)
+    ensures behind { calendar_text_of (codes "Pier") Units.Feet (low_tide ∷ high_tide ∷ []) (Zone.Fixed (negsuc 299))
+        (pos 15791040) (pos 15792480)
         ≡ codes "Pier\n2000-01-09\n2000-01-10  01:00 -1.00 Low Tide  06:59 1.00 High Tide\n" }
-    ensures ahead { calendar_text_of (codes "Pier") Units.Feet (low_tide ∷ high_tide ∷ []) (Zone.Fixed (pos 840)) (pos 15791040) (pos 15791760)
+    ensures ahead { calendar_text_of (codes "Pier") Units.Feet (low_tide ∷ high_tide ∷ []) (Zone.Fixed (pos 840))
+        (pos 15791040) (pos 15791760)
         ≡ codes "Pier\n2000-01-10  20:00 -1.00 Low Tide\n2000-01-11  01:59 1.00 High Tide\n" }
     ensures no_event { calendar_text_of (codes "Pier") Units.Feet [] Zone.Utc (pos 15791100) (pos 15791160) ≡ codes "Pier\n2000-01-10\n" }
     ensures no_minute { calendar_text_of (codes "Pier") Units.Feet [] Zone.Utc (pos 15791040) (pos 15791040) ≡ codes "Pier\n" }

@@ -5,7 +5,7 @@ ghost use Rattle.curve_law.specs.declared.verdict.Verdict.{Verdict};
 ghost use Rattle.curve_law.specs.Track.{plain_list};
 ghost use Rattle.curve_law.specs.Meaning.{IsSpan};
 ghost use Rattle.curve_law.specs.CurveStates.{evaluated_once};
-ghost use Rattle.curve_law.specs.Cells.{minutes_of, all_minutes, turns};
+ghost use Rattle.curve_law.specs.Cells.{minutes_of, all_minutes, cell_events};
 ghost use Rattle.curve_law.specs.Verdicts.{cells_verdict, verdict};
 
 use crate::covering::{covered_by, minutes_of};
@@ -34,11 +34,11 @@ pub fn check_track<C: Curve>(curve: &mut C, cells: &Cells, begin: i64, end: i64)
     requires forward { begin ≤ℤ end }
     requires first { (C.state curve.old).facts.meaning.first ≤ℤ begin }
     requires last { end ≤ℤ (C.state curve.old).facts.meaning.last }
-    requires few { length cells.now < 2 ^ 32 }
+    requires count_bound { length cells.now < 2 ^ 32 }
     requires count { (C.state curve.old).count + length cells.now ≤ 2 ^ 62 }
     ensures verdict { result ≡ verdict (C.state curve.old).facts.meaning begin (unsigned_abs (end -ℤ begin)) cells.now }
     ensures exact { result ≡ Verdict.Accepted →
-        turns begin cells.now ≡ plain_list (C.state curve.old).facts.meaning.track begin (unsigned_abs (end -ℤ begin)) }
+        cell_events begin cells.now ≡ plain_list (C.state curve.old).facts.meaning.track begin (unsigned_abs (end -ℤ begin)) }
     ensures count { (C.state curve.new).count ≤ (C.state curve.old).count + length cells.now + 1 }
     ensures unchanged { (C.state curve.new).facts ≡ (C.state curve.old).facts }
 {
@@ -53,7 +53,7 @@ pub fn check_track<C: Curve>(curve: &mut C, cells: &Cells, begin: i64, end: i64)
 /// Returns the first fault of `cells` from `begin` on, or [`Verdict::Accepted`].
 fn first_finding<C: Curve>(curve: &mut C, cells: &[Cell], begin: i64) -> Verdict
     requires span { IsSpan (C.state curve.old).facts.meaning begin (all_minutes cells.now) }
-    requires few { length cells.now < 2 ^ 32 }
+    requires count_bound { length cells.now < 2 ^ 32 }
     requires count { (C.state curve.old).count + length cells.now ≤ 2 ^ 62 }
     ensures verdict { result ≡ cells_verdict (C.state curve.old).facts.meaning begin 1 cells.now }
     ensures count { (C.state curve.new).count ≤ (C.state curve.old).count + length cells.now + 1 }
@@ -75,7 +75,7 @@ fn first_finding<C: Curve>(curve: &mut C, cells: &[Cell], begin: i64) -> Verdict
 /// Evaluates `curve` at the end of `cell`, which begins at `begin`, and returns the point.
 fn end_of<C: Curve>(curve: &mut C, begin: i64, cell: Cell) -> Point
     requires span { IsSpan (C.state curve.old).facts.meaning begin (minutes_of cell) }
-    requires few { (C.state curve.old).count < 2 ^ 63 }
+    requires count_bound { (C.state curve.old).count < 2 ^ 63 }
     ensures minute { result.minute ≡ begin +ℤ pos (minutes_of cell) }
     ensures value { result.value ≡ (C.state curve.old).facts.meaning.track.value result.minute }
     ensures after { C.state curve.new ≡ evaluated_once (C.state curve.old) }

@@ -7,7 +7,8 @@ use std::alloc::{AllocError, Global};
 
 // Returns true if cells may be checked on `curve`, not yet evaluated.
 fn can_check<C: Curve>(curve: &C, begin: i64, end: i64) -> bool
-    ensures { IsTrue result → (begin ≤ℤ end) × ((C.state curve.now).facts.meaning.first ≤ℤ begin) × (end ≤ℤ (C.state curve.now).facts.meaning.last) × ((C.state curve.now).count ≡ 0) }
+    ensures { IsTrue result → (begin ≤ℤ end) × ((C.state curve.now).facts.meaning.first ≤ℤ begin)
+        × (end ≤ℤ (C.state curve.now).facts.meaning.last) × ((C.state curve.now).count ≡ 0) }
 {
     begin <= end && curve.first() <= begin && end <= curve.last() && curve.evaluations() == 0
 }

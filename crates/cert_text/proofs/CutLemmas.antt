@@ -20,9 +20,9 @@ pub are_free-append : (xs ys : List (List ℕ)) → AreFree xs → AreFree ys �
 are_free-append [] bs ha hb = hb
 are_free-append (a ∷ xs) ys ha hb = (ha.0, are_free-append xs ys ha.1 hb)
 
-pub are_free_front : (xs ys : List (List ℕ)) → AreFree (xs ++ ys) → AreFree xs
-are_free_front [] bs h = tt
-are_free_front (a ∷ xs) ys h = (h.0, are_free_front xs ys h.1)
+pub are_free_prefix : (xs ys : List (List ℕ)) → AreFree (xs ++ ys) → AreFree xs
+are_free_prefix [] bs h = tt
+are_free_prefix (a ∷ xs) ys h = (h.0, are_free_prefix xs ys h.1)
 
 -- ---- cutting
 
@@ -35,9 +35,11 @@ pieces-joined [] rest h = refl
 pieces-joined (line ∷ lines) rest h =
     let apart : joined (line ∷ lines) ++ rest ≡ line ++ 10 ∷ (joined lines ++ rest) =
     append_assoc (ended line) (joined lines) rest ∙ append_assoc line (10 ∷ []) (joined lines ++ rest) in
-    ap (λ (bytes : List ℕ). pieces bytes) apart ∙ pieces_ended line (joined lines ++ rest) h.0 ∙ ap (λ ls. line ∷ ls) (pieces-joined lines rest h.1)
+    ap (λ (bytes : List ℕ). pieces bytes) apart ∙ pieces_ended line (joined lines ++ rest) h.0
+    ∙ ap (λ ls. line ∷ ls) (pieces-joined lines rest h.1)
 
-join_next : (line : List ℕ) (lines : List (List ℕ)) (rest : List ℕ) → join_with_byte 10 (line ∷ (lines ++ rest ∷ [])) ≡ line ++ 10 ∷ join_with_byte 10 (lines ++ rest ∷ [])
+join_next : (line : List ℕ) (lines : List (List ℕ)) (rest : List ℕ)
+    → join_with_byte 10 (line ∷ (lines ++ rest ∷ [])) ≡ line ++ 10 ∷ join_with_byte 10 (lines ++ rest ∷ [])
 join_next line [] rest = refl
 join_next line (more ∷ lines) rest = refl
 
@@ -48,7 +50,8 @@ join_joined (line ∷ lines) rest =
     ∙ sym (append_assoc (ended line) (joined lines) rest ∙ append_assoc line (10 ∷ []) (joined lines ++ rest))
 
 -- the bytes are the lines that LF ends, and what follows them
-pub bytes_of_pieces : (bytes : List ℕ) (lines : List (List ℕ)) (rest : List ℕ) → pieces bytes ≡ lines ++ rest ∷ [] → bytes ≡ joined lines ++ rest
+pub bytes_of_pieces : (bytes : List ℕ) (lines : List (List ℕ)) (rest : List ℕ) → pieces bytes ≡ lines ++ rest ∷ []
+    → bytes ≡ joined lines ++ rest
 bytes_of_pieces bytes lines rest e =
     sym (join_with_byte-slice_split 10 bytes) ∙ ap (λ (ps : List (List ℕ)). join_with_byte 10 ps) e ∙ join_joined lines rest
 

@@ -20,7 +20,7 @@ use Rattle.cert_text.specs.declared.track_name.TrackName.{TrackName}
 use Rattle.cert_text.specs.declared.track_name.TrackName.TheVariants.{Turn, Slack, Mark}
 use Rattle.cert_text.specs.Tracks.{track_word, kind_word}
 use Rattle.cert_text.specs.Certificates.{IsStationName, IsMark, IsCellOf, IsCertificate}
-use Rattle.cert_text.specs.Lines.{title_of, station_line_of, begin_line_of, end_line_of, mark_line_of, heading_of, front_of, cell_line_of, last_line, track_lines_of, lines_if_there, lines_of}
+use Rattle.cert_text.specs.Lines.{title_of, station_line_of, begin_line_of, end_line_of, mark_line_of, heading_of, prefix_of, cell_line_of, last_line, track_lines_of, lines_if_there, lines_of}
 use Rattle.cert_text.specs.ByLine.{is_lf}
 use Rattle.cert_text.proofs.NumberLemmas.{digits_of_decimal}
 use Rattle.cert_text.proofs.CutLemmas.{is_free, AreFree, are_free-append}
@@ -35,7 +35,8 @@ free_byte b h = not_from_false _ (ne_eqb b 10 (λ e. omega (arith, h, e)))
 
 digits_free : (text : List ℕ) → list_all is_ascii_digit text ≡ true → is_free text ≡ true
 digits_free text h =
-    list_all-from_AllPass (λ (b : ℕ). not (is_lf b)) text (λ k d lt. free_byte (get_or text k d) (above (get_or text k d) (AllPass-from_list_all is_ascii_digit text h k d lt))) where
+    list_all-from_AllPass (λ (b : ℕ). not (is_lf b)) text (λ k d lt. free_byte (get_or text k d)
+    (above (get_or text k d) (AllPass-from_list_all is_ascii_digit text h k d lt))) where
       above : (b : ℕ) → is_ascii_digit b ≡ true → 11 ≤ b
       above b e = grind (arith, nat_tests)
 
@@ -49,15 +50,30 @@ name_free name h =
 free_digit : (n : ℕ) → not (is_lf (48 + n % 10)) ≡ true
 free_digit n = free_byte (48 + n % 10) (omega arith)
 
-spelled_free : (a b c d e f : ℕ) → is_free (two_digits a ++ two_digits b ++ codes "-" ++ two_digits c ++ codes "-" ++ two_digits d ++ codes "T" ++ (two_digits e ++ codes ":" ++ two_digits f) ++ codes "Z") ≡ true
+spelled_free : (a b c d e f : ℕ) → is_free (two_digits a ++ two_digits b ++ codes "-" ++ two_digits c ++ codes "-"
+    ++ two_digits d ++ codes "T" ++ (two_digits e ++ codes ":" ++ two_digits f) ++ codes "Z") ≡ true
 unfolding two_digits
 spelled_free a b c d e f =
-    rw (free_digit (a / 10), free_digit a, free_digit (b / 10), free_digit b, free_digit (c / 10), free_digit c, free_digit (d / 10), free_digit d, free_digit (e / 10), free_digit e, free_digit (f / 10), free_digit f) refl
+    rw (
+      free_digit (a / 10),
+      free_digit a,
+      free_digit (b / 10),
+      free_digit b,
+      free_digit (c / 10),
+      free_digit c,
+      free_digit (d / 10),
+      free_digit d,
+      free_digit (e / 10),
+      free_digit e,
+      free_digit (f / 10),
+      free_digit f,
+    ) refl
 
 pub moment_free : (m : ℤ) → is_free (moment_text m) ≡ true
 unfolding moment_text date_text clock_text
 moment_free m =
-    spelled_free ((date_of (day_of m)).year / 100) ((date_of (day_of m)).year % 100) (date_of (day_of m)).month (date_of (day_of m)).day (minute_of_day m / 60) (minute_of_day m % 60)
+    spelled_free ((date_of (day_of m)).year / 100) ((date_of (day_of m)).year % 100) (date_of (day_of m)).month
+    (date_of (day_of m)).day (minute_of_day m / 60) (minute_of_day m % 60)
 
 pub signed_free : (z : ℤ) → unsigned_abs z < 10 ^ 38 → is_free (signed_decimal z) ≡ true
 signed_free (pos n) h = decimal_free n h
@@ -93,20 +109,21 @@ heading_free Turn = refl
 heading_free Slack = refl
 heading_free Mark = refl
 
-front_free : (kind : Kind) → is_free (front_of kind) ≡ true
+prefix_free : (kind : Kind) → is_free (prefix_of kind) ≡ true
 unfolding kind_word
-front_free High = refl
-front_free Low = refl
-front_free FloodBegins = refl
-front_free EbbBegins = refl
-front_free MarkRising = refl
-front_free MarkFalling = refl
+prefix_free High = refl
+prefix_free Low = refl
+prefix_free FloodBegins = refl
+prefix_free EbbBegins = refl
+prefix_free MarkRising = refl
+prefix_free MarkFalling = refl
 
 cell_free : (track : TrackName) (c : Cell) → IsCellOf track c → is_free (cell_line_of c) ≡ true
 unfolding cell_line_of
 cell_free track (cells.Quiet n) h = free-append (codes "q ") (decimal n) refl (decimal_free n (omega (arith, h.1)))
 cell_free track cells.Still h = refl
-cell_free track (cells.Turn kind level) h = free-append (front_of kind) (signed_decimal level) (front_free kind) (signed_free level (omega (arith, h.1)))
+cell_free track (cells.Turn kind level) h =
+    free-append (prefix_of kind) (signed_decimal level) (prefix_free kind) (signed_free level (omega (arith, h.1)))
 
 pub last_free : is_free last_line ≡ true
 unfolding last_line
@@ -138,7 +155,8 @@ lines_free c h = (
           mark_free c.mark h.mark,
           are_free-append (track_lines_of Turn c.tracks.turn) _ (track_free Turn c.tracks.turn h.turn)
               (are_free-append (lines_if_there Slack c.tracks.slack) _ (there_free Slack c.tracks.slack h.slack)
-              (are_free-append (lines_if_there Mark c.tracks.mark) (last_line ∷ []) (there_free Mark c.tracks.mark h.crossings) (last_free, tt))),
+              (are_free-append (lines_if_there Mark c.tracks.mark) (last_line ∷ [])
+              (there_free Mark c.tracks.mark h.crossings) (last_free, tt))),
         ),
       ),
     ),

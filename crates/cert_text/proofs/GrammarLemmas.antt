@@ -30,7 +30,8 @@ cell_spelled track (cells.Quiet n) h = (h.0, h.1, refl)
 cell_spelled track cells.Still h = refl
 cell_spelled track (cells.Turn kind level) h = (h.0, h.1, refl)
 
-cells_spelled : (track : TrackName) (cs : List Cell) → AllByRecursion (IsCellOf track) cs → AllZip (SpellsCell track) cs (map cell_line_of cs)
+cells_spelled : (track : TrackName) (cs : List Cell) → AllByRecursion (IsCellOf track) cs
+    → AllZip (SpellsCell track) cs (map cell_line_of cs)
 cells_spelled track [] h = tt
 cells_spelled track (c ∷ cs) h = (cell_spelled track c h.0, cells_spelled track cs h.1)
 
@@ -42,7 +43,8 @@ slack_spelled : (o : Option (List Cell)) → IfSome o (All (IsCellOf Slack)) →
 slack_spelled None h = refl
 slack_spelled (Some cs) h = track_spelled Slack cs h
 
-crossings_spelled : (mark : Option ℤ) (o : Option (List Cell)) → is_some o ≡ is_some mark → IfSome o (All (IsCellOf Mark)) → SpellsCrossings mark o (lines_if_there Mark o)
+crossings_spelled : (mark : Option ℤ) (o : Option (List Cell)) → is_some o ≡ is_some mark
+    → IfSome o (All (IsCellOf Mark)) → SpellsCrossings mark o (lines_if_there Mark o)
 crossings_spelled None None e h = refl
 crossings_spelled (Some mark) (Some cs) e h = track_spelled Mark cs h
 crossings_spelled None (Some cs) e h = absurd cc
@@ -85,7 +87,8 @@ cell_is track (cells.Quiet n) line h = ((h.0, h.1), h.2)
 cell_is track cells.Still line h = (tt, h)
 cell_is track (cells.Turn kind level) line h = ((h.0, h.1), h.2)
 
-cells_are : (track : TrackName) (cs : List Cell) (lines : List (List ℕ)) → AllZip (SpellsCell track) cs lines → AllByRecursion (IsCellOf track) cs × (lines ≡ map cell_line_of cs)
+cells_are : (track : TrackName) (cs : List Cell) (lines : List (List ℕ)) → AllZip (SpellsCell track) cs lines
+    → AllByRecursion (IsCellOf track) cs × (lines ≡ map cell_line_of cs)
 cells_are track [] [] h = (tt, refl)
 cells_are track [] (l ∷ ls) h = absurd h
 cells_are track (c ∷ cs) [] h = absurd h
@@ -93,18 +96,21 @@ cells_are track (c ∷ cs) (l ∷ ls) h =
     let one = cell_is track c l h.0 in let more = cells_are track cs ls h.1 in
     ((one.0, more.0), ap (λ x. x ∷ ls) one.1 ∙ ap (λ xs. cell_line_of c ∷ xs) more.1)
 
-track_is : (track : TrackName) (cs : List Cell) (lines : List (List ℕ)) → SpellsTrack track cs lines → All (IsCellOf track) cs × (lines ≡ track_lines_of track cs)
+track_is : (track : TrackName) (cs : List Cell) (lines : List (List ℕ)) → SpellsTrack track cs lines
+    → All (IsCellOf track) cs × (lines ≡ track_lines_of track cs)
 unfolding heading_of
 track_is track cs [] h = absurd h
 track_is track cs (l ∷ ls) h =
     let more = cells_are track cs ls h.1 in
     (All-from_recursion (IsCellOf track) cs more.0, ap (λ x. x ∷ ls) h.0 ∙ ap (λ xs. heading_of track ∷ xs) more.1)
 
-slack_is : (o : Option (List Cell)) (lines : List (List ℕ)) → SpellsSlack o lines → IfSome o (All (IsCellOf Slack)) × (lines ≡ lines_if_there Slack o)
+slack_is : (o : Option (List Cell)) (lines : List (List ℕ)) → SpellsSlack o lines
+    → IfSome o (All (IsCellOf Slack)) × (lines ≡ lines_if_there Slack o)
 slack_is None lines h = (tt, h)
 slack_is (Some cs) lines h = track_is Slack cs lines h
 
-crossings_are : (mark : Option ℤ) (o : Option (List Cell)) (lines : List (List ℕ)) → SpellsCrossings mark o lines → (is_some o ≡ is_some mark) × IfSome o (All (IsCellOf Mark)) × (lines ≡ lines_if_there Mark o)
+crossings_are : (mark : Option ℤ) (o : Option (List Cell)) (lines : List (List ℕ)) → SpellsCrossings mark o lines
+    → (is_some o ≡ is_some mark) × IfSome o (All (IsCellOf Mark)) × (lines ≡ lines_if_there Mark o)
 crossings_are None None lines h = (refl, tt, h)
 crossings_are (Some mark) (Some cs) lines h = let is = track_is Mark cs lines h in (refl, is.0, is.1)
 crossings_are None (Some cs) lines h = absurd h

@@ -15,16 +15,19 @@ use Rattle.cert_text.specs.declared.track_name.TrackName.{TrackName}
 use Rattle.cert_text.specs.declared.track_name.TrackName.TheVariants.{Turn, Slack, Mark}
 use Rattle.cert_text.specs.Tracks.{track_word, kind_word}
 use Rattle.cert_text.specs.Certificates.{IsMark, IsCell, IsCellOf, IsCertificate, HasUsualLevel, HasUsualLevels, cell_count}
-use Rattle.cert_text.specs.Lines.{title_of, station_line_of, begin_line_of, end_line_of, mark_line_of, heading_of, front_of, cell_line_of, last_line, head_lines_of, track_lines_of, lines_if_there, ended, joined, certificate_text}
+use Rattle.cert_text.specs.Lines.{title_of, station_line_of, begin_line_of, end_line_of, mark_line_of, heading_of, prefix_of, cell_line_of, last_line, head_lines_of, track_lines_of, lines_if_there, ended, joined, certificate_text}
 use Rattle.cert_text.proofs.NumberLemmas.{length-number, length-signed}
 use Rattle.cert_text.proofs.TextLemmas.{length-moment_text}
 
 -- ---- parts
 
-pub joined-parts : (c : Certificate) → certificate_text c ≡ joined (head_lines_of c) ++ joined (track_lines_of Turn c.tracks.turn) ++ joined (lines_if_there Slack c.tracks.slack) ++ joined (lines_if_there Mark c.tracks.mark) ++ ended last_line
+pub joined-parts : (c : Certificate)
+    → certificate_text c ≡ joined (head_lines_of c) ++ joined (track_lines_of Turn c.tracks.turn)
+    ++ joined (lines_if_there Slack c.tracks.slack) ++ joined (lines_if_there Mark c.tracks.mark) ++ ended last_line
 unfolding certificate_text last_line
 joined-parts c =
-    let turn = track_lines_of Turn c.tracks.turn in let slack = lines_if_there Slack c.tracks.slack in let crossings = lines_if_there Mark c.tracks.mark in
+    let turn = track_lines_of Turn c.tracks.turn in let slack = lines_if_there Slack c.tracks.slack in
+    let crossings = lines_if_there Mark c.tracks.mark in
     flat_map-append ended (head_lines_of c) (turn ++ (slack ++ (crossings ++ last_line ∷ [])))
     ∙ ap (λ bs. joined (head_lines_of c) ++ bs) (flat_map-append ended turn (slack ++ (crossings ++ last_line ∷ []))
     ∙ ap (λ bs. joined turn ++ bs) (flat_map-append ended slack (crossings ++ last_line ∷ [])
@@ -66,20 +69,31 @@ heading_short Turn = omega arith
 heading_short Slack = omega arith
 heading_short Mark = omega arith
 
-front_short : (kind : Kind) → length (front_of kind) ≤ 8
+prefix_short : (kind : Kind) → length (prefix_of kind) ≤ 8
 unfolding kind_word
-front_short High = omega arith
-front_short Low = omega arith
-front_short FloodBegins = omega arith
-front_short EbbBegins = omega arith
-front_short MarkRising = omega arith
-front_short MarkFalling = omega arith
+prefix_short High = omega arith
+prefix_short Low = omega arith
+prefix_short FloodBegins = omega arith
+prefix_short EbbBegins = omega arith
+prefix_short MarkRising = omega arith
+prefix_short MarkFalling = omega arith
 
 pub cell_short : (c : Cell) → IsCell c → length (ended (cell_line_of c)) ≤ 24
 unfolding cell_line_of
-cell_short (cells.Quiet n) h = omega (arith, length-ended (codes "q " ++ decimal n), length-append (codes "q ") (decimal n), length-signed (pos n) (omega (arith, h.1)))
+cell_short (cells.Quiet n) h = omega (
+  arith,
+  length-ended (codes "q " ++ decimal n),
+  length-append (codes "q ") (decimal n),
+  length-signed (pos n) (omega (arith, h.1)),
+)
 cell_short cells.Still h = omega arith
-cell_short (cells.Turn kind level) h = omega (arith, length-ended (front_of kind ++ signed_decimal level), length-append (front_of kind) (signed_decimal level), front_short kind, length-signed level h)
+cell_short (cells.Turn kind level) h = omega (
+  arith,
+  length-ended (prefix_of kind ++ signed_decimal level),
+  length-append (prefix_of kind) (signed_decimal level),
+  prefix_short kind,
+  length-signed level h,
+)
 
 -- ---- lengths of texts
 
@@ -95,11 +109,18 @@ cells_short most [] h = omega arith
 cells_short most (c ∷ cs) h =
     omega (arith, joined-cons (cell_line_of c) (map cell_line_of cs), length-ended (cell_line_of c), h.0, cells_short most cs h.1)
 
-track_short : (most : ℕ) (track : TrackName) (cs : List Cell) → All (IsShort most) cs → length (joined (track_lines_of track cs)) ≤ 12 + most * length cs
+track_short : (most : ℕ) (track : TrackName) (cs : List Cell) → All (IsShort most) cs
+    → length (joined (track_lines_of track cs)) ≤ 12 + most * length cs
 track_short most track cs h =
-    omega (arith, joined-cons (heading_of track) (map cell_line_of cs), heading_short track, cells_short most cs (recursion_from_All (IsShort most) cs h))
+    omega (
+      arith,
+      joined-cons (heading_of track) (map cell_line_of cs),
+      heading_short track,
+      cells_short most cs (recursion_from_All (IsShort most) cs h),
+    )
 
-there_short : (most : ℕ) (track : TrackName) (o : Option (List Cell)) → IfSome o (All (IsShort most)) → length (joined (lines_if_there track o)) ≤ 12 + most * length (unwrap_or o [])
+there_short : (most : ℕ) (track : TrackName) (o : Option (List Cell)) → IfSome o (All (IsShort most))
+    → length (joined (lines_if_there track o)) ≤ 12 + most * length (unwrap_or o [])
 there_short most track None h = omega arith
 there_short most track (Some cs) h = track_short most track cs h
 
@@ -124,7 +145,9 @@ unfolding last_line
 last_short = refl
 
 -- the length of all tracks, if no cell's line is longer
-tracks_short : (most : ℕ) (c : Certificate) → IsCertificate c → All (IsShort most) c.tracks.turn → IfSome c.tracks.slack (All (IsShort most)) → IfSome c.tracks.mark (All (IsShort most)) → length (certificate_text c) ≤ 536 + most * cell_count c
+tracks_short : (most : ℕ) (c : Certificate) → IsCertificate c → All (IsShort most) c.tracks.turn
+    → IfSome c.tracks.slack (All (IsShort most)) → IfSome c.tracks.mark (All (IsShort most))
+    → length (certificate_text c) ≤ 536 + most * cell_count c
 tracks_short most c h turn_short slack_short crossings_short =
     let head = joined (head_lines_of c) in let turn = joined (track_lines_of Turn c.tracks.turn) in
     let slack = joined (lines_if_there Slack c.tracks.slack) in let crossings = joined (lines_if_there Mark c.tracks.mark) in
@@ -156,7 +179,8 @@ cells_there track (Some cs) h = track_cells track cs h
 
 pub text_short : (c : Certificate) → IsCertificate c → length (certificate_text c) ≤ 536 + 24 * cell_count c
 text_short c h =
-    tracks_short 24 c h (track_cells Turn c.tracks.turn h.turn) (cells_there Slack c.tracks.slack h.slack) (cells_there Mark c.tracks.mark h.crossings)
+    tracks_short 24 c h (track_cells Turn c.tracks.turn h.turn) (cells_there Slack c.tracks.slack h.slack)
+    (cells_there Mark c.tracks.mark h.crossings)
 
 -- ---- certificates with usual levels
 
@@ -165,20 +189,33 @@ length-level z h = length-number 11 z (lit< tt) (omega arith) (omega (arith, h))
 
 pub usual_cell_short : (c : Cell) → IsCell c → HasUsualLevel c → length (ended (cell_line_of c)) ≤ 21
 unfolding cell_line_of
-usual_cell_short (cells.Quiet n) h usual = omega (arith, length-ended (codes "q " ++ decimal n), length-append (codes "q ") (decimal n), length-signed (pos n) (omega (arith, h.1)))
+usual_cell_short (cells.Quiet n) h usual = omega (
+  arith,
+  length-ended (codes "q " ++ decimal n),
+  length-append (codes "q ") (decimal n),
+  length-signed (pos n) (omega (arith, h.1)),
+)
 usual_cell_short cells.Still h usual = omega arith
-usual_cell_short (cells.Turn kind level) h usual = omega (arith, length-ended (front_of kind ++ signed_decimal level), length-append (front_of kind) (signed_decimal level), front_short kind, length-level level usual)
+usual_cell_short (cells.Turn kind level) h usual = omega (
+  arith,
+  length-ended (prefix_of kind ++ signed_decimal level),
+  length-append (prefix_of kind) (signed_decimal level),
+  prefix_short kind,
+  length-level level usual,
+)
 
 usual_cells : (track : TrackName) (cs : List Cell) → All (IsCellOf track) cs → All HasUsualLevel cs → All (IsShort 21) cs
 usual_cells track cs h usual = λ k d few. usual_cell_short (get_or cs k d) (cell_of_track track (get_or cs k d) (h k d few)) (usual k d few)
 
-usual_there : (track : TrackName) (o : Option (List Cell)) → IfSome o (All (IsCellOf track)) → IfSome o (All HasUsualLevel) → IfSome o (All (IsShort 21))
+usual_there : (track : TrackName) (o : Option (List Cell)) → IfSome o (All (IsCellOf track))
+    → IfSome o (All HasUsualLevel) → IfSome o (All (IsShort 21))
 usual_there track None h usual = h
 usual_there track (Some cs) h usual = usual_cells track cs h usual
 
 pub usual_short : (c : Certificate) → IsCertificate c → HasUsualLevels c → length (certificate_text c) ≤ 536 + 21 * cell_count c
 usual_short c h usual =
-    tracks_short 21 c h (usual_cells Turn c.tracks.turn h.turn usual.turn) (usual_there Slack c.tracks.slack h.slack usual.slack) (usual_there Mark c.tracks.mark h.crossings usual.crossings)
+    tracks_short 21 c h (usual_cells Turn c.tracks.turn h.turn usual.turn)
+    (usual_there Slack c.tracks.slack h.slack usual.slack) (usual_there Mark c.tracks.mark h.crossings usual.crossings)
 
 pub usual_fits : (c : Certificate) → IsCertificate c → HasUsualLevels c → cell_count c ≤ 15819840 → length (certificate_text c) < 333000000
 usual_fits c h usual few = omega (arith, usual_short c h usual, few)

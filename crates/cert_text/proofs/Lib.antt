@@ -3,7 +3,7 @@ pub mod NumberLemmas
 pub mod LineLemmas
 pub mod TextLemmas
 pub mod LengthLemmas
-mod DraftLemmas
+mod CertificateParserLemmas
 mod RunLemmas
 pub mod CutLemmas
 pub mod FreeLemmas

@@ -24,9 +24,9 @@ use Rattle.cert_text.specs.declared.track_name.TrackName.{TrackName}
 use Rattle.cert_text.specs.declared.track_name.TrackName.TheVariants.{Turn, Slack, Mark}
 use Rattle.cert_text.specs.Tracks.{track_of, track_word, kind_word}
 use Rattle.cert_text.specs.Certificates.{IsStationName, IsMark, IsLevel, IsCellOf}
-use Rattle.cert_text.specs.Lines.{title_of, station_line_of, mark_line_of, heading_of, front_of, cell_line_of, last_line}
+use Rattle.cert_text.specs.Lines.{title_of, station_line_of, mark_line_of, heading_of, prefix_of, cell_line_of, last_line}
 use Rattle.cert_text.specs.declared.numbers.TheConstants.{LEVEL_DIGITS}
-use Rattle.cert_text.specs.Workings.LineReading.{after, size_of, number_of, version_of, named, station_of, moment_after, mark_within, mark_of, quiet_for, quiet_of, turn_of, first_kind, second_kind, cell_of}
+use Rattle.cert_text.specs.Workings.LineReading.{after, size_of, number_of, version_of, named, station_of, moment_after, mark_within, mark_of, quiet_for, quiet_of, event_cell_of, first_kind, second_kind, cell_of}
 use Rattle.cert_text.proofs.OptionLemmas.{option_map_some, option_or_some}
 use Rattle.cert_text.proofs.NumberLemmas.{size_is, size_of-decimal, number_is, number_of-signed, first_digit}
 
@@ -42,8 +42,8 @@ pub after_is : (word line rest : List ℕ) → after word line ≡ Some rest →
 unfolding after
 after_is word line rest e =
     let got = cond_some (bytes_eq (take (length word) line) word) (drop (length word) line) rest e in
-    let front : take (length word) line ≡ word = same_bytes _ _ got.0 in
-    ap (λ w. w ++ rest) (sym front) ∙ ap (λ r. take (length word) line ++ r) (sym got.1) ∙ take-append-drop (length word) line
+    let prefix : take (length word) line ≡ word = same_bytes _ _ got.0 in
+    ap (λ w. w ++ rest) (sym prefix) ∙ ap (λ r. take (length word) line ++ r) (sym got.1) ∙ take-append-drop (length word) line
 
 pub after-append : (word rest : List ℕ) → after word (word ++ rest) ≡ Some rest
 unfolding after
@@ -51,9 +51,12 @@ after-append word rest =
     rw (take_at word rest (length word) refl, bytes_eq-same word, drop_at word rest (length word) refl) refl
 
 -- a text is one of two words, or neither
-one_of_two : {A P : Type 0} (line first second : List ℕ) (x y z : A) → cond (bytes_eq line first) (Some x) (cond (bytes_eq line second) (Some y) None) ≡ Some z → (line ≡ first → x ≡ z → P) → (line ≡ second → y ≡ z → P) → P
+one_of_two : {A P : Type 0} (line first second : List ℕ) (x y z : A)
+    → cond (bytes_eq line first) (Some x) (cond (bytes_eq line second) (Some y) None) ≡ Some z
+    → (line ≡ first → x ≡ z → P) → (line ≡ second → y ≡ z → P) → P
 one_of_two {A} {P} line first second x y z e is_first is_second =
-    elim (bytes_eq line first) as (λ v. bytes_eq line first ≡ v → cond v (Some x) (cond (bytes_eq line second) (Some y) None) ≡ Some z → P) [
+    elim (bytes_eq line first)
+    as (λ v. bytes_eq line first ≡ v → cond v (Some x) (cond (bytes_eq line second) (Some y) None) ≡ Some z → P) [
       | true ↦ λ b k. is_first (same_bytes line first b) (same_Some x z k)
       | false ↦ λ b k. let got = cond_some (bytes_eq line second) y z k in is_second (same_bytes line second got.0) got.1
     ] refl e
@@ -82,7 +85,8 @@ version_of-title v (inr two) = rw two refl
 
 -- ---- the station's name
 
-pub named_yes : (bytes : List ℕ) → 0 < length bytes → length bytes ≤ 400 → list_all is_name_byte bytes ≡ true → IsUtf8 bytes → named bytes ≡ Some bytes
+pub named_yes : (bytes : List ℕ) → 0 < length bytes → length bytes ≤ 400 → list_all is_name_byte bytes ≡ true
+    → IsUtf8 bytes → named bytes ≡ Some bytes
 named_yes bytes some few printed text =
     rw (lt-ltb 0 (length bytes) some, le-leb (length bytes) 400 few, printed, is_utf8-from_IsUtf8 bytes text) refl
 
@@ -92,7 +96,8 @@ and_false false = refl
 
 not_utf8 : (bytes : List ℕ) → ¬ (IsUtf8 bytes) → is_utf8 bytes ≡ false
 not_utf8 bytes bad =
-    elim (is_utf8 bytes) as (λ v. is_utf8 bytes ≡ v → v ≡ false) [ true ↦ λ e. absurd (bad (IsUtf8-from_is_utf8 bytes e)) | false ↦ λ e. refl ] refl
+    elim (is_utf8 bytes) as (λ v. is_utf8 bytes ≡ v → v ≡ false)
+    [ true ↦ λ e. absurd (bad (IsUtf8-from_is_utf8 bytes e)) | false ↦ λ e. refl ] refl
 
 pub named_no : (bytes : List ℕ) → ¬ (IsUtf8 bytes) → named bytes ≡ None
 named_no bytes bad = rw (not_utf8 bytes bad, and_false) refl
@@ -108,12 +113,12 @@ name_byte-from b h = and_from _ _ (le-leb 32 b h.0) (not_from_false _ (ne_eqb b 
 named_is : (bytes name : List ℕ) → named bytes ≡ Some name → IsStationName name × (bytes ≡ name)
 named_is bytes name e =
     let got = cond_some _ bytes name e in
-    let all = and_parts _ _ got.0 in let front = and_parts _ _ all.0 in let counts = and_parts _ _ front.0 in
+    let all = and_parts _ _ got.0 in let prefix = and_parts _ _ all.0 in let counts = and_parts _ _ prefix.0 in
     let is : IsStationName bytes = record {
       text = IsUtf8-from_is_utf8 bytes all.1;
       some = ltb-true _ _ counts.0;
       short = leb-true _ _ counts.1;
-      printed = λ k d lt. name_byte_is _ (AllPass-from_list_all is_name_byte bytes front.1 k d lt);
+      printed = λ k d lt. name_byte_is _ (AllPass-from_list_all is_name_byte bytes prefix.1 k d lt);
     } in
     (subst IsStationName got.1 is, got.1)
 
@@ -127,7 +132,8 @@ station_is line name e =
 pub station_of-line : (name : List ℕ) → IsStationName name → station_of (station_line_of name) ≡ Some name
 unfolding station_of station_line_of
 station_of-line name h =
-    let printed : list_all is_name_byte name ≡ true = list_all-from_AllPass is_name_byte name (λ k d lt. name_byte-from _ (h.printed k d lt)) in
+    let printed : list_all is_name_byte name ≡ true =
+    list_all-from_AllPass is_name_byte name (λ k d lt. name_byte-from _ (h.printed k d lt)) in
     rw (after-append (codes "station ") name) (named_yes name h.some h.short printed h.text)
 
 -- a name of printed ASCII
@@ -176,20 +182,24 @@ mark_within_is z mark e =
     let got = cond_some _ (Some z) mark e in
     (leb-true _ _ got.0, got.1)
 
-mark_read : (line : List ℕ) (mark : Option ℤ) → option_and_then mark_within (option_and_then (number_of LEVEL_DIGITS) (after (codes "mark ") line)) ≡ Some mark → IfSome mark IsMark × (mark_line_of mark ≡ line)
+mark_read : (line : List ℕ) (mark : Option ℤ)
+    → option_and_then mark_within (option_and_then (number_of LEVEL_DIGITS) (after (codes "mark ") line)) ≡ Some mark
+    → IfSome mark IsMark × (mark_line_of mark ≡ line)
 unfolding mark_line_of
 mark_read line mark e =
     option_and_then_some mark_within (option_and_then (number_of LEVEL_DIGITS) (after (codes "mark ") line)) mark e (λ z found is.
-    option_and_then_some (number_of LEVEL_DIGITS) (after (codes "mark ") line) z found (λ text front number.
+    option_and_then_some (number_of LEVEL_DIGITS) (after (codes "mark ") line) z found (λ text prefix number.
     let within = mark_within_is z mark is in
     let written = level_is text z number in
-    let line_is : codes "mark " ++ signed_decimal z ≡ line = rw written.1 (after_is (codes "mark ") line text front) in
+    let line_is : codes "mark " ++ signed_decimal z ≡ line = rw written.1 (after_is (codes "mark ") line text prefix) in
     subst (λ mark. IfSome mark IsMark × (mark_line_of mark ≡ line)) within.1 (within.0, line_is)))
 
 pub mark_is : (line : List ℕ) (mark : Option ℤ) → mark_of line ≡ Some mark → IfSome mark IsMark × (mark_line_of mark ≡ line)
 unfolding mark_of mark_line_of
 mark_is line mark e =
-    elim (bytes_eq line (codes "mark none")) as (λ v. bytes_eq line (codes "mark none") ≡ v → cond v (Some None) (option_and_then mark_within (option_and_then (number_of LEVEL_DIGITS) (after (codes "mark ") line))) ≡ Some mark → IfSome mark IsMark × (mark_line_of mark ≡ line)) [
+    elim (bytes_eq line (codes "mark none")) as (λ v. bytes_eq line (codes "mark none") ≡ v → cond v (Some None)
+    (option_and_then mark_within (option_and_then (number_of LEVEL_DIGITS) (after (codes "mark ") line)))
+    ≡ Some mark → IfSome mark IsMark × (mark_line_of mark ≡ line)) [
       | true ↦ λ b k. subst (λ mark. IfSome mark IsMark × (mark_line_of mark ≡ line)) (same_Some None mark k) (tt, sym (same_bytes _ _ b))
       | false ↦ λ b k. mark_read line mark k
     ] refl e
@@ -198,42 +208,51 @@ no_word : (text : List ℕ) → get_or text 0 0 < 58 → bytes_eq (codes "mark "
 no_word [] h = refl
 no_word (b ∷ rest) h = rw (ne_eqb b 110 (λ e. omega (arith, h, e))) refl
 
-signed_front : (z : ℤ) → unsigned_abs z ≤ 99999999999999 → get_or (signed_decimal z) 0 0 < 58
-signed_front (pos n) h = omega (arith, first_digit n (omega (arith, h)))
-signed_front (negsuc n) h = omega arith
+signed_prefix : (z : ℤ) → unsigned_abs z ≤ 99999999999999 → get_or (signed_decimal z) 0 0 < 58
+signed_prefix (pos n) h = omega (arith, first_digit n (omega (arith, h)))
+signed_prefix (negsuc n) h = omega arith
 
 pub mark_of-line : (mark : Option ℤ) → IfSome mark IsMark → mark_of (mark_line_of mark) ≡ Some mark
 unfolding mark_of mark_line_of
 mark_of-line None h = refl
 mark_of-line (Some z) h =
     let small : unsigned_abs z ≤ 99999999999999 = omega (arith, h) in
-    rw (no_word (signed_decimal z) (signed_front z small), after-append (codes "mark ") (signed_decimal z), level_read z small, le-leb (unsigned_abs z) 10000000000 h) refl
+    rw (
+      no_word (signed_decimal z) (signed_prefix z small),
+      after-append (codes "mark ") (signed_decimal z),
+      level_read z small,
+      le-leb (unsigned_abs z) 10000000000 h,
+    ) refl
 
 -- ---- cells
 
-quiet_for_is : (track : TrackName) (n : ℕ) (cell : Cell) → quiet_for n ≡ Some cell → IsCellOf track cell × (cell_line_of cell ≡ codes "q " ++ decimal n)
+quiet_for_is : (track : TrackName) (n : ℕ) (cell : Cell) → quiet_for n ≡ Some cell
+    → IsCellOf track cell × (cell_line_of cell ≡ codes "q " ++ decimal n)
 unfolding cell_line_of
 quiet_for_is track n cell e =
     let got = cond_some _ (cells.Quiet n) cell e in
     let both = and_parts _ _ got.0 in
-    subst (λ cell. IsCellOf track cell × (cell_line_of cell ≡ codes "q " ++ decimal n)) got.1 ((leb-true 2 n both.0, leb-true n 1024 both.1), refl)
+    subst (λ cell. IsCellOf track cell × (cell_line_of cell ≡ codes "q " ++ decimal n)) got.1
+    ((leb-true 2 n both.0, leb-true n 1024 both.1), refl)
 
 quiet_is : (track : TrackName) (line : List ℕ) (cell : Cell) → quiet_of line ≡ Some cell → IsCellOf track cell × (cell_line_of cell ≡ line)
 unfolding quiet_of
 quiet_is track line cell e =
     option_and_then_some quiet_for (option_and_then (size_of LEVEL_DIGITS) (after (codes "q ") line)) cell e (λ n found is.
-    option_and_then_some (size_of LEVEL_DIGITS) (after (codes "q ") line) n found (λ text front size.
+    option_and_then_some (size_of LEVEL_DIGITS) (after (codes "q ") line) n found (λ text prefix size.
     let quiet = quiet_for_is track n cell is in
     let written = size_is LEVEL_DIGITS text n (lit≤ tt) size in
-    (quiet.0, quiet.1 ∙ rw written.1 (after_is (codes "q ") line text front))))
+    (quiet.0, quiet.1 ∙ rw written.1 (after_is (codes "q ") line text prefix))))
 
-turn_is : (track : TrackName) (kind : Kind) (line : List ℕ) (cell : Cell) → track_of kind ≡ track → turn_of kind line ≡ Some cell → IsCellOf track cell × (cell_line_of cell ≡ line)
-unfolding turn_of cell_line_of
-turn_is track kind line cell of_track e =
-    option_map_some (λ level. cells.Turn kind level) (option_and_then (number_of LEVEL_DIGITS) (after (front_of kind) line)) cell e (λ z found is.
-    option_and_then_some (number_of LEVEL_DIGITS) (after (front_of kind) line) z found (λ text front number.
+event_cell_is : (track : TrackName) (kind : Kind) (line : List ℕ) (cell : Cell) → track_of kind ≡ track
+    → event_cell_of kind line ≡ Some cell → IsCellOf track cell × (cell_line_of cell ≡ line)
+unfolding event_cell_of cell_line_of
+event_cell_is track kind line cell of_track e =
+    option_map_some (λ level. cells.Turn kind level)
+    (option_and_then (number_of LEVEL_DIGITS) (after (prefix_of kind) line)) cell e (λ z found is.
+    option_and_then_some (number_of LEVEL_DIGITS) (after (prefix_of kind) line) z found (λ text prefix number.
     let written = level_is text z number in
-    let line_is : front_of kind ++ signed_decimal z ≡ line = rw written.1 (after_is (front_of kind) line text front) in
+    let line_is : prefix_of kind ++ signed_decimal z ≡ line = rw written.1 (after_is (prefix_of kind) line text prefix) in
     subst (λ cell. IsCellOf track cell × (cell_line_of cell ≡ line)) is ((of_track, written.0), line_is)))
 
 first_of : (track : TrackName) → track_of (first_kind track) ≡ track
@@ -246,23 +265,29 @@ second_of Turn = refl
 second_of Slack = refl
 second_of Mark = refl
 
-pub cell_is : (track : TrackName) (line : List ℕ) (cell : Cell) → cell_of track line ≡ Some cell → IsCellOf track cell × (cell_line_of cell ≡ line)
+pub cell_is : (track : TrackName) (line : List ℕ) (cell : Cell) → cell_of track line ≡ Some cell
+    → IsCellOf track cell × (cell_line_of cell ≡ line)
 unfolding cell_of cell_line_of
 cell_is track line cell e =
-    elim (bytes_eq line (codes "s")) as (λ v. bytes_eq line (codes "s") ≡ v → cond v (Some cells.Still) (option_or (quiet_of line) (option_or (turn_of (first_kind track) line) (turn_of (second_kind track) line))) ≡ Some cell → IsCellOf track cell × (cell_line_of cell ≡ line)) [
-      | true ↦ λ b k. subst (λ cell. IsCellOf track cell × (cell_line_of cell ≡ line)) (same_Some cells.Still cell k) (tt, sym (same_bytes _ _ b))
+    elim (bytes_eq line (codes "s")) as (λ v. bytes_eq line (codes "s") ≡ v → cond v (Some cells.Still)
+    (option_or (quiet_of line) (option_or (event_cell_of (first_kind track) line) (event_cell_of (second_kind track) line)))
+    ≡ Some cell → IsCellOf track cell × (cell_line_of cell ≡ line)) [
+      | true ↦ λ b k. subst (λ cell. IsCellOf track cell × (cell_line_of cell ≡ line)) (same_Some cells.Still cell k)
+          (tt, sym (same_bytes _ _ b))
       | false ↦ λ b k. option_or_some (quiet_of line) _ cell k (λ quiet. quiet_is track line cell quiet)
-          (λ other. option_or_some (turn_of (first_kind track) line) (turn_of (second_kind track) line) cell other
-          (λ turn. turn_is track (first_kind track) line cell (first_of track) turn)
-          (λ turn. turn_is track (second_kind track) line cell (second_of track) turn))
+          (λ other. option_or_some (event_cell_of (first_kind track) line) (event_cell_of (second_kind track) line) cell other
+          (λ turn. event_cell_is track (first_kind track) line cell (first_of track) turn)
+          (λ turn. event_cell_is track (second_kind track) line cell (second_of track) turn))
     ] refl e
 
-turn_read : (kind : Kind) (level : ℤ) → IsLevel level → turn_of kind (front_of kind ++ signed_decimal level) ≡ Some (cells.Turn kind level)
-unfolding turn_of
-turn_read kind level h = rw (after-append (front_of kind) (signed_decimal level), level_read level h) refl
+event_cell_read : (kind : Kind) (level : ℤ) → IsLevel level
+    → event_cell_of kind (prefix_of kind ++ signed_decimal level) ≡ Some (cells.Turn kind level)
+unfolding event_cell_of
+event_cell_read kind level h = rw (after-append (prefix_of kind) (signed_decimal level), level_read level h) refl
 
 -- the line of an event is neither quiet nor still, and the second kind of a track isn't its first
-not_before : (kind : Kind) (text : List ℕ) → (bytes_eq (front_of kind ++ text) (codes "s") ≡ false) × (quiet_of (front_of kind ++ text) ≡ None)
+not_before : (kind : Kind) (text : List ℕ)
+    → (bytes_eq (prefix_of kind ++ text) (codes "s") ≡ false) × (quiet_of (prefix_of kind ++ text) ≡ None)
 unfolding quiet_of after kind_word
 not_before High text = (refl, refl)
 not_before Low text = (refl, refl)
@@ -271,31 +296,38 @@ not_before EbbBegins text = (refl, refl)
 not_before MarkRising text = (refl, refl)
 not_before MarkFalling text = (refl, refl)
 
-not_first : (track : TrackName) (text : List ℕ) → turn_of (first_kind track) (front_of (second_kind track) ++ text) ≡ None
-unfolding turn_of after kind_word
+not_first : (track : TrackName) (text : List ℕ) → event_cell_of (first_kind track) (prefix_of (second_kind track) ++ text) ≡ None
+unfolding event_cell_of after kind_word
 not_first Turn text = refl
 not_first Slack text = refl
 not_first Mark text = refl
 
-first_chosen : (track : TrackName) (line : List ℕ) (cell : Cell) → bytes_eq line (codes "s") ≡ false → quiet_of line ≡ None → turn_of (first_kind track) line ≡ Some cell → cell_of track line ≡ Some cell
+first_chosen : (track : TrackName) (line : List ℕ) (cell : Cell) → bytes_eq line (codes "s") ≡ false
+    → quiet_of line ≡ None → event_cell_of (first_kind track) line ≡ Some cell → cell_of track line ≡ Some cell
 unfolding cell_of
 first_chosen track line cell still quiet turn = rw (still, quiet, turn) refl
 
-second_chosen : (track : TrackName) (line : List ℕ) (cell : Cell) → bytes_eq line (codes "s") ≡ false → quiet_of line ≡ None → turn_of (first_kind track) line ≡ None → turn_of (second_kind track) line ≡ Some cell → cell_of track line ≡ Some cell
+second_chosen : (track : TrackName) (line : List ℕ) (cell : Cell) → bytes_eq line (codes "s") ≡ false
+    → quiet_of line ≡ None → event_cell_of (first_kind track) line ≡ None
+    → event_cell_of (second_kind track) line ≡ Some cell → cell_of track line ≡ Some cell
 unfolding cell_of
 second_chosen track line cell still quiet first turn = rw (still, quiet, first, turn) refl
 
-first_read : (track : TrackName) (level : ℤ) → IsLevel level → cell_of track (front_of (first_kind track) ++ signed_decimal level) ≡ Some (cells.Turn (first_kind track) level)
+first_read : (track : TrackName) (level : ℤ) → IsLevel level
+    → cell_of track (prefix_of (first_kind track) ++ signed_decimal level) ≡ Some (cells.Turn (first_kind track) level)
 first_read track level h =
     let no = not_before (first_kind track) (signed_decimal level) in
-    first_chosen track _ _ no.0 no.1 (turn_read (first_kind track) level h)
+    first_chosen track _ _ no.0 no.1 (event_cell_read (first_kind track) level h)
 
-second_read : (track : TrackName) (level : ℤ) → IsLevel level → cell_of track (front_of (second_kind track) ++ signed_decimal level) ≡ Some (cells.Turn (second_kind track) level)
+second_read : (track : TrackName) (level : ℤ) → IsLevel level
+    → cell_of track (prefix_of (second_kind track) ++ signed_decimal level)
+    ≡ Some (cells.Turn (second_kind track) level)
 second_read track level h =
     let no = not_before (second_kind track) (signed_decimal level) in
-    second_chosen track _ _ no.0 no.1 (not_first track (signed_decimal level)) (turn_read (second_kind track) level h)
+    second_chosen track _ _ no.0 no.1 (not_first track (signed_decimal level)) (event_cell_read (second_kind track) level h)
 
-event_read : (kind : Kind) (level : ℤ) → IsLevel level → cell_of (track_of kind) (front_of kind ++ signed_decimal level) ≡ Some (cells.Turn kind level)
+event_read : (kind : Kind) (level : ℤ) → IsLevel level
+    → cell_of (track_of kind) (prefix_of kind ++ signed_decimal level) ≡ Some (cells.Turn kind level)
 event_read High level h = first_read Turn level h
 event_read Low level h = second_read Turn level h
 event_read FloodBegins level h = first_read Slack level h
@@ -306,7 +338,12 @@ event_read MarkFalling level h = second_read Mark level h
 quiet_read : (n : ℕ) → 2 ≤ n → n ≤ 1024 → quiet_of (codes "q " ++ decimal n) ≡ Some (cells.Quiet n)
 unfolding quiet_of
 quiet_read n low high =
-    rw (after-append (codes "q ") (decimal n), size_of-decimal LEVEL_DIGITS n (lit< tt) (lit≤ tt) (omega arith), le-leb 2 n low, le-leb n 1024 high) refl
+    rw (
+      after-append (codes "q ") (decimal n),
+      size_of-decimal LEVEL_DIGITS n (lit< tt) (lit≤ tt) (omega arith),
+      le-leb 2 n low,
+      le-leb n 1024 high,
+    ) refl
 
 pub cell_of-line : (track : TrackName) (cell : Cell) → IsCellOf track cell → cell_of track (cell_line_of cell) ≡ Some cell
 unfolding cell_of cell_line_of
@@ -317,7 +354,7 @@ cell_of-line track (cells.Turn kind level) h = rw (← h.0) (event_read kind lev
 -- ---- headings
 
 pub heading_no_cell : (track other : TrackName) → cell_of track (heading_of other) ≡ None
-unfolding cell_of quiet_of turn_of after kind_word heading_of track_word
+unfolding cell_of quiet_of event_cell_of after kind_word heading_of track_word
 heading_no_cell Turn Turn = refl
 heading_no_cell Turn Slack = refl
 heading_no_cell Turn Mark = refl
@@ -329,7 +366,7 @@ heading_no_cell Mark Slack = refl
 heading_no_cell Mark Mark = refl
 
 pub last_no_cell : (track : TrackName) → cell_of track last_line ≡ None
-unfolding cell_of quiet_of turn_of after kind_word last_line
+unfolding cell_of quiet_of event_cell_of after kind_word last_line
 last_no_cell Turn = refl
 last_no_cell Slack = refl
 last_no_cell Mark = refl

@@ -28,7 +28,8 @@ within most n few h = omega (arith, pow-le-pow_right {n = 10} (lit< tt) few)
 
 pub length-number : (most : ℕ) (z : ℤ) → 0 < most → most ≤ 38 → unsigned_abs z < 10 ^ most → length (signed_decimal z) ≤ most + 1
 length-number most (pos n) some few h = omega (arith, length-decimal-le_wide most n some h (omega (arith, within most n few h)))
-length-number most (negsuc n) some few h = omega (arith, length-decimal-le_wide most (suc n) some h (omega (arith, within most (suc n) few h)))
+length-number most (negsuc n) some few h =
+    omega (arith, length-decimal-le_wide most (suc n) some h (omega (arith, within most (suc n) few h)))
 
 pub length-signed : (z : ℤ) → unsigned_abs z ≤ 99999999999999 → length (signed_decimal z) ≤ 15
 length-signed z h = length-number 14 z (lit< tt) (omega arith) (omega (arith, h))
@@ -56,20 +57,20 @@ record StartsAbove (n : ℕ) (ds : List ℕ) : Type 0 where
   some : 0 < length ds
   above : 0 < n → 48 < get_or ds 0 0
 
-get_or-front : (ds more : List ℕ) → 0 < length ds → get_or (ds ++ more) 0 0 ≡ get_or ds 0 0
-get_or-front [] more h = absurd (omega arith)
-get_or-front (d ∷ ds) more h = refl
+get_or-prefix : (ds more : List ℕ) → 0 < length ds → get_or (ds ++ more) 0 0 ≡ get_or ds 0 0
+get_or-prefix [] more h = absurd (omega arith)
+get_or-prefix (d ∷ ds) more h = refl
 
-some-front : (ds more : List ℕ) → 0 < length ds → 0 < length (ds ++ more)
-some-front [] more h = absurd (omega arith)
-some-front (d ∷ ds) more h = omega arith
+some-prefix : (ds more : List ℕ) → 0 < length ds → 0 < length (ds ++ more)
+some-prefix [] more h = absurd (omega arith)
+some-prefix (d ∷ ds) more h = omega arith
 
 starts_above : (n : ℕ) → n < 10 ^ 38 → StartsAbove n (decimal n)
 starts_above n h =
     decimal_by_steps_wide StartsAbove (λ m digit. record { some = omega arith; above = λ some. omega arith })
     (λ m ds more before. record {
-      some = some-front ds _ before.some;
-      above = λ some. subst (λ d. 48 < d) (sym (get_or-front ds _ before.some)) (before.above (omega arith));
+      some = some-prefix ds _ before.some;
+      above = λ some. subst (λ d. 48 < d) (sym (get_or-prefix ds _ before.some)) (before.above (omega arith));
     })
     n (omega (arith, h))
 
@@ -80,18 +81,21 @@ value_grows n [] = omega arith
 value_grows n (c ∷ cs) = omega (arith, value_grows (n * 10 + digit_value c) cs)
 
 -- the digits of a number that isn't 0, followed by more digits
-decimal-after : (n : ℕ) (ds : List ℕ) → 0 < n → AllDigits 10 ds → digits_value_after 10 n ds < 10 ^ 38 → decimal (digits_value_after 10 n ds) ≡ decimal n ++ ds
+decimal-after : (n : ℕ) (ds : List ℕ) → 0 < n → AllDigits 10 ds → digits_value_after 10 n ds < 10 ^ 38
+    → decimal (digits_value_after 10 n ds) ≡ decimal n ++ ds
 decimal-after n [] some d small = sym (append-nil (decimal n))
 decimal-after n (c ∷ cs) some d small =
     let m : ℕ = n * 10 + digit_value c in
     let byte = digit_value_digit c (digit_from_value c d.0) in
-    let front : m / 10 ≡ n = omega (arith, d.0) in
+    let prefix : m / 10 ≡ n = omega (arith, d.0) in
     let end : 48 + m % 10 ≡ c = omega (arith, d.0, byte, digit_from_value c d.0) in
-    let one : decimal m ≡ decimal n ++ c ∷ [] = decimal_step_wide m (omega arith) (omega (arith, value_grows m cs, small)) ∙ rw (front, end) refl in
+    let one : decimal m ≡ decimal n ++ c ∷ [] =
+    decimal_step_wide m (omega arith) (omega (arith, value_grows m cs, small)) ∙ rw (prefix, end) refl in
     decimal-after m cs (omega arith) d.1 small ∙ ap (λ x. x ++ cs) one ∙ append_assoc (decimal n) (c ∷ []) cs
 
 -- digits without a leading zero are the decimal text of their value
-decimal-value : (ds : List ℕ) → AllDigits 10 ds → 0 < length ds → (get_or ds 0 0 ≡ 48 → length ds ≡ 1) → digits_value 10 ds < 10 ^ 38 → decimal (digits_value 10 ds) ≡ ds
+decimal-value : (ds : List ℕ) → AllDigits 10 ds → 0 < length ds → (get_or ds 0 0 ≡ 48 → length ds ≡ 1)
+    → digits_value 10 ds < 10 ^ 38 → decimal (digits_value 10 ds) ≡ ds
 decimal-value [] d some lead small = absurd (omega arith)
 decimal-value (c ∷ []) d some lead small =
     let byte = digit_value_digit c (digit_from_value c d.0) in
@@ -101,7 +105,8 @@ decimal-value (c ∷ e ∷ cs) d some lead small =
     let byte = digit_value_digit c (digit_from_value c d.0) in
     let no : c ≡ 48 → ⊥ = λ z. omega (arith, lead z) in
     let is : 48 + (0 * 10 + digit_value c) ≡ c = omega (arith, byte, digit_from_value c d.0) in
-    let one : decimal (0 * 10 + digit_value c) ≡ c ∷ [] = decimal_digit (0 * 10 + digit_value c) (omega (arith, d.0)) ∙ ap (λ x. x ∷ []) is in
+    let one : decimal (0 * 10 + digit_value c) ≡ c ∷ [] =
+    decimal_digit (0 * 10 + digit_value c) (omega (arith, d.0)) ∙ ap (λ x. x ∷ []) is in
     decimal-after (0 * 10 + digit_value c) (e ∷ cs) (omega (arith, byte, no, digit_from_value c d.0)) d.1 small ∙ ap (λ x. x ++ e ∷ cs) one
 
 -- a numeral: the text of a number
@@ -111,7 +116,8 @@ record IsNumeral (most : ℕ) (text : List ℕ) : Type 0 where
   digits : list_all is_ascii_digit text ≡ true
   no_zero : get_or text 0 0 ≡ 48 → length text ≡ 1
 
-no_zero_if : (text : List ℕ) → (ltb 1 (length text) && eqb (get_or text 0 0) 48) ≡ false → 0 < length text → get_or text 0 0 ≡ 48 → length text ≡ 1
+no_zero_if : (text : List ℕ) → (ltb 1 (length text) && eqb (get_or text 0 0) 48) ≡ false → 0 < length text
+    → get_or text 0 0 ≡ 48 → length text ≡ 1
 no_zero_if text unpadded some first = elim (cases_Bool (ltb 1 (length text))) [
   | inl more ↦
       let padded : (ltb 1 (length text) && eqb (get_or text 0 0) 48) ≡ true = and_from _ _ more (eq-eqb _ _ first) in
@@ -123,7 +129,8 @@ numeral_is : (most : ℕ) (text : List ℕ) (n : ℕ) → size_of most text ≡ 
 unfolding size_of digits_of
 numeral_is most text n e =
     let unpadded = cond_none (ltb 1 (length text) && eqb (get_or text 0 0) 48) _ n e in
-    let got = cond_some (leb 1 (length text) && leb (length text) most && list_all is_ascii_digit text) (digits_value 10 text) n unpadded.1 in
+    let got = cond_some (leb 1 (length text) && leb (length text) most && list_all is_ascii_digit text)
+    (digits_value 10 text) n unpadded.1 in
     let all = and_parts (leb 1 (length text) && leb (length text) most) (list_all is_ascii_digit text) got.0 in
     let counts = and_parts (leb 1 (length text)) (leb (length text) most) all.0 in
     let some : 0 < length text = leb-true 1 (length text) counts.0 in (
@@ -154,7 +161,8 @@ pub size_is : (most : ℕ) (text : List ℕ) (n : ℕ) → most ≤ 38 → size_
 size_is most text n few e =
     let got = numeral_is most text n e in
     let small : digits_value 10 text < 10 ^ most = digits_value_short own text most got.0.digits got.0.few in
-    let written : decimal (digits_value 10 text) ≡ text = decimal-value text (own.to text got.0.digits) got.0.some got.0.no_zero (within most _ few small) in
+    let written : decimal (digits_value 10 text) ≡ text =
+    decimal-value text (own.to text got.0.digits) got.0.some got.0.no_zero (within most _ few small) in
     (omega (arith, got.1, small), rw (← got.1) written)
 
 decimal_numeral : (most n : ℕ) → 0 < most → most ≤ 38 → n < 10 ^ most → IsNumeral most (decimal n)
@@ -195,9 +203,9 @@ minus_then (b ∷ bs) rest e =
     let is : b ≡ 45 = eqb-true b 45 (and_parts _ _ got.0).0 in
     rw (is, got.1) refl
 
-minus_front : (digits : List ℕ) → after (codes "-") (45 ∷ digits) ≡ Some digits
+minus_prefix : (digits : List ℕ) → after (codes "-") (45 ∷ digits) ≡ Some digits
 unfolding after
-minus_front digits = refl
+minus_prefix digits = refl
 
 pub number_of-signed : (most : ℕ) (z : ℤ) → 0 < most → most ≤ 38 → unsigned_abs z < 10 ^ most → number_of most (signed_decimal z) ≡ Some z
 unfolding number_of
@@ -206,7 +214,7 @@ number_of-signed most (pos n) some few h =
     let none : get_or (decimal n) 0 0 ≡ 45 → ⊥ = λ e. absurd (omega (arith, first, e)) in
     rw (no_minus (decimal n) none, size_of-decimal most n some few h) refl
 number_of-signed most (negsuc n) some few h =
-    let found : after (codes "-") (45 ∷ decimal (suc n)) ≡ Some (decimal (suc n)) = minus_front (decimal (suc n)) in
+    let found : after (codes "-") (45 ∷ decimal (suc n)) ≡ Some (decimal (suc n)) = minus_prefix (decimal (suc n)) in
     rw (found, size_of-decimal most (suc n) some few h) refl
 
 negative_is : (n : ℕ) (z : ℤ) → negative n ≡ Some z → (unsigned_abs z ≡ n) × (signed_decimal z ≡ 45 ∷ decimal n)
@@ -215,17 +223,19 @@ negative_is (suc n) z e =
     let is : negsuc n ≡ z = same_Some _ _ e in
     subst (λ z. (unsigned_abs z ≡ suc n) × (signed_decimal z ≡ 45 ∷ decimal (suc n))) is (refl, refl)
 
-number_from_is : (most : ℕ) (text : List ℕ) (z : ℤ) (front : Option (List ℕ)) → most ≤ 38 → after (codes "-") text ≡ front → number_from most front text ≡ Some z → (unsigned_abs z < 10 ^ most) × (signed_decimal z ≡ text)
-number_from_is most text z None few front e =
+number_from_is : (most : ℕ) (text : List ℕ) (z : ℤ) (prefix : Option (List ℕ)) → most ≤ 38 → after (codes "-") text
+    ≡ prefix → number_from most prefix text ≡ Some z → (unsigned_abs z < 10 ^ most) × (signed_decimal z ≡ text)
+number_from_is most text z None few prefix e =
     option_map_some pos (size_of most text) z e (λ n size is.
     let got = size_is most text n few size in
     subst (λ z. (unsigned_abs z < 10 ^ most) × (signed_decimal z ≡ text)) is got)
-number_from_is most text z (Some digits) few front e =
+number_from_is most text z (Some digits) few prefix e =
     option_and_then_some negative (size_of most digits) z e (λ n size is.
     let got = size_is most digits n few size in
     let sign = negative_is n z is in
-    (omega (arith, sign.0, got.0), sign.1 ∙ ap (λ ds. 45 ∷ ds) got.1 ∙ sym (minus_then text digits front)))
+    (omega (arith, sign.0, got.0), sign.1 ∙ ap (λ ds. 45 ∷ ds) got.1 ∙ sym (minus_then text digits prefix)))
 
-pub number_is : (most : ℕ) (text : List ℕ) (z : ℤ) → most ≤ 38 → number_of most text ≡ Some z → (unsigned_abs z < 10 ^ most) × (signed_decimal z ≡ text)
+pub number_is : (most : ℕ) (text : List ℕ) (z : ℤ) → most ≤ 38 → number_of most text ≡ Some z
+    → (unsigned_abs z < 10 ^ most) × (signed_decimal z ≡ text)
 unfolding number_of
 number_is most text z few e = number_from_is most text z (after (codes "-") text) few refl e

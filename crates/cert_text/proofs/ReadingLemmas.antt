@@ -2,20 +2,20 @@
 use Rattle.std.proofs.Common.{◌≡◌, ℕ, true, List, ◌++◌, Some, Result, Ok, Err, refl, sym, ap, ◌∙◌, subst}
 use Rattle.std.specs.Prelude.{IfOk}
 use Rattle.std.proofs.lemmas.Option.{cond_some}
-use Rattle.decimal_text.specs.Expected.{Gives}
+use Rattle.decimal_text.specs.Expected.{ReturnsUnless}
 use Rattle.cert_text.specs.declared.certificate.Certificate.{Certificate}
 use Rattle.cert_text.specs.declared.fault.CertFault.{CertFault}
 use Rattle.cert_text.specs.declared.fault.CertFault.TheVariants.{NoMemory}
 use Rattle.cert_text.specs.declared.part.Part.{Part}
 use Rattle.cert_text.specs.declared.part.Part.TheVariants.{Title, Station, Begin, End, Mark, Heading, Turn, Slack, Crossings, Done}
-use Rattle.cert_text.specs.declared.draft.Draft.{Draft}
+use Rattle.cert_text.specs.declared.certificate_parser.CertificateParser.{CertificateParser}
 use Rattle.cert_text.specs.Certificates.{IsCertificate}
 use Rattle.cert_text.specs.Lines.{lines_of, joined, certificate_text}
 use Rattle.cert_text.specs.Spelling.{Spells, IsTextOf, IsFaultLine, Reads}
-use Rattle.cert_text.specs.ByLine.{wants_memory}
+use Rattle.cert_text.specs.ByLine.{is_out_of_memory}
 use Rattle.cert_text.specs.Readings.{certificate_of}
-use Rattle.cert_text.specs.Workings.Drafts.{start, next, certificate_in, is_done, whole}
-use Rattle.cert_text.proofs.DraftLemmas.{Knows, said_at, front, certificate_known}
+use Rattle.cert_text.specs.Workings.CertificateParsing.{start, next, certificate_in, is_done, whole}
+use Rattle.cert_text.proofs.CertificateParserLemmas.{ParserInvariant, said_at, prefix, certificate_from_invariant}
 use Rattle.cert_text.proofs.ByLineLemmas as by_line
 use Rattle.cert_text.proofs.ByLineLemmas.{run, IsReader}
 use Rattle.cert_text.proofs.RunLemmas.{reached_from_start, final, run-lines_of, certificate_in-final}
@@ -25,18 +25,21 @@ use Rattle.cert_text.proofs.GrammarLemmas.{spells-lines_of, lines_of-spelled}
 
 -- ---- states of certificates follow their grammar
 
-taken : (c : Certificate) (lines : List (List ℕ)) → Spells c lines → (d : Draft) × (run next start lines ≡ Some d) × (whole d ≡ Some c)
+taken : (c : Certificate) (lines : List (List ℕ)) → Spells c lines
+    → (d : CertificateParser) × (run next start lines ≡ Some d) × (whole d ≡ Some c)
 taken c lines h =
     let is = lines_of-spelled c lines h in
     (final c, ap (run next start) is.1 ∙ run-lines_of c is.0, ap Some (certificate_in-final c is.0))
 
-begun : (lines : List (List ℕ)) (d : Draft) → run next start lines ≡ Some d → (c : Certificate) × (more : List (List ℕ)) × Spells c (lines ++ more)
+begun : (lines : List (List ℕ)) (d : CertificateParser) → run next start lines ≡ Some d
+    → (c : Certificate) × (more : List (List ℕ)) × Spells c (lines ++ more)
 begun lines d ran =
     let reach = reached_from_start lines d ran in
-    let f = front reach.place d reach.knows in
+    let f = prefix reach.place d reach.invariant in
     (f.certificate, f.more, subst (Spells f.certificate) (f.all ∙ ap (λ ls. ls ++ f.more) reach.says) (spells-lines_of f.certificate f.is))
 
-done_is : (p : Part) (e : Draft) → Knows p e → is_done p ≡ true → IsCertificate (certificate_in e) × (said_at p e ≡ lines_of (certificate_in e))
+done_is : (p : Part) (e : CertificateParser) → ParserInvariant p e → is_done p ≡ true
+    → IsCertificate (certificate_in e) × (said_at p e ≡ lines_of (certificate_in e))
 done_is Title e h k = absurd cc
 done_is Station e h k = absurd cc
 done_is Begin e h k = absurd cc
@@ -46,14 +49,16 @@ done_is Heading e h k = absurd cc
 done_is Turn e h k = absurd cc
 done_is Slack e h k = absurd cc
 done_is Crossings e h k = absurd cc
-done_is Done e h k = (certificate_known Done e e.station h h.here.0, refl)
+done_is Done e h k = (certificate_from_invariant Done e e.station h h.here.0, refl)
 
-spelled : (lines : List (List ℕ)) (d : Draft) (c : Certificate) → run next start lines ≡ Some d → whole d ≡ Some c → Spells c lines
+spelled : (lines : List (List ℕ)) (d : CertificateParser) (c : Certificate) → run next start lines ≡ Some d
+    → whole d ≡ Some c → Spells c lines
 spelled lines d c ran is =
     let got = cond_some (is_done d.part) (certificate_in d) c is in
     let reach = reached_from_start lines d ran in
-    let done = done_is reach.place d reach.knows (subst (λ (p : Part). is_done p ≡ true) reach.knows.part got.0) in
-    subst (λ c. Spells c lines) got.1 (subst (Spells (certificate_in d)) (sym done.1 ∙ reach.says) (spells-lines_of (certificate_in d) done.0))
+    let done = done_is reach.place d reach.invariant (subst (λ (p : Part). is_done p ≡ true) reach.invariant.part got.0) in
+    subst (λ c. Spells c lines) got.1
+    (subst (Spells (certificate_in d)) (sym done.1 ∙ reach.says) (spells-lines_of (certificate_in d) done.0))
 
 free : (c : Certificate) (lines : List (List ℕ)) → Spells c lines → AreFree lines
 free c lines h = let is = lines_of-spelled c lines h in subst AreFree (sym is.1) (lines_free c is.0)
@@ -91,13 +96,14 @@ unfolding certificate_of
 certificate_of-text c h = by_line.text_reads Spells start next whole reader c (certificate_text c) (text_of-itself c h)
 
 -- the result of reading follows the grammar
-pub reads_given : (bytes : List ℕ) (result : Result Certificate CertFault) → Gives wants_memory (certificate_of bytes) result → Reads bytes result
+pub reads_given : (bytes : List ℕ) (result : Result Certificate CertFault)
+    → ReturnsUnless is_out_of_memory (certificate_of bytes) result → Reads bytes result
 unfolding certificate_of
 reads_given = by_line.reads_given Spells start next whole reader
 
-pub sound_given : (bytes : List ℕ) (result : Result Certificate CertFault) → Reads bytes result → IfOk result IsCertificate
-sound_given bytes (Ok c) h = (text_is c bytes h).0
-sound_given bytes (Err fault) h = tt
+pub valid_given : (bytes : List ℕ) (result : Result Certificate CertFault) → Reads bytes result → IfOk result IsCertificate
+valid_given bytes (Ok c) h = (text_is c bytes h).0
+valid_given bytes (Err fault) h = tt
 
 -- ---- the line
 

@@ -29,7 +29,8 @@ pieces_none bytes e =
     let all = ltb-false _ _ (unchosen (ltb (position_or_len is_lf bytes) (length bytes)) (position_or_len is_lf bytes) e) in
     slice_split_none is_lf bytes (λ k d lt. fails_before_first is_lf bytes k d (omega (arith, all, lt)))
 
-pub pieces_some : (bytes line rest after : List ℕ) (k : ℕ) → position is_lf bytes ≡ Some k → line ≡ take k bytes → rest ≡ drop k bytes → after ≡ drop 1 rest → pieces bytes ≡ line ∷ pieces after
+pub pieces_some : (bytes line rest after : List ℕ) (k : ℕ) → position is_lf bytes ≡ Some k → line ≡ take k bytes
+    → rest ≡ drop k bytes → after ≡ drop 1 rest → pieces bytes ≡ line ∷ pieces after
 pieces_some bytes line rest after k e l r a =
     let c = chosen (ltb (position_or_len is_lf bytes) (length bytes)) (position_or_len is_lf bytes) k e in
     rw (l, a, r, ← c.1, drop-drop) (slice_split_first is_lf bytes 0 (ltb-true _ _ c.0))

@@ -1,5 +1,24 @@
 -- Texts of lines, read line by line by a parser whose state each line changes or refuses (this project).
-use Rattle.std.specs.Prelude.{◌≡◌, ℕ, ◌+◌, ◌==◌, Bool, true, false, if◌then◌else◌, List, [], ◌∷◌, length, Option, None, Some, Result, Ok, Err}
+use Rattle.std.specs.Prelude.{
+  ◌≡◌,
+  ℕ,
+  ◌+◌,
+  ◌==◌,
+  Bool,
+  true,
+  false,
+  if◌then◌else◌,
+  List,
+  [],
+  ◌∷◌,
+  length,
+  Option,
+  None,
+  Some,
+  Result,
+  Ok,
+  Err,
+}
 use Rattle.std.specs.List.{slice_split}
 use Rattle.std.specs.Option.{ok_or}
 use Rattle.decimal_text.specs.Expected.{◌>>=◌}
@@ -38,9 +57,9 @@ placed line lines.NoMemory = NoMemory
 placed line lines.Bad = NotACertificate line
 
 -- true if memory ran out
-abbrev pub wants_memory : CertFault → Bool
-wants_memory NoMemory = true
-wants_memory (NotACertificate line) = false
+abbrev pub is_out_of_memory : CertFault → Bool
+is_out_of_memory NoMemory = true
+is_out_of_memory (NotACertificate line) = false
 
 -- ---- to the end
 

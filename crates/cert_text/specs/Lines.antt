@@ -39,14 +39,14 @@ unfoldable pub heading_of : TrackName → List ℕ
 heading_of track = codes "track " ++ track_word track
 
 -- the prefix of an event's line, before its level
-abbrev pub front_of : Kind → List ℕ
-front_of kind = codes "t " ++ kind_word kind ++ codes " "
+abbrev pub prefix_of : Kind → List ℕ
+prefix_of kind = codes "t " ++ kind_word kind ++ codes " "
 
 -- the line of a cell
 unfoldable pub cell_line_of : Cell → List ℕ
 cell_line_of (cells.Quiet n) = codes "q " ++ decimal n
 cell_line_of cells.Still = codes "s"
-cell_line_of (cells.Turn kind level) = front_of kind ++ signed_decimal level
+cell_line_of (cells.Turn kind level) = prefix_of kind ++ signed_decimal level
 
 -- the line after the tracks
 unfoldable pub last_line : List ℕ

@@ -29,7 +29,7 @@ pub record BeginsBy {C : Type 0} (spells : C → List (List ℕ) → Type 0) (by
   pub spelled : spells said (lines ++ more)
   pub counted : length lines ≡ count
   pub rest : List ℕ
-  pub front : bytes ≡ joined lines ++ rest
+  pub prefix : bytes ≡ joined lines ++ rest
 
 -- the first line with which, after those before it, no text begins; a last piece without LF is no line, and
 -- if the bytes end too early it is the missing line

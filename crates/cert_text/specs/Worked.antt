@@ -40,7 +40,8 @@ narrows = record {
 -- the lines of its text
 abbrev pub narrows_lines : List (List ℕ)
 narrows_lines =
-    codes "tide certificate 2" ∷ codes "station Narrows" ∷ codes "begin 2000-01-10T05:59Z" ∷ codes "end 2000-01-10T06:01Z" ∷ codes "mark -500000"
+    codes "tide certificate 2" ∷ codes "station Narrows" ∷ codes "begin 2000-01-10T05:59Z"
+    ∷ codes "end 2000-01-10T06:01Z" ∷ codes "mark -500000"
     ∷ codes "track turn" ∷ codes "s" ∷ codes "t low -1000000"
     ∷ codes "track slack" ∷ codes "t flood 0" ∷ codes "t ebb 99999999999999" ∷ codes "q 1024"
     ∷ codes "track mark" ∷ codes "t rise -99999999999999" ∷ codes "t fall 7" ∷ codes "done" ∷ []

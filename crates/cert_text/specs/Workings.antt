@@ -1,2 +1,2 @@
 pub mod LineReading
-pub mod Drafts
+pub mod CertificateParsing

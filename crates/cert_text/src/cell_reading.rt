@@ -1,12 +1,12 @@
 //! Cells read from the lines of a certificate.
 
 ghost use Rattle.std.specs.Prelude.{◌≡◌, ◌<◌, ◌^◌};
-ghost use Rattle.cert_text.specs.Workings.LineReading.{quiet_for, quiet_of, turn_of, cell_of};
+ghost use Rattle.cert_text.specs.Workings.LineReading.{quiet_for, quiet_of, event_cell_of, cell_of};
 
 use crate::lines::after;
 use crate::numbers::{LEVEL_DIGITS, number_of, size_of};
 use crate::track_name::TrackName;
-use crate::words::{first_kind, front_of, second_kind};
+use crate::words::{first_kind, prefix_of, second_kind};
 use curve_law::{Cell, Kind, MOST_MINUTES};
 
 /// Returns a quiet cell of `minutes`, or `None` unless they are 2 to 1,024.
@@ -30,11 +30,11 @@ fn quiet_of(line: &[u8]) -> Option<Cell>
 }
 
 /// Reads the line of an event of `kind`, such as `t low -1000000`; `None` if `line` isn't one.
-#[tactic(auto, unfolding(crate::specs::Workings::LineReading::turn_of))]
-fn turn_of(kind: Kind, line: &[u8]) -> Option<Cell>
-    ensures { result ≡ turn_of kind line.now }
+#[tactic(auto, unfolding(crate::specs::Workings::LineReading::event_cell_of))]
+fn event_cell_of(kind: Kind, line: &[u8]) -> Option<Cell>
+    ensures { result ≡ event_cell_of kind line.now }
 {
-    let level = number_of(after(front_of(kind).as_bytes(), line)?, LEVEL_DIGITS)?;
+    let level = number_of(after(prefix_of(kind).as_bytes(), line)?, LEVEL_DIGITS)?;
     Some(Cell::Turn(kind, level as i64))
 }
 
@@ -49,8 +49,8 @@ pub fn cell_of(track: TrackName, line: &[u8]) -> Option<Cell>
     if let Some(cell) = quiet_of(line) {
         return Some(cell);
     }
-    if let Some(cell) = turn_of(first_kind(track), line) {
+    if let Some(cell) = event_cell_of(first_kind(track), line) {
         return Some(cell);
     }
-    turn_of(second_kind(track), line)
+    event_cell_of(second_kind(track), line)
 }

@@ -6,7 +6,17 @@ ghost use Rattle.cert_text.specs.declared.certificate.Certificate.{Certificate};
 ghost use Rattle.cert_text.specs.declared.fault.CertFault.{CertFault};
 ghost use Rattle.cert_text.specs.declared.track_name.TrackName.{TrackName};
 ghost use Rattle.cert_text.specs.Certificates.{IsCell, IsCertificate, HasUsualLevel, HasUsualLevels, cell_count};
-ghost use Rattle.cert_text.specs.Lines.{cell_line_of, last_line, head_lines_of, track_lines_of, lines_if_there, lines_of, ended, joined, certificate_text};
+ghost use Rattle.cert_text.specs.Lines.{
+  cell_line_of,
+  last_line,
+  head_lines_of,
+  track_lines_of,
+  lines_if_there,
+  lines_of,
+  ended,
+  joined,
+  certificate_text,
+};
 ghost use Rattle.cert_text.specs.Spelling.{Spells, IsTextOf, IsFaultLine, Reads};
 ghost use Rattle.cert_text.specs.Readings.{certificate_of};
 
@@ -31,7 +41,7 @@ pub fn texts_come_in_parts()
         ++ joined (lines_if_there TrackName.Slack c.tracks.slack)
         ++ joined (lines_if_there TrackName.Mark c.tracks.mark) ++ ended last_line }
     ensures cell { (cell : Cell) → IsCell cell → length (ended (cell_line_of cell)) ≤ 24 }
-    ensures short { (c : Certificate) → IsCertificate c →
+    ensures length_bound { (c : Certificate) → IsCertificate c →
         length (certificate_text c) ≤ 536 + 24 * cell_count c }
 {}
 
@@ -40,7 +50,7 @@ pub fn texts_come_in_parts()
 /// 333,000,000 bytes.
 pub fn certificates_are_short()
     ensures cell { (cell : Cell) → IsCell cell → HasUsualLevel cell → length (ended (cell_line_of cell)) ≤ 21 }
-    ensures short { (c : Certificate) → IsCertificate c → HasUsualLevels c →
+    ensures length_bound { (c : Certificate) → IsCertificate c → HasUsualLevels c →
         length (certificate_text c) ≤ 536 + 21 * cell_count c }
     ensures fits { (c : Certificate) → IsCertificate c → HasUsualLevels c → cell_count c ≤ 15819840 →
         length (certificate_text c) < 333000000 }

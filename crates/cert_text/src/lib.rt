@@ -9,7 +9,7 @@
 mod by_line;
 mod cell_reading;
 mod certificate;
-mod draft;
+mod certificate_parser;
 mod fault;
 mod item_list;
 mod laws;
@@ -24,7 +24,7 @@ mod words;
 mod worked;
 mod writing;
 
-pub use by_line::{LineDraft, read_lines};
+pub use by_line::{LineParser, read_lines};
 pub use certificate::Certificate;
 pub use fault::{CertFault, LineFault};
 pub use item_list::ItemList;

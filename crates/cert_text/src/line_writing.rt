@@ -8,7 +8,7 @@ ghost use Rattle.cert_text.specs.Certificates.{IsCell, IsMark};
 ghost use Rattle.cert_text.specs.Lines.{title_of, begin_line_of, end_line_of, mark_line_of, heading_of, cell_line_of, last_line, ended};
 
 use crate::track_name::TrackName;
-use crate::words::front_of;
+use crate::words::prefix_of;
 use arrayvec::ArrayString;
 use curve_law::Cell;
 use itoa::Buffer;
@@ -19,7 +19,7 @@ fn push_number(number: i64, out: &mut ArrayString<24>)
     requires size { unsigned_abs number ≤ 99999999999999 }
     requires room { array_string_len out.old + 15 ≤ 24 }
     ensures bytes { out.new.bytes ≡ out.old.bytes ++ signed_decimal number }
-    ensures short { array_string_len out.new ≤ array_string_len out.old + 15 }
+    ensures length_bound { array_string_len out.new ≤ array_string_len out.old + 15 }
 {
     let mut buffer = Buffer::new();
     out.push_str(buffer.format(number));
@@ -41,7 +41,7 @@ fn push_moment(m: i64, out: &mut ArrayString<24>)
 #[tactic(auto, unfolding(crate::specs::Lines::title_of))]
 fn title_of(version: u32) -> &'static str
     ensures text { result.now ≡ title_of version }
-    ensures short { length result.now ≤ 18 }
+    ensures length_bound { length result.now ≤ 18 }
 {
     if version == 1 {
         "tide certificate 1"
@@ -90,7 +90,7 @@ fn push_mark(mark: Option<i64>, out: &mut ArrayString<24>)
     requires mark { IfSome mark IsMark }
     requires empty { out.old.bytes ≡ [] }
     ensures bytes { out.new.bytes ≡ mark_line_of mark }
-    ensures short { array_string_len out.new ≤ 20 }
+    ensures length_bound { array_string_len out.new ≤ 20 }
 {
     match mark {
         None => out.push_str("mark none"),
@@ -128,7 +128,7 @@ fn push_cell(cell: Cell, out: &mut ArrayString<24>)
     requires cell { IsCell cell }
     requires empty { out.old.bytes ≡ [] }
     ensures bytes { out.new.bytes ≡ cell_line_of cell }
-    ensures short { array_string_len out.new ≤ 23 }
+    ensures length_bound { array_string_len out.new ≤ 23 }
 {
     match cell {
         Cell::Quiet(minutes) => {
@@ -137,7 +137,7 @@ fn push_cell(cell: Cell, out: &mut ArrayString<24>)
         }
         Cell::Still => out.push('s'),
         Cell::Turn(kind, level) => {
-            out.push_str(front_of(kind));
+            out.push_str(prefix_of(kind));
             push_number(level, out);
         }
     }

@@ -1,15 +1,15 @@
 //! Certificates read from text.
 
 ghost use Rattle.std.specs.Prelude.{◌≡◌, ◌≤◌, length, IfOk};
-ghost use Rattle.decimal_text.specs.Expected.{Gives};
+ghost use Rattle.decimal_text.specs.Expected.{ReturnsUnless};
 ghost use Rattle.cert_text.specs.Certificates.{IsCertificate};
 ghost use Rattle.cert_text.specs.Spelling.{Reads};
-ghost use Rattle.cert_text.specs.Readings.{certificate_of, wants_memory};
+ghost use Rattle.cert_text.specs.Readings.{certificate_of, is_out_of_memory};
 ghost use Rattle.decimal_text.specs.declared.limits.TheConstants.{MOST_BYTES};
 
 use crate::by_line::read_lines;
 use crate::certificate::Certificate;
-use crate::draft::Draft;
+use crate::certificate_parser::CertificateParser;
 use crate::fault::CertFault;
 use std::alloc::Global;
 
@@ -29,9 +29,9 @@ use std::alloc::Global;
 /// ```
 pub fn read_certificate(alloc: Global, bytes: &[u8]) -> Result<Certificate, CertFault>
     requires { length bytes.now ≤ MOST_BYTES }
-    ensures exact { Gives wants_memory (certificate_of bytes.now) result }
+    ensures exact { ReturnsUnless is_out_of_memory (certificate_of bytes.now) result }
     ensures reads { Reads bytes.now result }
-    ensures sound { IfOk result IsCertificate }
+    ensures valid { IfOk result IsCertificate }
 {
-    read_lines(alloc, Draft::new(alloc), bytes)
+    read_lines(alloc, CertificateParser::new(alloc), bytes)
 }

@@ -19,7 +19,7 @@ impl TrackName {
     #[tactic(auto, unfolding(crate::specs::Tracks::track_word))]
     pub fn word(self) -> &'static str
         ensures text { result.now ≡ track_word self }
-        ensures short { length result.now ≤ 5 }
+        ensures length_bound { length result.now ≤ 5 }
     {
         match self {
             TrackName::Turn => "turn",

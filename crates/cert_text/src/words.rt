@@ -2,7 +2,7 @@
 
 ghost use Rattle.std.specs.Prelude.{◌≡◌, ◌≤◌, length};
 ghost use Rattle.cert_text.specs.Tracks.{track_of};
-ghost use Rattle.cert_text.specs.Lines.{front_of};
+ghost use Rattle.cert_text.specs.Lines.{prefix_of};
 ghost use Rattle.cert_text.specs.Workings.LineReading.{first_kind, second_kind};
 
 use crate::track_name::TrackName;
@@ -23,9 +23,9 @@ pub fn track_of(kind: Kind) -> TrackName
 
 /// Returns the prefix of an event's line, up to its level, such as `t low `.
 #[tactic(auto, unfolding(crate::specs::Tracks::kind_word))]
-pub(crate) fn front_of(kind: Kind) -> &'static str
-    ensures text { result.now ≡ front_of kind }
-    ensures short { length result.now ≤ 8 }
+pub(crate) fn prefix_of(kind: Kind) -> &'static str
+    ensures text { result.now ≡ prefix_of kind }
+    ensures length_bound { length result.now ≤ 8 }
 {
     match kind {
         Kind::High => "t high ",

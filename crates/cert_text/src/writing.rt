@@ -3,7 +3,16 @@
 ghost use Rattle.std.specs.Prelude.{◌≡◌, ◌++◌, [], ◌∷◌, All, IfOk, IfSome, OnOk};
 ghost use Rattle.cert_text.specs.Certificates.{IsCertificate, IsCellOf};
 ghost use Rattle.zone_time.specs.Moments.{IsMoment};
-ghost use Rattle.cert_text.specs.Lines.{station_line_of, station_lines_of, head_lines_of, track_lines_of, lines_if_there, certificate_text, ended, joined};
+ghost use Rattle.cert_text.specs.Lines.{
+  station_line_of,
+  station_lines_of,
+  head_lines_of,
+  track_lines_of,
+  lines_if_there,
+  certificate_text,
+  ended,
+  joined,
+};
 
 use crate::certificate::Certificate;
 use crate::line_writing::{

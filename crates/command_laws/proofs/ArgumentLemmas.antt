@@ -26,7 +26,7 @@ use Rattle.question.specs.Words.{pairs_of}
 use Rattle.report_sheets.specs.Pages.{missing_of}
 use Rattle.report_sheets.specs.Sheets.{SheetMeaning}
 use Rattle.station_span.proofs.SiteLemmas.{then_ok}
-use Rattle.tide_desk.specs.Answers.{asked_of, known_in, wanted_by}
+use Rattle.tide_desk.specs.Answers.{question_of_words, found_in, wanted_by}
 use Rattle.command_laws.specs.Checks.{TakesItsArguments}
 use Rattle.command_laws.proofs.RequestLemmas.{got_ok, words_ask}
 
@@ -77,7 +77,10 @@ keys_agree b =
                   refl,
                   inl (
                     refl,
-                    inr (and_false (b key.Zone), (and_false (b key.Layout), (and_false (b key.Seed), (and_false (b key.Port), (and_false (b key.Sheets), tt))))),
+                    inr (
+                      and_false (b key.Zone),
+                      (and_false (b key.Layout), (and_false (b key.Seed), (and_false (b key.Port), (and_false (b key.Sheets), tt)))),
+                    ),
                   ),
                 ),
               ),
@@ -89,12 +92,14 @@ keys_agree b =
 
 key_too : (name : List ℕ) (k : Key) → key_named Line Certify name ≡ Some k → key_named Line Predict name ≡ Some k
 key_too name k is =
-    found_too (λ k. bytes_eq (name_of k) name && has_key Line Certify k) (λ k. bytes_eq (name_of k) name && has_key Line Predict k) all_keys k
+    found_too (λ k. bytes_eq (name_of k) name && has_key Line Certify k)
+    (λ k. bytes_eq (name_of k) name && has_key Line Predict k) all_keys k
     (keys_agree (λ k. bytes_eq (name_of k) name)) is
 
 -- ---- the key has the same value
 
-item_too : (place : ℕ) (item : Item) (said more : Said) → with_item Line Certify place item said ≡ Ok more → with_item Line Predict place item said ≡ Ok more
+item_too : (place : ℕ) (item : Item) (said more : Said) → with_item Line Certify place item said ≡ Ok more
+    → with_item Line Predict place item said ≡ Ok more
 unfolding with_item
 item_too place item said more ok =
     let text = then_ok (ok_or item.value (NotAPair place)) _ more ok in
@@ -104,7 +109,8 @@ item_too place item said more ok =
     let key = key_too item.key new.0 (got_ok (key_named Line Certify item.key) (UnknownKey place) new.0 new.1) in
     rw (text.1, key, once.1, good.1) good.2
 
-items_too : (place : ℕ) (items : List Item) (said more : Said) → with_items Line Certify place items said ≡ Ok more → with_items Line Predict place items said ≡ Ok more
+items_too : (place : ℕ) (items : List Item) (said more : Said) → with_items Line Certify place items said ≡ Ok more
+    → with_items Line Predict place items said ≡ Ok more
 unfolding with_items
 items_too place [] said more ok = ok
 items_too place (item ∷ items) said more ok =
@@ -124,7 +130,8 @@ found_passes {X} test (y ∷ ys) x is =
       | false ↦ λ fails later. found_passes test ys x later
     ] refl is
 
-key_unsaid : (command : Command) (k new : Key) (name text : List ℕ) (said : Said) → Lacks command k → key_named Line command name ≡ Some new → said k ≡ None → also new text said k ≡ None
+key_unsaid : (command : Command) (k new : Key) (name text : List ℕ) (said : Said) → Lacks command k
+    → key_named Line command name ≡ Some new → said k ≡ None → also new text said k ≡ None
 key_unsaid command k new name text said lacks found none = by_test (bytes_eq (name_of k) (name_of new))
     (λ same.
     let passes = found_passes (λ k. bytes_eq (name_of k) name && has_key Line command k) all_keys new found in
@@ -134,7 +141,8 @@ key_unsaid command k new name text said lacks found none = by_test (bytes_eq (na
     absurd cc)
     (λ other. rw other none)
 
-item_unsaid : (command : Command) (k : Key) (place : ℕ) (item : Item) (said more : Said) → Lacks command k → with_item Line command place item said ≡ Ok more → said k ≡ None → more k ≡ None
+item_unsaid : (command : Command) (k : Key) (place : ℕ) (item : Item) (said more : Said) → Lacks command k
+    → with_item Line command place item said ≡ Ok more → said k ≡ None → more k ≡ None
 unfolding with_item
 item_unsaid command k place item said more lacks ok none =
     let text = then_ok (ok_or item.value (NotAPair place)) _ more ok in
@@ -145,7 +153,8 @@ item_unsaid command k place item said more lacks ok none =
     let found = got_ok (key_named Line command item.key) (UnknownKey place) new.0 new.1 in
     subst (λ (s : Said). s k ≡ None) same (key_unsaid command k new.0 item.key text.0 said lacks found none)
 
-items_unsaid : (command : Command) (k : Key) (items : List Item) (place : ℕ) (said more : Said) → Lacks command k → with_items Line command place items said ≡ Ok more → said k ≡ None → more k ≡ None
+items_unsaid : (command : Command) (k : Key) (items : List Item) (place : ℕ) (said more : Said) → Lacks command k
+    → with_items Line command place items said ≡ Ok more → said k ≡ None → more k ≡ None
 unfolding with_items
 items_unsaid command k [] place said more lacks ok none = let same : said ≡ more = cc in subst (λ (s : Said). s k ≡ None) same none
 items_unsaid command k (item ∷ items) place said more lacks ok none =
@@ -154,19 +163,32 @@ items_unsaid command k (item ∷ items) place said more lacks ok none =
 
 -- ---- the request
 
-same_question : (said : Said) → said key.Zone ≡ None → said key.Layout ≡ None → asked Line Predict said ≡ record (asked Line Certify said) { command = Predict; zone = Utc; layout = Plain }
+same_question : (said : Said) → said key.Zone ≡ None → said key.Layout ≡ None
+    → asked Line Predict said ≡ record (asked Line Certify said) { command = Predict; zone = Utc; layout = Plain }
 same_question said zone layout =
-    let utc : unwrap_or (option_and_then (zone_of Line) (said key.Zone)) Utc ≡ Utc = ap (λ (text : Option (List ℕ)). unwrap_or (option_and_then (zone_of Line) text) Utc) zone in
-    let plain : unwrap_or (option_and_then layout_of (said key.Layout)) Plain ≡ Plain = ap (λ (text : Option (List ℕ)). unwrap_or (option_and_then layout_of text) Plain) layout in
-    ap (λ (z : ZoneWord). record (asked Line Certify said) { command = Predict; zone = z; layout = unwrap_or (option_and_then layout_of (said key.Layout)) Plain }) utc
+    let utc : unwrap_or (option_and_then (zone_of Line) (said key.Zone)) Utc ≡ Utc =
+    ap (λ (text : Option (List ℕ)). unwrap_or (option_and_then (zone_of Line) text) Utc) zone in
+    let plain : unwrap_or (option_and_then layout_of (said key.Layout)) Plain ≡ Plain =
+    ap (λ (text : Option (List ℕ)). unwrap_or (option_and_then layout_of text) Plain) layout in
+    ap (λ (z : ZoneWord). record (asked Line Certify said) {
+      command = Predict;
+      zone = z;
+      layout = unwrap_or (option_and_then layout_of (said key.Layout)) Plain;
+    }) utc
     ∙ ap (λ (l : Layout). record (asked Line Certify said) { command = Predict; zone = Utc; layout = l }) plain
 
-predict_asks : (arguments : List (List ℕ)) (said : Said) → with_items Line Predict 1 (pairs_of (codes "certify" ∷ arguments)).items nothing_said ≡ Ok said → complete (missing_key Line Predict said) ≡ Ok tt → question_of (pairs_of (codes "predict" ∷ arguments)) ≡ Ok (asked Line Predict said)
+predict_asks : (arguments : List (List ℕ)) (said : Said)
+    → with_items Line Predict 1 (pairs_of (codes "certify" ∷ arguments)).items nothing_said ≡ Ok said
+    → complete (missing_key Line Predict said) ≡ Ok tt
+    → question_of (pairs_of (codes "predict" ∷ arguments)) ≡ Ok (asked Line Predict said)
 unfolding question_of
 predict_asks arguments said items whole = rw (items, whole) refl
 
-asks_with : (sheets : List SheetMeaning) (arguments : List (List ℕ)) (question : Question) → question_of (pairs_of (codes "predict" ∷ arguments)) ≡ Ok question → known_in (wanted_by question) (missing_of sheets (wanted_by question)) ≡ Ok tt → asked_of sheets (codes "predict" ∷ arguments) ≡ Ok question
-unfolding asked_of
+asks_with : (sheets : List SheetMeaning) (arguments : List (List ℕ)) (question : Question)
+    → question_of (pairs_of (codes "predict" ∷ arguments)) ≡ Ok question
+    → found_in (wanted_by question) (missing_of sheets (wanted_by question)) ≡ Ok tt
+    → question_of_words sheets (codes "predict" ∷ arguments) ≡ Ok question
+unfolding question_of_words
 asks_with sheets arguments question is known = rw (is, known) refl
 
 certify_named : (command : Command) → command_of Line (Some (codes "certify")) ≡ Ok command → command ≡ Certify
@@ -188,7 +210,8 @@ takes_its_arguments sheets arguments certify ok =
     let asks = predict_asks arguments said (items_too 1 (pairs_of (codes "certify" ∷ arguments)).items nothing_said said items) whole in
     asks_with sheets arguments (record certify { command = Predict; zone = Utc; layout = Plain }) (asks ∙ ap Ok question) was.known
 
-pub certify_asked : (sheets : List SheetMeaning) (arguments : List (List ℕ)) (certify : Question) → asked_of sheets (codes "certify" ∷ arguments) ≡ Ok certify → certify.command ≡ Certify
+pub certify_asked : (sheets : List SheetMeaning) (arguments : List (List ℕ)) (certify : Question)
+    → question_of_words sheets (codes "certify" ∷ arguments) ≡ Ok certify → certify.command ≡ Certify
 certify_asked sheets arguments certify ok =
     let was = words_ask sheets (codes "certify" ∷ arguments) certify ok in
     sym (ap (λ (q : Question). q.command) was.is) ∙ certify_named was.command was.named

@@ -25,7 +25,7 @@ use Rattle.station_table.specs.Bases.{is_equal}
 use Rattle.tide_answer.specs.declared.given.Given.{Given}
 use Rattle.tide_answer.specs.declared.text.Answer.{Answer}
 use Rattle.tide_answer.specs.Answers.{answered, asks_name, heights, named_by, on_clock, predicted, row_count, rows_in, rows_of, text_alone, text_of_events, text_over}
-use Rattle.tide_answer.specs.Asking.{asked_from}
+use Rattle.tide_answer.specs.Asking.{asked_from_minute}
 use Rattle.tide_fault.specs.declared.refusal.Refusal.TheVariants.{NoStation}
 use Rattle.zone_time.specs.declared.zone.Zone.{Zone}
 use Rattle.zone_time.specs.Zones.{local_in}
@@ -37,13 +37,15 @@ use Rattle.command_laws.proofs.TurnLemmas.{adds, first_turn}
 -- ---- the level of a minute alone
 
 -- a minute of the file's years
-minute_between : (book : Book) (begin minute end : ℤ) → has_minute book begin ≡ true → has_minute book end ≡ true → begin ≤ℤ minute → minute ≤ℤ end → has_minute book minute ≡ true
+minute_between : (book : Book) (begin minute end : ℤ) → has_minute book begin ≡ true → has_minute book end ≡ true
+    → begin ≤ℤ minute → minute ≤ℤ end → has_minute book minute ≡ true
 minute_between book begin minute end first last from until = grind (arith, ints)
 
 not_backward : (now : ℤ) → int_lt now now ≡ false
 not_backward now = grind (arith, ints)
 
-level_span : (book : Book) (basis : Basis) (now : ℤ) → IsTrue (is_equal basis) → has_minute book (now -ℤ basis.high.add) ≡ true → span_in Levels book basis now now ≡ Ok tt
+level_span : (book : Book) (basis : Basis) (now : ℤ) → IsTrue (is_equal basis)
+    → has_minute book (now -ℤ basis.high.add) ≡ true → span_in Levels book basis now now ≡ Ok tt
 unfolding span_in lacks_minute
 level_span book basis now equal has = rw (not_backward now, equal, has) refl
 
@@ -51,9 +53,11 @@ level_length : (now : ℤ) → length_in now now ≡ Ok tt
 unfolding length_in
 level_length now = let none : now -ℤ now ≡ pos 0 = omega (arith, ints) in rw none refl
 
-level_site : (book : Book) (table : List Offsets) (name : List ℕ) (now : ℤ) (site : Site) → site_in Events book table name (asked_from now) ≡ Ok site → IsTrue (is_equal site.basis) → site_in Levels book table name (record { begin = now; end = now; mark = None }) ≡ Ok site
+level_site : (book : Book) (table : List Offsets) (name : List ℕ) (now : ℤ) (site : Site)
+    → site_in Events book table name (asked_from_minute now) ≡ Ok site → IsTrue (is_equal site.basis)
+    → site_in Levels book table name (record { begin = now; end = now; mark = None }) ≡ Ok site
 level_site book table name now site ok equal =
-    let was = has_passed Events book table name (asked_from now) site ok in
+    let was = has_passed Events book table name (asked_from_minute now) site ok in
     let reaches = reaches_span book site.basis now (now +ℤ pos 1440) was.curve.span in
     let least = (adds site.basis).0 in
     let greatest = (adds site.basis).1 in
@@ -61,7 +65,9 @@ level_site book table name now site ok equal =
     let inside = minute_between book _ source _ reaches.begins reaches.ends (omega (arith, ints, greatest)) (omega (arith, ints, least)) in
     let asked : Asked = record { begin = now; end = now; mark = None } in
     found_by Levels book table name asked site.basis site.station (rw was.basis refl) was.station
-    ∙ found_whole Levels book site asked was.units was.tide (record { unit = was.curve.unit; span = level_span book site.basis now equal inside; curve = was.curve.curve }) (level_length now) refl
+    ∙ found_whole Levels book site asked was.units was.tide
+    (record { unit = was.curve.unit; span = level_span book site.basis now equal inside; curve = was.curve.curve })
+    (level_length now) refl
 
 one_row : (now step : ℤ) → pos 1 ≤ℤ step → row_count now now step ≡ 1
 one_row now (pos (suc step)) some = let none : now -ℤ now ≡ pos 0 = omega (arith, ints) in rw none (omega arith)
@@ -72,27 +78,42 @@ few_rows : (now step : ℤ) → pos 1 ≤ℤ step → rows_in now now step ≡ O
 unfolding rows_in
 few_rows now step some = rw (one_row now step some) refl
 
-row_alone : (book : Book) (site : Site) (now step : ℤ) → pos 1 ≤ℤ step → rows_of book site now now step ≡ record { minute = now; level = level_at book site now } ∷ []
+row_alone : (book : Book) (site : Site) (now step : ℤ) → pos 1 ≤ℤ step
+    → rows_of book site now now step ≡ record { minute = now; level = level_at book site now } ∷ []
 row_alone book site now step some =
     let at : now +ℤ (step *ℤ pos 0) ≡ now = omega (arith, ints) in
     rw (one_row now step some) (ap (λ (m : ℤ). record { minute = m; level = level_at book site m } ∷ []) at)
 
-level_text : (book : Book) (table : List Offsets) (name : List ℕ) (now step : ℤ) (site : Site) (zone : Zone) → site_in Events book table name (asked_from now) ≡ Ok site → level_in site.basis ≡ Ok tt → pos 1 ≤ℤ step → heights book table name (record { begin = now; end = now; mark = None }) step Plain zone ≡ Ok (text_alone (plain_heights_of name site.station.units (record { minute = now; level = level_at book site now } ∷ []) zone))
+level_text : (book : Book) (table : List Offsets) (name : List ℕ) (now step : ℤ) (site : Site) (zone : Zone)
+    → site_in Events book table name (asked_from_minute now) ≡ Ok site → level_in site.basis ≡ Ok tt → pos 1 ≤ℤ step
+    → heights book table name (record { begin = now; end = now; mark = None }) step Plain zone
+    ≡ Ok (text_alone (plain_heights_of name site.station.units (record { minute = now; level = level_at book site now } ∷ []) zone))
 unfolding heights
 level_text book table name now step site zone ok level some =
-    rw (level_site book table name now site ok (level_equal site.basis level), level, few_rows now step some, row_alone book site now step some) refl
+    rw (
+      level_site book table name now site ok (level_equal site.basis level),
+      level,
+      few_rows now step some,
+      row_alone book site now step some,
+    ) refl
 
-height_text : (name : List ℕ) (units : Units) (row : Row) (zone : Zone) → plain_heights_of name units (row ∷ []) zone ≡ name ++ codes "\n" ++ (height_line_of (local_in zone row.minute) row.level units ++ codes "\n")
+height_text : (name : List ℕ) (units : Units) (row : Row) (zone : Zone) → plain_heights_of name units (row ∷ []) zone
+    ≡ name ++ codes "\n" ++ (height_line_of (local_in zone row.minute) row.level units ++ codes "\n")
 unfolding plain_heights_of
 height_text name units row zone = ap (λ text. name ++ codes "\n" ++ text) (append-nil (row_line_in zone units row))
 
 -- ---- the law
 
-day_text : (book : Book) (table : List Offsets) (name : List ℕ) (now : ℤ) (site : Site) (zone : Zone) → site_in Events book table name (asked_from now) ≡ Ok site → predicted book table name (asked_from now) Plain zone ≡ Ok (text_of_events book site (asked_from now) (name ++ codes "\n" ++ flat_map (event_line_in zone site.station.units) (events_of book site (asked_from now))))
+day_text : (book : Book) (table : List Offsets) (name : List ℕ) (now : ℤ) (site : Site) (zone : Zone)
+    → site_in Events book table name (asked_from_minute now) ≡ Ok site
+    → predicted book table name (asked_from_minute now) Plain zone
+    ≡ Ok (text_of_events book site (asked_from_minute now) (name ++ codes "\n"
+    ++ flat_map (event_line_in zone site.station.units) (events_of book site (asked_from_minute now))))
 unfolding predicted plain_events_of
 day_text book table name now site zone ok = rw ok refl
 
-answers_clock : (book : Book) (table : List Offsets) (question : Question) (given : Given) → question.command ≡ Clock → answered book table question given ≡ asks_name question (λ name. on_clock book table name given.now given.zone)
+answers_clock : (book : Book) (table : List Offsets) (question : Question) (given : Given) → question.command ≡ Clock
+    → answered book table question given ≡ asks_name question (λ name. on_clock book table name given.now given.zone)
 unfolding answered
 answers_clock book table question given is = rw is refl
 
@@ -103,16 +124,19 @@ record WasShown (book : Book) (table : List Offsets) (question : Question) (give
   pub name : List ℕ
   pub site : Site
   pub named : question.station ≡ Some name
-  pub found : site_in Events book table name (asked_from given.now) ≡ Ok site
+  pub found : site_in Events book table name (asked_from_minute given.now) ≡ Ok site
   pub level : level_in site.basis ≡ Ok tt
-  pub answer_is : answer ≡ text_of_events book site (asked_from given.now)
-      (clock_text_of name site.station.units given.now (level_at book site given.now) (is_rising_at book site given.now) (events_of book site (asked_from given.now)) given.zone)
+  pub answer_is : answer ≡ text_of_events book site (asked_from_minute given.now)
+      (clock_text_of name site.station.units given.now (level_at book site given.now) (is_rising_at book site given.now)
+      (events_of book site (asked_from_minute given.now)) given.zone)
 
-was_shown : (book : Book) (table : List Offsets) (question : Question) (given : Given) (answer : Answer) → asks_name question (λ name. on_clock book table name given.now given.zone) ≡ Ok answer → WasShown book table question given answer
+was_shown : (book : Book) (table : List Offsets) (question : Question) (given : Given) (answer : Answer)
+    → asks_name question (λ name. on_clock book table name given.now given.zone) ≡ Ok answer
+    → WasShown book table question given answer
 unfolding asks_name on_clock
 was_shown book table question given answer ok =
     let name = then_ok (named_by question.station) _ answer ok in
-    let site = then_ok (site_in Events book table name.0 (asked_from given.now)) _ answer name.2 in
+    let site = then_ok (site_in Events book table name.0 (asked_from_minute given.now)) _ answer name.2 in
     let level = then_ok (level_in site.0.basis) _ answer site.2 in
     record {
       name = name.0;
@@ -123,19 +147,31 @@ was_shown book table question given answer ok =
       answer_is = (let last = level.2 in cc);
     }
 
-day_answer : (book : Book) (table : List Offsets) (clock : Question) (given : Given) (answer : Answer) (was : WasShown book table clock given answer) (predict : Question) (there : Given) → AsksDay clock given.now predict → there.zone ≡ given.zone → answered book table predict there ≡ Ok (record answer { text = was.name ++ codes "\n" ++ flat_map (event_line_in given.zone was.site.station.units) (events_of book was.site (asked_from given.now)) })
+day_answer : (book : Book) (table : List Offsets) (clock : Question) (given : Given) (answer : Answer)
+    (was : WasShown book table clock given answer) (predict : Question) (there : Given)
+    → AsksDay clock given.now predict → there.zone ≡ given.zone
+    → answered book table predict there ≡ Ok (record answer {
+      text = was.name ++ codes "\n" ++ flat_map (event_line_in given.zone was.site.station.units)
+          (events_of book was.site (asked_from_minute given.now));
+    })
 day_answer book table clock given answer was predict there asks zone =
-    let text = was.name ++ codes "\n" ++ flat_map (event_line_in given.zone was.site.station.units) (events_of book was.site (asked_from given.now)) in
+    let text = was.name ++ codes "\n" ++ flat_map (event_line_in given.zone was.site.station.units)
+    (events_of book was.site (asked_from_minute given.now)) in
     answers_predict book table predict there asks.command
-    ∙ asks_of predict (text_over Predict book table predict there.zone) was.name given.now (given.now +ℤ pos 1440) None (asks.station ∙ was.named) asks.begin asks.end asks.no_mark
+    ∙ asks_of predict (text_over Predict book table predict there.zone) was.name given.now (given.now +ℤ pos 1440) None
+    (asks.station ∙ was.named) asks.begin asks.end asks.no_mark
     ∙ rw (asks.layout, zone) (day_text book table was.name given.now was.site given.zone was.found)
     ∙ ap (λ (a : Answer). Ok (record a { text = text })) (sym was.answer_is)
 
-level_answer : (book : Book) (table : List Offsets) (clock : Question) (given : Given) (answer : Answer) (was : WasShown book table clock given answer) (levels : Question) (there : Given) → AsksLevel clock given.now levels → there.zone ≡ given.zone → answered book table levels there ≡ Ok (text_alone (was.name ++ codes "\n" ++ (clock_line book was.site given.now given.zone ++ codes "\n")))
+level_answer : (book : Book) (table : List Offsets) (clock : Question) (given : Given) (answer : Answer)
+    (was : WasShown book table clock given answer) (levels : Question) (there : Given)
+    → AsksLevel clock given.now levels → there.zone ≡ given.zone → answered book table levels there
+    ≡ Ok (text_alone (was.name ++ codes "\n" ++ (clock_line book was.site given.now given.zone ++ codes "\n")))
 level_answer book table clock given answer was levels there asks zone =
     let row : Row = record { minute = given.now; level = level_at book was.site given.now } in
     answers_heights book table levels there asks.command
-    ∙ asks_of levels (text_over Heights book table levels there.zone) was.name given.now given.now None (asks.station ∙ was.named) asks.begin asks.end asks.no_mark
+    ∙ asks_of levels (text_over Heights book table levels there.zone) was.name given.now given.now None
+    (asks.station ∙ was.named) asks.begin asks.end asks.no_mark
     ∙ rw (asks.layout, zone) (level_text book table was.name given.now levels.step was.site given.zone was.found was.level asks.step)
     ∙ ap (λ text. Ok (text_alone text)) (height_text was.name was.site.station.units row given.zone)
 
@@ -145,7 +181,7 @@ clock_shows book table clock given answer command ok =
     let was = was_shown book table clock given answer (sym (answers_clock book table clock given command) ∙ ok) in
     let site = was.site in
     let now = given.now in
-    let events = events_of book site (asked_from now) in
+    let events = events_of book site (asked_from_minute now) in
     record {
       name = was.name;
       line = clock_line book site now given.zone;
@@ -157,7 +193,8 @@ clock_shows book table clock given answer command ok =
       day = day_answer book table clock given answer was;
       level = level_answer book table clock given answer was;
       events_are = λ predict asks.
-          lists_of book table predict was.name now (now +ℤ pos 1440) None site (asks.station ∙ was.named) asks.begin asks.end asks.no_mark was.found;
+          lists_of book table predict was.name now (now +ℤ pos 1440) None site
+          (asks.station ∙ was.named) asks.begin asks.end asks.no_mark was.found;
       lines_are = refl;
-      first_turn = first_turn book site (asked_from now) (level_equal site.basis was.level) (omega (arith, ints));
+      first_turn = first_turn book site (asked_from_minute now) (level_equal site.basis was.level) (omega (arith, ints));
     }

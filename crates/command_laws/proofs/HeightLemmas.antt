@@ -22,19 +22,24 @@ use Rattle.question.specs.declared.question.Layout.{Layout}
 use Rattle.command_laws.specs.Heights.{HeightsAreLevels}
 use Rattle.command_laws.proofs.RequestLemmas.{was_found, span_named, step_asked}
 
-pub one_list : (book : Book) (site : Site) (begin end step : ℤ) → rows_of book site begin end step ≡ rows_over (level_at book site) begin end step
+pub one_list : (book : Book) (site : Site) (begin end step : ℤ)
+    → rows_of book site begin end step ≡ rows_over (level_at book site) begin end step
 one_list book site begin end step = refl
 
 abbrev pub RowsAreLevels : Type 0
-RowsAreLevels = (level : ℤ → ℤ) (begin end step : ℤ) → begin ≤ℤ end → pos 1 ≤ℤ step → (index : ℕ) → slice_get (rows_over level begin end step) index ≡ row_until level begin end step index
+RowsAreLevels = (level : ℤ → ℤ) (begin end step : ℤ) → begin ≤ℤ end → pos 1 ≤ℤ step → (index : ℕ)
+    → slice_get (rows_over level begin end step) index ≡ row_until level begin end step index
 
 -- the station that was found, and the text of its rows
-record PrintsRows (book : Book) (table : List Offsets) (name : List ℕ) (asked : Asked) (step : ℤ) (layout : Layout) (zone : Zone) (answer : Answer) : Type 0 where
+record PrintsRows (book : Book) (table : List Offsets) (name : List ℕ) (asked : Asked) (step : ℤ) (layout : Layout)
+    (zone : Zone) (answer : Answer) : Type 0 where
   site : Site
   found : site_in Levels book table name asked ≡ Ok site
   printed : answer ≡ text_alone (heights_text layout name site.station.units (rows_of book site asked.begin asked.end step) zone)
 
-prints_rows : (book : Book) (table : List Offsets) (name : List ℕ) (asked : Asked) (step : ℤ) (layout : Layout) (zone : Zone) (answer : Answer) → heights book table name asked step layout zone ≡ Ok answer → PrintsRows book table name asked step layout zone answer
+prints_rows : (book : Book) (table : List Offsets) (name : List ℕ) (asked : Asked) (step : ℤ) (layout : Layout)
+    (zone : Zone) (answer : Answer) → heights book table name asked step layout zone ≡ Ok answer
+    → PrintsRows book table name asked step layout zone answer
 unfolding heights
 prints_rows book table name asked step layout zone answer ok =
     let site = then_ok (site_in Levels book table name asked) _ answer ok in
@@ -49,8 +54,10 @@ pub prints_levels : RowsAreLevels → HeightsAreLevels
 prints_levels rows sheets folder minute words question answer asks ok =
     let was = was_answered sheets folder minute words question answer asks.asked (heights_read question asks.is) ok in
     let read = was.read in
-    let text = text_at question.command Heights read question (given_with read (minute_for question.command minute)) answer asks.is was.text in
-    let over = went_over_span question (λ name asked. heights read.book read.table name asked question.step question.layout read.zone) answer text in
+    let text = text_at question.command Heights read question
+    (given_with read (minute_for question.command minute)) answer asks.is was.text in
+    let over = went_over_span question
+    (λ name asked. heights read.book read.table name asked question.step question.layout read.zone) answer text in
     let asked = over.1 in
     let prints = prints_rows read.book read.table over.0 asked question.step question.layout read.zone answer over.3 in
     let found = was_found Levels read.book read.table over.0 asked prints.site prints.found in
@@ -69,5 +76,6 @@ prints_levels rows sheets folder minute words question answer asks ok =
       span = span_named question over.0 asked over.2;
       found = prints.found;
       printed = prints.printed;
-      levels = rows (level_at read.book prints.site) asked.begin asked.end question.step found.forward (step_asked sheets words question asks.asked);
+      levels = rows (level_at read.book prints.site) asked.begin asked.end question.step found.forward
+          (step_asked sheets words question asks.asked);
     }

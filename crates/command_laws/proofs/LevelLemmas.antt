@@ -11,7 +11,7 @@ use Rattle.curve_law.specs.Meaning.{Meaning}
 use Rattle.curve_law.specs.Track.{Track, plain_list}
 use Rattle.curve_law.proofs.CoverLemmas.{by_test}
 use Rattle.event_list.specs.declared.span.Span.{Span}
-use Rattle.event_list.specs.Events.{events_over, minutes_in}
+use Rattle.event_list.specs.Events.{events_over, span_minutes}
 use Rattle.event_list.specs.Shifts.{is_within, moved, moved_by, moved_within, offset_of, scaled, widened_of}
 use Rattle.event_list.proofs.EventLemmas.{events_of as all_events, events-parts}
 use Rattle.event_list.proofs.OrderLemmas.{All-ordered}
@@ -75,14 +75,20 @@ list-noted t a n = plain_list-all (HasNote t.note) t (λ m. refl) a n
 abbrev HasLevel : Book → Site → Event → Type 0
 HasLevel book site = HasNote (predicted_millionths book site.station)
 
-asked-noted : (book : Book) (site : Site) (s : Span) (asks : Bool) (c : Meaning) → c.track.note ≡ predicted_millionths book site.station → All (HasLevel book site) (flat_map (events_over s) (option_to_list (if_asked asks c)))
+asked-noted : (book : Book) (site : Site) (s : Span) (asks : Bool) (c : Meaning)
+    → c.track.note ≡ predicted_millionths book site.station
+    → All (HasLevel book site) (flat_map (events_over s) (option_to_list (if_asked asks c)))
 asked-noted book site s true c same =
-    All-append (HasLevel book site) (events_over s c) [] (subst (λ note. All (HasNote note) (events_over s c)) same (list-noted c.track s.begin (minutes_in s))) (All-nil (HasLevel book site))
+    All-append (HasLevel book site) (events_over s c) [] (subst (λ note. All (HasNote note) (events_over s c)) same
+    (list-noted c.track s.begin (span_minutes s))) (All-nil (HasLevel book site))
 asked-noted book site s false c same = All-nil (HasLevel book site)
 
-marked-noted : (book : Book) (site : Site) (s : Span) (f : ℤ → Meaning) (mark : Option ℤ) → ((level : ℤ) → (f level).track.note ≡ predicted_millionths book site.station) → All (HasLevel book site) (flat_map (events_over s) (option_to_list (option_map f mark)))
+marked-noted : (book : Book) (site : Site) (s : Span) (f : ℤ → Meaning) (mark : Option ℤ)
+    → ((level : ℤ) → (f level).track.note ≡ predicted_millionths book site.station)
+    → All (HasLevel book site) (flat_map (events_over s) (option_to_list (option_map f mark)))
 marked-noted book site s f (Some level) same =
-    All-append (HasLevel book site) (events_over s (f level)) [] (subst (λ note. All (HasNote note) (events_over s (f level))) (same level) (list-noted (f level).track s.begin (minutes_in s))) (All-nil (HasLevel book site))
+    All-append (HasLevel book site) (events_over s (f level)) [] (subst (λ note. All (HasNote note) (events_over s (f level)))
+    (same level) (list-noted (f level).track s.begin (span_minutes s))) (All-nil (HasLevel book site))
 marked-noted book site s f None same = All-nil (HasLevel book site)
 
 pub all-noted : (book : Book) (site : Site) (asked : Asked) (s : Span) → All (HasLevel book site) (all_events s (followed book site asked))
@@ -91,7 +97,7 @@ all-noted book site asked s =
     let f = followed book site asked in
     let slack = flat_map (events_over s) (option_to_list f.slack) in
     let mark = flat_map (events_over s) (option_to_list f.mark) in
-    All-append (HasLevel book site) (events_over s f.turn) (slack ++ mark) (list-noted f.turn.track s.begin (minutes_in s))
+    All-append (HasLevel book site) (events_over s f.turn) (slack ++ mark) (list-noted f.turn.track s.begin (span_minutes s))
     (All-append (HasLevel book site) slack mark
     (asked-noted book site s (asks_slack site.station.units site.basis) _ refl)
     (marked-noted book site s _ asked.mark (λ level. refl)))
@@ -102,27 +108,34 @@ abbrev pub IsMost : Book → Site → Asked → ℤ → Type 0
 IsMost book site asked level =
     (minute : ℤ) → asked.begin ≤ℤ minute → minute <ℤ asked.end → level_at book site minute ≤ℤ level
 
-one-below : (book : Book) (site : Site) (asked : Asked) (level : ℤ) (event : Event) → IsTrue (is_equal site.basis) → IsMost book site asked level → HasLevel book site event → is_within asked.begin asked.end (moved site.basis event) ≡ true → IsEventBelow site.basis level (moved site.basis event)
+one-below : (book : Book) (site : Site) (asked : Asked) (level : ℤ) (event : Event) → IsTrue (is_equal site.basis)
+    → IsMost book site asked level → HasLevel book site event → is_within asked.begin asked.end (moved site.basis event)
+    ≡ true → IsEventBelow site.basis level (moved site.basis event)
 one-below book site asked level event equal most noted within own =
     let high = site.basis.high in
     let offset = one_offset site.basis event.kind equal own in
     let is : moved site.basis event ≡ moved_by high event = ap (λ o. moved_by o event) offset in
     let lies = within-lies asked.begin asked.end (moved_by high event) (ap (is_within asked.begin asked.end) (sym is) ∙ within) in
     let back : (event.minute +ℤ high.add) -ℤ high.add ≡ event.minute = omega (arith, ints) in
-    let same : event.level ≡ predicted_millionths book site.station ((event.minute +ℤ high.add) -ℤ high.add) = noted ∙ ap (predicted_millionths book site.station) (sym back) in
+    let same : event.level ≡ predicted_millionths book site.station ((event.minute +ℤ high.add) -ℤ high.add) =
+    noted ∙ ap (predicted_millionths book site.station) (sym back) in
     let below = most (event.minute +ℤ high.add) lies.0 lies.1 in
     subst (λ (e : Event). e.level ≤ℤ level) (sym is) (subst (λ (l : ℤ). scaled high l ≤ℤ level) (sym same) below)
 
-moved-below : (book : Book) (site : Site) (asked : Asked) (level : ℤ) (es : List Event) → IsTrue (is_equal site.basis) → IsMost book site asked level → All (HasLevel book site) es → All (IsEventBelow site.basis level) (moved_within site.basis asked.begin asked.end es)
+moved-below : (book : Book) (site : Site) (asked : Asked) (level : ℤ) (es : List Event) → IsTrue (is_equal site.basis)
+    → IsMost book site asked level → All (HasLevel book site) es
+    → All (IsEventBelow site.basis level) (moved_within site.basis asked.begin asked.end es)
 moved-below book site asked level [] equal most all = All-nil (IsEventBelow site.basis level)
 moved-below book site asked level (e ∷ es) equal most all =
     let here = All-head (HasLevel book site) e es all in
     let rest = moved-below book site asked level es equal most (All-tail (HasLevel book site) e es all) in
     by_test (is_within asked.begin asked.end (moved site.basis e))
-    (λ kept. rw kept (All-cons (IsEventBelow site.basis level) (moved site.basis e) (moved_within site.basis asked.begin asked.end es) (one-below book site asked level e equal most here kept) rest))
+    (λ kept. rw kept (All-cons (IsEventBelow site.basis level) (moved site.basis e)
+    (moved_within site.basis asked.begin asked.end es) (one-below book site asked level e equal most here kept) rest))
     (λ dropped. rw dropped rest)
 
-pub events-below : (book : Book) (site : Site) (asked : Asked) (level : ℤ) → IsTrue (is_equal site.basis) → IsMost book site asked level → All (IsEventBelow site.basis level) (events_of book site asked)
+pub events-below : (book : Book) (site : Site) (asked : Asked) (level : ℤ) → IsTrue (is_equal site.basis)
+    → IsMost book site asked level → All (IsEventBelow site.basis level) (events_of book site asked)
 unfolding events_of
 events-below book site asked level equal most =
     let s = widened_of site.basis asked.begin asked.end in

@@ -13,7 +13,8 @@ use Rattle.event_list.proofs.OrderLemmas.{ordered-ascending, ordered-is, sum-ord
 -- a fact of each event of a track holds of the events of its list
 pub plain_list-all : (P : Event → Type 0) (t : Track) → ((m : ℤ) → P (event_at t m)) → (a : ℤ) (n : ℕ) → All P (plain_list t a n)
 unfolding plain_list
-plain_list-all P t each a n = All-map P (event_at t) (filter (has_event t) (minutes a n)) (λ k m within. each (get_or (filter (has_event t) (minutes a n)) k m))
+plain_list-all P t each a n = All-map P (event_at t) (filter (has_event t) (minutes a n))
+    (λ k m within. each (get_or (filter (has_event t) (minutes a n)) k m))
 
 -- ---- some are kept
 

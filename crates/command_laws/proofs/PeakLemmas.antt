@@ -23,7 +23,7 @@ use Rattle.tide_answer.specs.declared.given.Given.{Given}
 use Rattle.tide_answer.specs.declared.text.Answer.{Answer}
 use Rattle.tide_answer.specs.Answers.{answered, events_text, heights, heights_text, row_at, row_count, rows_in, rows_of, text_alone, text_over}
 use Rattle.zone_time.specs.declared.zone.Zone.{Zone}
-use Rattle.tide_answer.specs.PeakLaws.{TellsTheHighest}
+use Rattle.tide_answer.specs.PeakLaws.{ReportsTheHighest}
 use Rattle.command_laws.specs.Peaks.{AskOneSpan, IsRowBelow, ListsEventsBelow, ListsRowsBelow, NothingIsHigher}
 use Rattle.command_laws.proofs.LevelLemmas.{IsMost, events-below}
 use Rattle.command_laws.proofs.SiteLemmas.{one_site}
@@ -35,7 +35,8 @@ later : (begin step : ℤ) (index : ℕ) → pos 1 ≤ℤ step → begin ≤ℤ 
 later begin (pos step) index some = omega (arith, ints)
 later begin (negsuc step) index some = absurd (omega (arith, ints))
 
-rows-below : (book : Book) (site : Site) (asked : Asked) (step level : ℤ) → pos 1 ≤ℤ step → IsMost book site asked level → All (IsRowBelow asked.end level) (rows_of book site asked.begin asked.end step)
+rows-below : (book : Book) (site : Site) (asked : Asked) (step level : ℤ) → pos 1 ≤ℤ step → IsMost book site asked level
+    → All (IsRowBelow asked.end level) (rows_of book site asked.begin asked.end step)
 rows-below book site asked step level some most =
     let row : ℕ → Row = row_at book site asked.begin step in
     let count = row_count asked.begin asked.end step in
@@ -47,7 +48,8 @@ rows-below book site asked step level some most =
 -- ---- the listing of the span
 
 -- a station that has a highest water, with the span of the request
-record HasHighest (book : Book) (table : List Offsets) (question : Question) (name : List ℕ) (asked : Asked) (site : Site) (level : ℤ) : Type 0 where
+record HasHighest (book : Book) (table : List Offsets) (question : Question) (name : List ℕ) (asked : Asked)
+    (site : Site) (level : ℤ) : Type 0 where
   pub station : question.station ≡ Some name
   pub begins : question.begin ≡ Some asked.begin
   pub ends : question.end ≡ Some asked.end
@@ -55,10 +57,15 @@ record HasHighest (book : Book) (table : List Offsets) (question : Question) (na
   pub equal : IsTrue (is_equal site.basis)
   pub most : IsMost book site asked level
 
-lists-events : (book : Book) (table : List Offsets) (question predict : Question) (there : Given) (listing : Answer) (name : List ℕ) (asked : Asked) (site : Site) (level : ℤ) → HasHighest book table question name asked site level → predict.command ≡ Predict → AskOneSpan question predict → answered book table predict there ≡ Ok listing → ListsEventsBelow predict there name site level (events_of book site (record { begin = asked.begin; end = asked.end; mark = predict.mark })) listing
+lists-events : (book : Book) (table : List Offsets) (question predict : Question) (there : Given) (listing : Answer)
+    (name : List ℕ) (asked : Asked) (site : Site) (level : ℤ) → HasHighest book table question name asked site level
+    → predict.command ≡ Predict → AskOneSpan question predict → answered book table predict there ≡ Ok listing
+    → ListsEventsBelow predict there name site level
+    (events_of book site (record { begin = asked.begin; end = asked.end; mark = predict.mark })) listing
 lists-events book table question predict there listing name asked site level has command same ok =
     let over : Asked = record { begin = asked.begin; end = asked.end; mark = predict.mark } in
-    let was = predicts book table predict there listing name asked.begin asked.end command (same.station ∙ has.station) (same.begin ∙ has.begins) (same.end ∙ has.ends) ok in
+    let was = predicts book table predict there listing name asked.begin asked.end command (same.station ∙ has.station)
+    (same.begin ∙ has.begins) (same.end ∙ has.ends) ok in
     let one = one_site HighestReach Events book table name asked over site was.site has.found was.found in
     record {
       text = was.text ∙ ap (λ (s : Site). events_text predict.layout name s.station.units (events_of book s over) there.zone) one;
@@ -66,46 +73,65 @@ lists-events book table question predict there listing name asked site level has
     }
 
 -- the levels of a request's list are those of the station that its name finds
-record WereListed (book : Book) (table : List Offsets) (name : List ℕ) (asked : Asked) (step : ℤ) (layout : Layout) (zone : Zone) (answer : Answer) : Type 0 where
+record WereListed (book : Book) (table : List Offsets) (name : List ℕ) (asked : Asked) (step : ℤ) (layout : Layout)
+    (zone : Zone) (answer : Answer) : Type 0 where
   pub site : Site
   pub found : site_in Levels book table name asked ≡ Ok site
   pub text : answer.text ≡ heights_text layout name site.station.units (rows_of book site asked.begin asked.end step) zone
 
-were_listed : (book : Book) (table : List Offsets) (name : List ℕ) (asked : Asked) (step : ℤ) (layout : Layout) (zone : Zone) (answer : Answer) → heights book table name asked step layout zone ≡ Ok answer → WereListed book table name asked step layout zone answer
+were_listed : (book : Book) (table : List Offsets) (name : List ℕ) (asked : Asked) (step : ℤ) (layout : Layout)
+    (zone : Zone) (answer : Answer) → heights book table name asked step layout zone ≡ Ok answer
+    → WereListed book table name asked step layout zone answer
 unfolding heights
 were_listed book table name asked step layout zone answer ok =
     let site = then_ok (site_in Levels book table name asked) _ answer ok in
     let equal = then_ok (level_in site.0.basis) _ answer site.2 in
     let few = then_ok (rows_in asked.begin asked.end step) _ answer equal.2 in
-    let is : text_alone (heights_text layout name site.0.station.units (rows_of book site.0 asked.begin asked.end step) zone) ≡ answer = (let last = few.2 in cc) in
+    let is :
+    text_alone (heights_text layout name site.0.station.units (rows_of book site.0 asked.begin asked.end step) zone)
+    ≡ answer = (let last = few.2 in cc) in
     record { site = site.0; found = site.1; text = ap (λ (a : Answer). a.text) (sym is) }
 
-lists-rows : (book : Book) (table : List Offsets) (question levels : Question) (there : Given) (listing : Answer) (name : List ℕ) (asked : Asked) (site : Site) (level : ℤ) → HasHighest book table question name asked site level → levels.command ≡ Heights → AskOneSpan question levels → pos 1 ≤ℤ levels.step → answered book table levels there ≡ Ok listing → ListsRowsBelow levels there name site asked.end level (rows_of book site asked.begin asked.end levels.step) listing
+lists-rows : (book : Book) (table : List Offsets) (question levels : Question) (there : Given) (listing : Answer)
+    (name : List ℕ) (asked : Asked) (site : Site) (level : ℤ) → HasHighest book table question name asked site level
+    → levels.command ≡ Heights → AskOneSpan question levels → pos 1 ≤ℤ levels.step
+    → answered book table levels there ≡ Ok listing → ListsRowsBelow levels there name site asked.end level
+    (rows_of book site asked.begin asked.end levels.step) listing
 lists-rows book table question levels there listing name asked site level has command same some ok =
     let over : Asked = record { begin = asked.begin; end = asked.end; mark = levels.mark } in
     let was = were_listed book table name over levels.step levels.layout there.zone listing
-    (sym (asks_of levels (text_over Heights book table levels there.zone) name asked.begin asked.end levels.mark (same.station ∙ has.station) (same.begin ∙ has.begins) (same.end ∙ has.ends) refl)
+    (sym (asks_of levels (text_over Heights book table levels there.zone) name asked.begin asked.end levels.mark
+    (same.station ∙ has.station) (same.begin ∙ has.begins) (same.end ∙ has.ends) refl)
     ∙ sym (answers_heights book table levels there command) ∙ ok) in
     let one = one_site HighestReach Levels book table name asked over site was.site has.found was.found in
     record {
-      text = was.text ∙ ap (λ (s : Site). heights_text levels.layout name s.station.units (rows_of book s asked.begin asked.end levels.step) there.zone) one;
+      text = was.text ∙ ap (λ (s : Site). heights_text levels.layout name s.station.units
+          (rows_of book s asked.begin asked.end levels.step) there.zone) one;
       below = rows-below book site asked levels.step level some has.most;
     }
 
 -- ---- the law
 
-pub nothing_higher : TellsTheHighest → NothingIsHigher
-nothing_higher tells book table question given answer rows command ok =
-    let span = has_span question (text_over Highest book table question given.zone) answer (sym (answers_highest book table question given command) ∙ ok) in
+pub nothing_higher : ReportsTheHighest → NothingIsHigher
+nothing_higher reports book table question given answer rows command ok =
+    let span = has_span question (text_over Highest book table question given.zone) answer
+    (sym (answers_highest book table question given command) ∙ ok) in
     let name = span.name in
     let asked : Asked = record { begin = span.begin; end = span.end; mark = question.mark } in
-    let told = tells book table name asked given.zone answer rows span.answered in
-    let site = told.site in
-    let minute = told.at +ℤ site.basis.high.add in
+    let reported = reports book table name asked given.zone answer rows span.answered in
+    let site = reported.site in
+    let minute = reported.at +ℤ site.basis.high.add in
     let level = level_at book site minute in
-    let parts = highest_parts book table name asked site told.found in
+    let parts = highest_parts book table name asked site reported.found in
     let has : HasHighest book table question name asked site level =
-    record { station = span.station; begins = span.begins; ends = span.ends; found = parts.0; equal = parts.1; most = told.water.level } in
+    record {
+      station = span.station;
+      begins = span.begins;
+      ends = span.ends;
+      found = parts.0;
+      equal = parts.1;
+      most = reported.water.level;
+    } in
     record {
       name = name;
       begin = span.begin;
@@ -115,8 +141,10 @@ nothing_higher tells book table question given answer rows command ok =
       named = span.station;
       begins = span.begins;
       ends = span.ends;
-      found = told.found;
-      text = ap (λ (a : Answer). a.text) told.told;
-      events = λ predict there listing command same ok. lists-events book table question predict there listing name asked site level has command same ok;
-      rows = λ levels there listing command same some ok. lists-rows book table question levels there listing name asked site level has command same some ok;
+      found = reported.found;
+      text = ap (λ (a : Answer). a.text) reported.reported;
+      events = λ predict there listing command same ok.
+          lists-events book table question predict there listing name asked site level has command same ok;
+      rows = λ levels there listing command same some ok.
+          lists-rows book table question levels there listing name asked site level has command same some ok;
     }

@@ -14,7 +14,7 @@ use Rattle.question.specs.declared.command.Command.TheVariants.{Predict, Heights
 use Rattle.station_table.specs.declared.offsets.Offsets.{Offsets}
 use Rattle.tide_answer.specs.declared.given.Given.{Given}
 use Rattle.tide_answer.specs.Answers.{answered, asks_span, events_text, listed, named_by, predicted, text_of_events, text_over}
-use Rattle.tide_answer.specs.Asking.{asked_by}
+use Rattle.tide_answer.specs.Asking.{asked_by_question}
 use Rattle.tide_fault.specs.declared.refusal.Refusal.{Refusal}
 use Rattle.tide_fault.specs.declared.refusal.Refusal.TheVariants.{NoStation}
 use Rattle.command_laws.proofs.SiteLemmas.{some_of}
@@ -29,17 +29,20 @@ pub record HasSpan (question : Question) (next : List ℕ → Asked → Result A
   pub ends : question.end ≡ Some end
   pub answered : next name (record { begin = begin; end = end; mark = question.mark }) ≡ Ok answer
 
-span_of : (question : Question) (asked : Asked) → (begin end : Option ℤ) → question.begin ≡ begin → question.end ≡ end → asked_by question ≡ Some asked → (a : ℤ) × (b : ℤ) × (question.begin ≡ Some a) × (question.end ≡ Some b) × (asked ≡ record { begin = a; end = b; mark = question.mark })
-unfolding asked_by
+span_of : (question : Question) (asked : Asked) → (begin end : Option ℤ) → question.begin ≡ begin → question.end ≡ end
+    → asked_by_question question ≡ Some asked → (a : ℤ) × (b : ℤ) × (question.begin ≡ Some a) × (question.end ≡ Some b)
+    × (asked ≡ record { begin = a; end = b; mark = question.mark })
+unfolding asked_by_question
 span_of question asked (Some a) (Some b) begins ends is = (a, b, begins, ends, (let read = rw (begins, ends) at is in cc))
 span_of question asked (Some a) None begins ends is = absurd (let read = rw (begins, ends) at is in cc)
 span_of question asked None end begins ends is = absurd (let read = rw begins at is in cc)
 
-pub has_span : (question : Question) (next : List ℕ → Asked → Result Answer Refusal) (answer : Answer) → asks_span question next ≡ Ok answer → HasSpan question next answer
+pub has_span : (question : Question) (next : List ℕ → Asked → Result Answer Refusal) (answer : Answer)
+    → asks_span question next ≡ Ok answer → HasSpan question next answer
 unfolding asks_span
 has_span question next answer ok =
     let name = then_ok (named_by question.station) _ answer ok in
-    let asked = then_ok (named_by (asked_by question)) _ answer name.2 in
+    let asked = then_ok (named_by (asked_by_question question)) _ answer name.2 in
     let span = span_of question asked.0 _ _ refl refl (some_of _ NoStation asked.0 asked.1) in
     record {
       name = name.0;
@@ -53,33 +56,45 @@ has_span question next answer ok =
 
 -- ---- the answers of commands that need a span
 
-pub answers_predict : (book : Book) (table : List Offsets) (question : Question) (given : Given) → question.command ≡ Predict → answered book table question given ≡ asks_span question (text_over Predict book table question given.zone)
+pub answers_predict : (book : Book) (table : List Offsets) (question : Question) (given : Given)
+    → question.command ≡ Predict
+    → answered book table question given ≡ asks_span question (text_over Predict book table question given.zone)
 unfolding answered
 answers_predict book table question given is = rw is refl
 
-pub answers_heights : (book : Book) (table : List Offsets) (question : Question) (given : Given) → question.command ≡ Heights → answered book table question given ≡ asks_span question (text_over Heights book table question given.zone)
+pub answers_heights : (book : Book) (table : List Offsets) (question : Question) (given : Given)
+    → question.command ≡ Heights
+    → answered book table question given ≡ asks_span question (text_over Heights book table question given.zone)
 unfolding answered
 answers_heights book table question given is = rw is refl
 
-pub answers_highest : (book : Book) (table : List Offsets) (question : Question) (given : Given) → question.command ≡ Highest → answered book table question given ≡ asks_span question (text_over Highest book table question given.zone)
+pub answers_highest : (book : Book) (table : List Offsets) (question : Question) (given : Given)
+    → question.command ≡ Highest
+    → answered book table question given ≡ asks_span question (text_over Highest book table question given.zone)
 unfolding answered
 answers_highest book table question given is = rw is refl
 
 -- the station and the span of a request are passed to its step
-pub asks_of : (question : Question) (next : List ℕ → Asked → Result Answer Refusal) (name : List ℕ) (begin end : ℤ) (mark : Option ℤ) → question.station ≡ Some name → question.begin ≡ Some begin → question.end ≡ Some end → question.mark ≡ mark → asks_span question next ≡ next name (record { begin = begin; end = end; mark = mark })
-unfolding asks_span asked_by
+pub asks_of : (question : Question) (next : List ℕ → Asked → Result Answer Refusal) (name : List ℕ) (begin end : ℤ)
+    (mark : Option ℤ) → question.station ≡ Some name → question.begin ≡ Some begin → question.end ≡ Some end
+    → question.mark ≡ mark → asks_span question next ≡ next name (record { begin = begin; end = end; mark = mark })
+unfolding asks_span asked_by_question
 asks_of question next name begin end mark station begins ends marked = rw (station, begins, ends, marked) refl
 
 -- ---- a prediction
 
 -- a prediction has the events of the station that its name finds
-pub record WasPredicted (book : Book) (table : List Offsets) (question : Question) (given : Given) (name : List ℕ) (asked : Asked) (answer : Answer) : Type 0 where
+pub record WasPredicted (book : Book) (table : List Offsets) (question : Question) (given : Given) (name : List ℕ)
+    (asked : Asked) (answer : Answer) : Type 0 where
   pub site : Site
   pub found : site_in Events book table name asked ≡ Ok site
   pub events_are : listed book table question ≡ Ok (record { name = name; units = site.station.units; events = events_of book site asked })
   pub text : answer.text ≡ events_text question.layout name site.station.units (events_of book site asked) given.zone
 
-was_predicted : (book : Book) (table : List Offsets) (name : List ℕ) (asked : Asked) (layout : Layout) (zone : Zone) (answer : Answer) → predicted book table name asked layout zone ≡ Ok answer → (site : Site) × (site_in Events book table name asked ≡ Ok site) × (answer.text ≡ events_text layout name site.station.units (events_of book site asked) zone)
+was_predicted : (book : Book) (table : List Offsets) (name : List ℕ) (asked : Asked) (layout : Layout) (zone : Zone)
+    (answer : Answer) → predicted book table name asked layout zone ≡ Ok answer
+    → (site : Site) × (site_in Events book table name asked ≡ Ok site)
+    × (answer.text ≡ events_text layout name site.station.units (events_of book site asked) zone)
 unfolding predicted
 was_predicted book table name asked layout zone answer ok =
     let site = then_ok (site_in Events book table name asked) _ answer ok in
@@ -87,11 +102,19 @@ was_predicted book table name asked layout zone answer ok =
     let is : text_of_events book site.0 asked text ≡ answer = (let last = site.2 in cc) in
     (site.0, site.1, ap (λ (a : Answer). a.text) (sym is))
 
-pub lists_of : (book : Book) (table : List Offsets) (question : Question) (name : List ℕ) (begin end : ℤ) (mark : Option ℤ) (site : Site) → question.station ≡ Some name → question.begin ≡ Some begin → question.end ≡ Some end → question.mark ≡ mark → site_in Events book table name (record { begin = begin; end = end; mark = mark }) ≡ Ok site → listed book table question ≡ Ok (record { name = name; units = site.station.units; events = events_of book site (record { begin = begin; end = end; mark = mark }) })
-unfolding listed asked_by
+pub lists_of : (book : Book) (table : List Offsets) (question : Question) (name : List ℕ) (begin end : ℤ)
+    (mark : Option ℤ) (site : Site) → question.station ≡ Some name → question.begin ≡ Some begin
+    → question.end ≡ Some end → question.mark ≡ mark
+    → site_in Events book table name (record { begin = begin; end = end; mark = mark }) ≡ Ok site
+    → listed book table question ≡ Ok
+    (record { name = name; units = site.station.units; events = events_of book site (record { begin = begin; end = end; mark = mark }) })
+unfolding listed asked_by_question
 lists_of book table question name begin end mark site station begins ends marked found = rw (station, begins, ends, marked, found) refl
 
-pub predicts : (book : Book) (table : List Offsets) (question : Question) (given : Given) (answer : Answer) (name : List ℕ) (begin end : ℤ) → question.command ≡ Predict → question.station ≡ Some name → question.begin ≡ Some begin → question.end ≡ Some end → answered book table question given ≡ Ok answer → WasPredicted book table question given name (record { begin = begin; end = end; mark = question.mark }) answer
+pub predicts : (book : Book) (table : List Offsets) (question : Question) (given : Given) (answer : Answer)
+    (name : List ℕ) (begin end : ℤ) → question.command ≡ Predict → question.station ≡ Some name
+    → question.begin ≡ Some begin → question.end ≡ Some end → answered book table question given ≡ Ok answer
+    → WasPredicted book table question given name (record { begin = begin; end = end; mark = question.mark }) answer
 predicts book table question given answer name begin end command station begins ends ok =
     let asked : Asked = record { begin = begin; end = end; mark = question.mark } in
     let was = was_predicted book table name asked question.layout given.zone answer

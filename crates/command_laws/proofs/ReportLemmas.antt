@@ -30,9 +30,9 @@ use Rattle.station_span.proofs.SiteLemmas.{then_ok}
 use Rattle.station_table.specs.declared.offsets.Offsets.{Offsets}
 use Rattle.tide_answer.specs.declared.listed.Listed.{Listed}
 use Rattle.tide_answer.specs.declared.text.Answer.{Answer}
-use Rattle.tide_answer.specs.Answers.{answered_alone, events_text, listed, named_by, predicted, text_alone, text_by, text_from, text_of_events}
-use Rattle.tide_answer.specs.Asking.{asked_by}
-use Rattle.tide_desk.specs.Answers.{answered_by, answered_over, answered_with, given_with, head_of, is_report, known_in, minute_for, reported, wanted_by}
+use Rattle.tide_answer.specs.Answers.{answered_without_files, events_text, listed, named_by, predicted, text_alone, text_by, text_from, text_of_events}
+use Rattle.tide_answer.specs.Asking.{asked_by_question}
+use Rattle.tide_desk.specs.Answers.{answered_over_optional_file, answered_over_file, answered_over_book, given_with, head_of, is_report, found_in, minute_for, reported, wanted_by}
 use Rattle.tide_desk.specs.Laws.{NameSameFiles, subject_of}
 use Rattle.tide_desk.proofs.AskedLemmas.{NamesSpan, goes_over_span, names_no_certificate}
 use Rattle.tide_desk.proofs.CheckingLemmas.{names_subject, subject_named}
@@ -41,12 +41,12 @@ use Rattle.tide_edge.specs.FileStates.{Folder}
 use Rattle.tide_fault.specs.declared.refusal.Refusal.{Refusal}
 use Rattle.tide_fault.specs.declared.refusal.Refusal.TheVariants.{NoStation}
 use Rattle.zone_time.specs.declared.zone.Zone.{Zone}
-use Rattle.command_laws.specs.Reports.{IsPage, IsReport, Page, ReportsAreComplete, text_of}
+use Rattle.command_laws.specs.Reports.{IsPage, IsReport, ReportPage, ReportsAreComplete, text_of}
 use Rattle.command_laws.proofs.RequestLemmas.{name_ok, names_span, words_ask}
 
 -- ---- the pages
 
-abbrev pub page_on : List Event → SheetMeaning → Page
+abbrev pub page_on : List Event → SheetMeaning → ReportPage
 page_on events sheet = record { sheet = sheet; events = take sheet.limit events }
 
 page_is : (events : List Event) (sheet : SheetMeaning) → IsPage events (page_on events sheet)
@@ -60,19 +60,23 @@ page_is events sheet =
 
 pages_are : (events : List Event) (sheets : List SheetMeaning) → All (IsPage events) (map (page_on events) sheets)
 pages_are events [] = All-nil (IsPage events)
-pages_are events (sheet ∷ sheets) = All-cons (IsPage events) (page_on events sheet) (map (page_on events) sheets) (page_is events sheet) (pages_are events sheets)
+pages_are events (sheet ∷ sheets) = All-cons (IsPage events) (page_on events sheet) (map (page_on events) sheets)
+    (page_is events sheet) (pages_are events sheets)
 
-sheets_of_pages : (events : List Event) (sheets : List SheetMeaning) → map (λ (page : Page). page.sheet) (map (page_on events) sheets) ≡ sheets
+sheets_of_pages : (events : List Event) (sheets : List SheetMeaning)
+    → map (λ (page : ReportPage). page.sheet) (map (page_on events) sheets) ≡ sheets
 sheets_of_pages events [] = refl
 sheets_of_pages events (sheet ∷ sheets) = ap (λ rest. sheet ∷ rest) (sheets_of_pages events sheets)
 
-text_of_pages : (head : Head) (events : List Event) (wanted : List (List ℕ)) (sheets : List SheetMeaning) → pages_of sheets wanted head events ≡ flat_map (text_of head) (map (page_on events) (filter (is_wanted wanted) sheets))
+text_of_pages : (head : Head) (events : List Event) (wanted : List (List ℕ)) (sheets : List SheetMeaning)
+    → pages_of sheets wanted head events
+    ≡ flat_map (text_of head) (map (page_on events) (filter (is_wanted wanted) sheets))
 unfolding pages_of page_of
 text_of_pages head events wanted sheets = sym (flat_map-map (text_of head) (page_on events) (filter (is_wanted wanted) sheets))
 
 -- ---- no requested sheet is missing
 
-none_of : (wanted : List (List ℕ)) (missing : Option ℕ) → known_in wanted missing ≡ Ok tt → missing ≡ None
+none_of : (wanted : List (List ℕ)) (missing : Option ℕ) → found_in wanted missing ≡ Ok tt → missing ≡ None
 none_of wanted None known = refl
 none_of wanted (Some place) known = absurd cc
 
@@ -88,12 +92,14 @@ all_fail p (x ∷ xs) none = by_test (p x)
     (λ fails. All-cons (λ y. p y ≡ false) x xs fails (all_fail p xs (rw fails at none)))
 
 abbrev pub sheet_words : List Event → (SheetMeaning → Bool) → List SheetMeaning → List (List ℕ)
-sheet_words events kept sheets = map (λ (page : Page). page.sheet.word) (map (page_on events) (filter kept sheets))
+sheet_words events kept sheets = map (λ (page : ReportPage). page.sheet.word) (map (page_on events) (filter kept sheets))
 
 later_word : (x y : List ℕ) (xs : List (List ℕ)) → Contains xs y → Contains (x ∷ xs) y
 later_word x y xs there = (suc there.0, omega (arith, there.1), there.2)
 
-word_shown : (events : List Event) (kept : SheetMeaning → Bool) (word : List ℕ) (sheets : List SheetMeaning) → ((sheet : SheetMeaning) → bytes_eq word sheet.word ≡ true → kept sheet ≡ true) → has_sheet sheets word ≡ true → Contains (sheet_words events kept sheets) word
+word_shown : (events : List Event) (kept : SheetMeaning → Bool) (word : List ℕ) (sheets : List SheetMeaning)
+    → ((sheet : SheetMeaning) → bytes_eq word sheet.word ≡ true → kept sheet ≡ true) → has_sheet sheets word ≡ true
+    → Contains (sheet_words events kept sheets) word
 word_shown events kept word [] keeps has = absurd cc
 word_shown events kept word (sheet ∷ sheets) keeps has = by_test (bytes_eq word sheet.word)
     (λ same.
@@ -113,24 +119,31 @@ or_left : (a b : Bool) → a ≡ true → (a || b) ≡ true
 or_left true b is = refl
 or_left false b is = absurd cc
 
-any_at : (test : List ℕ → Bool) (words : List (List ℕ)) (k : ℕ) (d : List ℕ) → k < length words → test (slice_index_or words k d) ≡ true → list_any test words ≡ true
+any_at : (test : List ℕ → Bool) (words : List (List ℕ)) (k : ℕ) (d : List ℕ) → k < length words
+    → test (slice_index_or words k d) ≡ true → list_any test words ≡ true
 any_at test [] k d within passes = absurd (omega (arith, within))
 any_at test (word ∷ words) zero d within passes = or_left (test word) (list_any test words) passes
-any_at test (word ∷ words) (suc k) d within passes = or_right (test word) (list_any test words) (any_at test words k d (omega (arith, within)) passes)
+any_at test (word ∷ words) (suc k) d within passes =
+    or_right (test word) (list_any test words) (any_at test words k d (omega (arith, within)) passes)
 
 not_false : (b : Bool) → not b ≡ false → b ≡ true
 not_false true is = refl
 not_false false is = absurd cc
 
-words_shown : (events : List Event) (wanted : List (List ℕ)) (sheets : List SheetMeaning) → known_in wanted (missing_of sheets wanted) ≡ Ok tt → All (Contains (sheet_words events (is_wanted wanted) sheets)) wanted
+words_shown : (events : List Event) (wanted : List (List ℕ)) (sheets : List SheetMeaning)
+    → found_in wanted (missing_of sheets wanted) ≡ Ok tt
+    → All (Contains (sheet_words events (is_wanted wanted) sheets)) wanted
 unfolding missing_of
 words_shown events wanted sheets known = λ k d within.
     let word = slice_index_or wanted k d in
     let none = none_found (λ w. not (has_sheet sheets w)) wanted (none_of wanted (missing_of sheets wanted) known) in
-    let has : has_sheet sheets word ≡ true = not_false (has_sheet sheets word) (all_fail (λ w. not (has_sheet sheets w)) wanted none k d within) in
+    let has : has_sheet sheets word ≡ true =
+    not_false (has_sheet sheets word) (all_fail (λ w. not (has_sheet sheets w)) wanted none k d within) in
     word_shown events (is_wanted wanted) word sheets (λ sheet same. any_at (λ w. bytes_eq w sheet.word) wanted k d within same) has
 
-report_is : (sheets : List SheetMeaning) (wanted : List (List ℕ)) (head : Head) (events : List Event) → known_in wanted (missing_of sheets wanted) ≡ Ok tt → IsReport sheets wanted head events (pages_of sheets wanted head events)
+report_is : (sheets : List SheetMeaning) (wanted : List (List ℕ)) (head : Head) (events : List Event)
+    → found_in wanted (missing_of sheets wanted) ≡ Ok tt
+    → IsReport sheets wanted head events (pages_of sheets wanted head events)
 report_is sheets wanted head events known = record {
   pages = map (page_on events) (filter (is_wanted wanted) sheets);
   text_is = text_of_pages head events wanted sheets;
@@ -141,7 +154,8 @@ report_is sheets wanted head events known = record {
 
 -- ---- the parts of a report
 
-unrefused : (table : List Offsets) (result : Result Answer Refusal) (answer : Answer) → refused_over table result ≡ Ok answer → result ≡ Ok answer
+unrefused : (table : List Offsets) (result : Result Answer Refusal) (answer : Answer)
+    → refused_over table result ≡ Ok answer → result ≡ Ok answer
 unrefused table (Ok found) answer ok = cc
 unrefused table (Err refusal) answer ok = absurd cc
 
@@ -153,22 +167,28 @@ record WasListed (book : Book) (table : List Offsets) (question : Question) (lis
   found : site_in Events book table list.name asked ≡ Ok site
   is : list ≡ record { name = list.name; units = site.station.units; events = events_of book site asked }
 
-was_listed : (book : Book) (table : List Offsets) (question : Question) (list : Listed) → listed book table question ≡ Ok list → WasListed book table question list
+was_listed : (book : Book) (table : List Offsets) (question : Question) (list : Listed)
+    → listed book table question ≡ Ok list → WasListed book table question list
 unfolding listed
 was_listed book table question list ok =
     let name = then_ok (named_by question.station) _ list ok in
-    let asked = then_ok (named_by (asked_by question)) _ list name.2 in
+    let asked = then_ok (named_by (asked_by_question question)) _ list name.2 in
     let site = then_ok (site_in Events book table name.0 asked.0) _ list asked.2 in
-    let same : record { name = name.0; units = site.0.station.units; events = events_of book site.0 asked.0 } ≡ list = (let last = site.2 in cc) in
+    let same : record { name = name.0; units = site.0.station.units; events = events_of book site.0 asked.0 } ≡ list =
+    (let last = site.2 in cc) in
     subst (WasListed book table question) same (record {
       asked = asked.0;
-      names = names_span question name.0 asked.0 (name_ok question.station name.0 name.1) (name_ok (asked_by question) asked.0 asked.1);
+      names = names_span question name.0 asked.0 (name_ok question.station name.0 name.1)
+          (name_ok (asked_by_question question) asked.0 asked.1);
       site = site.0;
       found = site.1;
       is = refl;
     })
 
-was_reported : (sheets : List SheetMeaning) (book : Book) (table : List Offsets) (report : Question) (now : ℤ) (pages : Answer) → reported sheets book table report now ≡ Ok pages → (list : Listed) × (listed book table report ≡ Ok list) × (pages ≡ text_alone (pages_of sheets (wanted_by report) (head_of list now) list.events))
+was_reported :
+    (sheets : List SheetMeaning) (book : Book) (table : List Offsets) (report : Question) (now : ℤ) (pages : Answer)
+    → reported sheets book table report now ≡ Ok pages → (list : Listed) × (listed book table report ≡ Ok list)
+    × (pages ≡ text_alone (pages_of sheets (wanted_by report) (head_of list now) list.events))
 unfolding reported
 was_reported sheets book table report now pages ok =
     let list = then_ok (listed book table report) _ pages ok in
@@ -184,24 +204,32 @@ record WasReported (sheets : List SheetMeaning) (folder : Folder) (now : ℤ) (r
   listed : WasListed read.book read.table report list
   printed : pages ≡ text_alone (pages_of sheets (wanted_by report) (head_of list now) list.events)
 
-files_read : (folder : Folder) (question : Question) (name : List ℕ) (read : Materials) → files_in (λ slot. folder) question name ≡ Ok read → (book_named folder name ≡ Ok read.book) × (table_named folder question.offsets ≡ Ok read.table)
+files_read : (folder : Folder) (question : Question) (name : List ℕ) (read : Materials)
+    → files_in (λ slot. folder) question name ≡ Ok read
+    → (book_named folder name ≡ Ok read.book) × (table_named folder question.offsets ≡ Ok read.table)
 unfolding files_in
 files_read folder question name read ok =
     let book = then_ok (book_named folder name) _ read ok in
     let table = then_ok (table_named folder question.offsets) _ read book.2 in
     let zone = then_ok (zone_named folder question.zone) _ read table.2 in
     let certificate = then_ok (certificate_named folder question.certificate) _ read zone.2 in
-    let same : record { book = book.0; table = table.0; zone = zone.0; certificate = certificate.0 } ≡ read = (let last = certificate.2 in cc) in
-    subst (λ (r : Materials). (book_named folder name ≡ Ok r.book) × (table_named folder question.offsets ≡ Ok r.table)) same (book.1, table.1)
+    let same : record { book = book.0; table = table.0; zone = zone.0; certificate = certificate.0 } ≡ read =
+    (let last = certificate.2 in cc) in
+    subst (λ (r : Materials). (book_named folder name ≡ Ok r.book) × (table_named folder question.offsets ≡ Ok r.table))
+    same (book.1, table.1)
 
-report_over : (sheets : List SheetMeaning) (folder : Folder) (now : ℤ) (report : Question) (name : List ℕ) (pages : Answer) → report.file ≡ Some name → report.command ≡ Report → answered_over sheets (λ slot. folder) now report name ≡ Ok pages → WasReported sheets folder now report pages
-unfolding answered_over
+report_over : (sheets : List SheetMeaning) (folder : Folder) (now : ℤ) (report : Question) (name : List ℕ)
+    (pages : Answer) → report.file ≡ Some name → report.command ≡ Report
+    → answered_over_file sheets (λ slot. folder) now report name ≡ Ok pages → WasReported sheets folder now report pages
+unfolding answered_over_file
 report_over sheets folder now report name pages file is ok =
     let read = then_ok (files_in (λ slot. folder) report name) _ pages ok in
     let book = read.0.book in
     let table = read.0.table in
-    let P : Command → Type 0 = λ c. refused_over table (answered_with (is_report c) sheets book table report (given_with read.0 (minute_for c now))) ≡ Ok pages in
-    let was = was_reported sheets book table report now pages (unrefused table (reported sheets book table report now) pages (subst P is read.2)) in
+    let P : Command → Type 0 = λ c. refused_over table
+    (answered_over_book (is_report c) sheets book table report (given_with read.0 (minute_for c now))) ≡ Ok pages in
+    let was = was_reported sheets book table report now pages
+    (unrefused table (reported sheets book table report now) pages (subst P is read.2)) in
     let files = files_read folder report name read.0 read.1 in
     record {
       file = name;
@@ -217,25 +245,38 @@ report_over sheets folder now report name pages file is ok =
 alone : (command : Command) (seed : Option ℕ) → command ≡ Report → text_from command seed ≡ Err NoStation
 alone command seed is = rw is refl
 
-report_by : (sheets : List SheetMeaning) (folder : Folder) (now : ℤ) (report : Question) (file : Option (List ℕ)) (pages : Answer) → report.file ≡ file → report.command ≡ Report → answered_by sheets (λ slot. folder) now report file ≡ Ok pages → WasReported sheets folder now report pages
-unfolding answered_alone
+report_by : (sheets : List SheetMeaning) (folder : Folder) (now : ℤ) (report : Question) (file : Option (List ℕ))
+    (pages : Answer) → report.file ≡ file → report.command ≡ Report
+    → answered_over_optional_file sheets (λ slot. folder) now report file ≡ Ok pages
+    → WasReported sheets folder now report pages
+unfolding answered_without_files
 report_by sheets folder now report (Some name) pages file is ok = report_over sheets folder now report name pages file is ok
 report_by sheets folder now report None pages file is ok = absurd (let none = rw (alone report.command report.seed is) at ok in cc)
 
 -- ---- the listing of the same station
 
-predicted_is : (book : Book) (table : List Offsets) (name : List ℕ) (asked : Asked) (layout : Layout) (zone : Zone) (site : Site) → site_in Events book table name asked ≡ Ok site → predicted book table name asked layout zone ≡ Ok (text_of_events book site asked (events_text layout name site.station.units (events_of book site asked) zone))
+predicted_is : (book : Book) (table : List Offsets) (name : List ℕ) (asked : Asked) (layout : Layout) (zone : Zone)
+    (site : Site) → site_in Events book table name asked ≡ Ok site → predicted book table name asked layout zone
+    ≡ Ok (text_of_events book site asked (events_text layout name site.station.units (events_of book site asked) zone))
 unfolding predicted
 predicted_is book table name asked layout zone site found = rw found refl
 
-listing_text : (predict : Question) (read : Materials) (later : ℤ) (name : List ℕ) (asked : Asked) (site : Site) → predict.command ≡ Predict → NamesSpan predict name asked → site_in Events read.book read.table name asked ≡ Ok site → text_by predict.command read.book read.table predict (given_with read (minute_for predict.command later)) ≡ Ok (text_of_events read.book site asked (events_text predict.layout name site.station.units (events_of read.book site asked) read.zone))
+listing_text : (predict : Question) (read : Materials) (later : ℤ) (name : List ℕ) (asked : Asked) (site : Site)
+    → predict.command ≡ Predict → NamesSpan predict name asked
+    → site_in Events read.book read.table name asked ≡ Ok site
+    → text_by predict.command read.book read.table predict (given_with read (minute_for predict.command later))
+    ≡ Ok (text_of_events read.book site asked
+    (events_text predict.layout name site.station.units (events_of read.book site asked) read.zone))
 listing_text predict read later name asked site is names found =
     let given = given_with read (minute_for predict.command later) in
     ap (λ (c : Command). text_by c read.book read.table predict given) is
     ∙ goes_over_span predict (λ name asked. predicted read.book read.table name asked predict.layout read.zone) name asked names
     ∙ predicted_is read.book read.table name asked predict.layout read.zone site found
 
-listing_files : (folder : Folder) (predict report : Question) (file : List ℕ) (read : Materials) (zone : Zone) → NameSameFiles predict report → book_named folder file ≡ Ok read.book → table_named folder report.offsets ≡ Ok read.table → zone_named folder predict.zone ≡ Ok zone → predict.certificate ≡ None → WasRead folder predict file (record read { zone = zone; certificate = [] })
+listing_files : (folder : Folder) (predict report : Question) (file : List ℕ) (read : Materials) (zone : Zone)
+    → NameSameFiles predict report → book_named folder file ≡ Ok read.book
+    → table_named folder report.offsets ≡ Ok read.table → zone_named folder predict.zone ≡ Ok zone
+    → predict.certificate ≡ None → WasRead folder predict file (record read { zone = zone; certificate = [] })
 unfolding certificate_named
 listing_files folder predict report file read zone files book table shown none = record {
   book = book;
@@ -246,12 +287,14 @@ listing_files folder predict report file read zone files book table shown none =
 
 pub complete_reports : ReportsAreComplete
 complete_reports sheets folder now later words more report predict pages zone asks ok asks_predict files subject shown =
-    let was = report_by sheets folder now report report.file pages refl asks.is (sym (words_answer sheets folder now words report asks.asked) ∙ ok) in
+    let was = report_by sheets folder now report report.file pages refl asks.is
+    (sym (words_answer sheets folder now words report asks.asked) ∙ ok) in
     let list = was.list in
     let of = was.listed in
     let read : Materials = record was.read { zone = zone; certificate = [] } in
     let names = names_subject predict (subject_of report) list.name of.asked subject (subject_named report list.name of.asked of.names) in
-    let listing = text_of_events read.book of.site of.asked (events_text predict.layout list.name of.site.station.units (events_of read.book of.site of.asked) zone) in
+    let listing = text_of_events read.book of.site of.asked
+    (events_text predict.layout list.name of.site.station.units (events_of read.book of.site of.asked) zone) in
     let none = names_no_certificate sheets more predict Predict refl asks_predict.asked asks_predict.is in
     let answered = is_answered sheets folder later predict listing (ap is_report asks_predict.is) (record {
       name = was.file;

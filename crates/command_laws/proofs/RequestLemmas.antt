@@ -28,8 +28,8 @@ use Rattle.station_span.proofs.SiteLemmas.{then_ok}
 use Rattle.station_table.specs.declared.offsets.Offsets.{Offsets}
 use Rattle.station_table.specs.Bases.{basis_of}
 use Rattle.tide_answer.specs.Answers.{named_by}
-use Rattle.tide_answer.specs.Asking.{asked_by}
-use Rattle.tide_desk.specs.Answers.{asked_of, ask_from, asks_to_serve, known_in, question_in, wanted_by}
+use Rattle.tide_answer.specs.Asking.{asked_by_question}
+use Rattle.tide_desk.specs.Answers.{question_of_words, ask_from, asks_to_serve, found_in, question_in, wanted_by}
 use Rattle.tide_desk.proofs.AskedLemmas.{NamesSpan}
 use Rattle.tide_fault.specs.declared.refusal.Refusal.TheVariants.{NoStation}
 
@@ -43,34 +43,45 @@ pub record WasAsked (sheets : List SheetMeaning) (pairs : Pairs) (question : Que
   pub items : with_items pairs.origin command 1 pairs.items nothing_said ≡ Ok said
   pub whole : complete (missing_key pairs.origin command said) ≡ Ok tt
   pub is : asked pairs.origin command said ≡ question
-  pub known : known_in (wanted_by question) (missing_of sheets (wanted_by question)) ≡ Ok tt
+  pub known : found_in (wanted_by question) (missing_of sheets (wanted_by question)) ≡ Ok tt
 
 ask_ok : (asked : Result Question AskFault) (question : Question) → ask_from asked ≡ Ok question → asked ≡ Ok question
 ask_ok (Ok found) question ok = cc
 ask_ok (Err fault) question ok = absurd cc
 
-unserved : (serves : Bool) (asked : Result Question AskFault) (question : Question) → cond serves (Err UnknownCommand) asked ≡ Ok question → asked ≡ Ok question
+unserved : (serves : Bool) (asked : Result Question AskFault) (question : Question)
+    → cond serves (Err UnknownCommand) asked ≡ Ok question → asked ≡ Ok question
 unserved true asked question ok = absurd cc
 unserved false asked question ok = ok
 
-pairs_ask : (sheets : List SheetMeaning) (pairs : Pairs) (question : Question) → question_of pairs ≡ Ok question → known_in (wanted_by question) (missing_of sheets (wanted_by question)) ≡ Ok tt → WasAsked sheets pairs question
+pairs_ask : (sheets : List SheetMeaning) (pairs : Pairs) (question : Question) → question_of pairs ≡ Ok question
+    → found_in (wanted_by question) (missing_of sheets (wanted_by question)) ≡ Ok tt → WasAsked sheets pairs question
 unfolding question_of
 pairs_ask sheets pairs question ok known =
     let command = then_ok (command_of pairs.origin pairs.command) _ question ok in
     let said = then_ok (with_items pairs.origin command.0 1 pairs.items nothing_said) _ question command.2 in
     let whole = then_ok (complete (missing_key pairs.origin command.0 said.0)) _ question said.2 in
-    record { command = command.0; named = command.1; said = said.0; items = said.1; whole = whole.1; is = (let last = whole.2 in cc); known = known }
+    record {
+      command = command.0;
+      named = command.1;
+      said = said.0;
+      items = said.1;
+      whole = whole.1;
+      is = (let last = whole.2 in cc);
+      known = known;
+    }
 
-pub words_ask : (sheets : List SheetMeaning) (words : List (List ℕ)) (question : Question) → asked_of sheets words ≡ Ok question → WasAsked sheets (pairs_of words) question
-unfolding asked_of
+pub words_ask : (sheets : List SheetMeaning) (words : List (List ℕ)) (question : Question)
+    → question_of_words sheets words ≡ Ok question → WasAsked sheets (pairs_of words) question
+unfolding question_of_words
 words_ask sheets words question ok =
     let said = then_ok (ask_from (question_in (pairs_of words))) _ question ok in
-    let known = then_ok (known_in (wanted_by said.0) (missing_of sheets (wanted_by said.0))) _ question said.2 in
+    let known = then_ok (found_in (wanted_by said.0) (missing_of sheets (wanted_by said.0))) _ question said.2 in
     let same : said.0 ≡ question = (let last = known.2 in cc) in
     pairs_ask sheets (pairs_of words) question
     (unserved (asks_to_serve (pairs_of words)) (question_of (pairs_of words)) question
     (ask_ok (question_in (pairs_of words)) question (said.1 ∙ ap (λ (q : Question). Ok q) same)))
-    (subst (λ (q : Question). known_in (wanted_by q) (missing_of sheets (wanted_by q)) ≡ Ok tt) same known.1)
+    (subst (λ (q : Question). found_in (wanted_by q) (missing_of sheets (wanted_by q)) ≡ Ok tt) same known.1)
 
 -- ---- the step
 
@@ -82,30 +93,35 @@ step_least : (said : Option (List ℕ)) → pos 1 ≤ℤ unwrap_or (option_and_t
 step_least None = omega (arith, ints)
 step_least (Some text) = step_read text (step_of text) refl
 
-pub step_asked : (sheets : List SheetMeaning) (words : List (List ℕ)) (question : Question) → asked_of sheets words ≡ Ok question → pos 1 ≤ℤ question.step
+pub step_asked : (sheets : List SheetMeaning) (words : List (List ℕ)) (question : Question)
+    → question_of_words sheets words ≡ Ok question → pos 1 ≤ℤ question.step
 step_asked sheets words question ok =
     let was = words_ask sheets words question ok in
     subst (λ (q : Question). pos 1 ≤ℤ q.step) was.is (step_least (was.said key.Step))
 
 -- ---- the span of a request
 
-pub span_named : (question : Question) (name : List ℕ) (asked : Asked) → NamesSpan question name asked → asked_by question ≡ Some asked
-unfolding asked_by
+pub span_named : (question : Question) (name : List ℕ) (asked : Asked) → NamesSpan question name asked
+    → asked_by_question question ≡ Some asked
+unfolding asked_by_question
 span_named question name asked names = rw (names.begin, names.end, names.mark) refl
 
 pub name_ok : {A : Type 0} (said : Option A) (value : A) → named_by said ≡ Ok value → said ≡ Some value
 name_ok (Some found) value ok = cc
 name_ok None value ok = absurd cc
 
-span_parts : (question : Question) (begin end : Option ℤ) (asked : Asked) → question.begin ≡ begin → question.end ≡ end → asked_by question ≡ Some asked → (begin ≡ Some asked.begin) × (end ≡ Some asked.end) × (question.mark ≡ asked.mark)
-unfolding asked_by
+span_parts : (question : Question) (begin end : Option ℤ) (asked : Asked) → question.begin ≡ begin → question.end ≡ end
+    → asked_by_question question ≡ Some asked
+    → (begin ≡ Some asked.begin) × (end ≡ Some asked.end) × (question.mark ≡ asked.mark)
+unfolding asked_by_question
 span_parts question (Some begin) (Some end) asked b e is =
     let same : record { begin = begin; end = end; mark = question.mark } ≡ asked = (let some = rw (b, e) at is in cc) in
     (ap (λ (a : Asked). Some a.begin) same, ap (λ (a : Asked). Some a.end) same, ap (λ (a : Asked). a.mark) same)
 span_parts question (Some begin) None asked b e is = absurd (let none = rw (b, e) at is in cc)
 span_parts question None end asked b e is = absurd (let none = rw b at is in cc)
 
-pub names_span : (question : Question) (name : List ℕ) (asked : Asked) → question.station ≡ Some name → asked_by question ≡ Some asked → NamesSpan question name asked
+pub names_span : (question : Question) (name : List ℕ) (asked : Asked) → question.station ≡ Some name
+    → asked_by_question question ≡ Some asked → NamesSpan question name asked
 names_span question name asked station span =
     let parts = span_parts question question.begin question.end asked refl refl span in
     record { station = station; begin = parts.0; end = parts.1; mark = parts.2 }
@@ -117,7 +133,8 @@ got_ok (Some y) fault x ok = cc
 got_ok None fault x ok = absurd cc
 
 -- the first step of a span
-forward_span : (reach : Reach) (book : Book) (site : Site) (asked : Asked) → span_in reach book site.basis asked.begin asked.end ≡ Ok tt → asked.begin ≤ℤ asked.end
+forward_span : (reach : Reach) (book : Book) (site : Site) (asked : Asked)
+    → span_in reach book site.basis asked.begin asked.end ≡ Ok tt → asked.begin ≤ℤ asked.end
 unfolding span_in
 forward_span reach book site asked ok = by_test (int_lt asked.end asked.begin)
     (λ backward. absurd (let none = rw backward at ok in cc))
@@ -127,7 +144,8 @@ no_fault : (tide : Tide) (fault : Option CurveFault) (same : Tide) → tide_from
 no_fault tide None same ok = refl
 no_fault tide (Some fault) same ok = absurd cc
 
-pub curve_none : (book : Book) (station : Station) (hydraulic : Bool) (tide : Tide) → is_hydraulic station.units ≡ hydraulic → tide_from (curve_of book station) ≡ Ok tide → first_fault book station book.years ≡ None
+pub curve_none : (book : Book) (station : Station) (hydraulic : Bool) (tide : Tide) → is_hydraulic station.units
+    ≡ hydraulic → tide_from (curve_of book station) ≡ Ok tide → first_fault book station book.years ≡ None
 unfolding curve_of
 curve_none book station true tide is ok = absurd (let none = rw is at ok in cc)
 curve_none book station false tide is ok = no_fault (tide_of book station) _ tide (rw is at ok)
@@ -138,17 +156,22 @@ pub record WasFound (book : Book) (table : List Offsets) (name : List ℕ) (aske
   pub forward : asked.begin ≤ℤ asked.end
   pub limits : first_fault book site.station book.years ≡ None
 
-site_steps : (reach : Reach) (book : Book) (site result : Site) (asked : Asked) → site_at reach book site asked ≡ Ok result → (asked.begin ≤ℤ asked.end) × (first_fault book site.station book.years ≡ None) × (site ≡ result)
+site_steps : (reach : Reach) (book : Book) (site result : Site) (asked : Asked) → site_at reach book site asked
+    ≡ Ok result → (asked.begin ≤ℤ asked.end) × (first_fault book site.station book.years ≡ None) × (site ≡ result)
 unfolding site_at
 site_steps reach book site result asked ok =
     let unit = then_ok (level_unit site.station.units) _ result ok in
     let span = then_ok (span_in reach book site.basis asked.begin asked.end) _ result unit.2 in
     let curve = then_ok (tide_from (curve_of book site.station)) _ result span.2 in
     let few = then_ok (length_in asked.begin asked.end) _ result curve.2 in
-    let mark = then_ok (mark_in site.basis asked.mark) _ result few.2 in
-    (forward_span reach book site asked span.1, curve_none book site.station (is_hydraulic site.station.units) curve.0 refl curve.1, (let last = mark.2 in cc))
+    let mark = then_ok (mark_in site.basis asked.mark) _ result few.2 in (
+      forward_span reach book site asked span.1,
+      curve_none book site.station (is_hydraulic site.station.units) curve.0 refl curve.1,
+      (let last = mark.2 in cc),
+    )
 
-pub was_found : (reach : Reach) (book : Book) (table : List Offsets) (name : List ℕ) (asked : Asked) (site : Site) → site_in reach book table name asked ≡ Ok site → WasFound book table name asked site
+pub was_found : (reach : Reach) (book : Book) (table : List Offsets) (name : List ℕ) (asked : Asked) (site : Site)
+    → site_in reach book table name asked ≡ Ok site → WasFound book table name asked site
 unfolding site_in
 was_found reach book table name asked site ok =
     let basis = then_ok (basis_from (basis_of book table name)) _ site ok in

@@ -46,7 +46,8 @@ pub record HasPassed (reach : Reach) (book : Book) (table : List Offsets) (name 
   pub few : length_in asked.begin asked.end ≡ Ok tt
   pub mark : mark_in site.basis asked.mark ≡ Ok tt
 
-pub has_passed : (reach : Reach) (book : Book) (table : List Offsets) (name : List ℕ) (asked : Asked) (site : Site) → site_in reach book table name asked ≡ Ok site → HasPassed reach book table name asked site
+pub has_passed : (reach : Reach) (book : Book) (table : List Offsets) (name : List ℕ) (asked : Asked) (site : Site)
+    → site_in reach book table name asked ≡ Ok site → HasPassed reach book table name asked site
 unfolding site_in site_at
 has_passed reach book table name asked site ok =
     let basis = then_ok (basis_from (basis_of book table name)) _ site ok in
@@ -73,13 +74,16 @@ same_site site found basis station =
     ap (λ b. record { basis = b; station = found.station }) basis ∙ ap (λ s. record { basis = site.basis; station = s }) station
 
 -- a name finds one station
-pub one_site : (reach other : Reach) (book : Book) (table : List Offsets) (name : List ℕ) (asked there : Asked) (site found : Site) → site_in reach book table name asked ≡ Ok site → site_in other book table name there ≡ Ok found → found ≡ site
+pub one_site :
+    (reach other : Reach) (book : Book) (table : List Offsets) (name : List ℕ) (asked there : Asked) (site found : Site)
+    → site_in reach book table name asked ≡ Ok site → site_in other book table name there ≡ Ok found → found ≡ site
 one_site reach other book table name asked there site found ok ok_there =
     let here = has_passed reach book table name asked site ok in
     let again = has_passed other book table name there found ok_there in
     let basis : found.basis ≡ site.basis = (let left = here.basis in let right = again.basis in cc) in
     let station : found.station ≡ site.station =
-    same_some (slice_get book.stations site.basis.station) found.station site.station (ap (λ (b : Basis). slice_get book.stations b.station) (sym basis) ∙ again.station) here.station in
+    same_some (slice_get book.stations site.basis.station) found.station site.station
+    (ap (λ (b : Basis). slice_get book.stations b.station) (sym basis) ∙ again.station) here.station in
     same_site site found basis station
 
 -- ---- the span
@@ -98,7 +102,8 @@ both false b is = absurd cc
 not_after : (begin end : ℤ) → int_lt end begin ≡ false → begin ≤ℤ end
 not_after begin end forward = grind (arith, ints)
 
-pub reaches_span : (book : Book) (basis : Basis) (begin end : ℤ) → span_in Events book basis begin end ≡ Ok tt → ReachesSpan book basis begin end
+pub reaches_span : (book : Book) (basis : Basis) (begin end : ℤ) → span_in Events book basis begin end ≡ Ok tt
+    → ReachesSpan book basis begin end
 unfolding span_in lacks_minute
 reaches_span book basis begin end ok =
     let s = widened_of basis begin end in
@@ -111,7 +116,8 @@ reaches_span book basis begin end ok =
     (λ outside. absurd (let none = rw (forward, outside) at ok in cc)))
 
 -- the reference's minutes from which the events of a span come are those that are evaluated
-pub reached_span : (book : Book) (basis : Basis) (begin end : ℤ) → begin ≤ℤ end → has_span book (widened_of basis begin end) ≡ true → span_in Events book basis begin end ≡ Ok tt
+pub reached_span : (book : Book) (basis : Basis) (begin end : ℤ) → begin ≤ℤ end
+    → has_span book (widened_of basis begin end) ≡ true → span_in Events book basis begin end ≡ Ok tt
 unfolding span_in lacks_minute
 reached_span book basis begin end forward has =
     let test : int_lt end begin ≡ false = grind (arith, ints) in rw (test, has) refl

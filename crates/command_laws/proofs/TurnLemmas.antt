@@ -13,7 +13,7 @@ use Rattle.curve_law.specs.Track.{Track, event_at, has_event, plain_list, side_a
 use Rattle.curve_law.proofs.CoverLemmas.{by_test}
 use Rattle.curve_law.proofs.TrackLemmas.{plain_list-add, plain_list-one, plain_list-suc, plain_list-zero}
 use Rattle.event_list.specs.declared.span.Span.{Span}
-use Rattle.event_list.specs.Events.{events_over, minutes_in}
+use Rattle.event_list.specs.Events.{events_over, span_minutes}
 use Rattle.event_list.specs.Order.{comes_before, ordered}
 use Rattle.event_list.specs.Shifts.{greatest_add, is_within, least_add, moved, moved_by, moved_within, slack_adds, widened_of}
 use Rattle.event_list.specs.Workings.Coming.{IsAscending}
@@ -47,15 +47,20 @@ turn_kind t m rising falling = by_test (side_at t m) (λ above. rw above falling
 other_kind : (t : Track) (m : ℤ) → is_turn t.rising ≡ false → is_turn t.falling ≡ false → IsOther (event_at t m)
 other_kind t m rising falling = by_test (side_at t m) (λ above. rw above falling) (λ below. rw below rising)
 
-over-other : (s : Span) (c : Meaning) → is_turn c.track.rising ≡ false → is_turn c.track.falling ≡ false → All IsOther (flat_map (events_over s) (c ∷ []))
+over-other : (s : Span) (c : Meaning) → is_turn c.track.rising ≡ false → is_turn c.track.falling ≡ false
+    → All IsOther (flat_map (events_over s) (c ∷ []))
 over-other s c rising falling =
-    All-append IsOther (events_over s c) [] (plain_list-all IsOther c.track (λ m. other_kind c.track m rising falling) s.begin (minutes_in s)) (All-nil IsOther)
+    All-append IsOther (events_over s c) [] (plain_list-all IsOther c.track
+    (λ m. other_kind c.track m rising falling) s.begin (span_minutes s)) (All-nil IsOther)
 
-asked-other : (s : Span) (asks : Bool) (c : Meaning) → is_turn c.track.rising ≡ false → is_turn c.track.falling ≡ false → All IsOther (flat_map (events_over s) (option_to_list (if_asked asks c)))
+asked-other : (s : Span) (asks : Bool) (c : Meaning) → is_turn c.track.rising ≡ false → is_turn c.track.falling ≡ false
+    → All IsOther (flat_map (events_over s) (option_to_list (if_asked asks c)))
 asked-other s true c rising falling = over-other s c rising falling
 asked-other s false c rising falling = All-nil IsOther
 
-marked-other : (s : Span) (f : ℤ → Meaning) (mark : Option ℤ) → ((level : ℤ) → is_turn (f level).track.rising ≡ false) → ((level : ℤ) → is_turn (f level).track.falling ≡ false) → All IsOther (flat_map (events_over s) (option_to_list (option_map f mark)))
+marked-other : (s : Span) (f : ℤ → Meaning) (mark : Option ℤ) → ((level : ℤ) → is_turn (f level).track.rising ≡ false)
+    → ((level : ℤ) → is_turn (f level).track.falling ≡ false)
+    → All IsOther (flat_map (events_over s) (option_to_list (option_map f mark)))
 marked-other s f (Some level) rising falling = over-other s (f level) (rising level) (falling level)
 marked-other s f None rising falling = All-nil IsOther
 
@@ -66,7 +71,8 @@ turn_of book site = predicted_turn Second book site.station
 
 abbrev others_of : Span → Book → Site → Asked → List Event
 others_of s book site asked =
-    flat_map (events_over s) (option_to_list (followed book site asked).slack) ++ flat_map (events_over s) (option_to_list (followed book site asked).mark)
+    flat_map (events_over s) (option_to_list (followed book site asked).slack)
+    ++ flat_map (events_over s) (option_to_list (followed book site asked).mark)
 
 parts-turn : (s : Span) (book : Book) (site : Site) (asked : Asked) → (followed book site asked).turn ≡ turn_of book site
 unfolding followed_by
@@ -75,23 +81,28 @@ parts-turn s book site asked = refl
 others-other : (s : Span) (book : Book) (site : Site) (asked : Asked) → All IsOther (others_of s book site asked)
 unfolding followed_by
 others-other s book site asked =
-    All-append IsOther (flat_map (events_over s) (option_to_list (followed book site asked).slack)) (flat_map (events_over s) (option_to_list (followed book site asked).mark))
+    All-append IsOther (flat_map (events_over s) (option_to_list (followed book site asked).slack))
+    (flat_map (events_over s) (option_to_list (followed book site asked).mark))
     (asked-other s (asks_slack site.station.units site.basis) _ refl refl)
     (marked-other s _ asked.mark (λ level. refl) (λ level. refl))
 
 turns-turn : (s : Span) (book : Book) (site : Site) → All IsTurn (events_over s (turn_of book site))
 turns-turn s book site =
-    plain_list-all IsTurn (turn_of book site).track (λ m. turn_kind (turn_of book site).track m refl refl) s.begin (minutes_in s)
+    plain_list-all IsTurn (turn_of book site).track (λ m. turn_kind (turn_of book site).track m refl refl) s.begin (span_minutes s)
 
 -- moving an event doesn't change its kind
-moved-all : (P : Event → Type 0) (b : Basis) (begin end : ℤ) (es : List Event) → ((e : Event) → P e → P (moved b e)) → All P es → All P (moved_within b begin end es)
+moved-all : (P : Event → Type 0) (b : Basis) (begin end : ℤ) (es : List Event) → ((e : Event) → P e → P (moved b e))
+    → All P es → All P (moved_within b begin end es)
 moved-all P b begin end es keeps all =
     All-filter (is_within begin end) P (map (moved b) es) (All-map P (moved b) es (All-weaker P (λ e. P (moved b e)) keeps es all))
 
-moved-append : (b : Basis) (begin end : ℤ) (xs ys : List Event) → moved_within b begin end (xs ++ ys) ≡ moved_within b begin end xs ++ moved_within b begin end ys
+moved-append : (b : Basis) (begin end : ℤ) (xs ys : List Event)
+    → moved_within b begin end (xs ++ ys) ≡ moved_within b begin end xs ++ moved_within b begin end ys
 moved-append b begin end xs ys = rw (map-append, filter-append)
 
-pub turns_of : (book : Book) (site : Site) (asked : Asked) → turns_in (events_of book site asked) ≡ ordered (moved_within site.basis asked.begin asked.end (events_over (widened_of site.basis asked.begin asked.end) (turn_of book site)))
+pub turns_of : (book : Book) (site : Site) (asked : Asked)
+    → turns_in (events_of book site asked) ≡ ordered (moved_within site.basis asked.begin asked.end
+    (events_over (widened_of site.basis asked.begin asked.end) (turn_of book site)))
 unfolding events_of
 turns_of book site asked =
     let b = site.basis in
@@ -99,10 +110,13 @@ turns_of book site asked =
     let test : Event → Bool = λ event. is_turn event.kind in
     let turns = moved_within b asked.begin asked.end (events_over s (turn_of book site)) in
     let others = moved_within b asked.begin asked.end (others_of s book site asked) in
-    let kept : filter test turns ≡ turns = filter-all test turns (moved-all IsTurn b asked.begin asked.end _ (λ e is. is) (turns-turn s book site)) in
-    let dropped : filter test others ≡ [] = filter-none test others (moved-all IsOther b asked.begin asked.end _ (λ e is. is) (others-other s book site asked)) in
+    let kept : filter test turns ≡ turns =
+    filter-all test turns (moved-all IsTurn b asked.begin asked.end _ (λ e is. is) (turns-turn s book site)) in
+    let dropped : filter test others ≡ [] = filter-none test others
+    (moved-all IsOther b asked.begin asked.end _ (λ e is. is) (others-other s book site asked)) in
     let parts : moved_within b asked.begin asked.end (all_events s (followed book site asked)) ≡ turns ++ others =
-    rw (parts-turn s book site asked) (moved-append b asked.begin asked.end (events_over s (turn_of book site)) (others_of s book site asked)) in
+    rw (parts-turn s book site asked)
+    (moved-append b asked.begin asked.end (events_over s (turn_of book site)) (others_of s book site asked)) in
     let alone : filter test (turns ++ others) ≡ turns = rw (filter-append test turns others, kept, dropped) (append-nil turns) in
     ap turns_in (events-parts (followed book site asked) b asked.begin asked.end)
     ∙ filter-ordered test (moved_within b asked.begin asked.end (all_events s (followed book site asked)))
@@ -115,11 +129,13 @@ turns_of book site asked =
 abbrev pub kept : Offset → ℤ → ℤ → List Event → List Event
 kept o begin end es = filter (is_within begin end) (map (moved_by o) es)
 
-pub kept-late : (o : Offset) (begin end least : ℤ) (es : List Event) → All (λ (e : Event). least ≤ℤ e.minute) es → All (λ (e : Event). (least +ℤ o.add) ≤ℤ e.minute) (kept o begin end es)
+pub kept-late : (o : Offset) (begin end least : ℤ) (es : List Event) → All (λ (e : Event). least ≤ℤ e.minute) es
+    → All (λ (e : Event). (least +ℤ o.add) ≤ℤ e.minute) (kept o begin end es)
 kept-late o begin end least es late =
     let Late : Event → Type 0 = λ e. (least +ℤ o.add) ≤ℤ e.minute in
     All-filter (is_within begin end) Late (map (moved_by o) es)
-    (All-map Late (moved_by o) es (All-weaker (λ (e : Event). least ≤ℤ e.minute) (λ e. Late (moved_by o e)) (λ e h. omega (arith, ints)) es late))
+    (All-map Late (moved_by o) es
+    (All-weaker (λ (e : Event). least ≤ℤ e.minute) (λ e. Late (moved_by o e)) (λ e h. omega (arith, ints)) es late))
 
 outside : (begin end : ℤ) (e : Event) → end ≤ℤ e.minute → is_within begin end e ≡ false
 outside begin end e late = grind (arith, ints)
@@ -147,7 +163,8 @@ kept-append : (o : Offset) (begin end : ℤ) (xs ys : List Event) → kept o beg
 kept-append o begin end xs ys = rw (map-append, filter-append)
 
 -- events before the span are dropped
-pub kept-from : (t : Track) (o : Offset) (begin end a : ℤ) (k n : ℕ) → (a +ℤ pos k +ℤ o.add) ≤ℤ begin → kept o begin end (plain_list t a (k + n)) ≡ kept o begin end (plain_list t (a +ℤ pos k) n)
+pub kept-from : (t : Track) (o : Offset) (begin end a : ℤ) (k n : ℕ) → (a +ℤ pos k +ℤ o.add) ≤ℤ begin
+    → kept o begin end (plain_list t a (k + n)) ≡ kept o begin end (plain_list t (a +ℤ pos k) n)
 kept-from t o begin end a k n before =
     ap (kept o begin end) (plain_list-add t a k n)
     ∙ kept-append o begin end (plain_list t a k) (plain_list t (a +ℤ pos k) n)
@@ -176,7 +193,8 @@ kept-ascending t o begin end a (suc n) =
     let rest = kept o begin end (plain_list t (a +ℤ pos 1) n) in
     let up = kept-ascending t o begin end (a +ℤ pos 1) n in
     let late = kept-late o begin end (a +ℤ pos 1) (plain_list t (a +ℤ pos 1) n) (list-late t (a +ℤ pos 1) n) in
-    let after : All (λ d. comes_before d e ≡ false) rest = All-weaker (λ (d : Event). (a +ℤ pos 1 +ℤ o.add) ≤ℤ d.minute) (λ d. comes_before d e ≡ false) (λ d h. no-earlier d e (omega (arith, ints))) rest late in
+    let after : All (λ d. comes_before d e ≡ false) rest = All-weaker (λ (d : Event). (a +ℤ pos 1 +ℤ o.add) ≤ℤ d.minute)
+    (λ d. comes_before d e ≡ false) (λ d h. no-earlier d e (omega (arith, ints))) rest late in
     by_test (has_event t a)
     (λ turns. rw (one-more t a n turns) (by_test (is_within begin end e)
     (λ within. rw within (after, up))
@@ -204,7 +222,8 @@ same_side t a still = by_test (side_at t a)
     (λ above. not_false (side_at t (a +ℤ pos 1)) (rw above at still) ∙ sym above)
     (λ below. (rw below at still) ∙ sym below)
 
-first_kept : (t : Track) (o : Offset) (begin end a : ℤ) (n : ℕ) (above : Bool) → begin ≤ℤ (a +ℤ o.add) → side_at t a ≡ above → ForSome (slice_get (kept o begin end (plain_list t a n)) 0) (IsOfSide t above)
+first_kept : (t : Track) (o : Offset) (begin end a : ℤ) (n : ℕ) (above : Bool) → begin ≤ℤ (a +ℤ o.add)
+    → side_at t a ≡ above → ForSome (slice_get (kept o begin end (plain_list t a n)) 0) (IsOfSide t above)
 first_kept t o begin end a zero above from side = rw (plain_list-zero t a) (no_first (IsOfSide t above))
 first_kept t o begin end a (suc n) above from side =
     let e = moved_by o (event_at t a) in
@@ -219,7 +238,9 @@ first_kept t o begin end a (suc n) above from side =
 
 -- ---- if highs and lows have one offset
 
-turn_offset : (book : Book) (site : Site) (m : ℤ) → IsTrue (is_equal site.basis) → moved site.basis (event_at (turn_of book site).track m) ≡ moved_by site.basis.high (event_at (turn_of book site).track m)
+turn_offset : (book : Book) (site : Site) (m : ℤ) → IsTrue (is_equal site.basis)
+    → moved site.basis (event_at (turn_of book site).track m)
+    ≡ moved_by site.basis.high (event_at (turn_of book site).track m)
 turn_offset book site m equal =
     let t = (turn_of book site).track in
     ap (λ o. moved_by o (event_at t m)) (one_offset site.basis (event_at t m).kind equal
@@ -232,7 +253,9 @@ map-same f g (e ∷ es) all =
     let rest = map-same f g es (All-tail (λ d. f d ≡ g d) e es all) in
     cc
 
-moved-kept : (book : Book) (site : Site) (begin end a : ℤ) (n : ℕ) → IsTrue (is_equal site.basis) → moved_within site.basis begin end (plain_list (turn_of book site).track a n) ≡ kept site.basis.high begin end (plain_list (turn_of book site).track a n)
+moved-kept : (book : Book) (site : Site) (begin end a : ℤ) (n : ℕ) → IsTrue (is_equal site.basis)
+    → moved_within site.basis begin end (plain_list (turn_of book site).track a n)
+    ≡ kept site.basis.high begin end (plain_list (turn_of book site).track a n)
 moved-kept book site begin end a n equal =
     let b = site.basis in
     let t = (turn_of book site).track in
@@ -247,7 +270,9 @@ adds b = (
 )
 
 -- the first turn of a span is determined by the side of the slope at its begin
-pub first_turn : (book : Book) (site : Site) (asked : Asked) → IsTrue (is_equal site.basis) → asked.begin ≤ℤ asked.end → ForSome (slice_get (turns_in (events_of book site asked)) 0) (λ turn. turn.kind ≡ next_turn (is_rising_at book site asked.begin))
+pub first_turn : (book : Book) (site : Site) (asked : Asked) → IsTrue (is_equal site.basis) → asked.begin ≤ℤ asked.end
+    → ForSome (slice_get (turns_in (events_of book site asked)) 0)
+    (λ turn. turn.kind ≡ next_turn (is_rising_at book site asked.begin))
 first_turn book site asked equal forward =
     let b = site.basis in
     let s = widened_of b asked.begin asked.end in
@@ -256,13 +281,14 @@ first_turn book site asked equal forward =
     let least = (adds b).0 in
     let greatest = (adds b).1 in
     let early : ℕ = unsigned_abs (source -ℤ s.begin) in
-    let rest : ℕ = minutes_in s - early in
-    let parts : minutes_in s ≡ early + rest = omega (arith, ints, least, greatest, forward) in
+    let rest : ℕ = span_minutes s - early in
+    let parts : span_minutes s ≡ early + rest = omega (arith, ints, least, greatest, forward) in
     let at : s.begin +ℤ pos early ≡ source = omega (arith, ints, greatest) in
     let list : turns_in (events_of book site asked) ≡ kept b.high asked.begin asked.end (plain_list t source rest) =
     turns_of book site asked
-    ∙ ap ordered (moved-kept book site asked.begin asked.end s.begin (minutes_in s) equal)
-    ∙ ascending-ordered (kept b.high asked.begin asked.end (plain_list t s.begin (minutes_in s))) (kept-ascending t b.high asked.begin asked.end s.begin (minutes_in s))
+    ∙ ap ordered (moved-kept book site asked.begin asked.end s.begin (span_minutes s) equal)
+    ∙ ascending-ordered (kept b.high asked.begin asked.end (plain_list t s.begin (span_minutes s)))
+    (kept-ascending t b.high asked.begin asked.end s.begin (span_minutes s))
     ∙ ap (λ n. kept b.high asked.begin asked.end (plain_list t s.begin n)) parts
     ∙ kept-from t b.high asked.begin asked.end s.begin early rest (omega (arith, ints, at))
     ∙ ap (λ m. kept b.high asked.begin asked.end (plain_list t m rest)) at in

@@ -21,7 +21,7 @@ use Rattle.station_span.specs.Sites.{Site, site_in}
 use Rattle.station_table.specs.declared.offsets.Offsets.{Offsets}
 use Rattle.tide_answer.specs.declared.text.Answer.{Answer}
 use Rattle.tide_answer.specs.Answers.{events_text, text_alone}
-use Rattle.tide_answer.specs.Asking.{asked_by}
+use Rattle.tide_answer.specs.Asking.{asked_by_question}
 use Rattle.tide_desk.specs.Answers.{answer_of}
 use Rattle.tide_desk.specs.Laws.{Asks, NameSameFiles}
 use Rattle.tide_edge.specs.FileStates.{Folder}
@@ -90,7 +90,7 @@ pub record BoundsTurns (folder : Folder) (predict : Question) (facts listing : A
   pub file : IsSomeAnd predict.file (λ file. book_named folder file ≡ Ok book)
   pub offsets : table_named folder predict.offsets ≡ Ok table
   pub station : predict.station ≡ Some name
-  pub span : asked_by predict ≡ Some asked
+  pub span : asked_by_question predict ≡ Some asked
   pub found : site_in Events book table name asked ≡ Ok site
   pub printed : facts ≡ text_alone (about_text_of name site.station.name site.station.units constituents bound)
   pub listed : listing.text ≡ events_text predict.layout name site.station.units events zone

@@ -9,7 +9,7 @@ use Rattle.question.specs.declared.question.ZoneWord.TheVariants.{Utc}
 use Rattle.report_sheets.specs.Sheets.{SheetMeaning}
 use Rattle.tide_answer.specs.declared.text.Answer.{Answer}
 use Rattle.tide_answer.specs.Answers.{text_accepted}
-use Rattle.tide_desk.specs.Answers.{answer_of, asked_of}
+use Rattle.tide_desk.specs.Answers.{answer_of, question_of_words}
 use Rattle.tide_desk.specs.Laws.{Asks, AsksListing, HoldsCertificate, NameSameFiles, subject_of}
 use Rattle.tide_edge.specs.FileStates.{Folder}
 use Rattle.zone_time.specs.declared.zone.Zone.{Zone}
@@ -34,15 +34,15 @@ CheckShowsPredict = (sheets : List SheetMeaning) (before after : Folder) (minute
 -- universal time and as text
 abbrev pub TakesItsArguments : Type 0
 TakesItsArguments = (sheets : List SheetMeaning) (arguments : List (List ℕ)) (certify : Question) →
-    asked_of sheets (codes "certify" ∷ arguments) ≡ Ok certify →
-    asked_of sheets (codes "predict" ∷ arguments) ≡ Ok (record certify { command = Predict; zone = Utc; layout = Plain })
+    question_of_words sheets (codes "certify" ∷ arguments) ≡ Ok certify →
+    question_of_words sheets (codes "predict" ∷ arguments) ≡ Ok (record certify { command = Predict; zone = Utc; layout = Plain })
 
 -- For the text that `certify` returned `check` prints `Accepted`, and then what `predict` prints with the
 -- same arguments, if the check names the same files and no other zone.
 abbrev pub CheckShowsSameArguments : Type 0
 CheckShowsSameArguments = (sheets : List SheetMeaning) (before after : Folder) (minute later last : ℤ) (arguments more : List (List ℕ))
     (certify check : Question) (certificate : Answer) →
-    asked_of sheets (codes "certify" ∷ arguments) ≡ Ok certify →
+    question_of_words sheets (codes "certify" ∷ arguments) ≡ Ok certify →
     answer_of sheets before minute (codes "certify" ∷ arguments) ≡ Ok certificate →
     Asks sheets more Check check → HoldsCertificate before after certify check certificate.text →
     NameSameFiles certify check → check.zone ≡ Utc →

@@ -1,5 +1,24 @@
 -- The output of `clock`, and the outputs of `predict` and `heights` for the same minutes (this project).
-use Rattle.std.specs.Prelude.{◌≡◌, ℕ, ℤ, pos, ◌+ℤ◌, ◌≤ℤ◌, Bool, true, false, if◌then◌else◌, List, ◌++◌, codes, filter, slice_get, Some, None, Ok}
+use Rattle.std.specs.Prelude.{
+  ◌≡◌,
+  ℕ,
+  ℤ,
+  pos,
+  ◌+ℤ◌,
+  ◌≤ℤ◌,
+  Bool,
+  true,
+  false,
+  if◌then◌else◌,
+  List,
+  ◌++◌,
+  codes,
+  filter,
+  slice_get,
+  Some,
+  None,
+  Ok,
+}
 use Rattle.std.specs.List.{flat_map}
 use Rattle.std.specs.Option.{ForSome}
 use Rattle.curve_law.specs.declared.event.Event.{Event}

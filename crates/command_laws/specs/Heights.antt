@@ -14,7 +14,7 @@ use Rattle.station_table.specs.declared.offsets.Offsets.{Offsets}
 use Rattle.text_laws.specs.Heights.{row_until}
 use Rattle.tide_answer.specs.declared.text.Answer.{Answer}
 use Rattle.tide_answer.specs.Answers.{heights_text, text_alone}
-use Rattle.tide_answer.specs.Asking.{asked_by}
+use Rattle.tide_answer.specs.Asking.{asked_by_question}
 use Rattle.tide_desk.specs.Answers.{answer_of}
 use Rattle.tide_desk.specs.Laws.{Asks}
 use Rattle.tide_edge.specs.FileStates.{Folder}
@@ -39,7 +39,7 @@ pub record PrintsLevels (folder : Folder) (question : Question) (answer : Answer
   pub offsets : table_named folder question.offsets ≡ Ok table
   pub shown : zone_named folder question.zone ≡ Ok zone
   pub station : question.station ≡ Some name
-  pub span : asked_by question ≡ Some asked
+  pub span : asked_by_question question ≡ Some asked
   pub found : site_in Levels book table name asked ≡ Ok site
   pub printed : answer ≡ text_alone (heights_text question.layout name site.station.units rows zone)
   pub levels : AreLevels book site asked.begin asked.end question.step rows

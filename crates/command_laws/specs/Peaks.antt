@@ -42,12 +42,14 @@ abbrev pub IsRowBelow : ℤ → ℤ → Row → Type 0
 IsRowBelow end level row = row.minute <ℤ end → row.level ≤ℤ level
 
 -- a listing of `predict` has these events, and none of them is above a level
-pub record ListsEventsBelow (predict : Question) (there : Given) (name : List ℕ) (site : Site) (level : ℤ) (events : List Event) (listing : Answer) : Type 0 where
+pub record ListsEventsBelow (predict : Question) (there : Given) (name : List ℕ) (site : Site) (level : ℤ)
+    (events : List Event) (listing : Answer) : Type 0 where
   pub text : listing.text ≡ events_text predict.layout name site.station.units events there.zone
   pub below : All (IsEventBelow site.basis level) events
 
 -- a listing of `heights` has these rows, and none of them before the end is above a level
-pub record ListsRowsBelow (heights : Question) (there : Given) (name : List ℕ) (site : Site) (end level : ℤ) (rows : List Row) (listing : Answer) : Type 0 where
+pub record ListsRowsBelow (heights : Question) (there : Given) (name : List ℕ) (site : Site) (end level : ℤ)
+    (rows : List Row) (listing : Answer) : Type 0 where
   pub text : listing.text ≡ heights_text heights.layout name site.station.units rows there.zone
   pub below : All (IsRowBelow end level) rows
 

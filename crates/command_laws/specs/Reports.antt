@@ -17,24 +17,24 @@ use Rattle.tide_edge.specs.FileStates.{Folder}
 use Rattle.zone_time.specs.declared.zone.Zone.{Zone}
 
 -- a sheet, and the events that its page shows
-pub record Page : Type 0 where
+pub record ReportPage : Type 0 where
   pub sheet : SheetMeaning
   pub events : List Event
 
 -- the text of a page
-abbrev pub text_of : Head → Page → List ℕ
+abbrev pub text_of : Head → ReportPage → List ℕ
 text_of head page = page.sheet.layout head page.events
 
 -- a page shows the first events of a list, at most as many as its sheet takes; unless it is full, it shows
 -- all of them
-pub record IsPage (events : List Event) (page : Page) : Type 0 where
+pub record IsPage (events : List Event) (page : ReportPage) : Type 0 where
   pub first : (rest : List Event) × (events ≡ page.events ++ rest)
   pub within : length page.events ≤ page.sheet.limit
   pub complete : length page.events < page.sheet.limit → page.events ≡ events
 
 -- the text of a report: a page of each requested sheet, one after the other in the order of the sheets
 pub record IsReport (sheets : List SheetMeaning) (wanted : List (List ℕ)) (head : Head) (events : List Event) (text : List ℕ) : Type 0 where
-  pub pages : List Page
+  pub pages : List ReportPage
   pub text_is : text ≡ flat_map (text_of head) pages
   pub requested : map (λ page. page.sheet) pages ≡ filter (is_wanted wanted) sheets
   pub none_missing : All (Contains (map (λ page. page.sheet.word) pages)) wanted

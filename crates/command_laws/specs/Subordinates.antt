@@ -1,6 +1,27 @@
 -- The events of a subordinate station in two steps: those of its reference, and then its offsets (this
 -- project).
-use Rattle.std.specs.Prelude.{◌≡◌, ℕ, ℤ, pos, ◌-ℤ◌, ◌*ℤ◌, ◌≤ℤ◌, Bool, false, not, ◌&&◌, ◌||◌, is_none, List, filter, slice_get, Option, Some, None, Ok}
+use Rattle.std.specs.Prelude.{
+  ◌≡◌,
+  ℕ,
+  ℤ,
+  pos,
+  ◌-ℤ◌,
+  ◌*ℤ◌,
+  ◌≤ℤ◌,
+  Bool,
+  false,
+  not,
+  ◌&&◌,
+  ◌||◌,
+  is_none,
+  List,
+  filter,
+  slice_get,
+  Option,
+  Some,
+  None,
+  Ok,
+}
 use Rattle.std.specs.Ordering.{int_eq}
 use Rattle.curve_law.specs.declared.event.Event.{Event}
 use Rattle.event_list.specs.Order.{ordered}
@@ -27,7 +48,8 @@ use Rattle.command_laws.specs.Clock.{turns_in}
 -- ---- the two requests
 
 -- a request to `predict` about a station whose name finds this row of the table, from one minute to another
-pub record AsksSubordinate (book : Book) (table : List Offsets) (row : Offsets) (basis : Basis) (begin end : ℤ) (question : Question) : Type 0 where
+pub record AsksSubordinate (book : Book) (table : List Offsets) (row : Offsets) (basis : Basis) (begin end : ℤ)
+    (question : Question) : Type 0 where
   pub name : List ℕ
   pub index : ℕ
   pub command : question.command ≡ Predict
@@ -69,7 +91,8 @@ abbrev pub second_step : Units → Basis → ℤ → ℤ → List Event → List
 second_step units basis begin end events = ordered (moved_within basis begin end (filter (has_too units basis) events))
 
 -- both answers, by the events of the requests
-pub record AreTwoSteps (book : Book) (table : List Offsets) (question reference : Question) (given there : Given) (row : Offsets) (basis : Basis) (begin end : ℤ) (answer first : Answer) : Type 0 where
+pub record AreTwoSteps (book : Book) (table : List Offsets) (question reference : Question) (given there : Given)
+    (row : Offsets) (basis : Basis) (begin end : ℤ) (answer first : Answer) : Type 0 where
   pub name : List ℕ
   pub units : Units
   pub events : List Event

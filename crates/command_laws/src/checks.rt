@@ -24,7 +24,8 @@ pub fn check_shows_predict()
 pub fn worked_checks()
     ensures certified { pier_answer [] (codes "certify file=p station=Pier begin=2000-01-10T11:58Z end=2000-01-10T12:01Z")
         ≡ Ok (record {
-          text = codes "tide certificate 2\nstation Pier\nbegin 2000-01-10T11:58Z\nend 2000-01-10T12:01Z\nmark none\ntrack turn\ns\nt high 999962\ns\ndone\n";
+          text = codes
+              "tide certificate 2\nstation Pier\nbegin 2000-01-10T11:58Z\nend 2000-01-10T12:01Z\nmark none\ntrack turn\ns\nt high 999962\ns\ndone\n";
           rejected = false;
           cells = 3;
         }) }

@@ -14,7 +14,8 @@ use text_laws::heights_are_levels;
 /// `heights` prints the station's levels: the row at each index is the level that many steps after
 /// the begin, up to the end and including it. There is no other row.
 pub fn heights_has_a_row_each_step()
-    ensures rows { (book : Book) (site : Site) (begin end step : ℤ) → rows_of book site begin end step ≡ rows_over (level_at book site) begin end step }
+    ensures rows { (book : Book) (site : Site) (begin end step : ℤ)
+        → rows_of book site begin end step ≡ rows_over (level_at book site) begin end step }
     ensures printed { HeightsAreLevels }
 {
     heights_are_levels();

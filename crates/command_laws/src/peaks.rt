@@ -12,7 +12,7 @@ ghost use Rattle.tide_answer.specs.Answers.{answered};
 ghost use Rattle.zone_time.specs.declared.zone.Zone.{Zone};
 ghost use Rattle.command_laws.specs.Peaks.{sill, NothingIsHigher};
 
-use tide_answer::highest_is_told;
+use tide_answer::highest_is_reported;
 
 /// No event that `predict` lists over the same span, and no row of `heights` before its end, has a
 /// greater level than the one that `highest` prints. The law excludes slacks with offsets of their
@@ -20,7 +20,7 @@ use tide_answer::highest_is_told;
 pub fn no_event_is_above_the_highest_water()
     ensures { NothingIsHigher }
 {
-    highest_is_told();
+    highest_is_reported();
 }
 
 /// A request about two minutes that has a highest water; and over the minute before it, the slack

@@ -15,13 +15,17 @@ pub fn reports_are_complete()
 
 /// The events of two minutes on a sheet of ten events, on a full one, and as `predict` lists them.
 pub fn worked_reports()
-    ensures all { pier_answer (first_sheet 10 ∷ []) (codes "report file=p station=Pier begin=2000-01-10T11:59Z end=2000-01-10T12:01Z mark=0.99998 sheets=first")
-        ≡ Ok (text_alone (codes "Pier\n2000-01-10 11:59 UTC       1.00 feet  High Tide\n2000-01-10 11:59 UTC       1.00 feet  Mark Rising\n2000-01-10 12:00 UTC       1.00 feet  Mark Falling\n")) }
-    ensures full { pier_answer (first_sheet 1 ∷ []) (codes "report file=p station=Pier begin=2000-01-10T11:59Z end=2000-01-10T12:01Z mark=0.99998 sheets=first")
+    ensures all { pier_answer (first_sheet 10 ∷ [])
+        (codes "report file=p station=Pier begin=2000-01-10T11:59Z end=2000-01-10T12:01Z mark=0.99998 sheets=first")
+        ≡ Ok (text_alone (codes
+        "Pier\n2000-01-10 11:59 UTC       1.00 feet  High Tide\n2000-01-10 11:59 UTC       1.00 feet  Mark Rising\n2000-01-10 12:00 UTC       1.00 feet  Mark Falling\n")) }
+    ensures full { pier_answer (first_sheet 1 ∷ [])
+        (codes "report file=p station=Pier begin=2000-01-10T11:59Z end=2000-01-10T12:01Z mark=0.99998 sheets=first")
         ≡ Ok (text_alone (codes "Pier\n2000-01-10 11:59 UTC       1.00 feet  High Tide\n")) }
     ensures listed { pier_answer [] (codes "predict file=p station=Pier begin=2000-01-10T11:59Z end=2000-01-10T12:01Z mark=0.99998")
         ≡ Ok (record {
-          text = codes "Pier\n2000-01-10 11:59 UTC       1.00 feet  High Tide\n2000-01-10 11:59 UTC       1.00 feet  Mark Rising\n2000-01-10 12:00 UTC       1.00 feet  Mark Falling\n";
+          text = codes
+              "Pier\n2000-01-10 11:59 UTC       1.00 feet  High Tide\n2000-01-10 11:59 UTC       1.00 feet  Mark Rising\n2000-01-10 12:00 UTC       1.00 feet  Mark Falling\n";
           rejected = false;
           cells = 4;
         }) }

@@ -34,7 +34,8 @@ pub fn worked_steps()
     ensures first { events_of pier_book (record { basis = reference_basis 0; station = pier })
         (record { begin = pos 15791759; end = pos 15791760; mark = None })
         ≡ record { minute = pos 15791759; kind = Kind.High; level = pos 999962 } ∷ [] }
-    ensures second { second_step Units.Feet harbour (pos 15791789) (pos 15791790) (record { minute = pos 15791759; kind = Kind.High; level = pos 999962 } ∷ [])
+    ensures second { second_step Units.Feet harbour (pos 15791789) (pos 15791790)
+        (record { minute = pos 15791759; kind = Kind.High; level = pos 999962 } ∷ [])
         ≡ record { minute = pos 15791789; kind = Kind.High; level = pos 2499924 } ∷ [] }
     ensures listed { events_of pier_book (record { basis = harbour; station = pier })
         (record { begin = pos 15791789; end = pos 15791790; mark = None })

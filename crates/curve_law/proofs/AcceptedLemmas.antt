@@ -33,7 +33,8 @@ or_next-assoc (NotQuiet cell) w x = refl
 or_next-assoc (WrongStep cell) w x = refl
 or_next-assoc (WrongLevel cell written computed) w x = refl
 
-cells_verdict-append : (c : Meaning) (a : ℤ) (number : ℕ) (xs ys : List Cell) → cells_verdict c a number (xs ++ ys) ≡ or_next (cells_verdict c a number xs) (cells_verdict c (a +ℤ pos (all_minutes xs)) (number + length xs) ys)
+cells_verdict-append : (c : Meaning) (a : ℤ) (number : ℕ) (xs ys : List Cell) → cells_verdict c a number (xs ++ ys)
+    ≡ or_next (cells_verdict c a number xs) (cells_verdict c (a +ℤ pos (all_minutes xs)) (number + length xs) ys)
 unfolding cells_verdict all_minutes
 cells_verdict-append c a number [] ys =
     let here : a +ℤ pos 0 ≡ a = omega (arith, ints) in
@@ -42,9 +43,11 @@ cells_verdict-append c a number (x ∷ xs) ys =
     let rest = cells_verdict-append c (a +ℤ pos (minutes_of x)) (suc number) xs ys in
     let there : a +ℤ pos (minutes_of x) +ℤ pos (all_minutes xs) ≡ a +ℤ pos (minutes_of x + all_minutes xs) = omega (arith, ints) in
     let same : suc number + length xs ≡ number + suc (length xs) = omega arith in
-    rw (rest, there, same) (sym (or_next-assoc (cell_verdict c a number x) (cells_verdict c (a +ℤ pos (minutes_of x)) (suc number) xs) (cells_verdict c (a +ℤ pos (minutes_of x + all_minutes xs)) (number + suc (length xs)) ys)))
+    rw (rest, there, same) (sym (or_next-assoc (cell_verdict c a number x) (cells_verdict c (a +ℤ pos (minutes_of x))
+    (suc number) xs) (cells_verdict c (a +ℤ pos (minutes_of x + all_minutes xs)) (number + suc (length xs)) ys)))
 
-AreRight-append : (c : Meaning) (a : ℤ) (n k : ℕ) (xs ys : List Cell) → AreRight c a n xs → AreRight c (a +ℤ pos n) k ys → AreRight c a (n + k) (xs ++ ys)
+AreRight-append : (c : Meaning) (a : ℤ) (n k : ℕ) (xs ys : List Cell) → AreRight c a n xs → AreRight c (a +ℤ pos n) k ys
+    → AreRight c a (n + k) (xs ++ ys)
 AreRight-append c a n k xs ys first second =
     let whole = first.whole in let few = first.few in let whole' = second.whole in let few' = second.few in
     record {
@@ -56,10 +59,11 @@ AreRight-append c a n k xs ys first second =
 unit_cell-right : (c : Meaning) (a : ℤ) → AreRight c a 1 (unit_cell c.track a ∷ [])
 unfolding unit_cell all_minutes cells_verdict cell_verdict
 unit_cell-right c a = by_test (has_event c.track a)
-    (λ turns. record {
-      whole = rw turns refl;
+    (λ happens. record {
+      whole = rw happens refl;
       few = omega arith;
-      right = λ number. rw (turns, turns, same_kind-refl (event_at c.track a).kind, (Decides-int_eq (c.track.note a) (c.track.note a)).1 refl) refl;
+      right = λ number.
+          rw (happens, happens, same_kind-refl (event_at c.track a).kind, (Decides-int_eq (c.track.note a) (c.track.note a)).1 refl) refl;
     })
     (λ still. record {
       whole = rw still refl;

@@ -25,7 +25,8 @@ AgreeOver-part c d a n j k within agree = record {
   falling = agree.falling;
   values = λ i few. let at : a +ℤ pos j +ℤ pos i ≡ a +ℤ pos (j + i) = omega (arith, ints) in rw at (agree.values (j + i) (omega arith));
   notes = λ i few. let at : a +ℤ pos j +ℤ pos i ≡ a +ℤ pos (j + i) = omega (arith, ints) in rw at (agree.notes (j + i) (omega arith));
-  rates = λ i l few some most. let at : a +ℤ pos j +ℤ pos i ≡ a +ℤ pos (j + i) = omega (arith, ints) in rw at (agree.rates (j + i) l (omega arith) some most);
+  rates = λ i l few some most. let at : a +ℤ pos j +ℤ pos i ≡ a +ℤ pos (j + i) = omega (arith, ints) in
+      rw at (agree.rates (j + i) l (omega arith) some most);
 }
 
 -- curves that agree over a span agree at its first minute
@@ -48,7 +49,15 @@ pub plain_list-agrees : (c d : Meaning) (a : ℤ) (n : ℕ) → AgreeOver c d a 
 plain_list-agrees c d a zero agree = rw (plain_list-zero c.track a, plain_list-zero d.track a) refl
 plain_list-agrees c d a (suc n) agree =
     let rest = plain_list-agrees c d (a +ℤ pos 1) n (AgreeOver-part c d a (suc n) 1 n (omega arith) agree) in
-    rw (plain_list-suc c.track a n, plain_list-suc d.track a n, plain_list-one c.track a, plain_list-one d.track a, has_event-agrees c d a (suc n) (omega arith) agree, event_at-agrees c d a (suc n) agree, rest) refl
+    rw (
+      plain_list-suc c.track a n,
+      plain_list-suc d.track a n,
+      plain_list-one c.track a,
+      plain_list-one d.track a,
+      has_event-agrees c d a (suc n) (omega arith) agree,
+      event_at-agrees c d a (suc n) agree,
+      rest,
+    ) refl
 
 is_quiet-agrees : (c d : Meaning) (a : ℤ) (n : ℕ) → AgreeOver c d a n → is_quiet c a n ≡ is_quiet d a n
 unfolding is_quiet
@@ -69,7 +78,8 @@ unit_cell-agrees c d a n some agree =
     ∙ ap (λ (e : Event). cond (has_event d.track a) (Turn e.kind (c.track.note a)) Still) (event_at-agrees c d a n agree)
     ∙ ap (λ l. cond (has_event d.track a) (Turn (event_at d.track a).kind l) Still) (note-here c d a n agree)
 
-split_within-agrees : (depth : ℕ) (c d : Meaning) (a : ℤ) (n : ℕ) → 1 ≤ n → AgreeOver c d a n → split_within depth c a n ≡ split_within depth d a n
+split_within-agrees : (depth : ℕ) (c d : Meaning) (a : ℤ) (n : ℕ) → 1 ≤ n → AgreeOver c d a n
+    → split_within depth c a n ≡ split_within depth d a n
 unfolding split_within
 split_within-agrees zero c d a n some agree = refl
 split_within-agrees (suc depth) c d a n some agree = rw (split_within-step depth n c a, split_within-step depth n d a) (by_test (nat_le n 1)
@@ -77,7 +87,8 @@ split_within-agrees (suc depth) c d a n some agree = rw (split_within-step depth
     (λ more.
     let two : 2 ≤ n = grind (arith, nat_tests) in
     let first = split_within-agrees depth c d a (n / 2) (omega arith) (rw here at (AgreeOver-part c d a n 0 (n / 2) (omega arith) agree)) in
-    let second = split_within-agrees depth c d (a +ℤ pos (n / 2)) (n - n / 2) (omega arith) (AgreeOver-part c d a n (n / 2) (n - n / 2) (omega arith) agree) in
+    let second = split_within-agrees depth c d (a +ℤ pos (n / 2)) (n - n / 2) (omega arith)
+    (AgreeOver-part c d a n (n / 2) (n - n / 2) (omega arith) agree) in
     rw (more, is_quiet-agrees c d a n agree, first, second) refl))
   where
     here : a +ℤ pos 0 ≡ a
@@ -91,16 +102,20 @@ split-none-agrees : (c d : Meaning) (a : ℤ) → split c a 0 ≡ split d a 0
 unfolding split split_within
 split-none-agrees c d a = refl
 
-cover_within-agrees : (blocks : ℕ) (c d : Meaning) (a : ℤ) (n : ℕ) → AgreeOver c d a n → cover_within blocks c a n ≡ cover_within blocks d a n
+cover_within-agrees : (blocks : ℕ) (c d : Meaning) (a : ℤ) (n : ℕ) → AgreeOver c d a n
+    → cover_within blocks c a n ≡ cover_within blocks d a n
 unfolding cover_within
 cover_within-agrees zero c d a n agree = refl
 cover_within-agrees (suc blocks) c d a zero agree = split-none-agrees c d a
-cover_within-agrees (suc blocks) c d a (suc n) agree = rw (cover_within-step blocks (suc n) c a, cover_within-step blocks (suc n) d a) (by_test (nat_le (suc n) MOST_MINUTES)
+cover_within-agrees (suc blocks) c d a (suc n) agree =
+    rw (cover_within-step blocks (suc n) c a, cover_within-step blocks (suc n) d a) (by_test (nat_le (suc n) MOST_MINUTES)
     (λ last. rw (last, split-agrees c d a (suc n) (omega arith) agree) refl)
     (λ more.
     let large : MOST_MINUTES < suc n = grind (arith, nat_tests) in
-    let first = split-agrees c d a MOST_MINUTES (omega arith) (rw here at (AgreeOver-part c d a (suc n) 0 MOST_MINUTES (omega arith) agree)) in
-    let rest = cover_within-agrees blocks c d (a +ℤ pos MOST_MINUTES) (suc n - MOST_MINUTES) (AgreeOver-part c d a (suc n) MOST_MINUTES (suc n - MOST_MINUTES) (omega arith) agree) in
+    let first = split-agrees c d a MOST_MINUTES (omega arith)
+    (rw here at (AgreeOver-part c d a (suc n) 0 MOST_MINUTES (omega arith) agree)) in
+    let rest = cover_within-agrees blocks c d (a +ℤ pos MOST_MINUTES) (suc n - MOST_MINUTES)
+    (AgreeOver-part c d a (suc n) MOST_MINUTES (suc n - MOST_MINUTES) (omega arith) agree) in
     rw (more, first) (ap (λ cells. split d a MOST_MINUTES ++ cells) rest)))
   where
     here : a +ℤ pos 0 ≡ a
@@ -110,26 +125,32 @@ pub cover-agrees : (c d : Meaning) (a : ℤ) (n : ℕ) → AgreeOver c d a n →
 unfolding cover
 cover-agrees c d a n agree = cover_within-agrees n c d a n agree
 
-cell_verdict-agrees : (c d : Meaning) (a : ℤ) (number : ℕ) (cell : Cell) → AgreeOver c d a (minutes_of cell) → cell_verdict c a number cell ≡ cell_verdict d a number cell
+cell_verdict-agrees : (c d : Meaning) (a : ℤ) (number : ℕ) (cell : Cell) → AgreeOver c d a (minutes_of cell)
+    → cell_verdict c a number cell ≡ cell_verdict d a number cell
 unfolding cell_verdict
 cell_verdict-agrees c d a number (Quiet n) agree = rw (is_quiet-agrees c d a n agree) refl
 cell_verdict-agrees c d a number Still agree = rw (has_event-agrees c d a 1 (omega arith) agree) refl
 cell_verdict-agrees c d a number (Turn kind level) agree =
     ap (λ b. cond b (step_verdict c a number kind level) (WrongStep number)) (has_event-agrees c d a 1 (omega arith) agree)
-    ∙ ap (λ (e : Event). cond (has_event d.track a) (step_of number kind level e.kind (c.track.note a)) (WrongStep number)) (event_at-agrees c d a 1 agree)
-    ∙ ap (λ l. cond (has_event d.track a) (step_of number kind level (event_at d.track a).kind l) (WrongStep number)) (note-here c d a 1 agree)
+    ∙ ap (λ (e : Event). cond (has_event d.track a) (step_of number kind level e.kind (c.track.note a)) (WrongStep number))
+    (event_at-agrees c d a 1 agree)
+    ∙ ap (λ l. cond (has_event d.track a) (step_of number kind level (event_at d.track a).kind l) (WrongStep number))
+    (note-here c d a 1 agree)
   where
     step_of : ℕ → Kind → ℤ → Kind → ℤ → Verdict
     step_of number kind level right computed =
         cond (same_kind kind right) (cond (int_eq level computed) Accepted (WrongLevel number level computed)) (WrongStep number)
 
-cells_verdict-agrees : (c d : Meaning) (a : ℤ) (number : ℕ) (cells : List Cell) → AgreeOver c d a (all_minutes cells) → cells_verdict c a number cells ≡ cells_verdict d a number cells
+cells_verdict-agrees : (c d : Meaning) (a : ℤ) (number : ℕ) (cells : List Cell) → AgreeOver c d a (all_minutes cells)
+    → cells_verdict c a number cells ≡ cells_verdict d a number cells
 unfolding cells_verdict all_minutes
 cells_verdict-agrees c d a number [] agree = refl
 cells_verdict-agrees c d a number (cell ∷ cells) agree =
     let here : a +ℤ pos 0 ≡ a = omega (arith, ints) in
-    let first = cell_verdict-agrees c d a number cell (rw here at (AgreeOver-part c d a (minutes_of cell + all_minutes cells) 0 (minutes_of cell) (omega arith) agree)) in
-    let rest = cells_verdict-agrees c d (a +ℤ pos (minutes_of cell)) (suc number) cells (AgreeOver-part c d a (minutes_of cell + all_minutes cells) (minutes_of cell) (all_minutes cells) (omega arith) agree) in
+    let first = cell_verdict-agrees c d a number cell (rw here
+    at (AgreeOver-part c d a (minutes_of cell + all_minutes cells) 0 (minutes_of cell) (omega arith) agree)) in
+    let rest = cells_verdict-agrees c d (a +ℤ pos (minutes_of cell)) (suc number) cells (AgreeOver-part c d a
+    (minutes_of cell + all_minutes cells) (minutes_of cell) (all_minutes cells) (omega arith) agree) in
     rw (first, rest) refl
 
 pub verdict-agrees : (c d : Meaning) (a : ℤ) (n : ℕ) (cells : List Cell) → AgreeOver c d a n → verdict c a n cells ≡ verdict d a n cells

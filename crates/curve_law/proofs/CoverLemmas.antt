@@ -33,7 +33,8 @@ one_test : {A : Type 0} (b : Bool) (x y : A) → elim b [ true ↦ x | false ↦
 one_test true x y = refl
 one_test false x y = refl
 
-pub split_within-step : (d n : ℕ) (c : Meaning) (a : ℤ) → split_within (suc d) c a n ≡ halved c a n (split_within d c a (n / 2) ++ split_within d c (a +ℤ pos (n / 2)) (n - n / 2))
+pub split_within-step : (d n : ℕ) (c : Meaning) (a : ℤ) → split_within (suc d) c a n
+    ≡ halved c a n (split_within d c a (n / 2) ++ split_within d c (a +ℤ pos (n / 2)) (n - n / 2))
 unfolding split_within
 split_within-step d n c a = two_tests (nat_le n 1) (is_quiet c a n) _ _ _
 
@@ -41,7 +42,8 @@ split_within-step d n c a = two_tests (nat_le n 1) (is_quiet c a n) _ _ _
 abbrev pub blocked : Meaning → ℤ → ℕ → List Cell → List Cell
 blocked c a n rest = cond (nat_le n MOST_MINUTES) (split c a n) (split c a MOST_MINUTES ++ rest)
 
-pub cover_within-step : (d n : ℕ) (c : Meaning) (a : ℤ) → cover_within (suc d) c a n ≡ blocked c a n (cover_within d c (a +ℤ pos MOST_MINUTES) (n - MOST_MINUTES))
+pub cover_within-step : (d n : ℕ) (c : Meaning) (a : ℤ)
+    → cover_within (suc d) c a n ≡ blocked c a n (cover_within d c (a +ℤ pos MOST_MINUTES) (n - MOST_MINUTES))
 unfolding cover_within
 cover_within-step d n c a = one_test (nat_le n MOST_MINUTES) _ _
 
@@ -65,13 +67,15 @@ unfolding split split_within
 split-none c a = refl
 
 -- the rule for two minutes or more
-pub split-step : (c : Meaning) (a : ℤ) (n : ℕ) → 2 ≤ n → split c a n ≡ cond (is_quiet c a n) (Quiet n ∷ []) (split c a (n / 2) ++ split c (a +ℤ pos (n / 2)) (n - n / 2))
+pub split-step : (c : Meaning) (a : ℤ) (n : ℕ) → 2 ≤ n
+    → split c a n ≡ cond (is_quiet c a n) (Quiet n ∷ []) (split c a (n / 2) ++ split c (a +ℤ pos (n / 2)) (n - n / 2))
 unfolding split
 split-step c a zero two = absurd (omega arith)
 split-step c a (suc n) two =
     let more : nat_le (suc n) 1 ≡ false = grind (arith, nat_tests) in
     let first = split_within-more n (suc n / 2) (suc n / 2) c a (omega arith) (omega arith) (omega arith) in
-    let second = split_within-more n (suc n - suc n / 2) (suc n - suc n / 2) c (a +ℤ pos (suc n / 2)) (omega arith) (omega arith) (omega arith) in
+    let second = split_within-more n (suc n - suc n / 2) (suc n - suc n / 2) c (a +ℤ pos (suc n / 2)) (omega arith)
+    (omega arith) (omega arith) in
     split_within-step n (suc n) c a ∙ rw (more, first, second) refl
 
 pub split-quiet : (c : Meaning) (a : ℤ) (n : ℕ) → is_quiet c a n ≡ true → split c a n ≡ Quiet n ∷ []
@@ -79,7 +83,8 @@ unfolding is_quiet
 split-quiet c a n quiet =
     let two : 2 ≤ n = grind (arith, nat_tests) in rw (split-step c a n two, quiet) refl
 
-pub split-halves : (c : Meaning) (a : ℤ) (n : ℕ) → 2 ≤ n → is_quiet c a n ≡ false → split c a n ≡ split c a (n / 2) ++ split c (a +ℤ pos (n / 2)) (n - n / 2)
+pub split-halves : (c : Meaning) (a : ℤ) (n : ℕ) → 2 ≤ n → is_quiet c a n ≡ false
+    → split c a n ≡ split c a (n / 2) ++ split c (a +ℤ pos (n / 2)) (n - n / 2)
 split-halves c a n two loud = rw (split-step c a n two, loud) refl
 
 cover_within-more : (d e n : ℕ) (c : Meaning) (a : ℤ) → n ≤ d → n ≤ e → cover_within d c a n ≡ cover_within e c a n
@@ -105,7 +110,8 @@ cover-last c a (suc n) few =
     let e : nat_le (suc n) MOST_MINUTES ≡ true = grind (arith, nat_tests) in
     cover_within-step n (suc n) c a ∙ rw e refl
 
-pub cover-block : (c : Meaning) (a : ℤ) (n : ℕ) → MOST_MINUTES < n → cover c a n ≡ split c a MOST_MINUTES ++ cover c (a +ℤ pos MOST_MINUTES) (n - MOST_MINUTES)
+pub cover-block : (c : Meaning) (a : ℤ) (n : ℕ) → MOST_MINUTES < n
+    → cover c a n ≡ split c a MOST_MINUTES ++ cover c (a +ℤ pos MOST_MINUTES) (n - MOST_MINUTES)
 unfolding cover
 cover-block c a zero more = absurd (omega arith)
 cover-block c a (suc n) more =

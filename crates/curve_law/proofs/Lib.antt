@@ -1,7 +1,7 @@
 pub mod AcceptedLemmas
 pub mod AgreeLemmas
 pub mod CoverLemmas
-pub mod NearLemmas
+pub mod ApproximateLemmas
 pub mod QuietLemmas
 pub mod TrackLemmas
 pub mod VerdictLemmas

@@ -11,7 +11,9 @@ use Rattle.curve_law.specs.declared.quiet.TheConstants.{MOST_MINUTES}
 use Rattle.curve_law.specs.Cover.{keeps_side, is_quiet, unit_cell}
 
 -- a bound on the value some minutes after the begin, and some minutes before the end
-pub drift_up : (f : ℤ → ℤ) (a : ℤ) (r n : ℕ) → ((k : ℕ) → k < n → unsigned_abs (f (a +ℤ pos k +ℤ pos 1) -ℤ f (a +ℤ pos k)) ≤ r) → f (a +ℤ pos n) ≤ℤ (f a +ℤ pos (r * n))
+pub drift_up : (f : ℤ → ℤ) (a : ℤ) (r n : ℕ)
+    → ((k : ℕ) → k < n → unsigned_abs (f (a +ℤ pos k +ℤ pos 1) -ℤ f (a +ℤ pos k)) ≤ r)
+    → f (a +ℤ pos n) ≤ℤ (f a +ℤ pos (r * n))
 drift_up f a r zero steps = let here : a +ℤ pos 0 ≡ a = omega (arith, ints) in rw here (omega (arith, ints))
 drift_up f a r (suc n) steps =
     let so_far = drift_up f a r n (λ k h. steps k (omega arith)) in
@@ -19,7 +21,9 @@ drift_up f a r (suc n) steps =
     let there : a +ℤ pos n +ℤ pos 1 ≡ a +ℤ pos (suc n) = omega (arith, ints) in
     rw (← there) (omega (arith, ints))
 
-pub drift_down : (f : ℤ → ℤ) (a : ℤ) (r n : ℕ) → ((k : ℕ) → k < n → unsigned_abs (f (a +ℤ pos k +ℤ pos 1) -ℤ f (a +ℤ pos k)) ≤ r) → f a ≤ℤ (f (a +ℤ pos n) +ℤ pos (r * n))
+pub drift_down : (f : ℤ → ℤ) (a : ℤ) (r n : ℕ)
+    → ((k : ℕ) → k < n → unsigned_abs (f (a +ℤ pos k +ℤ pos 1) -ℤ f (a +ℤ pos k)) ≤ r)
+    → f a ≤ℤ (f (a +ℤ pos n) +ℤ pos (r * n))
 drift_down f a r zero steps = let here : a +ℤ pos 0 ≡ a = omega (arith, ints) in rw here (omega (arith, ints))
 drift_down f a r (suc n) steps =
     let so_far = drift_down f a r n (λ k h. steps k (omega arith)) in
@@ -28,12 +32,16 @@ drift_down f a r (suc n) steps =
     rw (← there) (omega (arith, ints))
 
 -- the steps of the second part of a cell
-pub later_steps : (f : ℤ → ℤ) (a : ℤ) (r j i : ℕ) → ((k : ℕ) → k < j + i → unsigned_abs (f (a +ℤ pos k +ℤ pos 1) -ℤ f (a +ℤ pos k)) ≤ r) → (k : ℕ) → k < i → unsigned_abs (f (a +ℤ pos j +ℤ pos k +ℤ pos 1) -ℤ f (a +ℤ pos j +ℤ pos k)) ≤ r
+pub later_steps : (f : ℤ → ℤ) (a : ℤ) (r j i : ℕ)
+    → ((k : ℕ) → k < j + i → unsigned_abs (f (a +ℤ pos k +ℤ pos 1) -ℤ f (a +ℤ pos k)) ≤ r) → (k : ℕ) → k < i
+    → unsigned_abs (f (a +ℤ pos j +ℤ pos k +ℤ pos 1) -ℤ f (a +ℤ pos j +ℤ pos k)) ≤ r
 later_steps f a r j i steps k few =
     let there : a +ℤ pos j +ℤ pos k ≡ a +ℤ pos (j + k) = omega (arith, ints) in
     rw there (steps (j + k) (omega arith))
 
-stays_above : (f : ℤ → ℤ) (a : ℤ) (r j i : ℕ) → ((k : ℕ) → k < j + i → unsigned_abs (f (a +ℤ pos k +ℤ pos 1) -ℤ f (a +ℤ pos k)) ≤ r) → pos (r * (j + i)) <ℤ (f a +ℤ f (a +ℤ pos (j + i))) → pos 0 <ℤ f (a +ℤ pos j)
+stays_above : (f : ℤ → ℤ) (a : ℤ) (r j i : ℕ)
+    → ((k : ℕ) → k < j + i → unsigned_abs (f (a +ℤ pos k +ℤ pos 1) -ℤ f (a +ℤ pos k)) ≤ r)
+    → pos (r * (j + i)) <ℤ (f a +ℤ f (a +ℤ pos (j + i))) → pos 0 <ℤ f (a +ℤ pos j)
 stays_above f a r j i steps far =
     let first = drift_down f a r j (λ k h. steps k (omega arith)) in
     let second = drift_up f (a +ℤ pos j) r i (later_steps f a r j i steps) in
@@ -41,7 +49,9 @@ stays_above f a r j i steps far =
     let back = rw end at second in
     omega (arith, ints)
 
-stays_below : (f : ℤ → ℤ) (a : ℤ) (r j i : ℕ) → ((k : ℕ) → k < j + i → unsigned_abs (f (a +ℤ pos k +ℤ pos 1) -ℤ f (a +ℤ pos k)) ≤ r) → pos (r * (j + i)) ≤ℤ neg_ℤ (f a +ℤ f (a +ℤ pos (j + i))) → f (a +ℤ pos j) ≤ℤ pos 0
+stays_below : (f : ℤ → ℤ) (a : ℤ) (r j i : ℕ)
+    → ((k : ℕ) → k < j + i → unsigned_abs (f (a +ℤ pos k +ℤ pos 1) -ℤ f (a +ℤ pos k)) ≤ r)
+    → pos (r * (j + i)) ≤ℤ neg_ℤ (f a +ℤ f (a +ℤ pos (j + i))) → f (a +ℤ pos j) ≤ℤ pos 0
 stays_below f a r j i steps far =
     let first = drift_up f a r j (λ k h. steps k (omega arith)) in
     let second = drift_down f (a +ℤ pos j) r i (later_steps f a r j i steps) in
@@ -49,21 +59,29 @@ stays_below f a r j i steps far =
     let back = rw end at second in
     omega (arith, ints)
 
-by_sides : (v w x most : ℤ) → (most <ℤ (v +ℤ w) → pos 0 <ℤ x) → (most ≤ℤ neg_ℤ (v +ℤ w) → x ≤ℤ pos 0) → ((int_lt (pos 0) v && int_lt (pos 0) w && int_lt most (v +ℤ w)) || (int_le v (pos 0) && int_le w (pos 0) && int_le most (neg_ℤ (v +ℤ w)))) ≡ true → int_lt (pos 0) x ≡ int_lt (pos 0) v
+by_sides : (v w x most : ℤ) → (most <ℤ (v +ℤ w) → pos 0 <ℤ x) → (most ≤ℤ neg_ℤ (v +ℤ w) → x ≤ℤ pos 0)
+    → ((int_lt (pos 0) v && int_lt (pos 0) w && int_lt most (v +ℤ w))
+    || (int_le v (pos 0) && int_le w (pos 0) && int_le most (neg_ℤ (v +ℤ w)))) ≡ true
+    → int_lt (pos 0) x ≡ int_lt (pos 0) v
 by_sides v w x most above below keeps = grind (arith, ints)
 
-same_side : (c : Meaning) (a : ℤ) (j i : ℕ) (rate : ℤ) → 1 ≤ j + i → IsRate c a (j + i) rate → keeps_side (Some rate) (j + i) (c.track.value a) (c.track.value (a +ℤ pos (j + i))) ≡ true → side_at c.track (a +ℤ pos j) ≡ side_at c.track a
+same_side : (c : Meaning) (a : ℤ) (j i : ℕ) (rate : ℤ) → 1 ≤ j + i → IsRate c a (j + i) rate
+    → keeps_side (Some rate) (j + i) (c.track.value a) (c.track.value (a +ℤ pos (j + i))) ≡ true
+    → side_at c.track (a +ℤ pos j) ≡ side_at c.track a
 unfolding keeps_side
 same_side c a j i (negsuc r) some is keeps =
     absurd (let step = is.steps 0 (omega arith) in omega (arith, ints))
 same_side c a j i (pos r) some is keeps =
-    let steps = λ (k : ℕ) (h : k < j + i). let step = is.steps k h in let s : unsigned_abs (c.track.value (a +ℤ pos k +ℤ pos 1) -ℤ c.track.value (a +ℤ pos k)) ≤ r = omega (arith, ints) in s in
+    let steps = λ (k : ℕ) (h : k < j + i). let step = is.steps k h in
+    let s : unsigned_abs (c.track.value (a +ℤ pos k +ℤ pos 1) -ℤ c.track.value (a +ℤ pos k)) ≤ r =
+    omega (arith, ints) in s in
     let above = stays_above c.track.value a r j i steps in
     let below = stays_below c.track.value a r j i steps in
     by_sides (c.track.value a) (c.track.value (a +ℤ pos (j + i))) (c.track.value (a +ℤ pos j)) (pos (r * (j + i))) above below keeps
 
 -- the conditions of a quiet cell
-quiet_parts : (c : Meaning) (a : ℤ) (n : ℕ) → is_quiet c a n ≡ true → (2 ≤ n) × (n ≤ MOST_MINUTES) × (keeps_side (c.rate a n) n (c.track.value a) (c.track.value (a +ℤ pos n)) ≡ true)
+quiet_parts : (c : Meaning) (a : ℤ) (n : ℕ) → is_quiet c a n ≡ true
+    → (2 ≤ n) × (n ≤ MOST_MINUTES) × (keeps_side (c.rate a n) n (c.track.value a) (c.track.value (a +ℤ pos n)) ≡ true)
 unfolding is_quiet
 quiet_parts c a n quiet = (grind (arith, nat_tests), grind (arith, nat_tests), grind arith)
 
@@ -71,7 +89,9 @@ no_rate : (n : ℕ) (v w : ℤ) → keeps_side None n v w ≡ true → ⊥
 unfolding keeps_side
 no_rate n v w h = cc
 
-rated : (c : Meaning) (a : ℤ) (n : ℕ) → (o : Option ℤ) → c.rate a n ≡ o → IsLawful c → IsSpan c a n → 2 ≤ n → n ≤ MOST_MINUTES → keeps_side o n (c.track.value a) (c.track.value (a +ℤ pos n)) ≡ true → (j : ℕ) → j ≤ n → side_at c.track (a +ℤ pos j) ≡ side_at c.track a
+rated : (c : Meaning) (a : ℤ) (n : ℕ) → (o : Option ℤ) → c.rate a n ≡ o → IsLawful c → IsSpan c a n → 2 ≤ n
+    → n ≤ MOST_MINUTES → keeps_side o n (c.track.value a) (c.track.value (a +ℤ pos n)) ≡ true → (j : ℕ) → j ≤ n
+    → side_at c.track (a +ℤ pos j) ≡ side_at c.track a
 rated c a n None is lawful span two most keeps j few = absurd (no_rate n _ _ keeps)
 rated c a n (Some rate) is lawful span two most keeps j few =
     let all : n ≡ j + (n - j) = omega arith in
@@ -79,7 +99,8 @@ rated c a n (Some rate) is lawful span two most keeps j few =
     same_side c a j (n - j) rate (omega arith) (rw all at law) (rw all at keeps)
 
 -- each value in a quiet cell is on the side of its ends
-pub quiet-sides : (c : Meaning) (a : ℤ) (n : ℕ) → IsLawful c → IsSpan c a n → is_quiet c a n ≡ true → (j : ℕ) → j ≤ n → side_at c.track (a +ℤ pos j) ≡ side_at c.track a
+pub quiet-sides : (c : Meaning) (a : ℤ) (n : ℕ) → IsLawful c → IsSpan c a n → is_quiet c a n ≡ true → (j : ℕ) → j ≤ n
+    → side_at c.track (a +ℤ pos j) ≡ side_at c.track a
 quiet-sides c a n lawful span quiet =
     let parts = quiet_parts c a n quiet in
     rated c a n (c.rate a n) refl lawful span parts.0 parts.1 parts.2
@@ -97,7 +118,8 @@ change false true e = refl
 change false false e = absurd (e refl)
 
 -- no event comes after any minute of a quiet cell
-pub quiet-no_event : (c : Meaning) (a : ℤ) (n : ℕ) → IsLawful c → IsSpan c a n → is_quiet c a n ≡ true → (k : ℕ) → k < n → has_event c.track (a +ℤ pos k) ≡ false
+pub quiet-no_event : (c : Meaning) (a : ℤ) (n : ℕ) → IsLawful c → IsSpan c a n → is_quiet c a n ≡ true → (k : ℕ) → k < n
+    → has_event c.track (a +ℤ pos k) ≡ false
 quiet-no_event c a n lawful span quiet k few =
     let here = quiet-sides c a n lawful span quiet k (omega arith) in
     let there = quiet-sides c a n lawful span quiet (suc k) (omega arith) in
@@ -105,7 +127,8 @@ quiet-no_event c a n lawful span quiet k few =
     no_change (side_at c.track (a +ℤ pos k)) (side_at c.track (a +ℤ pos k +ℤ pos 1)) (here ∙ sym (rw next there))
 
 -- the test depends on the side of the first value
-pub keeps-above : (v w most rate : ℤ) (n : ℕ) → most ≡ rate *ℤ pos n → pos 0 <ℤ v → pos 0 <ℤ w → int_lt most (v +ℤ w) ≡ keeps_side (Some rate) n v w
+pub keeps-above : (v w most rate : ℤ) (n : ℕ) → most ≡ rate *ℤ pos n → pos 0 <ℤ v → pos 0 <ℤ w
+    → int_lt most (v +ℤ w) ≡ keeps_side (Some rate) n v w
 unfolding keeps_side
 keeps-above v w most rate n e first second = rw e (grind (arith, ints))
 
@@ -113,7 +136,8 @@ pub keeps-not_above : (v w rate : ℤ) (n : ℕ) → pos 0 <ℤ v → w ≤ℤ p
 unfolding keeps_side
 keeps-not_above v w rate n first second = grind (arith, ints)
 
-pub keeps-below : (v w most rate : ℤ) (n : ℕ) → most ≡ rate *ℤ pos n → v ≤ℤ pos 0 → w ≤ℤ pos 0 → int_le (v +ℤ w +ℤ most) (pos 0) ≡ keeps_side (Some rate) n v w
+pub keeps-below : (v w most rate : ℤ) (n : ℕ) → most ≡ rate *ℤ pos n → v ≤ℤ pos 0 → w ≤ℤ pos 0
+    → int_le (v +ℤ w +ℤ most) (pos 0) ≡ keeps_side (Some rate) n v w
 unfolding keeps_side
 keeps-below v w most rate n e first second = rw e (grind (arith, ints))
 
@@ -126,7 +150,8 @@ unfolding is_quiet
 is_quiet-length c a n other =
     let e : (nat_le 2 n && nat_le n MOST_MINUTES) ≡ false = grind (arith, nat_tests) in rw e refl
 
-pub is_quiet-rate : (c : Meaning) (a : ℤ) (n : ℕ) (o : Option ℤ) → 2 ≤ n → n ≤ MOST_MINUTES → o ≡ c.rate a n → keeps_side o n (c.track.value a) (c.track.value (a +ℤ pos n)) ≡ is_quiet c a n
+pub is_quiet-rate : (c : Meaning) (a : ℤ) (n : ℕ) (o : Option ℤ) → 2 ≤ n → n ≤ MOST_MINUTES → o ≡ c.rate a n
+    → keeps_side o n (c.track.value a) (c.track.value (a +ℤ pos n)) ≡ is_quiet c a n
 unfolding is_quiet
 is_quiet-rate c a n o two most is =
     let e : (nat_le 2 n && nat_le n MOST_MINUTES) ≡ true = grind (arith, nat_tests) in rw (e, is) refl
@@ -135,18 +160,21 @@ pub no_rate-quiet : (c : Meaning) (a : ℤ) (n : ℕ) → 2 ≤ n → n ≤ MOST
 unfolding keeps_side
 no_rate-quiet c a n two most is = is_quiet-rate c a n None two most is
 
-pub rate-positive : (c : Meaning) (a : ℤ) (n : ℕ) (rate : ℤ) → IsLawful c → IsSpan c a n → 2 ≤ n → n ≤ MOST_MINUTES → Some rate ≡ c.rate a n → pos 0 ≤ℤ rate
+pub rate-positive : (c : Meaning) (a : ℤ) (n : ℕ) (rate : ℤ) → IsLawful c → IsSpan c a n → 2 ≤ n → n ≤ MOST_MINUTES
+    → Some rate ≡ c.rate a n → pos 0 ≤ℤ rate
 rate-positive c a n rate lawful span two most is =
     let law = lawful.rates a n rate (record { first = span.first; last = span.last; some = omega arith; few = most }) (sym is) in
     let step = law.steps 0 (omega arith) in
     omega (arith, ints)
 
-pub unit_cell-still : (t : Track) (a : ℤ) (here there : Bool) → here ≡ side_at t a → there ≡ side_at t (a +ℤ pos 1) → there ≡ here → Still ≡ unit_cell t a
+pub unit_cell-still : (t : Track) (a : ℤ) (here there : Bool) → here ≡ side_at t a → there ≡ side_at t (a +ℤ pos 1)
+    → there ≡ here → Still ≡ unit_cell t a
 unfolding unit_cell
 unit_cell-still t a here there e f same =
     let q : has_event t a ≡ false = no_change (side_at t a) (side_at t (a +ℤ pos 1)) (cc) in rw q refl
 
-pub unit_cell-turn : (t : Track) (a : ℤ) (here there : Bool) → here ≡ side_at t a → there ≡ side_at t (a +ℤ pos 1) → there ≢ here → Turn (cond here t.falling t.rising) (t.note a) ≡ unit_cell t a
+pub unit_cell-turn : (t : Track) (a : ℤ) (here there : Bool) → here ≡ side_at t a → there ≡ side_at t (a +ℤ pos 1)
+    → there ≢ here → Turn (cond here t.falling t.rising) (t.note a) ≡ unit_cell t a
 unfolding unit_cell
 unit_cell-turn t a here there e f differ =
     let q : has_event t a ≡ true = change (side_at t a) (side_at t (a +ℤ pos 1)) (λ h. differ (cc)) in rw (q, e) refl
@@ -163,10 +191,13 @@ differ false true h e = cc
 differ false false h e = cc
 
 -- values on two sides of 0 are the ends of no quiet cell
-pub crossed-loud : (c : Meaning) (a : ℤ) (n : ℕ) → not (beq (int_lt (pos 0) (c.track.value a)) (int_lt (pos 0) (c.track.value (a +ℤ pos n)))) ≡ true → false ≡ is_quiet c a n
+pub crossed-loud : (c : Meaning) (a : ℤ) (n : ℕ)
+    → not (beq (int_lt (pos 0) (c.track.value a)) (int_lt (pos 0) (c.track.value (a +ℤ pos n)))) ≡ true
+    → false ≡ is_quiet c a n
 unfolding is_quiet
 crossed-loud c a n other =
-    rw (other_sides (c.rate a n) n (c.track.value a) (c.track.value (a +ℤ pos n)) (differ _ _ other)) (never (nat_le 2 n && nat_le n MOST_MINUTES))
+    rw (other_sides (c.rate a n) n (c.track.value a) (c.track.value (a +ℤ pos n)) (differ _ _ other))
+    (never (nat_le 2 n && nat_le n MOST_MINUTES))
   where
     never : (t : Bool) → false ≡ (t && false)
     never true = refl

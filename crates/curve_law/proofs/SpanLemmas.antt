@@ -10,11 +10,13 @@ pub record IsBetween (c : Meaning) (begin end : ℤ) : Type 0 where
   pub first : c.first ≤ℤ begin
   pub last : end ≤ℤ c.last
 
-pub all-of : (n : ℕ) (begin end : ℤ) → n ≡ unsigned_abs (end -ℤ begin) → begin ≤ℤ end → (end -ℤ begin) ≤ℤ pos (2 ^ 61) → pos (min n (2 ^ 63 - 1)) ≡ end -ℤ begin
+pub all-of : (n : ℕ) (begin end : ℤ) → n ≡ unsigned_abs (end -ℤ begin) → begin ≤ℤ end → (end -ℤ begin) ≤ℤ pos (2 ^ 61)
+    → pos (min n (2 ^ 63 - 1)) ≡ end -ℤ begin
 all-of n begin end is forward few = omega (arith, ints)
 
 -- no span has more minutes than an `i64` holds
-whole-of : (n : ℕ) (begin end : ℤ) → pos (min n (2 ^ 63 - 1)) ≡ end -ℤ begin → begin ≤ℤ end → (end -ℤ begin) ≤ℤ pos (2 ^ 61) → n ≡ unsigned_abs (end -ℤ begin)
+whole-of : (n : ℕ) (begin end : ℤ) → pos (min n (2 ^ 63 - 1)) ≡ end -ℤ begin → begin ≤ℤ end
+    → (end -ℤ begin) ≤ℤ pos (2 ^ 61) → n ≡ unsigned_abs (end -ℤ begin)
 whole-of n begin end is forward few = omega (arith, ints)
 
 pub minutes-few : (c : Meaning) (begin end : ℤ) → IsBetween c begin end → (end -ℤ begin) ≤ℤ pos (2 ^ 61)
@@ -49,9 +51,12 @@ pub covered-is : (covered : ℤ) (n : ℕ) → covered ≡ pos (min n (2 ^ 63 - 
 covered-is covered n is = omega (arith, ints)
 
 -- a saturated count that equals the span's minutes is exact
-pub counted-whole : (c : Meaning) (begin end covered : ℤ) (n : ℕ) → IsBetween c begin end → covered ≡ pos (min n (2 ^ 63 - 1)) → of_z w64 covered ≡ of_z w64 (to_z w64 (of_z w64 end) -ℤ to_z w64 (of_z w64 begin)) → n ≡ unsigned_abs (end -ℤ begin)
+pub counted-whole : (c : Meaning) (begin end covered : ℤ) (n : ℕ) → IsBetween c begin end → covered
+    ≡ pos (min n (2 ^ 63 - 1)) → of_z w64 covered ≡ of_z w64 (to_z w64 (of_z w64 end) -ℤ to_z w64 (of_z w64 begin))
+    → n ≡ unsigned_abs (end -ℤ begin)
 counted-whole c begin end covered n between is same =
-    let minutes : covered ≡ end -ℤ begin = sym (covered-is covered n is) ∙ ap (to_z w64) (rw (ends-are c begin end between) at same) ∙ wanted-is c begin end between in
+    let minutes : covered ≡ end -ℤ begin = sym (covered-is covered n is)
+    ∙ ap (to_z w64) (rw (ends-are c begin end between) at same) ∙ wanted-is c begin end between in
     whole-of n begin end (sym is ∙ minutes) between.forward (minutes-few c begin end between)
 
 pub within-span : (c : Meaning) (begin end : ℤ) (n : ℕ) → IsBetween c begin end → n ≡ unsigned_abs (end -ℤ begin) → IsSpan c begin n

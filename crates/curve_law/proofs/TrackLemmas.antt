@@ -31,7 +31,8 @@ plain_list-suc t a n =
 -- the plain list of one minute
 pub plain_list-one : (t : Track) (a : ℤ) → plain_list t a 1 ≡ cond (has_event t a) (event_at t a ∷ []) []
 unfolding plain_list minutes
-plain_list-one t a = elim (has_event t a) as (λ v. map (event_at t) (cond v (a ∷ []) []) ≡ cond v (event_at t a ∷ []) []) [ true ↦ refl | false ↦ refl ]
+plain_list-one t a = elim (has_event t a)
+    as (λ v. map (event_at t) (cond v (a ∷ []) []) ≡ cond v (event_at t a ∷ []) []) [ true ↦ refl | false ↦ refl ]
 
 -- no event if no minute has one
 pub plain_list-none : (t : Track) (a : ℤ) (n : ℕ) → ((k : ℕ) → k < n → has_event t (a +ℤ pos k) ≡ false) → plain_list t a n ≡ []

@@ -11,7 +11,7 @@ use Rattle.curve_law.specs.declared.verdict.Verdict.{Verdict}
 use Rattle.curve_law.specs.declared.verdict.Verdict.TheVariants.{Accepted, WrongLength, NotQuiet, WrongStep, WrongLevel}
 use Rattle.curve_law.specs.Track.{has_event, event_at, plain_list}
 use Rattle.curve_law.specs.Meaning.{Meaning, IsSpan, IsLawful}
-use Rattle.curve_law.specs.Cells.{minutes_of, all_minutes, event_in, turns}
+use Rattle.curve_law.specs.Cells.{minutes_of, all_minutes, event_in, cell_events}
 use Rattle.curve_law.specs.Cover.{is_quiet}
 use Rattle.curve_law.specs.Verdicts.{same_kind, step_verdict, cell_verdict, or_next, cells_verdict, verdict}
 use Rattle.curve_law.proofs.TrackLemmas.{plain_list-zero, plain_list-one, plain_list-add, plain_list-none}
@@ -80,7 +80,8 @@ tested true v w unlike h = (refl, h)
 tested false v w unlike h = absurd (unlike h)
 
 -- an accepted cell has the event of its minutes
-accepted-event : (c : Meaning) (a : ℤ) (number : ℕ) (cell : Cell) → IsLawful c → IsSpan c a (minutes_of cell) → cell_verdict c a number cell ≡ Accepted → event_in a cell ≡ plain_list c.track a (minutes_of cell)
+accepted-event : (c : Meaning) (a : ℤ) (number : ℕ) (cell : Cell) → IsLawful c → IsSpan c a (minutes_of cell)
+    → cell_verdict c a number cell ≡ Accepted → event_in a cell ≡ plain_list c.track a (minutes_of cell)
 unfolding cell_verdict
 accepted-event c a number (Quiet n) lawful span ok =
     let quiet = accepted_true (is_quiet c a n) (NotQuiet number) (λ e. cc) ok in
@@ -89,28 +90,32 @@ accepted-event c a number Still lawful span ok =
     let still = accepted_false (has_event c.track a) (WrongStep number) (λ e. cc) ok in
     rw (plain_list-one c.track a, still) refl
 accepted-event c a number (Turn kind level) lawful span ok =
-    let turns = tested (has_event c.track a) (step_verdict c a number kind level) (WrongStep number) (λ e. cc) ok in
-    let alike = tested (same_kind kind (event_at c.track a).kind) _ (WrongStep number) (λ e. cc) turns.1 in
+    let happens = tested (has_event c.track a) (step_verdict c a number kind level) (WrongStep number) (λ e. cc) ok in
+    let alike = tested (same_kind kind (event_at c.track a).kind) _ (WrongStep number) (λ e. cc) happens.1 in
     let written = accepted_true (int_eq level (c.track.note a)) (WrongLevel number level (c.track.note a)) (λ e. cc) alike.1 in
     let k = one_kind kind (event_at c.track a).kind alike.0 in
     let l = (Decides-int_eq level (c.track.note a)).0 written in
-    rw (plain_list-one c.track a, turns.0, k, l) refl
+    rw (plain_list-one c.track a, happens.0, k, l) refl
 
-accepted-turns : (c : Meaning) (a : ℤ) (number : ℕ) (cells : List Cell) → IsLawful c → IsSpan c a (all_minutes cells) → cells_verdict c a number cells ≡ Accepted → turns a cells ≡ plain_list c.track a (all_minutes cells)
-unfolding cells_verdict turns all_minutes
-accepted-turns c a number [] lawful span ok = sym (plain_list-zero c.track a)
-accepted-turns c a number (cell ∷ cells) lawful span ok =
+accepted-cell_events : (c : Meaning) (a : ℤ) (number : ℕ) (cells : List Cell) → IsLawful c
+    → IsSpan c a (all_minutes cells) → cells_verdict c a number cells ≡ Accepted
+    → cell_events a cells ≡ plain_list c.track a (all_minutes cells)
+unfolding cells_verdict cell_events all_minutes
+accepted-cell_events c a number [] lawful span ok = sym (plain_list-zero c.track a)
+accepted-cell_events c a number (cell ∷ cells) lawful span ok =
     let parts = both_accepted (cell_verdict c a number cell) (cells_verdict c (a +ℤ pos (minutes_of cell)) (suc number) cells) ok in
     let first = span.first in
     let last = span.last in
     let here = accepted-event c a number cell lawful (record { first = first; last = omega (arith, ints) }) parts.0 in
-    let rest = accepted-turns c (a +ℤ pos (minutes_of cell)) (suc number) cells lawful (record { first = omega (arith, ints); last = omega (arith, ints) }) parts.1 in
+    let rest = accepted-cell_events c (a +ℤ pos (minutes_of cell)) (suc number) cells lawful
+    (record { first = omega (arith, ints); last = omega (arith, ints) }) parts.1 in
     rw (here, rest) (sym (plain_list-add c.track a (minutes_of cell) (all_minutes cells)))
 
 -- accepted cells have exactly the events of the span
-pub verdict-exact : (c : Meaning) (a : ℤ) (n : ℕ) (cells : List Cell) → IsLawful c → IsSpan c a n → verdict c a n cells ≡ Accepted → turns a cells ≡ plain_list c.track a n
+pub verdict-exact : (c : Meaning) (a : ℤ) (n : ℕ) (cells : List Cell) → IsLawful c → IsSpan c a n
+    → verdict c a n cells ≡ Accepted → cell_events a cells ≡ plain_list c.track a n
 unfolding verdict
 verdict-exact c a n cells lawful span ok =
     let whole = tested (all_minutes cells == n) _ _ (λ e. cc) ok in
     let all : all_minutes cells ≡ n = (Decides-eqb (all_minutes cells) n).0 whole.0 in
-    let exact = accepted-turns c a 1 cells lawful (rw all span) whole.1 in rw (← all) exact
+    let exact = accepted-cell_events c a 1 cells lawful (rw all span) whole.1 in rw (← all) exact

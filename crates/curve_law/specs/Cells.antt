@@ -22,6 +22,6 @@ event_in a Still = []
 event_in a (Turn kind level) = record { minute = a; kind = kind; level = level } ∷ []
 
 -- the events of consecutive cells, of which the first begins at minute `a`
-unfoldable pub turns : ℤ → List Cell → List Event
-turns a [] = []
-turns a (cell ∷ cells) = event_in a cell ++ turns (a +ℤ pos (minutes_of cell)) cells
+unfoldable pub cell_events : ℤ → List Cell → List Event
+cell_events a [] = []
+cell_events a (cell ∷ cells) = event_in a cell ++ cell_events (a +ℤ pos (minutes_of cell)) cells

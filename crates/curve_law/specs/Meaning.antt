@@ -17,9 +17,9 @@ pub record IsMinute (c : Meaning) (m : ℤ) : Type 0 where
   pub first : c.first ≤ℤ m
   pub last : m ≤ℤ c.last
 
--- `near` is within `error` of the value at minute m
-abbrev pub IsNearValue : Meaning → ℕ → ℤ → ℤ → Type 0
-IsNearValue c error m near = unsigned_abs (near -ℤ c.track.value m) ≤ error
+-- `approximate` is within `error` of the value at minute m
+abbrev pub IsApproximateValue : Meaning → ℕ → ℤ → ℤ → Type 0
+IsApproximateValue c error m approximate = unsigned_abs (approximate -ℤ c.track.value m) ≤ error
 
 -- a span of n minutes from minute `a` on, with a value at both ends, and so at each of its minutes
 pub record IsSpan (c : Meaning) (a : ℤ) (n : ℕ) : Type 0 where

@@ -1,2 +1,2 @@
-pub mod Near
+pub mod Approximate
 pub mod SampleLaws

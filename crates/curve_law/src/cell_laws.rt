@@ -6,7 +6,7 @@ ghost use Rattle.curve_law.specs.declared.quiet.TheConstants.{MOST_MINUTES};
 ghost use Rattle.curve_law.specs.declared.verdict.Verdict.{Verdict};
 ghost use Rattle.curve_law.specs.Track.{side_at, has_event, plain_list};
 ghost use Rattle.curve_law.specs.Meaning.{Meaning, IsSpan, IsLawful, AgreeOver};
-ghost use Rattle.curve_law.specs.Cells.{all_minutes, turns};
+ghost use Rattle.curve_law.specs.Cells.{all_minutes, cell_events};
 ghost use Rattle.curve_law.specs.Cover.{is_quiet, unit_cell, split, cover};
 ghost use Rattle.curve_law.specs.Verdicts.{verdict};
 
@@ -40,17 +40,17 @@ pub fn quiet_cells_have_no_event()
 /// Proves that the events of accepted cells are exactly those of the span, whoever made the cells.
 pub fn accepted_cells_are_exact()
     ensures { (c : Meaning) (a : ℤ) (n : ℕ) (cells : List Cell) → IsLawful c → IsSpan c a n →
-        verdict c a n cells ≡ Verdict.Accepted → turns a cells ≡ plain_list c.track a n }
+        verdict c a n cells ≡ Verdict.Accepted → cell_events a cells ≡ plain_list c.track a n }
 {}
 
 /// Proves that the cells of a span by the halving rule have all its minutes, number at most one a minute,
 /// and are accepted, so that their events are exactly those of the span.
 pub fn covers_are_accepted()
     ensures minutes { (c : Meaning) (a : ℤ) (n : ℕ) → all_minutes (cover c a n) ≡ n }
-    ensures few { (c : Meaning) (a : ℤ) (n : ℕ) → length (cover c a n) ≤ n }
+    ensures count_bound { (c : Meaning) (a : ℤ) (n : ℕ) → length (cover c a n) ≤ n }
     ensures accepted { (c : Meaning) (a : ℤ) (n : ℕ) → verdict c a n (cover c a n) ≡ Verdict.Accepted }
     ensures exact { (c : Meaning) (a : ℤ) (n : ℕ) → IsLawful c → IsSpan c a n →
-        turns a (cover c a n) ≡ plain_list c.track a n }
+        cell_events a (cover c a n) ≡ plain_list c.track a n }
 {}
 
 /// Proves that two curves that agree over a span have the same events, cells and verdicts there, whatever

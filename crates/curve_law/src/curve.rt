@@ -1,7 +1,7 @@
 //! Curves: a value at each minute, and bounds on its rate of change.
 
 ghost use Rattle.std.specs.Prelude.{◌≡◌, ◌^◌, ◌<◌, ◌≤◌, ℤ, pos};
-ghost use Rattle.curve_law.specs.Meaning.{IsMinute, IsCell, IsNearValue, IsLawful};
+ghost use Rattle.curve_law.specs.Meaning.{IsMinute, IsCell, IsApproximateValue, IsLawful};
 ghost use Rattle.curve_law.specs.CurveStates.{CurveState, evaluated_once};
 
 use crate::kind::Kind;
@@ -10,7 +10,7 @@ use crate::kind::Kind;
 ///
 /// Minutes are counted from 1970-01-01T00:00Z. The state of a curve has its facts, which no call changes
 /// (the first and last minute, values, levels, kinds and rates, the approximate values and their error),
-/// and the number of calls of `value` and `near_value`. `exact_value` isn't counted, since its
+/// and the number of calls of `value` and `approximate_value`. `exact_value` isn't counted, since its
 /// approximate value was, nor are `note` and `rate`.
 pub trait Curve {
     /// The facts of the curve, and the number of evaluations so far.
@@ -27,22 +27,22 @@ pub trait Curve {
     /// Evaluates the curve: returns the value at minute `m`, below 10^37 in size. The call is counted.
     fn value(&mut self, m: i64) -> i128
         requires minute { IsMinute (state self.old).facts.meaning m }
-        requires few { (state self.old).count < 2 ^ 63 }
+        requires count_bound { (state self.old).count < 2 ^ 63 }
         ensures value { result ≡ (state self.old).facts.meaning.track.value m }
         ensures after { state self.new ≡ evaluated_once (state self.old) };
 
     /// Returns an approximation of the value at minute `m`, within [`Curve::error`], which may take less
     /// time. The call is counted.
-    fn near_value(&mut self, m: i64) -> i128
+    fn approximate_value(&mut self, m: i64) -> i128
         requires minute { IsMinute (state self.old).facts.meaning m }
-        requires few { (state self.old).count < 2 ^ 63 }
+        requires count_bound { (state self.old).count < 2 ^ 63 }
         ensures value { result ≡ (state self.old).facts.approximate m }
         ensures after { state self.new ≡ evaluated_once (state self.old) };
 
-    /// Returns the value at minute `m`, whose approximation is `near_value`. The call isn't counted.
-    fn exact_value(&self, m: i64, near_value: i128) -> i128
+    /// Returns the value at minute `m`, whose approximation is `approximate_value`. The call isn't counted.
+    fn exact_value(&self, m: i64, approximate_value: i128) -> i128
         requires minute { IsMinute (state self.now).facts.meaning m }
-        requires near { near_value ≡ (state self.now).facts.approximate m }
+        requires approximate { approximate_value ≡ (state self.now).facts.approximate m }
         ensures { result ≡ (state self.now).facts.meaning.track.value m };
 
     /// Returns the most that an approximate value differs from the value, at most 10^36.
@@ -80,5 +80,5 @@ pub trait Curve {
 
     /// Each approximate value differs from the value by at most the error.
     ghost close: { (curve : Self) → (m : ℤ) → IsMinute (state curve).facts.meaning m
-        → IsNearValue (state curve).facts.meaning (state curve).facts.error m ((state curve).facts.approximate m) };
+        → IsApproximateValue (state curve).facts.meaning (state curve).facts.error m ((state curve).facts.approximate m) };
 }

@@ -5,6 +5,7 @@
 //! that each faster search has to return. A [`Curve`] is a track with bounds on its rate of change.
 #![tactic(auto)]
 
+mod approximate;
 mod cell;
 mod cell_laws;
 mod cells;
@@ -13,7 +14,6 @@ mod event;
 mod events;
 mod kind;
 mod laws;
-mod near;
 mod passing;
 mod point;
 mod quiet;
@@ -23,6 +23,7 @@ mod verdict;
 mod worked;
 mod worked_cells;
 
+pub use approximate::{is_quiet_from_approximate, unit_cell_from_approximate};
 pub use cell::Cell;
 pub use cell_laws::{
     accepted_cells_are_exact, agreeing_curves_have_one_answer, cells_are_halved,
@@ -37,9 +38,8 @@ pub use laws::{
     events_pass_zero, plain_list_of_one_minute, plain_list_of_quiet_minutes,
     plain_list_of_two_spans,
 };
-pub use near::{is_quiet_near, unit_cell_near};
 pub use passing::kind_after;
-pub use point::{Point, near_point_at, point_at};
+pub use point::{Point, approximate_point_at, point_at};
 pub use quiet::{MOST_MINUTES, is_quiet, most_change, unit_cell};
 pub use tracks::Tracks;
 pub use verdict::Verdict;

@@ -16,7 +16,7 @@ pub struct Point {
 /// Evaluates `curve` at `minute`, and returns the point.
 pub fn point_at<C: Curve>(curve: &mut C, minute: i64) -> Point
     requires minute { IsMinute (C.state curve.old).facts.meaning minute }
-    requires few { (C.state curve.old).count < 2 ^ 63 }
+    requires count_bound { (C.state curve.old).count < 2 ^ 63 }
     ensures point { result ≡ record { minute = minute; value = (C.state curve.old).facts.meaning.track.value minute } }
     ensures after { C.state curve.new ≡ evaluated_once (C.state curve.old) }
 {
@@ -27,14 +27,14 @@ pub fn point_at<C: Curve>(curve: &mut C, minute: i64) -> Point
 }
 
 /// Evaluates `curve` approximately at `minute`, and returns the point.
-pub fn near_point_at<C: Curve>(curve: &mut C, minute: i64) -> Point
+pub fn approximate_point_at<C: Curve>(curve: &mut C, minute: i64) -> Point
     requires minute { IsMinute (C.state curve.old).facts.meaning minute }
-    requires few { (C.state curve.old).count < 2 ^ 63 }
+    requires count_bound { (C.state curve.old).count < 2 ^ 63 }
     ensures point { result ≡ record { minute = minute; value = (C.state curve.old).facts.approximate minute } }
     ensures after { C.state curve.new ≡ evaluated_once (C.state curve.old) }
 {
     Point {
         minute,
-        value: curve.near_value(minute),
+        value: curve.approximate_value(minute),
     }
 }

@@ -74,7 +74,7 @@ pub fn cell_of_sides<C: Curve>(curve: &C, a: i64, is_above: bool, is_above_next:
 fn keeps_side(rate: i128, n: u32, value: i128, end_value: i128) -> bool
     requires positive { pos 0 ≤ℤ rate }
     requires rate { (rate *ℤ pos MOST_MINUTES) <ℤ pos (5 * 10 ^ 37) }
-    requires few { n ≤ MOST_MINUTES }
+    requires count_bound { n ≤ MOST_MINUTES }
     requires value { unsigned_abs value < 10 ^ 37 }
     requires end_value { unsigned_abs end_value < 10 ^ 37 }
     ensures { result ≡ keeps_side (Some rate) n value end_value }
@@ -93,7 +93,7 @@ fn keeps_side(rate: i128, n: u32, value: i128, end_value: i128) -> bool
 pub fn most_change(rate: i128, n: u32) -> i128
     requires positive { pos 0 ≤ℤ rate }
     requires rate { (rate *ℤ pos MOST_MINUTES) <ℤ pos (5 * 10 ^ 37) }
-    requires few { n ≤ MOST_MINUTES }
+    requires count_bound { n ≤ MOST_MINUTES }
     ensures value { result ≡ rate *ℤ pos n }
     ensures size { unsigned_abs result < 5 * 10 ^ 37 }
 {

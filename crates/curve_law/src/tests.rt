@@ -40,7 +40,7 @@ fn sum<C: Curve>(curve: &mut C, begin: i64, end: i64) -> Option<i128> {
 }
 
 #[test]
-fn small_curves_tell_their_values(rt: HostRuntime) {
+fn small_curves_return_their_values(rt: HostRuntime) {
     let mut line = Line::new(3, true, 5);
     assert_eq!(rt; sum(&mut line, 0, 6), Some(3));
     assert_eq!(rt; line.evaluations(), 6);
@@ -59,16 +59,16 @@ fn small_curves_tell_their_values(rt: HostRuntime) {
 
 // Returns whether the eight minutes from 0 on are quiet, and the cell of the first one, by approximate
 // values.
-fn told<C: Curve>(curve: &mut C) -> Option<(bool, Cell)> {
+fn decided<C: Curve>(curve: &mut C) -> Option<(bool, Cell)> {
     if 0 < curve.first() || curve.last() < 8 || curve.evaluations() > 1000 {
         return None;
     }
-    let near = curve.near_value(0);
-    let next_near = curve.near_value(1);
-    let end_near = curve.near_value(8);
+    let approximate = curve.approximate_value(0);
+    let approximate_next = curve.approximate_value(1);
+    let approximate_end = curve.approximate_value(8);
     Some((
-        is_quiet_near(curve, 0, 8, near, end_near),
-        unit_cell_near(curve, 0, near, next_near),
+        is_quiet_from_approximate(curve, 0, 8, approximate, approximate_end),
+        unit_cell_from_approximate(curve, 0, approximate, approximate_next),
     ))
 }
 
@@ -77,41 +77,41 @@ fn exact<C: Curve>(curve: &mut C) -> Option<i128> {
     if 0 < curve.first() || curve.last() < 0 || curve.evaluations() > 1000 {
         return None;
     }
-    let near = curve.near_value(0);
-    Some(curve.exact_value(0, near))
+    let approximate = curve.approximate_value(0);
+    Some(curve.exact_value(0, approximate))
 }
 
 #[test]
-fn near_values_tell_cells(rt: HostRuntime) {
+fn approximate_values_decide_cells(rt: HostRuntime) {
     let mut line = Line::new(1, false, 1);
-    assert_eq!(rt; told(&mut line), Some((true, Cell::Still)));
+    assert_eq!(rt; decided(&mut line), Some((true, Cell::Still)));
     assert_eq!(rt; (line.evaluations(), line.error()), (3, 1));
     assert_eq!(rt;
-        told(&mut Line::new(-8, false, 1)),
+        decided(&mut Line::new(-8, false, 1)),
         Some((true, Cell::Still))
     );
     assert_eq!(rt;
-        told(&mut Line::new(0, false, 1)),
+        decided(&mut Line::new(0, false, 1)),
         Some((false, Cell::Turn(Kind::Low, 0)))
     );
     assert_eq!(rt;
-        told(&mut Line::new(30, true, 6)),
+        decided(&mut Line::new(30, true, 6)),
         Some((true, Cell::Still))
     );
     assert_eq!(rt;
-        told(&mut Line::new(28, true, 6)),
+        decided(&mut Line::new(28, true, 6)),
         Some((false, Cell::Still))
     );
     assert_eq!(rt;
-        told(&mut Line::new(28, true, 7)),
+        decided(&mut Line::new(28, true, 7)),
         Some((false, Cell::Still))
     );
     assert_eq!(rt;
-        told(&mut Line::new(100, true, 2)),
+        decided(&mut Line::new(100, true, 2)),
         Some((true, Cell::Still))
     );
     assert_eq!(rt;
-        told(&mut Ripple::new()),
+        decided(&mut Ripple::new()),
         Some((false, Cell::Turn(Kind::MarkFalling, 0)))
     );
     assert_eq!(rt;

@@ -14,9 +14,11 @@ pub fn worked_rows()
         plain_list t (negsuc 1) 5 ≡ record { minute = pos 0; kind = Kind.Low; level = pos 0 } ∷ [] }
     ensures falls { let t : Track = record { value = λ m. neg_ℤ m; note = λ m. pos 10 *ℤ m; rising = Kind.Low; falling = Kind.High } in
         plain_list t (negsuc 1) 5 ≡ record { minute = negsuc 0; kind = Kind.High; level = negsuc 9 } ∷ [] }
-    ensures touches_from_below { let t : Track = record { value = λ m. neg_ℤ (m *ℤ m); note = λ m. pos 10 *ℤ m; rising = Kind.Low; falling = Kind.High } in
+    ensures touches_from_below { let t : Track =
+        record { value = λ m. neg_ℤ (m *ℤ m); note = λ m. pos 10 *ℤ m; rising = Kind.Low; falling = Kind.High } in
         plain_list t (negsuc 1) 5 ≡ [] }
-    ensures touches_from_above { let t : Track = record { value = λ m. m *ℤ m; note = λ m. pos 10 *ℤ m; rising = Kind.Low; falling = Kind.High } in
+    ensures touches_from_above { let t : Track =
+        record { value = λ m. m *ℤ m; note = λ m. pos 10 *ℤ m; rising = Kind.Low; falling = Kind.High } in
         plain_list t (negsuc 1) 5
         ≡ record { minute = negsuc 0; kind = Kind.High; level = negsuc 9 }
         ∷ record { minute = pos 0; kind = Kind.Low; level = pos 0 } ∷ [] }

@@ -20,9 +20,15 @@ pub fn worked_quiet_cells()
     ensures to_zero { is_quiet (line (negsuc 1) false (pos 1)) (pos 0) 2 ≡ true }
     ensures one_minute { is_quiet (line (pos 9) false (pos 1)) (pos 0) 1 ≡ false }
     ensures no_rate { is_quiet ripple (pos 0) 2 ≡ false }
-    ensures longest { let c : Meaning = record ripple { track = record { value = λ m. pos 0; note = λ m. m; rising = Kind.Low; falling = Kind.High }; rate = λ a n. Some (pos 0) } in
+    ensures longest { let c : Meaning = record ripple {
+      track = record { value = λ m. pos 0; note = λ m. m; rising = Kind.Low; falling = Kind.High };
+      rate = λ a n. Some (pos 0);
+    } in
         is_quiet c (pos 0) 1024 ≡ true }
-    ensures too_long { let c : Meaning = record ripple { track = record { value = λ m. pos 0; note = λ m. m; rising = Kind.Low; falling = Kind.High }; rate = λ a n. Some (pos 0) } in
+    ensures too_long { let c : Meaning = record ripple {
+      track = record { value = λ m. pos 0; note = λ m. m; rising = Kind.Low; falling = Kind.High };
+      rate = λ a n. Some (pos 0);
+    } in
         is_quiet c (pos 0) 1025 ≡ false }
 {}
 
@@ -36,7 +42,10 @@ pub fn worked_covers()
     ensures odd { cover (line (pos 2) false (pos 3)) (pos 0) 3 ≡ Cell.Still ∷ Cell.Quiet 2 ∷ [] }
     ensures no_rate { cover ripple (pos 0) 2 ≡ Cell.Turn Kind.MarkFalling (pos 0) ∷ Cell.Turn Kind.MarkRising (pos 0) ∷ [] }
     ensures no_minute { cover ripple (pos 0) 0 ≡ [] }
-    ensures blocks { let c : Meaning = record ripple { track = record { value = λ m. pos 0; note = λ m. m; rising = Kind.Low; falling = Kind.High }; rate = λ a n. Some (pos 0) } in
+    ensures blocks { let c : Meaning = record ripple {
+      track = record { value = λ m. pos 0; note = λ m. m; rising = Kind.Low; falling = Kind.High };
+      rate = λ a n. Some (pos 0);
+    } in
         cover c (pos 0) 2049 ≡ Cell.Quiet 1024 ∷ Cell.Quiet 1024 ∷ Cell.Still ∷ [] }
 {}
 
@@ -47,7 +56,8 @@ pub fn worked_verdicts()
     ensures by_halves { verdict (line (negsuc 1) false (pos 1)) (pos 0) 8
         (Cell.Quiet 2 ∷ Cell.Turn Kind.Low (pos 2) ∷ Cell.Still ∷ Cell.Quiet 4 ∷ []) ≡ Verdict.Accepted }
     ensures each_minute { verdict (line (negsuc 1) false (pos 1)) (pos 0) 8
-        (Cell.Still ∷ Cell.Still ∷ Cell.Turn Kind.Low (pos 2) ∷ Cell.Still ∷ Cell.Still ∷ Cell.Still ∷ Cell.Still ∷ Cell.Still ∷ []) ≡ Verdict.Accepted }
+        (Cell.Still ∷ Cell.Still ∷ Cell.Turn Kind.Low (pos 2) ∷ Cell.Still ∷ Cell.Still ∷ Cell.Still ∷ Cell.Still
+        ∷ Cell.Still ∷ []) ≡ Verdict.Accepted }
     ensures not_quiet { verdict (line (negsuc 1) false (pos 1)) (pos 0) 8 (Cell.Quiet 8 ∷ []) ≡ Verdict.NotQuiet 1 }
     ensures short { verdict (line (negsuc 1) false (pos 1)) (pos 0) 8
         (Cell.Quiet 2 ∷ Cell.Turn Kind.Low (pos 2) ∷ Cell.Still ∷ Cell.Quiet 3 ∷ []) ≡ Verdict.WrongLength (pos 7) (pos 8) }

@@ -96,8 +96,8 @@ pub fn are_movable(events: &[Event]) -> bool
 fn is_movable(event: &Event) -> bool
     ensures { IsTrue result → IsMovable event.now }
 {
-    let near = -1_000_000_000_000 <= event.minute && event.minute <= 1_000_000_000_000;
-    near && -11_000_000_000 <= event.level && event.level <= 11_000_000_000
+    let in_range = -1_000_000_000_000 <= event.minute && event.minute <= 1_000_000_000_000;
+    in_range && -11_000_000_000 <= event.level && event.level <= 11_000_000_000
 }
 
 // A current's turns and slacks from half an hour before a midnight to ten minutes after the next.

@@ -15,8 +15,9 @@ use highest_water::{
 use std::alloc::{AllocError, Global};
 
 // Returns true if the curve is valid over a span that has a minute.
-fn tells<C: Curve>(curve: &C, begin: i64, end: i64) -> bool
-    ensures { IsTrue result → (begin <ℤ end) × ((C.state curve.now).facts.meaning.first ≤ℤ begin) × (end ≤ℤ (C.state curve.now).facts.meaning.last) }
+fn covers_span<C: Curve>(curve: &C, begin: i64, end: i64) -> bool
+    ensures { IsTrue result → (begin <ℤ end) × ((C.state curve.now).facts.meaning.first ≤ℤ begin)
+        × (end ≤ℤ (C.state curve.now).facts.meaning.last) }
 {
     curve.first() <= begin && begin < end && end <= curve.last()
 }
@@ -35,9 +36,11 @@ fn is_asked_little<C: Curve>(curve: &C) -> bool
 
 // Returns true if the highest water of a span may be searched.
 fn can_find<C: Curve>(curve: &C, begin: i64, end: i64) -> bool
-    ensures { IsTrue result → (begin <ℤ end) × ((C.state curve.now).facts.meaning.first ≤ℤ begin) × (end ≤ℤ (C.state curve.now).facts.meaning.last) × ((end -ℤ begin) ≤ℤ pos 5270400) × ((C.state curve.now).count ≤ 10 ^ 6) }
+    ensures { IsTrue result → (begin <ℤ end) × ((C.state curve.now).facts.meaning.first ≤ℤ begin)
+        × (end ≤ℤ (C.state curve.now).facts.meaning.last) × ((end -ℤ begin) ≤ℤ pos 5270400)
+        × ((C.state curve.now).count ≤ 10 ^ 6) }
 {
-    tells(curve, begin, end) && is_short(begin, end) && is_asked_little(curve)
+    covers_span(curve, begin, end) && is_short(begin, end) && is_asked_little(curve)
 }
 
 // Returns true if the written highest water may be checked.

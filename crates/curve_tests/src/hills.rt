@@ -19,11 +19,11 @@ pub struct Hills {
     second: Top,
     rate: i64,
     asked: u64,
-    ghost near: { unsigned_abs first.at ≤ 10 ^ 12 },
+    ghost in_range: { unsigned_abs first.at ≤ 10 ^ 12 },
     ghost low: { unsigned_abs first.value ≤ 10 ^ 12 },
-    ghost second_near: { unsigned_abs second.at ≤ 10 ^ 12 },
+    ghost second_in_range: { unsigned_abs second.at ≤ 10 ^ 12 },
     ghost second_low: { unsigned_abs second.value ≤ 10 ^ 12 },
-    ghost gentle: { pos 1 ≤ℤ rate },
+    ghost at_least_one: { pos 1 ≤ℤ rate },
     ghost small: { rate ≤ℤ pos (10 ^ 12) },
 }
 
@@ -32,13 +32,14 @@ impl Hills {
 
     /// Returns the curve of two tops, which wasn't evaluated yet.
     pub fn new(first: Top, second: Top, rate: i64) -> Hills
-        requires near { unsigned_abs first.at ≤ 10 ^ 12 }
+        requires in_range { unsigned_abs first.at ≤ 10 ^ 12 }
         requires low { unsigned_abs first.value ≤ 10 ^ 12 }
-        requires second_near { unsigned_abs second.at ≤ 10 ^ 12 }
+        requires second_in_range { unsigned_abs second.at ≤ 10 ^ 12 }
         requires second_low { unsigned_abs second.value ≤ 10 ^ 12 }
-        requires gentle { pos 1 ≤ℤ rate }
+        requires at_least_one { pos 1 ≤ℤ rate }
         requires small { rate ≤ℤ pos (10 ^ 12) }
-        ensures { ⟦<Hills as Curve>⟧.state result ≡ record { facts = hills_facts first.at first.value second.at second.value rate; count = 0 } }
+        ensures { ⟦<Hills as Curve>⟧.state result
+            ≡ record { facts = hills_facts first.at first.value second.at second.value rate; count = 0 } }
     {
         Hills {
             first,
@@ -54,7 +55,8 @@ impl Curve for Hills {
 
     ghost state = { λ h. record { facts = hills_facts h.first.at h.first.value h.second.at h.second.value h.rate; count = h.asked } };
 
-    ghost lawful = { λ h. hills-lawful h.first.at h.first.value h.second.at h.second.value h.rate h.near h.low h.second_near h.second_low h.gentle h.small };
+    ghost lawful = { λ h. hills-lawful h.first.at h.first.value h.second.at h.second.value h.rate h.in_range h.low
+        h.second_in_range h.second_low h.at_least_one h.small };
 
     ghost narrow = { λ _. none_is_narrow };
 
@@ -73,12 +75,12 @@ impl Curve for Hills {
         i128::from(height(self.first, m).max(height(self.second, m)))
     }
 
-    fn near_value(&mut self, m: i64) -> i128 {
+    fn approximate_value(&mut self, m: i64) -> i128 {
         self.value(m)
     }
 
-    fn exact_value(&self, _m: i64, near_value: i128) -> i128 {
-        near_value
+    fn exact_value(&self, _m: i64, approximate_value: i128) -> i128 {
+        approximate_value
     }
 
     fn error(&self) -> i128 {
@@ -109,7 +111,7 @@ impl Curve for Hills {
 ghost use Rattle.highest_water.specs.Samples.{hill};
 
 fn height(top: Top, m: i64) -> i64
-    requires near { unsigned_abs top.at ≤ 10 ^ 12 }
+    requires in_range { unsigned_abs top.at ≤ 10 ^ 12 }
     requires low { unsigned_abs top.value ≤ 10 ^ 12 }
     requires minute { unsigned_abs m ≤ 10 ^ 6 }
     ensures { result ≡ hill top.at top.value m }

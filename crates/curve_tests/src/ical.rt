@@ -11,7 +11,7 @@ use decimal_text::{Bytes, Text};
 use harmonics_text::Units;
 use ical_sheet::{
     IcalSheet, calendars_are_sheets, calendars_unfold, escape, fold, folded_lines_unfold,
-    identifiers_tell_events_apart, lines_are_cut_between_characters, unfold, worked_calendars,
+    identifiers_are_unique, lines_are_cut_between_characters, unfold, worked_calendars,
     worked_escapes, worked_folds, worked_stamps, worked_unfolds,
 };
 use report_sheets::{Head, Sheet, Taken};
@@ -227,6 +227,6 @@ fn clocks_are_kept_within_the_years(rt: HostRuntime) -> Result<(), Fail> {
     calendars_unfold();
     lines_are_cut_between_characters();
     calendars_are_sheets();
-    identifiers_tell_events_apart();
+    identifiers_are_unique();
     Ok(())
 }

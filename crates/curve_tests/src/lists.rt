@@ -224,7 +224,7 @@ const CLOCKS: &[(bool, i32, &[(i64, Kind, i64)], &str)] = &[
 ];
 
 #[test]
-fn clocks_are_told(rt: HostRuntime) -> Result<(), Fail> {
+fn clocks_are_printed(rt: HostRuntime) -> Result<(), Fail> {
     let alloc = rt.alloc();
     let name = Text::from_str(alloc, "Pier")?;
     for &(rising, ahead, items, expected) in CLOCKS {
@@ -259,7 +259,7 @@ pub const TABLE: &[u8] =
 
 // The listing of a highest water by two clocks, and the facts of a station whose name has commas.
 #[test]
-fn stations_are_told_of(rt: HostRuntime) -> Result<(), Fail> {
+fn stations_are_described(rt: HostRuntime) -> Result<(), Fail> {
     let alloc = rt.alloc();
     let name = Text::from_str(alloc, "Boston, Boston Harbor")?;
     let reference = Text::from_str(alloc, "Pier")?;

@@ -26,7 +26,7 @@ pub fn pier(alloc: Global, argument: &str) -> Result<Book, BookFault>
 }
 
 /// Returns the rate of a cell, the values at both ends and the level at its begin.
-fn told<C: Curve>(curve: &mut C, a: i64, n: u32) -> Option<(Option<i128>, i128, i128, i64)> {
+fn stated<C: Curve>(curve: &mut C, a: i64, n: u32) -> Option<(Option<i128>, i128, i128, i64)> {
     let first = curve.first();
     let last = curve.last();
     if n == 0 || n > LONGEST_SPAN || a < first || a > last || i64::from(n) > last - a {
@@ -60,17 +60,17 @@ fn slopes_and_their_rates(rt: HostRuntime) -> Result<(), Fail> {
     ];
     for (a, n, first, second, (begin, end, level)) in rows {
         assert_eq!(rt;
-            told(&mut plain_parts, a, n),
+            stated(&mut plain_parts, a, n),
             Some((first, begin, end, level)),
             "from {a}"
         );
         assert_eq!(rt;
-            told(&mut all_parts, a, n),
+            stated(&mut all_parts, a, n),
             Some((second, begin, end, level)),
             "from {a}"
         );
     }
-    assert_eq!(rt; told(&mut plain_parts, 16_830_719, 2), None);
+    assert_eq!(rt; stated(&mut plain_parts, 16_830_719, 2), None);
     assert_eq!(rt; plain_parts.evaluations(), 4);
     assert_eq!(rt;
         (plain_parts.rising(), plain_parts.falling()),
@@ -97,12 +97,12 @@ fn levels_and_their_rates(rt: HostRuntime) -> Result<(), Fail> {
     let plain = 36_192_618_547_200_000_000_000;
     let across = 165_792_618_547_200_000_000_000;
     let quarter = Some((Some(1_000_000 * plain), high, 0, 1_000_000));
-    assert_eq!(rt; told(&mut slack, 15_791_040, 180), quarter);
+    assert_eq!(rt; stated(&mut slack, 15_791_040, 180), quarter);
     let third = Some((Some(2_000_000 * plain), high, 0, 1_000_000));
-    assert_eq!(rt; told(&mut mark, 15_791_040, 120), third);
-    let eve = told(&mut mark, 15_778_020, 4).and_then(|(rate, _, _, _)| rate);
+    assert_eq!(rt; stated(&mut mark, 15_791_040, 120), third);
+    let eve = stated(&mut mark, 15_778_020, 4).and_then(|(rate, _, _, _)| rate);
     assert_eq!(rt; eve, Some(2_000_000 * across));
-    let eve = told(&mut slack, 15_778_020, 4).and_then(|(rate, _, _, _)| rate);
+    let eve = stated(&mut slack, 15_778_020, 4).and_then(|(rate, _, _, _)| rate);
     assert_eq!(rt; eve, None);
     assert_eq!(rt;
         (slack.rising(), slack.falling()),

@@ -29,7 +29,11 @@ impl Counter {
 }
 
 impl Sheet for Counter {
-    ghost meaning = { λ sheet. record { word = sheet.word; limit = sheet.collected.limit; layout = λ _ list. sheet.word ++ codes " " ++ decimal (length list) ++ codes "\n" } };
+    ghost meaning = { λ sheet. record {
+      word = sheet.word;
+      limit = sheet.collected.limit;
+      layout = λ _ list. sheet.word ++ codes " " ++ decimal (length list) ++ codes "\n";
+    } };
 
     ghost heading = { λ sheet. sheet.collected.head };
 

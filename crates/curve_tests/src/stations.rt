@@ -29,7 +29,7 @@ fn pier(
 }
 
 /// Returns the level at minute `m`, and true if it rises there.
-fn told(curve: &StationCurve, m: i64) -> Option<(i64, bool)> {
+fn stated(curve: &StationCurve, m: i64) -> Option<(i64, bool)> {
     let first = curve.first();
     let last = curve.last();
     if m < first || last < m {
@@ -53,7 +53,7 @@ fn levels_round_a_new_year(rt: HostRuntime) -> Result<(), Fail> {
         (15_778_200, -500_000, false),
     ];
     for (m, want, rising) in rows {
-        assert_eq!(rt; told(&curve, m), Some((want, rising)), "at {m}");
+        assert_eq!(rt; stated(&curve, m), Some((want, rising)), "at {m}");
     }
     assert_eq!(rt; curve.first(), year_start(1999));
     assert_eq!(rt; curve.last(), year_start(2002));
@@ -63,16 +63,16 @@ fn levels_round_a_new_year(rt: HostRuntime) -> Result<(), Fail> {
 }
 
 /// Returns the approximate level and the approximate slope at minute `m`.
-fn nearly(curve: &StationCurve, m: i64) -> Option<(i128, i128)> {
+fn approximately(curve: &StationCurve, m: i64) -> Option<(i128, i128)> {
     if m < curve.first() || curve.last() < m {
         return None;
     }
-    Some((curve.near_level(m), curve.near_slope(m)))
+    Some((curve.approximate_level(m), curve.approximate_slope(m)))
 }
 
 /// Approximate values at 90.5 and at 150 degrees, and the exact values at a new year.
 #[test]
-fn near_levels(rt: HostRuntime) -> Result<(), Fail> {
+fn approximate_levels(rt: HostRuntime) -> Result<(), Fail> {
     let book = pier(rt.alloc(), "30", "60", "1", "feet")?;
     assert_eq!(rt; book.stations.as_slice().len(), 1);
     let curve = StationCurve::new(rt.alloc(), &book, 0)?;
@@ -93,9 +93,9 @@ fn near_levels(rt: HostRuntime) -> Result<(), Fail> {
         ),
     ];
     for (m, want) in rows {
-        assert_eq!(rt; nearly(&curve, m), Some(want), "at {m}");
+        assert_eq!(rt; approximately(&curve, m), Some(want), "at {m}");
     }
-    let new_year = nearly(&curve, 15_778_080);
+    let new_year = approximately(&curve, 15_778_080);
     assert_eq!(rt;
         new_year.map(|near| near.0),
         Some(3_110_400_000_000_000_000_000_000)
@@ -149,10 +149,10 @@ fn sums_of_years(rt: HostRuntime) -> Result<(), Fail> {
     for year in 0..curve.years() {
         assert_eq!(rt; curve.sums(year), want, "in {year}");
     }
-    curve.known();
+    curve.limits_hold();
     year_changes();
     year_sizes();
-    near_values();
+    approximate_values();
     Ok(())
 }
 
@@ -162,7 +162,7 @@ fn has_waves(curve: &StationCurve, year: u32) -> bool {
 }
 
 #[test]
-fn minutes_are_told_by_their_years(rt: HostRuntime) -> Result<(), Fail> {
+fn minutes_are_placed_by_their_years(rt: HostRuntime) -> Result<(), Fail> {
     let book = pier(rt.alloc(), "30", "60", "1", "feet")?;
     assert_eq!(rt; book.stations.as_slice().len(), 1);
     let rows = [
@@ -182,7 +182,7 @@ fn minutes_are_told_by_their_years(rt: HostRuntime) -> Result<(), Fail> {
         assert_eq!(rt; has, want, "from {first} to {last}");
     }
     let curve = StationCurve::over(rt.alloc(), &book, 0, 15_777_960, 15_778_200)?;
-    assert_eq!(rt; told(&curve, 15_778_048), Some((940_281, false)));
+    assert_eq!(rt; stated(&curve, 15_778_048), Some((940_281, false)));
     Ok(())
 }
 
@@ -213,15 +213,15 @@ fn limits(rt: HostRuntime) -> Result<(), Fail> {
 }
 
 #[test]
-fn faults_are_told(rt: HostRuntime) -> Result<(), Fail> {
+fn faults_are_printed(rt: HostRuntime) -> Result<(), Fail> {
     for (fault, text) in [
         (CurveFault::Hydraulic, "a hydraulic current"),
         (CurveFault::TooLarge { year: 1999 }, "too large in 1999"),
         (CurveFault::TooSteep { year: -2 }, "too steep in -2"),
         (CurveFault::NoMemory, "no memory"),
     ] {
-        let told = format!(in rt.alloc(); "{fault}")?;
-        assert_eq!(rt; told.as_str(), text);
+        let stated = format!(in rt.alloc(); "{fault}")?;
+        assert_eq!(rt; stated.as_str(), text);
     }
     Ok(())
 }

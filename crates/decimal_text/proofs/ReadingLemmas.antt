@@ -14,7 +14,7 @@ use Rattle.std.proofs.lemmas.Grind.{pow_more}
 use Rattle.decimal_text.specs.declared.fault.DecimalFault.TheVariants.{BadForm, TooLong, TooFine}
 use Rattle.decimal_text.specs.declared.steps.Steps.{Steps}
 use Rattle.decimal_text.specs.Decimal.{Decimal, after_point, made_of, scaled, scaled_or_bad, signed, decimal_of, read_of, IsScaled, ReadsItsFraction, TooFineIsNoFraction}
-use Rattle.decimal_text.specs.Workings.Steps.{Stands}
+use Rattle.decimal_text.specs.Workings.Steps.{DigitsInvariant}
 use Rattle.decimal_text.proofs.StepsLemmas.{ten_up}
 
 -- the results of `after_point`
@@ -34,10 +34,12 @@ after_point_else [] h e = absurd (omega arith)
 after_point_else (x ∷ xs) h e = simp (ne_eqb x 46 e)
 
 -- the digits before the point: the longest run of digits that the text begins with
-pub whole_is : (xs : List ℕ) (n : ℕ) → n ≤ length xs → ((k : ℕ) → k < n → is_ascii_digit (get_or xs k 0) ≡ true) → (n < length xs → is_ascii_digit (get_or xs n 0) ≡ false) → take_while is_ascii_digit xs ≡ take n xs
+pub whole_is : (xs : List ℕ) (n : ℕ) → n ≤ length xs → ((k : ℕ) → k < n → is_ascii_digit (get_or xs k 0) ≡ true)
+    → (n < length xs → is_ascii_digit (get_or xs n 0) ≡ false) → take_while is_ascii_digit xs ≡ take n xs
 whole_is xs n in_list before at = ap (λ k. take k xs) (prefix_len_is is_ascii_digit xs n 0 in_list before at)
 
-pub length-whole : (xs : List ℕ) (n : ℕ) → n ≤ length xs → take_while is_ascii_digit xs ≡ take n xs → n ≡ length (take_while is_ascii_digit xs)
+pub length-whole : (xs : List ℕ) (n : ℕ) → n ≤ length xs → take_while is_ascii_digit xs ≡ take n xs
+    → n ≡ length (take_while is_ascii_digit xs)
 length-whole xs n in_list e = simp (e, length-take) (omega arith)
 
 pub eighteen : (n value : ℕ) → value < 10 ^ min n 18 → value < 10 ^ 18
@@ -62,7 +64,8 @@ after_append n [] ys = refl
 after_append n (c ∷ xs) ys = after_append (n * 10 + digit_value c) xs ys
 
 -- the digits of a fraction in steps of 1 / 10 ^ places, exact or too fine
-pub exact_total : (places count n : ℕ) (s : Steps) → Stands places count n s → s.exact ≡ true → n * 10 ^ places ≡ (s.value * 10 ^ s.left) * 10 ^ count + 0
+pub exact_total : (places count n : ℕ) (s : Steps) → DigitsInvariant places count n s → s.exact ≡ true
+    → n * 10 ^ places ≡ (s.value * 10 ^ s.left) * 10 ^ count + 0
 exact_total places count n s h e =
     let is = h.exact e in
     let up : 10 ^ count * 10 ^ s.left ≡ 10 ^ places * 10 ^ h.extra =
@@ -81,7 +84,7 @@ no_multiple m value unit above below =
     let is = ap (λ k. k % unit) e ∙ mod-mul-add value unit (m - value * unit) (omega arith) in
     omega (arith, is)
 
-pub fine_total : (places count n : ℕ) (s : Steps) → Stands places count n s → s.exact ≡ false → 0 < n * 10 ^ places % 10 ^ count
+pub fine_total : (places count n : ℕ) (s : Steps) → DigitsInvariant places count n s → s.exact ≡ false → 0 < n * 10 ^ places % 10 ^ count
 fine_total places count n s h e =
     let above = h.fine e in
     let below = h.below in
@@ -89,21 +92,28 @@ fine_total places count n s h e =
     let past : count ≡ places + h.extra = elim h.one_side [ inl z ↦ absurd (no_extra z) | inr z ↦ omega (arith, h.counted) ] in
     let up : 10 ^ count ≡ 10 ^ places * 10 ^ h.extra = ap (λ k. 10 ^ k) past ∙ pow-add 10 places h.extra in
     let value_up : s.value * 10 ^ count ≡ s.value * (10 ^ places * 10 ^ h.extra) = ap (λ k. s.value * k) up in
-    let low : (s.value * 10 ^ h.extra + 1) * 10 ^ places ≤ n * 10 ^ places = mul-le (s.value * 10 ^ h.extra + 1) (10 ^ places) n (10 ^ places) (omega arith) (omega arith) in
-    let high : (n + 1) * 10 ^ places ≤ ((s.value + 1) * 10 ^ h.extra) * 10 ^ places = mul-le (n + 1) (10 ^ places) ((s.value + 1) * 10 ^ h.extra) (10 ^ places) below (omega arith) in
+    let low : (s.value * 10 ^ h.extra + 1) * 10 ^ places ≤ n * 10 ^ places =
+    mul-le (s.value * 10 ^ h.extra + 1) (10 ^ places) n (10 ^ places) (omega arith) (omega arith) in
+    let high : (n + 1) * 10 ^ places ≤ ((s.value + 1) * 10 ^ h.extra) * 10 ^ places =
+    mul-le (n + 1) (10 ^ places) ((s.value + 1) * 10 ^ h.extra) (10 ^ places) below (omega arith) in
     let some = ten_up places in
     no_multiple (n * 10 ^ places) s.value (10 ^ count) (omega (arith, value_up, low, some)) (omega (arith, value_up, up, high, some))
 
 -- each result of `read_parts`
-pub reads_bad : (places : ℕ) (negative : Bool) (whole fraction : List ℕ) → list_all is_ascii_digit fraction ≡ false → Err BadForm ≡ scaled_or_bad places (made_of negative whole fraction)
+pub reads_bad : (places : ℕ) (negative : Bool) (whole fraction : List ℕ) → list_all is_ascii_digit fraction ≡ false
+    → Err BadForm ≡ scaled_or_bad places (made_of negative whole fraction)
 unfolding made_of scaled_or_bad
 reads_bad places negative whole fraction h = simp h
 
-pub reads_none : (places : ℕ) (negative : Bool) (whole fraction : List ℕ) → nat_lt 0 (length whole + length fraction) ≡ false → Err BadForm ≡ scaled_or_bad places (made_of negative whole fraction)
+pub reads_none : (places : ℕ) (negative : Bool) (whole fraction : List ℕ) → nat_lt 0 (length whole + length fraction)
+    ≡ false → Err BadForm ≡ scaled_or_bad places (made_of negative whole fraction)
 unfolding made_of scaled_or_bad
 reads_none places negative whole fraction h = simp (h, and-false)
 
-pub reads_scaled : (places : ℕ) (negative : Bool) (whole fraction : List ℕ) → list_all is_ascii_digit fraction ≡ true → nat_lt 0 (length whole + length fraction) ≡ true → scaled places (record { negative = negative; whole = whole; fraction = fraction }) ≡ scaled_or_bad places (made_of negative whole fraction)
+pub reads_scaled : (places : ℕ) (negative : Bool) (whole fraction : List ℕ) → list_all is_ascii_digit fraction ≡ true
+    → nat_lt 0 (length whole + length fraction) ≡ true
+    → scaled places (record { negative = negative; whole = whole; fraction = fraction })
+    ≡ scaled_or_bad places (made_of negative whole fraction)
 unfolding made_of scaled_or_bad
 reads_scaled places negative whole fraction h k = simp (h, k)
 
@@ -111,22 +121,34 @@ pub scaled_long : (places : ℕ) (d : Decimal) → 18 < length d.whole → Err T
 unfolding scaled
 scaled_long places d h = simp (lt-ltb 18 (length d.whole) h)
 
-pub scaled_fine : (places n : ℕ) (d : Decimal) (s : Steps) → length d.whole ≤ 18 → n ≡ digits_value 10 d.whole → Stands places (length d.fraction) (digits_value_after 10 n d.fraction) s → s.exact ≡ false → Err TooFine ≡ scaled places d
+pub scaled_fine : (places n : ℕ) (d : Decimal) (s : Steps) → length d.whole ≤ 18 → n ≡ digits_value 10 d.whole
+    → DigitsInvariant places (length d.fraction) (digits_value_after 10 n d.fraction) s → s.exact ≡ false
+    → Err TooFine ≡ scaled places d
 unfolding scaled
-scaled_fine places n d s h k stands e =
-    let number : digits_value 10 (d.whole ++ d.fraction) ≡ digits_value_after 10 n d.fraction = after_append 0 d.whole d.fraction ∙ ap (λ m. digits_value_after 10 m d.fraction) (sym k) in
-    let some = fine_total places (length d.fraction) (digits_value_after 10 n d.fraction) s stands e in
-    simp (le-ltb 18 (length d.whole) h, number, ne_eqb (digits_value_after 10 n d.fraction * 10 ^ places % 10 ^ length d.fraction) 0 (λ z. omega (arith, z, some)))
+scaled_fine places n d s h k digits_invariant e =
+    let number : digits_value 10 (d.whole ++ d.fraction) ≡ digits_value_after 10 n d.fraction =
+    after_append 0 d.whole d.fraction ∙ ap (λ m. digits_value_after 10 m d.fraction) (sym k) in
+    let some = fine_total places (length d.fraction) (digits_value_after 10 n d.fraction) s digits_invariant e in
+    simp (
+      le-ltb 18 (length d.whole) h,
+      number,
+      ne_eqb (digits_value_after 10 n d.fraction * 10 ^ places % 10 ^ length d.fraction) 0 (λ z. omega (arith, z, some)),
+    )
 
-pub scaled_exact : (places n : ℕ) (d : Decimal) (s : Steps) → length d.whole ≤ 18 → n ≡ digits_value 10 d.whole → Stands places (length d.fraction) (digits_value_after 10 n d.fraction) s → s.exact ≡ true → Ok (signed d.negative (s.value * 10 ^ s.left)) ≡ scaled places d
+pub scaled_exact : (places n : ℕ) (d : Decimal) (s : Steps) → length d.whole ≤ 18 → n ≡ digits_value 10 d.whole
+    → DigitsInvariant places (length d.fraction) (digits_value_after 10 n d.fraction) s → s.exact ≡ true
+    → Ok (signed d.negative (s.value * 10 ^ s.left)) ≡ scaled places d
 unfolding scaled
-scaled_exact places n d s h k stands e =
-    let number : digits_value 10 (d.whole ++ d.fraction) ≡ digits_value_after 10 n d.fraction = after_append 0 d.whole d.fraction ∙ ap (λ m. digits_value_after 10 m d.fraction) (sym k) in
+scaled_exact places n d s h k digits_invariant e =
+    let number : digits_value 10 (d.whole ++ d.fraction) ≡ digits_value_after 10 n d.fraction =
+    after_append 0 d.whole d.fraction ∙ ap (λ m. digits_value_after 10 m d.fraction) (sym k) in
     let unit = 10 ^ length d.fraction in
-    let total : digits_value_after 10 n d.fraction * 10 ^ places ≡ (s.value * 10 ^ s.left) * unit + 0 = exact_total places (length d.fraction) (digits_value_after 10 n d.fraction) s stands e in
+    let total : digits_value_after 10 n d.fraction * 10 ^ places ≡ (s.value * 10 ^ s.left) * unit + 0 =
+    exact_total places (length d.fraction) (digits_value_after 10 n d.fraction) s digits_invariant e in
     let some = ten_up (length d.fraction) in
     let rest : ((s.value * 10 ^ s.left) * unit + 0) % unit ≡ 0 = mod-mul-add (s.value * 10 ^ s.left) unit 0 (omega arith) in
-    let quotient : ((s.value * 10 ^ s.left) * unit + 0) / unit ≡ s.value * 10 ^ s.left = div-mul-add (s.value * 10 ^ s.left) unit 0 (omega arith) in
+    let quotient : ((s.value * 10 ^ s.left) * unit + 0) / unit ≡ s.value * 10 ^ s.left =
+    div-mul-add (s.value * 10 ^ s.left) unit 0 (omega arith) in
     simp (le-ltb 18 (length d.whole) h, number, total, rest, quotient)
 
 -- a number with its sign, from its size
@@ -137,10 +159,15 @@ pub signed_false : (negative : Bool) (n : ℕ) → negative ≡ false → signed
 signed_false negative n e = simp e
 
 -- the decimal of a whole text, from the digits before the point
-pub whole_front : (body front : List ℕ) (count : ℕ) → count ≡ length (take_while is_ascii_digit body) → front ≡ take count body → front ≡ take_while is_ascii_digit body
-whole_front body front count e h = h ∙ ap (λ k. take k body) (e ∙ length-prefix_len is_ascii_digit body)
+pub whole_prefix : (body front : List ℕ) (count : ℕ) → count ≡ length (take_while is_ascii_digit body)
+    → front ≡ take count body → front ≡ take_while is_ascii_digit body
+whole_prefix body front count e h = h ∙ ap (λ k. take k body) (e ∙ length-prefix_len is_ascii_digit body)
 
-pub reads_text : (text body rest : List ℕ) (count places : ℕ) (found : Option (List ℕ)) → body ≡ without_leading_sign text → count ≡ length (take_while is_ascii_digit body) → rest ≡ drop count body → found ≡ after_point rest → scaled_or_bad places (option_and_then (made_of (starts_with_minus text) (take_while is_ascii_digit body)) found) ≡ read_of text places
+pub reads_text : (text body rest : List ℕ) (count places : ℕ) (found : Option (List ℕ))
+    → body ≡ without_leading_sign text → count ≡ length (take_while is_ascii_digit body) → rest ≡ drop count body
+    → found ≡ after_point rest
+    → scaled_or_bad places (option_and_then (made_of (starts_with_minus text) (take_while is_ascii_digit body)) found)
+    ≡ read_of text places
 unfolding read_of decimal_of
 reads_text text body rest count places found is_body is_count is_rest is_found = simp (is_found, is_rest, is_count, is_body)
 
@@ -167,7 +194,8 @@ scaled_law d places n h =
     ap (λ k. k *ℤ pos unit) parts.1 ∙ signed-mul d.negative (steps / unit) unit ∙ ap (signed d.negative) total
     ∙ sym (signed-mul d.negative number (10 ^ places))
 
-reads_option : (found : Option Decimal) (places : ℕ) (n : ℤ) → scaled_or_bad places found ≡ Ok n → IsSomeAnd found (λ d. IsScaled d places n)
+reads_option : (found : Option Decimal) (places : ℕ) (n : ℤ) → scaled_or_bad places found ≡ Ok n
+    → IsSomeAnd found (λ d. IsScaled d places n)
 unfolding scaled_or_bad
 reads_option None places n h = cc
 reads_option (Some d) places n h = scaled_law d places n h
@@ -200,7 +228,8 @@ fine_law d places n h is =
     let number = digits_value 10 (d.whole ++ d.fraction) in
     let steps = number * 10 ^ places in
     let unit = 10 ^ length d.fraction in
-    let broken : nat_eq (steps % unit) 0 ≡ false = fine_parts (nat_lt 18 (length d.whole)) (nat_eq (steps % unit) 0) (signed d.negative (steps / unit)) h in
+    let broken : nat_eq (steps % unit) 0 ≡ false =
+    fine_parts (nat_lt 18 (length d.whole)) (nat_eq (steps % unit) 0) (signed d.negative (steps / unit)) h in
     let sizes : unsigned_abs n * unit ≡ steps =
     sym (abs-mul n unit) ∙ ap unsigned_abs is ∙ abs-mul (signed d.negative number) (10 ^ places)
     ∙ ap (λ k. k * 10 ^ places) (abs-signed d.negative number) in
@@ -210,7 +239,8 @@ fine_law d places n h is =
     let whole : nat_eq (steps % unit) 0 ≡ true = eq-eqb (steps % unit) 0 (sym (ap (λ k. k % unit) same) ∙ rest) in
     cc
 
-fine_option : (found : Option Decimal) (places : ℕ) (n : ℤ) → scaled_or_bad places found ≡ Err TooFine → IsSomeAnd found (λ d. ¬ (IsScaled d places n))
+fine_option : (found : Option Decimal) (places : ℕ) (n : ℤ) → scaled_or_bad places found ≡ Err TooFine
+    → IsSomeAnd found (λ d. ¬ (IsScaled d places n))
 unfolding scaled_or_bad
 fine_option None places n h = cc
 fine_option (Some d) places n h = fine_law d places n h

@@ -3,7 +3,7 @@ use Rattle.std.proofs.Common.{◌≡◌, ℕ, ◌+◌, ◌*◌, ◌-◌, ◌^◌
 use Rattle.std.proofs.Math.Nat.{one-le-pow, pow-le-pow_right}
 use Rattle.std.proofs.lemmas.Nat.{mul-le}
 use Rattle.std.proofs.lemmas.Grind.{pow_more}
-use Rattle.decimal_text.specs.Workings.Steps.{Stands}
+use Rattle.decimal_text.specs.Workings.Steps.{DigitsInvariant}
 use Rattle.decimal_text.specs.declared.steps.Steps.{Steps}
 
 pub ten_up : (k : ℕ) → 1 ≤ 10 ^ k
@@ -15,7 +15,10 @@ small_value value left h =
     omega (arith, m, h)
 
 -- a digit after the last place
-pub more_past : (places count n digit : ℕ) (s : Steps) (now : Bool) → s.left ≡ 0 → digit ≤ 9 → (now ≡ true → (s.exact ≡ true) × (digit ≡ 0)) → (now ≡ false → (s.exact ≡ false) ⊎ (0 < digit)) → Stands places count n s → Stands places (count + 1) (n * 10 + digit) (record { value = s.value; left = s.left; exact = now })
+pub more_past : (places count n digit : ℕ) (s : Steps) (now : Bool) → s.left ≡ 0 → digit ≤ 9
+    → (now ≡ true → (s.exact ≡ true) × (digit ≡ 0)) → (now ≡ false → (s.exact ≡ false) ⊎ (0 < digit))
+    → DigitsInvariant places count n s
+    → DigitsInvariant places (count + 1) (n * 10 + digit) (record { value = s.value; left = s.left; exact = now })
 more_past places count n digit s now none nine at_true at_false h = record {
   extra = h.extra + 1;
   counted = omega (arith, h.counted);
@@ -27,7 +30,10 @@ more_past places count n digit s now none nine at_true at_false h = record {
   small = h.small;
 }
 
-within : (places count n digit value left extra : ℕ) (exact : Bool) → 0 < left → extra ≡ 0 → digit ≤ 9 → count + left ≡ places + extra → value * 10 ^ extra ≤ n → (exact ≡ false → value * 10 ^ extra < n) → n + 1 ≤ (value + 1) * 10 ^ extra → (value + 1) * 10 ^ left ≤ 10 ^ 27 → Stands places (count + 1) (n * 10 + digit) (record { value = value * 10 + digit; left = left - 1; exact = exact })
+within : (places count n digit value left extra : ℕ) (exact : Bool) → 0 < left → extra ≡ 0 → digit ≤ 9
+    → count + left ≡ places + extra → value * 10 ^ extra ≤ n → (exact ≡ false → value * 10 ^ extra < n)
+    → n + 1 ≤ (value + 1) * 10 ^ extra → (value + 1) * 10 ^ left ≤ 10 ^ 27 → DigitsInvariant places (count + 1)
+    (n * 10 + digit) (record { value = value * 10 + digit; left = left - 1; exact = exact })
 within places count n digit value left extra exact some none nine counted above fine below small =
     let one : 10 ^ extra ≡ 1 = ap (λ k. 10 ^ k) none in
     let above' = rw one at above in
@@ -49,13 +55,16 @@ within places count n digit value left extra exact some none nine counted above 
     }
 
 -- a digit at a place that is kept
-pub more_within : (places count n digit : ℕ) (s : Steps) → 0 < s.left → digit ≤ 9 → Stands places count n s → Stands places (count + 1) (n * 10 + digit) (record { value = s.value * 10 + digit; left = s.left - 1; exact = s.exact })
+pub more_within : (places count n digit : ℕ) (s : Steps) → 0 < s.left → digit ≤ 9 → DigitsInvariant places count n s
+    → DigitsInvariant places (count + 1) (n * 10 + digit)
+    (record { value = s.value * 10 + digit; left = s.left - 1; exact = s.exact })
 more_within places count n digit s some nine h =
     let none : h.extra ≡ 0 = elim h.one_side [ inl e ↦ e | inr z ↦ absurd (omega arith) ] in
     within places count n digit s.value s.left h.extra s.exact some none nine h.counted h.above h.fine h.below h.small
 
 -- the state before the first digit of the fraction
-pub none_yet : (places whole : ℕ) → places ≤ 9 → whole < 10 ^ 18 → Stands places 0 whole (record { value = whole; left = places; exact = true })
+pub none_yet : (places whole : ℕ) → places ≤ 9 → whole < 10 ^ 18
+    → DigitsInvariant places 0 whole (record { value = whole; left = places; exact = true })
 none_yet places whole few short = record {
   extra = 0;
   counted = omega arith;

@@ -10,7 +10,8 @@ use Rattle.decimal_text.specs.Writing.{last_digits, minus_of, fraction_of, write
 use Rattle.decimal_text.proofs.StepsLemmas.{ten_up}
 
 -- the text after one more digit
-pub push_next : (out : List ℕ) (place n unit : ℕ) → 0 < place → unit ≡ 10 ^ (place - 1) → (out ++ (48 + n / unit % 10) ∷ []) ++ last_digits (place - 1) n ≡ out ++ last_digits place n
+pub push_next : (out : List ℕ) (place n unit : ℕ) → 0 < place → unit ≡ 10 ^ (place - 1)
+    → (out ++ (48 + n / unit % 10) ∷ []) ++ last_digits (place - 1) n ≡ out ++ last_digits place n
 unfolding last_digits
 push_next out zero n unit some is = absurd (omega arith)
 push_next out (suc place) n unit some is =
@@ -28,14 +29,17 @@ pub whole_short : (size places : ℕ) → size < 10 ^ 19 → places ≤ 6 → le
 whole_short size places small few =
     let all : 19 ≡ (19 - places) + places = omega arith in
     let up : 10 ^ 19 ≡ 10 ^ (19 - places) * 10 ^ places = ap (λ k. 10 ^ k) all ∙ pow-add 10 (19 - places) places in
-    let below : size / 10 ^ places < 10 ^ (19 - places) = div_below size (10 ^ places) (10 ^ (19 - places)) (ten_up places) (omega (arith, up)) in
+    let below : size / 10 ^ places < 10 ^ (19 - places) =
+    div_below size (10 ^ places) (10 ^ (19 - places)) (ten_up places) (omega (arith, up)) in
     length-decimal-le (19 - places) (size / 10 ^ places) (omega arith) below (omega (arith, div-le_self size (10 ^ places)))
 
 pub minus_short : (value : ℤ) → length (minus_of value) ≤ 1
 minus_short (pos n) = omega arith
 minus_short (negsuc n) = omega arith
 
-pub written : (old minus text whole out : List ℕ) (value : ℤ) (size unit places : ℕ) → old ≡ [] → minus ≡ old ++ minus_of value → size ≡ unsigned_abs value → unit ≡ 10 ^ places → text ≡ decimal (size / unit) → whole ≡ minus ++ text → out ≡ whole ++ fraction_of places size → out ≡ write_of value places
+pub written : (old minus text whole out : List ℕ) (value : ℤ) (size unit places : ℕ) → old ≡ []
+    → minus ≡ old ++ minus_of value → size ≡ unsigned_abs value → unit ≡ 10 ^ places → text ≡ decimal (size / unit)
+    → whole ≡ minus ++ text → out ≡ whole ++ fraction_of places size → out ≡ write_of value places
 unfolding write_of
 written old minus text whole out value size unit places is_old is_minus is_size is_unit is_text is_whole is_out =
     simp (is_out, is_whole, is_text, is_minus, is_old, is_size, is_unit)

@@ -1,6 +1,37 @@
 -- The grammar of decimals and the numbers that they write: a sign, digits, and a point with digits (this
 -- project).
-use Rattle.std.specs.Prelude.{◌≡◌, ℕ, ◌+◌, ◌*◌, ◌/◌, ◌%◌, ◌^◌, ◌==◌, nat_lt, Bool, ◌&&◌, if◌then◌else◌, List, [], ◌∷◌, ◌++◌, length, drop, Option, Some, None, option_and_then, Result, Ok, Err, ℤ, pos, neg_ℤ, ◌*ℤ◌, IsSomeAnd}
+use Rattle.std.specs.Prelude.{
+  ◌≡◌,
+  ℕ,
+  ◌+◌,
+  ◌*◌,
+  ◌/◌,
+  ◌%◌,
+  ◌^◌,
+  ◌==◌,
+  nat_lt,
+  Bool,
+  ◌&&◌,
+  if◌then◌else◌,
+  List,
+  [],
+  ◌∷◌,
+  ◌++◌,
+  length,
+  drop,
+  Option,
+  Some,
+  None,
+  option_and_then,
+  Result,
+  Ok,
+  Err,
+  ℤ,
+  pos,
+  neg_ℤ,
+  ◌*ℤ◌,
+  IsSomeAnd,
+}
 use Rattle.std.specs.List.{take_while, list_all}
 use Rattle.std.specs.Char.{is_ascii_digit}
 use Rattle.std.specs.Str.Parse.{digits_value, starts_with_minus, without_leading_sign}
@@ -63,8 +94,10 @@ read_of text places = scaled_or_bad places (decimal_of text)
 
 -- a number read from a text is the fraction that the text's digits write
 abbrev pub ReadsItsFraction : Type 0
-ReadsItsFraction = (text : List ℕ) (places : ℕ) (n : ℤ) → read_of text places ≡ Ok n → IsSomeAnd (decimal_of text) (λ d. IsScaled d places n)
+ReadsItsFraction = (text : List ℕ) (places : ℕ) (n : ℤ) → read_of text places ≡ Ok n
+    → IsSomeAnd (decimal_of text) (λ d. IsScaled d places n)
 
 -- a text that is TooFine is no whole number of steps
 abbrev pub TooFineIsNoFraction : Type 0
-TooFineIsNoFraction = (text : List ℕ) (places : ℕ) (n : ℤ) → read_of text places ≡ Err TooFine → IsSomeAnd (decimal_of text) (λ d. ¬ (IsScaled d places n))
+TooFineIsNoFraction = (text : List ℕ) (places : ℕ) (n : ℤ) → read_of text places ≡ Err TooFine
+    → IsSomeAnd (decimal_of text) (λ d. ¬ (IsScaled d places n))

@@ -45,8 +45,8 @@ source_within false = given
 
 -- an error of a step that calls nothing outside is out of memory, or is the expected one
 abbrev pub Excused : {T E : Type 0} → Bool → Result T E → E → Type 0
-Excused wants_memory = Excuses (source_within wants_memory) (Unit {0})
+Excused is_out_of_memory = Excuses (source_within is_out_of_memory) (Unit {0})
 
 -- the result of a step that calls nothing outside is the expected one, unless it is out of memory
-abbrev pub Gives : {T E : Type 0} → (E → Bool) → Result T E → Result T E → Type 0
-Gives wants_memory = Meets (λ fault. source_within (wants_memory fault)) (Unit {0})
+abbrev pub ReturnsUnless : {T E : Type 0} → (E → Bool) → Result T E → Result T E → Type 0
+ReturnsUnless is_out_of_memory = Meets (λ fault. source_within (is_out_of_memory fault)) (Unit {0})

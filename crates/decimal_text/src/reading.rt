@@ -1,6 +1,23 @@
 //! Reading decimals digit by digit.
 
-ghost use Rattle.std.specs.Prelude.{◌≡◌, ℕ, ◌+◌, ◌*◌, ◌/◌, ◌^◌, ◌<◌, ◌≤◌, List, take, drop, length, nat_lt, IfOk, unsigned_abs, option_copied};
+ghost use Rattle.std.specs.Prelude.{
+  ◌≡◌,
+  ℕ,
+  ◌+◌,
+  ◌*◌,
+  ◌/◌,
+  ◌^◌,
+  ◌<◌,
+  ◌≤◌,
+  List,
+  take,
+  drop,
+  length,
+  nat_lt,
+  IfOk,
+  unsigned_abs,
+  option_copied,
+};
 ghost use Rattle.std.specs.List.{take_while, list_all};
 ghost use Rattle.std.specs.Char.{is_ascii_digit};
 ghost use Rattle.std.specs.Str.Parse.{digits_value};
@@ -93,7 +110,7 @@ fn read_parts(
     fraction: &[u8],
     places: u32,
 ) -> Result<i128, DecimalFault>
-    requires few { places ≤ 9 }
+    requires count_bound { places ≤ 9 }
     requires small { value < 10 ^ 18 }
     requires whole { length whole.now ≤ 18 → value ≡ digits_value 10 whole.now }
     ensures exact { result ≡ scaled_or_bad places (made_of negative whole.now fraction.now) }

@@ -16,13 +16,13 @@ pub struct Steps {
 }
 
 impl Steps {
-    ghost use Rattle.decimal_text.specs.Workings.Steps.{Stands};
+    ghost use Rattle.decimal_text.specs.Workings.Steps.{DigitsInvariant};
 
     /// Returns the steps after one more digit of the fraction.
     fn after(self, digit: u8) -> Steps
         requires one { digit ≤ 9 }
         requires room { (self.value + 1) * 10 ^ self.left ≤ 10 ^ 27 }
-        ensures { (places count n : ℕ) → Stands places count n self → Stands places (count + 1) (n * 10 + digit) result }
+        ensures { (places count n : ℕ) → DigitsInvariant places count n self → DigitsInvariant places (count + 1) (n * 10 + digit) result }
     {
         if self.left == 0 {
             return Steps {
@@ -49,12 +49,12 @@ impl Steps {
     /// Returns the steps of the whole number `whole` and all digits of `fraction`, or `None` if
     /// `fraction` has a byte that isn't a digit.
     pub fn over(whole: u64, fraction: &[u8], places: u32) -> Option<Steps>
-        requires few { places ≤ 9 }
-        requires short { whole < 10 ^ 18 }
+        requires count_bound { places ≤ 9 }
+        requires whole_bound { whole < 10 ^ 18 }
         ensures { MatchOption result
             (list_all is_ascii_digit fraction.now ≡ false)
             (λ s. (list_all is_ascii_digit fraction.now ≡ true)
-            × Stands places (length fraction.now) (digits_value_after 10 whole fraction.now) s) }
+            × DigitsInvariant places (length fraction.now) (digits_value_after 10 whole fraction.now) s) }
     {
         let mut steps = Steps {
             value: u128::from(whole),

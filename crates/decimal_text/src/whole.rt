@@ -21,7 +21,7 @@ pub fn are_digits(text: &[u8]) -> bool
 
 /// Returns the number that the digits of `text`, at most 19, write: 0 if there is no digit.
 pub fn digits_value(text: &[u8]) -> u64
-    requires few { length text.now ≤ 19 }
+    requires count_bound { length text.now ≤ 19 }
     requires digits { list_all is_ascii_digit text.now ≡ true }
     ensures value { result ≡ digits_value 10 text.now }
     ensures small { result < 10 ^ length text.now }
@@ -35,7 +35,7 @@ pub fn digits_value(text: &[u8]) -> u64
 
 /// Returns the number that the digits of `text`, at most 38, write: 0 if there is no digit.
 pub fn wide_digits_value(text: &[u8]) -> u128
-    requires few { length text.now ≤ 38 }
+    requires count_bound { length text.now ≤ 38 }
     requires digits { list_all is_ascii_digit text.now ≡ true }
     ensures value { result ≡ digits_value 10 text.now }
     ensures small { result < 10 ^ length text.now }

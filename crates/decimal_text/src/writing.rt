@@ -22,7 +22,7 @@ use itoa::Buffer;
 /// ```
 pub fn write(value: i64, places: u32, out: &mut ArrayString<24>)
     requires empty { out.old.bytes ≡ [] }
-    requires few { places ≤ 6 }
+    requires count_bound { places ≤ 6 }
     ensures exact { out.new.bytes ≡ write_of value places }
     ensures reads_back { length (whole_of value places) ≤ 18 → read_of out.new.bytes places ≡ Ok value }
 {
@@ -45,7 +45,7 @@ fn push_minus(value: i64, out: &mut ArrayString<24>)
 
 /// Appends the point and the last `places` digits of `size`, or nothing if `places` is 0.
 fn push_fraction(size: u64, places: u32, out: &mut ArrayString<24>)
-    requires few { places ≤ 6 }
+    requires count_bound { places ≤ 6 }
     requires room { length out.old.bytes + 1 + places ≤ 24 }
     ensures { out.new.bytes ≡ out.old.bytes ++ fraction_of places size }
 {
@@ -57,7 +57,7 @@ fn push_fraction(size: u64, places: u32, out: &mut ArrayString<24>)
 
 /// Appends the last `places` digits of `size`, the highest first.
 fn push_last_digits(size: u64, places: u32, out: &mut ArrayString<24>)
-    requires few { places ≤ 6 }
+    requires count_bound { places ≤ 6 }
     requires room { length out.old.bytes + places ≤ 24 }
     ensures { out.new.bytes ≡ out.old.bytes ++ last_digits places size }
 {

@@ -178,7 +178,8 @@ fn a_span_of_too_many_minutes_is_refused(rt: HostRuntime) -> Result<(), Fail> {
         ("400", "limit: too steep in 1999\n"),
     ] {
         let file = format!(in alloc;
-            "1\nS2 30\n1999\n11\nS2\n0 0 0 0 0 0 0 0 0 0 0\n*END*\n11\nS2\n1 1 1 1 1 1 1 1 1 1 1\n*END*\nPier\n0:00\n0 feet\nS2 {amplitude} 0\n"
+            "1\nS2 30\n1999\n11\nS2\n0 0 0 0 0 0 0 0 0 0 0\n*END*\n11\nS2\n1 1 1 1 1 1 1 1 1 1 1\n*END*\nPier\n0:00\n\
+            0 feet\nS2 {amplitude} 0\n"
         )?;
         let bytes = Bytes::from_vec(file.into_bytes());
         let outcome = run_over(alloc, bytes, words, 4096, NONE)?;
@@ -298,7 +299,7 @@ fn each_file_has_its_place_in_the_order(rt: HostRuntime) -> Result<(), Fail> {
             ..NONE
         };
         let outcome = run_over_all(alloc, held, case.words, 4096, fails)?;
-        assert_outcome(&rt, &outcome, case.status, "", case.line_told);
+        assert_outcome(&rt, &outcome, case.status, "", case.line_printed);
     }
     Ok(())
 }
@@ -306,13 +307,13 @@ fn each_file_has_its_place_in_the_order(rt: HostRuntime) -> Result<(), Fail> {
 #[test]
 fn false_certificates_are_rejected(rt: HostRuntime) -> Result<(), Fail> {
     let alloc = rt.alloc();
-    for &(words, text, told) in REJECTIONS {
+    for &(words, text, printed) in REJECTIONS {
         let mut held = Vec::new(alloc);
         held.push(named(alloc, "pier.txt", pier_with(alloc, 0, "")?)?)?;
         let bytes = Bytes::from_vec(text.as_bytes().to_vec(alloc)?);
         held.push(named(alloc, "cert", bytes)?)?;
         let outcome = run_over_all(alloc, held, words, 4096, NONE)?;
-        assert_outcome(&rt, &outcome, 1, told, "");
+        assert_outcome(&rt, &outcome, 1, printed, "");
     }
     Ok(())
 }

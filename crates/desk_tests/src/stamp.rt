@@ -26,7 +26,12 @@ impl Stamp {
 }
 
 impl Sheet for Stamp {
-    ghost meaning = { λ sheet. record { word = codes "stamp"; limit = sheet.collected.limit; layout = λ head list. (decimal (length list) ++ codes " events of ") ++ head.name ++ (codes ", told at " ++ signed_decimal head.now ++ codes "\n") } };
+    ghost meaning = { λ sheet. record {
+      word = codes "stamp";
+      limit = sheet.collected.limit;
+      layout = λ head list. (decimal (length list) ++ codes " events of ") ++ head.name
+          ++ (codes ", told at " ++ signed_decimal head.now ++ codes "\n");
+    } };
 
     ghost heading = { λ sheet. sheet.collected.head };
 
@@ -50,10 +55,10 @@ impl Sheet for Stamp {
         let alloc = *self.collected.events.allocator();
         let count = self.collected.events.len();
         let now = self.collected.head.now;
-        let told = format!(in alloc; ", told at {now}\n")?;
+        let printed = format!(in alloc; ", told at {now}\n")?;
         let mut text = format!(in alloc; "{count} events of ")?;
         text.push_str(self.collected.head.name.as_str())?;
-        text.push_str(told.as_str())?;
+        text.push_str(printed.as_str())?;
         Ok(Bytes::from_vec(text.into_bytes()))
     }
 }

@@ -5,7 +5,7 @@ use Rattle.std.specs.Option.{ForSome}
 use Rattle.std.proofs.lemmas.List.{append-nil}
 use Rattle.curve_law.specs.declared.cell.Cell.{Cell}
 use Rattle.curve_law.specs.declared.cell.Cell.TheVariants.{Quiet, Still, Turn}
-use Rattle.curve_law.specs.Cells.{event_in, turns}
+use Rattle.curve_law.specs.Cells.{event_in, cell_events}
 use Rattle.curve_law.specs.Cover.{cover}
 use Rattle.curve_law.specs.Meaning.{Meaning}
 use Rattle.curve_law.proofs.AcceptedLemmas.{cover-few}
@@ -16,13 +16,14 @@ use Rattle.event_list.specs.Merging.{searched, waiting, cells_left, tracks_left}
 use Rattle.event_list.specs.Order.{ordered}
 use Rattle.event_list.specs.Workings.Coming.{events_ahead, cells_ahead, searched_by, searched_past, FindsNext, IsAscending}
 use Rattle.event_list.proofs.EventLemmas.{merged-parts}
-use Rattle.event_list.proofs.TurnLemmas.{turns-ascending}
+use Rattle.event_list.proofs.TurnLemmas.{cell_events-ascending}
 
 searched-none : {C : Type 0} (old new : Looking C) → StepsOn old None new → searched_by (Some old) ≡ waiting None (Some new)
 unfolding searched
 searched-none old new step = rw (step.0, step.1, step.2)
 
-searched-on : {C : Type 0} (old new : Looking C) (found : Found) (cell : Cell) → found.cell ≡ cell → StepsOn old (Some found) new → searched_by (Some old) ≡ searched_past (event_in found.at cell) (Some new)
+searched-on : {C : Type 0} (old new : Looking C) (found : Found) (cell : Cell) → found.cell ≡ cell
+    → StepsOn old (Some found) new → searched_by (Some old) ≡ searched_past (event_in found.at cell) (Some new)
 unfolding searched
 searched-on old new found (Quiet n) is step = rw (step.1, step.2, is)
 searched-on old new found Still is step = rw (step.1, step.2, is)
@@ -33,25 +34,35 @@ unfolding searched
 no-search-finds C = (refl, refl, refl, refl, refl)
 
 pub search-finds : {C : Type 0} (old new : Looking C) (found : Option Found) → StepsOn old found new → FindsNext (Some old) found (Some new)
-unfolding turns
+unfolding cell_events
 search-finds old new None step = (rw step.0, rw step.0, rw step.1, rw step.1, searched-none old new step)
-search-finds old new (Some found) step = (rw (step.1, step.0, step.2), rw step.1 (omega arith), searched-on old new found found.cell refl step)
+search-finds old new (Some found) step =
+    (rw (step.1, step.0, step.2), rw step.1 (omega arith), searched-on old new found found.cell refl step)
 
 pub ahead-ascending : {C : Type 0} (search : Option (Looking C)) → IsAscending (events_ahead search)
 unfolding IsAscending
 ahead-ascending None = tt
-ahead-ascending (Some search) = turns-ascending search.at search.left
+ahead-ascending (Some search) = cell_events-ascending search.at search.left
 
-ahead-turns : {C : Type 0} (a : ℤ) (search : Option (Looking C)) → ForSome search (λ s. s.at ≡ a) → flat_map (turns a) (option_to_list (cells_left search)) ≡ events_ahead search
-ahead-turns a None at = refl
-ahead-turns a (Some search) at = append-nil (turns a search.left) ∙ ap (λ b. turns b search.left) (sym (at search refl))
+ahead-cell_events : {C : Type 0} (a : ℤ) (search : Option (Looking C)) → ForSome search (λ s. s.at ≡ a)
+    → flat_map (cell_events a) (option_to_list (cells_left search)) ≡ events_ahead search
+ahead-cell_events a None at = refl
+ahead-cell_events a (Some search) at = append-nil (cell_events a search.left) ∙ ap (λ b. cell_events b search.left) (sym (at search refl))
 
 -- the events left in three searches that have reached the same minute
-pub merged-ahead : {A B : Type 0} (turn : Looking A) (slack mark : Option (Looking B)) → ForSome slack (λ s. s.at ≡ turn.at) → ForSome mark (λ s. s.at ≡ turn.at) → ordered (events_ahead (Some turn) ++ (events_ahead slack ++ events_ahead mark)) ≡ merged_of turn.at (tracks_left turn slack mark)
+pub merged-ahead : {A B : Type 0} (turn : Looking A) (slack mark : Option (Looking B))
+    → ForSome slack (λ s. s.at ≡ turn.at) → ForSome mark (λ s. s.at ≡ turn.at)
+    → ordered (events_ahead (Some turn) ++ (events_ahead slack ++ events_ahead mark))
+    ≡ merged_of turn.at (tracks_left turn slack mark)
 merged-ahead turn slack mark slack_at mark_at =
-    rw (merged-parts turn.at (tracks_left turn slack mark), ahead-turns turn.at slack slack_at, ahead-turns turn.at mark mark_at)
+    rw (
+      merged-parts turn.at (tracks_left turn slack mark),
+      ahead-cell_events turn.at slack slack_at,
+      ahead-cell_events turn.at mark mark_at,
+    )
 
-pub cells-ahead : {A B : Type 0} (turn : Looking A) (slack mark : Option (Looking B)) → cells_in (tracks_left turn slack mark) ≡ length turn.left + cells_ahead slack + cells_ahead mark
+pub cells-ahead : {A B : Type 0} (turn : Looking A) (slack mark : Option (Looking B))
+    → cells_in (tracks_left turn slack mark) ≡ length turn.left + cells_ahead slack + cells_ahead mark
 unfolding cells_in
 cells-ahead turn None None = omega arith
 cells-ahead turn None (Some mark) = omega arith

@@ -7,7 +7,7 @@ use Rattle.std.proofs.lemmas.List.Sums.{sum_by-cons, sum_by-append}
 use Rattle.curve_law.specs.declared.cell.Cell.{Cell}
 use Rattle.curve_law.specs.declared.event.Event.{Event}
 use Rattle.curve_law.specs.declared.tracks.Tracks.{Tracks}
-use Rattle.curve_law.specs.Cells.{turns}
+use Rattle.curve_law.specs.Cells.{cell_events}
 use Rattle.curve_law.specs.Meaning.{Meaning}
 use Rattle.curve_law.proofs.AcceptedLemmas.{cover-few, cover-accepted}
 use Rattle.curve_law.proofs.AgreeLemmas.{plain_list-agrees, cover-agrees}
@@ -16,95 +16,133 @@ use Rattle.station_table.specs.declared.basis.Basis.{Basis}
 use Rattle.event_list.specs.declared.span.Span.{Span}
 use Rattle.event_list.specs.Order.{ordered}
 use Rattle.event_list.specs.Shifts.{widened_of, moved_within, shifted_of}
-use Rattle.event_list.specs.Events.{minutes_in, Followed, events_over, station_events, merged_of, cells_in, cover_over, covers_of, cell_count, IsKnown, AreKnown, IsAccepted, AreAccepted, AgreeIfFollowed, AllAgree}
+use Rattle.event_list.specs.Events.{span_minutes, Followed, events_over, station_events, merged_of, cells_in, cover_over, covers_of, cell_count, IsValidOver, AreValidOver, IsAccepted, AreAccepted, AgreeIfFollowed, AllAgree}
 use Rattle.event_list.proofs.ShiftLemmas.{shifted-ordered}
 
 -- the events of the tracks one after the other
-abbrev pub turns_of : ℤ → Tracks → List Event
-turns_of a t = turns a t.turn ++ (flat_map (turns a) (option_to_list t.slack) ++ flat_map (turns a) (option_to_list t.mark))
+abbrev pub events_of_tracks : ℤ → Tracks → List Event
+events_of_tracks a t = cell_events a t.turn
+    ++ (flat_map (cell_events a) (option_to_list t.slack) ++ flat_map (cell_events a) (option_to_list t.mark))
 
 -- the events of the requested curves
 abbrev pub events_of : Span → Followed → List Event
-events_of s f = events_over s f.turn ++ (flat_map (events_over s) (option_to_list f.slack) ++ flat_map (events_over s) (option_to_list f.mark))
+events_of s f = events_over s f.turn
+    ++ (flat_map (events_over s) (option_to_list f.slack) ++ flat_map (events_over s) (option_to_list f.mark))
 
-pub merged-parts : (a : ℤ) (t : Tracks) → merged_of a t ≡ ordered (turns_of a t)
+pub merged-parts : (a : ℤ) (t : Tracks) → merged_of a t ≡ ordered (events_of_tracks a t)
 unfolding merged_of
-merged-parts a t = ap (λ es. ordered (turns a t.turn ++ es)) (flat_map-append (turns a) (option_to_list t.slack) (option_to_list t.mark))
+merged-parts a t = ap (λ es. ordered (cell_events a t.turn ++ es))
+    (flat_map-append (cell_events a) (option_to_list t.slack) (option_to_list t.mark))
 
-pub events-parts : (f : Followed) (b : Basis) (begin end : ℤ) → station_events f b begin end ≡ ordered (moved_within b begin end (events_of (widened_of b begin end) f))
+pub events-parts : (f : Followed) (b : Basis) (begin end : ℤ)
+    → station_events f b begin end ≡ ordered (moved_within b begin end (events_of (widened_of b begin end) f))
 unfolding station_events
 events-parts f b begin end =
     let s = widened_of b begin end in
-    ap (λ es. ordered (moved_within b begin end (events_over s f.turn ++ es))) (flat_map-append (events_over s) (option_to_list f.slack) (option_to_list f.mark))
+    ap (λ es. ordered (moved_within b begin end (events_over s f.turn ++ es)))
+    (flat_map-append (events_over s) (option_to_list f.slack) (option_to_list f.mark))
 
 -- ---- accepted cells
 
-accepted-turns : (s : Span) (o : Option Meaning) (p : Option (List Cell)) → ForSome o (IsKnown s) → IsAccepted s o p → flat_map (turns s.begin) (option_to_list p) ≡ flat_map (events_over s) (option_to_list o)
-accepted-turns s None None known ok = refl
-accepted-turns s None (Some cells) known ok = absurd ok
-accepted-turns s (Some c) None known ok = absurd ok
-accepted-turns s (Some c) (Some cells) known ok =
-    let is = known c refl in
-    ap (λ es. es ++ []) (verdict-exact c s.begin (minutes_in s) cells is.lawful is.span ok)
+accepted-cell_events : (s : Span) (o : Option Meaning) (p : Option (List Cell)) → ForSome o (IsValidOver s)
+    → IsAccepted s o p → flat_map (cell_events s.begin) (option_to_list p) ≡ flat_map (events_over s) (option_to_list o)
+accepted-cell_events s None None valid_over ok = refl
+accepted-cell_events s None (Some cells) valid_over ok = absurd ok
+accepted-cell_events s (Some c) None valid_over ok = absurd ok
+accepted-cell_events s (Some c) (Some cells) valid_over ok =
+    let is = valid_over c refl in
+    ap (λ es. es ++ []) (verdict-exact c s.begin (span_minutes s) cells is.lawful is.span ok)
 
-pub accepted-events : (f : Followed) (s : Span) (t : Tracks) → AreKnown f s → AreAccepted f s t → turns_of s.begin t ≡ events_of s f
-accepted-events f s t known ok =
-    rw (verdict-exact f.turn s.begin (minutes_in s) t.turn known.turn.lawful known.turn.span ok.turn, accepted-turns s f.slack t.slack known.slack ok.slack, accepted-turns s f.mark t.mark known.mark ok.mark)
+pub accepted-events : (f : Followed) (s : Span) (t : Tracks) → AreValidOver f s → AreAccepted f s t
+    → events_of_tracks s.begin t ≡ events_of s f
+accepted-events f s t valid_over ok =
+    rw (
+      verdict-exact f.turn s.begin (span_minutes s) t.turn valid_over.turn.lawful valid_over.turn.span ok.turn,
+      accepted-cell_events s f.slack t.slack valid_over.slack ok.slack,
+      accepted-cell_events s f.mark t.mark valid_over.mark ok.mark,
+    )
 
-pub shifted-events : (f : Followed) (b : Basis) (begin end : ℤ) (t : Tracks) → AreKnown f (widened_of b begin end) → AreAccepted f (widened_of b begin end) t → shifted_of b begin end (merged_of (widened_of b begin end).begin t) ≡ station_events f b begin end
-shifted-events f b begin end t known ok =
+pub shifted-events : (f : Followed) (b : Basis) (begin end : ℤ) (t : Tracks) → AreValidOver f (widened_of b begin end)
+    → AreAccepted f (widened_of b begin end) t
+    → shifted_of b begin end (merged_of (widened_of b begin end).begin t) ≡ station_events f b begin end
+shifted-events f b begin end t valid_over ok =
     let s = widened_of b begin end in
-    rw (merged-parts s.begin t, shifted-ordered b begin end (turns_of s.begin t), accepted-events f s t known ok, events-parts f b begin end)
+    rw (
+      merged-parts s.begin t,
+      shifted-ordered b begin end (events_of_tracks s.begin t),
+      accepted-events f s t valid_over ok,
+      events-parts f b begin end,
+    )
 
 -- ---- cells by the halving rule
 
 cover-is : (s : Span) (o : Option Meaning) → IsAccepted s o (option_map (cover_over s) o)
 cover-is s None = tt
-cover-is s (Some c) = cover-accepted c s.begin (minutes_in s)
+cover-is s (Some c) = cover-accepted c s.begin (span_minutes s)
 
 pub covers-accepted : (f : Followed) (s : Span) → AreAccepted f s (covers_of f s)
 covers-accepted f s = record {
-  turn = cover-accepted f.turn s.begin (minutes_in s);
+  turn = cover-accepted f.turn s.begin (span_minutes s);
   slack = cover-is s f.slack;
   mark = cover-is s f.mark;
 }
 
-pub covers-shifted : (f : Followed) (b : Basis) (begin end : ℤ) → AreKnown f (widened_of b begin end) → shifted_of b begin end (merged_of (widened_of b begin end).begin (covers_of f (widened_of b begin end))) ≡ station_events f b begin end
-covers-shifted f b begin end known =
-    let s = widened_of b begin end in shifted-events f b begin end (covers_of f s) known (covers-accepted f s)
+pub covers-shifted : (f : Followed) (b : Basis) (begin end : ℤ) → AreValidOver f (widened_of b begin end)
+    → shifted_of b begin end (merged_of (widened_of b begin end).begin (covers_of f (widened_of b begin end)))
+    ≡ station_events f b begin end
+covers-shifted f b begin end valid_over =
+    let s = widened_of b begin end in shifted-events f b begin end (covers_of f s) valid_over (covers-accepted f s)
 
-pub cells-parts : (t : Tracks) → cells_in t ≡ length t.turn + (sum_by length (option_to_list t.slack) + sum_by length (option_to_list t.mark))
+pub cells-parts : (t : Tracks)
+    → cells_in t ≡ length t.turn + (sum_by length (option_to_list t.slack) + sum_by length (option_to_list t.mark))
 unfolding cells_in
-cells-parts t = omega (arith, sum_by-cons length t.turn (option_to_list t.slack ++ option_to_list t.mark), sum_by-append length (option_to_list t.slack) (option_to_list t.mark))
+cells-parts t = omega (
+  arith,
+  sum_by-cons length t.turn (option_to_list t.slack ++ option_to_list t.mark),
+  sum_by-append length (option_to_list t.slack) (option_to_list t.mark),
+)
 
-cover-short : (s : Span) (o : Option Meaning) → sum_by length (option_to_list (option_map (cover_over s) o)) ≤ minutes_in s
+cover-short : (s : Span) (o : Option Meaning) → sum_by length (option_to_list (option_map (cover_over s) o)) ≤ span_minutes s
 cover-short s None = omega arith
-cover-short s (Some c) = omega (arith, cover-few c s.begin (minutes_in s))
+cover-short s (Some c) = omega (arith, cover-few c s.begin (span_minutes s))
 
-pub count-few : (f : Followed) (s : Span) → cell_count f s ≤ 3 * minutes_in s
+pub count-few : (f : Followed) (s : Span) → cell_count f s ≤ 3 * span_minutes s
 unfolding cell_count
-count-few f s = omega (arith, cells-parts (covers_of f s), cover-few f.turn s.begin (minutes_in s), cover-short s f.slack, cover-short s f.mark)
+count-few f s =
+    omega (arith, cells-parts (covers_of f s), cover-few f.turn s.begin (span_minutes s), cover-short s f.slack, cover-short s f.mark)
 
 -- ---- curves that agree
 
-agree-events : (s : Span) (o p : Option Meaning) → AgreeIfFollowed s o p → flat_map (events_over s) (option_to_list o) ≡ flat_map (events_over s) (option_to_list p)
+agree-events : (s : Span) (o p : Option Meaning) → AgreeIfFollowed s o p
+    → flat_map (events_over s) (option_to_list o) ≡ flat_map (events_over s) (option_to_list p)
 agree-events s None None agree = refl
 agree-events s None (Some d) agree = absurd agree
 agree-events s (Some c) None agree = absurd agree
-agree-events s (Some c) (Some d) agree = ap (λ es. es ++ []) (plain_list-agrees c d s.begin (minutes_in s) agree)
+agree-events s (Some c) (Some d) agree = ap (λ es. es ++ []) (plain_list-agrees c d s.begin (span_minutes s) agree)
 
 agree-covers : (s : Span) (o p : Option Meaning) → AgreeIfFollowed s o p → option_map (cover_over s) o ≡ option_map (cover_over s) p
 agree-covers s None None agree = refl
 agree-covers s None (Some d) agree = absurd agree
 agree-covers s (Some c) None agree = absurd agree
-agree-covers s (Some c) (Some d) agree = ap Some (cover-agrees c d s.begin (minutes_in s) agree)
+agree-covers s (Some c) (Some d) agree = ap Some (cover-agrees c d s.begin (span_minutes s) agree)
 
-pub events-agree : (f g : Followed) (b : Basis) (begin end : ℤ) → AllAgree f g (widened_of b begin end) → station_events f b begin end ≡ station_events g b begin end
+pub events-agree : (f g : Followed) (b : Basis) (begin end : ℤ) → AllAgree f g (widened_of b begin end)
+    → station_events f b begin end ≡ station_events g b begin end
 events-agree f g b begin end agree =
     let s = widened_of b begin end in
-    rw (events-parts f b begin end, events-parts g b begin end, plain_list-agrees f.turn g.turn s.begin (minutes_in s) agree.turn, agree-events s f.slack g.slack agree.slack, agree-events s f.mark g.mark agree.mark)
+    rw (
+      events-parts f b begin end,
+      events-parts g b begin end,
+      plain_list-agrees f.turn g.turn s.begin (span_minutes s) agree.turn,
+      agree-events s f.slack g.slack agree.slack,
+      agree-events s f.mark g.mark agree.mark,
+    )
 
 pub count-agrees : (f g : Followed) (s : Span) → AllAgree f g s → cell_count f s ≡ cell_count g s
 unfolding cell_count
 count-agrees f g s agree =
-    rw (cover-agrees f.turn g.turn s.begin (minutes_in s) agree.turn, agree-covers s f.slack g.slack agree.slack, agree-covers s f.mark g.mark agree.mark)
+    rw (
+      cover-agrees f.turn g.turn s.begin (span_minutes s) agree.turn,
+      agree-covers s f.slack g.slack agree.slack,
+      agree-covers s f.mark g.mark agree.mark,
+    )

@@ -8,9 +8,9 @@ use Rattle.curve_law.specs.declared.cell.Cell.TheVariants as cells
 use Rattle.curve_law.specs.declared.event.Event.{Event}
 use Rattle.curve_law.proofs.CoverLemmas.{by_test}
 use Rattle.event_list.specs.declared.leading.Leading.TheVariants.{Turn, Slack, Mark}
-use Rattle.event_list.specs.Merging.{Waiting, searched, looked, looked_event, leads, GivesNext}
+use Rattle.event_list.specs.Merging.{Waiting, searched, looked, looked_event, leads, ReturnsNext}
 use Rattle.event_list.specs.Order.{comes_before, ordered}
-use Rattle.event_list.specs.Workings.Coming.{first_of, IsLeading, IsAscending, Strand, Stands, merging_of}
+use Rattle.event_list.specs.Workings.Coming.{first_of, IsLeading, IsAscending, Strand, MergeInvariant, merging_of}
 use Rattle.event_list.proofs.OrderLemmas.{comes_before-asym, comes_before-trans, All-ordered, sum-ordered, ordered-ascending, ordered-is, ordered-same}
 
 -- an optional event that doesn't come before another
@@ -52,7 +52,8 @@ first-none (e ∷ es) is = cc
 first-all : (e : Event) (es : List Event) → IsAscending es → IfSome (first_of es) (NotBefore e) → All (NotBefore e) es
 unfolding IsAscending
 first-all e [] up least = All-nil (NotBefore e)
-first-all e (d ∷ ds) up least = All-cons (NotBefore e) d ds least (All-weaker (NotBefore d) (NotBefore e) (λ c h. comes_before-trans c d e h least) ds up.0)
+first-all e (d ∷ ds) up least = All-cons (NotBefore e) d ds least
+    (All-weaker (NotBefore d) (NotBefore e) (λ c h. comes_before-trans c d e h least) ds up.0)
 
 pub drop-ascending : (es : List Event) → IsAscending es → IsAscending (drop 1 es)
 unfolding IsAscending
@@ -60,10 +61,12 @@ drop-ascending [] up = up
 drop-ascending (e ∷ es) up = up.1
 
 -- an event that no other comes before is the first
-least-first : (e : Event) (es ws : List Event) → All (NotBefore e) ws → ((f : Event → ℕ) → sum_by f es ≡ f e + sum_by f ws) → ordered es ≡ e ∷ ordered ws
+least-first : (e : Event) (es ws : List Event) → All (NotBefore e) ws
+    → ((f : Event → ℕ) → sum_by f es ≡ f e + sum_by f ws) → ordered es ≡ e ∷ ordered ws
 unfolding IsAscending
 least-first e es ws least same =
-    sym (ordered-is es (e ∷ ordered ws) (All-ordered (NotBefore e) ws least, ordered-ascending ws) (λ f. omega (arith, same f, sum_by-cons f e (ordered ws), sum-ordered f ws)))
+    sym (ordered-is es (e ∷ ordered ws) (All-ordered (NotBefore e) ws least, ordered-ascending ws)
+    (λ f. omega (arith, same f, sum_by-cons f e (ordered ws), sum-ordered f ws)))
 
 sum-three : (f : Event → ℕ) (xs ys zs : List Event) → sum_by f (xs ++ (ys ++ zs)) ≡ sum_by f xs + (sum_by f ys + sum_by f zs)
 sum-three f xs ys zs = omega (arith, sum_by-append f xs (ys ++ zs), sum_by-append f ys zs)
@@ -73,7 +76,9 @@ abbrev pub TakesFirst : List Event → List Event → List Event → Option Even
 TakesFirst xs ys zs None us vs ws = (xs ≡ []) × (ys ≡ []) × (zs ≡ []) × (ordered (us ++ (vs ++ ws)) ≡ [])
 TakesFirst xs ys zs (Some e) us vs ws = ordered (xs ++ (ys ++ zs)) ≡ e ∷ ordered (us ++ (vs ++ ws))
 
-takes-first : (xs ys zs : List Event) → IsAscending xs → IsAscending ys → IsAscending zs → leads (first_of xs) (first_of ys) ≡ true → leads (first_of xs) (first_of zs) ≡ true → TakesFirst xs ys zs (first_of xs) (drop 1 xs) ys zs
+takes-first : (xs ys zs : List Event) → IsAscending xs → IsAscending ys → IsAscending zs
+    → leads (first_of xs) (first_of ys) ≡ true → leads (first_of xs) (first_of zs) ≡ true
+    → TakesFirst xs ys zs (first_of xs) (drop 1 xs) ys zs
 unfolding IsAscending ordered
 takes-first [] ys zs up-xs up-ys up-zs second third =
     let no_ys = first-none ys (leads-none (first_of ys) second) in
@@ -82,7 +87,8 @@ takes-first [] ys zs up-xs up-ys up-zs second third =
 takes-first (e ∷ xs) ys zs up-xs up-ys up-zs second third =
     let least-ys = first-all e ys up-ys (leads-least e (first_of ys) second) in
     let least-zs = first-all e zs up-zs (leads-least e (first_of zs) third) in
-    least-first e (e ∷ xs ++ (ys ++ zs)) (xs ++ (ys ++ zs)) (All-append (NotBefore e) xs (ys ++ zs) up-xs.0 (All-append (NotBefore e) ys zs least-ys least-zs)) (λ f. sum_by-cons f e (xs ++ (ys ++ zs)))
+    least-first e (e ∷ xs ++ (ys ++ zs)) (xs ++ (ys ++ zs)) (All-append (NotBefore e) xs (ys ++ zs) up-xs.0
+    (All-append (NotBefore e) ys zs least-ys least-zs)) (λ f. sum_by-cons f e (xs ++ (ys ++ zs)))
 
 second-first : (xs ys zs : List Event) → ordered (ys ++ (xs ++ zs)) ≡ ordered (xs ++ (ys ++ zs))
 second-first xs ys zs = ordered-same (ys ++ (xs ++ zs)) (xs ++ (ys ++ zs)) (λ f. omega (arith, sum-three f ys xs zs, sum-three f xs ys zs))
@@ -90,7 +96,8 @@ second-first xs ys zs = ordered-same (ys ++ (xs ++ zs)) (xs ++ (ys ++ zs)) (λ f
 third-first : (xs ys zs : List Event) → ordered (zs ++ (xs ++ ys)) ≡ ordered (xs ++ (ys ++ zs))
 third-first xs ys zs = ordered-same (zs ++ (xs ++ ys)) (xs ++ (ys ++ zs)) (λ f. omega (arith, sum-three f zs xs ys, sum-three f xs ys zs))
 
-takes-second : (xs ys zs : List Event) (o : Option Event) → TakesFirst ys xs zs o (drop 1 ys) xs zs → TakesFirst xs ys zs o xs (drop 1 ys) zs
+takes-second : (xs ys zs : List Event) (o : Option Event) → TakesFirst ys xs zs o (drop 1 ys) xs zs
+    → TakesFirst xs ys zs o xs (drop 1 ys) zs
 takes-second xs ys zs None takes = (takes.1, takes.0, takes.2, sym (second-first xs (drop 1 ys) zs) ∙ takes.3)
 takes-second xs ys zs (Some e) takes = sym (second-first xs ys zs) ∙ takes ∙ ap (λ es. e ∷ es) (second-first xs (drop 1 ys) zs)
 
@@ -105,7 +112,8 @@ pub record Looks (old new : Strand) (rest : List Event) : Type 0 where
   pub counted : new.cells + length new.waiting.cells ≡ new.all
   pub done : old.left ≡ [] → new.cells ≡ new.all
 
-pub looks-taken : (t0 t1 t2 : Strand) → Looks t0 t1 t0.left → t2.left ≡ drop 1 t1.left → t2.all ≡ t1.all → t2.cells + length t2.waiting.cells ≡ t2.all → (t1.left ≡ [] → t2.cells ≡ t2.all) → Looks t0 t2 (drop 1 t0.left)
+pub looks-taken : (t0 t1 t2 : Strand) → Looks t0 t1 t0.left → t2.left ≡ drop 1 t1.left → t2.all ≡ t1.all
+    → t2.cells + length t2.waiting.cells ≡ t2.all → (t1.left ≡ [] → t2.cells ≡ t2.all) → Looks t0 t2 (drop 1 t0.left)
 looks-taken t0 t1 t2 looks rest all counted done = record {
   left = rest ∙ ap (drop 1) looks.left;
   all = all ∙ looks.all;
@@ -113,31 +121,47 @@ looks-taken t0 t1 t2 looks rest all counted done = record {
   done = λ none. done (looks.left ∙ none);
 }
 
-gives : (t s m t' s' m' : Strand) (o : Option Event) (us vs ws : List Event) → TakesFirst t.left s.left m.left o us vs ws → Looks t t' us → Looks s s' vs → Looks m m' ws → GivesNext (merging_of t s m) o (merging_of t' s' m')
+returned : (t s m t' s' m' : Strand) (o : Option Event) (us vs ws : List Event)
+    → TakesFirst t.left s.left m.left o us vs ws → Looks t t' us → Looks s s' vs → Looks m m' ws
+    → ReturnsNext (merging_of t s m) o (merging_of t' s' m')
 unfolding ordered
-gives t s m t' s' m' None us vs ws takes turn slack mark =
-    (rw (takes.0, takes.1, takes.2), rw (turn.left, slack.left, mark.left) takes.3, omega (arith, turn.done takes.0, slack.done takes.1, mark.done takes.2))
-gives t s m t' s' m' (Some e) us vs ws takes turn slack mark =
+returned t s m t' s' m' None us vs ws takes turn slack mark = (
+  rw (takes.0, takes.1, takes.2),
+  rw (turn.left, slack.left, mark.left) takes.3,
+  omega (arith, turn.done takes.0, slack.done takes.1, mark.done takes.2),
+)
+returned t s m t' s' m' (Some e) us vs ws takes turn slack mark =
     rw (turn.left, slack.left, mark.left) takes
 
-pub gives-turn : (t s m t' s' m' : Strand) → Stands t s m → IsLeading Turn (first_of t.left) (first_of s.left) (first_of m.left) → Looks t t' (drop 1 t.left) → Looks s s' s.left → Looks m m' m.left → GivesNext (merging_of t s m) (first_of t.left) (merging_of t' s' m')
-gives-turn t s m t' s' m' stands lead turn slack mark =
-    gives t s m t' s' m' (first_of t.left) (drop 1 t.left) s.left m.left (takes-first t.left s.left m.left stands.turn stands.slack stands.mark lead.0 lead.1) turn slack mark
+pub returned-turn : (t s m t' s' m' : Strand) → MergeInvariant t s m
+    → IsLeading Turn (first_of t.left) (first_of s.left) (first_of m.left) → Looks t t' (drop 1 t.left)
+    → Looks s s' s.left → Looks m m' m.left → ReturnsNext (merging_of t s m) (first_of t.left) (merging_of t' s' m')
+returned-turn t s m t' s' m' merge_invariant lead turn slack mark =
+    returned t s m t' s' m' (first_of t.left) (drop 1 t.left) s.left m.left (takes-first t.left s.left m.left
+    merge_invariant.turn merge_invariant.slack merge_invariant.mark lead.0 lead.1) turn slack mark
 
-pub gives-slack : (t s m t' s' m' : Strand) → Stands t s m → IsLeading Slack (first_of t.left) (first_of s.left) (first_of m.left) → Looks t t' t.left → Looks s s' (drop 1 s.left) → Looks m m' m.left → GivesNext (merging_of t s m) (first_of s.left) (merging_of t' s' m')
-gives-slack t s m t' s' m' stands lead turn slack mark =
-    gives t s m t' s' m' (first_of s.left) t.left (drop 1 s.left) m.left
-    (takes-second t.left s.left m.left (first_of s.left) (takes-first s.left t.left m.left stands.slack stands.turn stands.mark lead.0 lead.1)) turn slack mark
+pub returned-slack : (t s m t' s' m' : Strand) → MergeInvariant t s m
+    → IsLeading Slack (first_of t.left) (first_of s.left) (first_of m.left) → Looks t t' t.left
+    → Looks s s' (drop 1 s.left) → Looks m m' m.left
+    → ReturnsNext (merging_of t s m) (first_of s.left) (merging_of t' s' m')
+returned-slack t s m t' s' m' merge_invariant lead turn slack mark =
+    returned t s m t' s' m' (first_of s.left) t.left (drop 1 s.left) m.left
+    (takes-second t.left s.left m.left (first_of s.left) (takes-first s.left t.left m.left merge_invariant.slack
+    merge_invariant.turn merge_invariant.mark lead.0 lead.1)) turn slack mark
 
-pub gives-mark : (t s m t' s' m' : Strand) → Stands t s m → IsLeading Mark (first_of t.left) (first_of s.left) (first_of m.left) → Looks t t' t.left → Looks s s' s.left → Looks m m' (drop 1 m.left) → GivesNext (merging_of t s m) (first_of m.left) (merging_of t' s' m')
-gives-mark t s m t' s' m' stands lead turn slack mark =
-    gives t s m t' s' m' (first_of m.left) t.left s.left (drop 1 m.left)
-    (takes-third t.left s.left m.left (first_of m.left) (takes-first m.left t.left s.left stands.mark stands.turn stands.slack lead.0 lead.1)) turn slack mark
+pub returned-mark : (t s m t' s' m' : Strand) → MergeInvariant t s m
+    → IsLeading Mark (first_of t.left) (first_of s.left) (first_of m.left) → Looks t t' t.left → Looks s s' s.left
+    → Looks m m' (drop 1 m.left) → ReturnsNext (merging_of t s m) (first_of m.left) (merging_of t' s' m')
+returned-mark t s m t' s' m' merge_invariant lead turn slack mark =
+    returned t s m t' s' m' (first_of m.left) t.left s.left (drop 1 m.left)
+    (takes-third t.left s.left m.left (first_of m.left) (takes-first m.left t.left s.left merge_invariant.mark
+    merge_invariant.turn merge_invariant.slack lead.0 lead.1)) turn slack mark
 
 -- the invariant of the tracks afterwards
-pub stands-after : (t s m t' s' m' : Strand) (us vs ws : List Event) → Stands t s m → IsAscending us → IsAscending vs → IsAscending ws → Looks t t' us → Looks s s' vs → Looks m m' ws → Stands t' s' m'
-stands-after t s m t' s' m' us vs ws stands up-us up-vs up-ws turn slack mark =
-    let few = stands.few in
+pub merge_invariant-after : (t s m t' s' m' : Strand) (us vs ws : List Event) → MergeInvariant t s m → IsAscending us
+    → IsAscending vs → IsAscending ws → Looks t t' us → Looks s s' vs → Looks m m' ws → MergeInvariant t' s' m'
+merge_invariant-after t s m t' s' m' us vs ws merge_invariant up-us up-vs up-ws turn slack mark =
+    let few = merge_invariant.few in
     record {
       turn = rw turn.left up-us;
       slack = rw slack.left up-vs;

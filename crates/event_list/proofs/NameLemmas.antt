@@ -19,7 +19,7 @@ use Rattle.station_table.specs.Offsets.{IsAdd, IsOffset, IsSlack}
 use Rattle.event_list.specs.declared.span.Span.{Span}
 use Rattle.event_text.specs.Words.{has_word}
 use Rattle.event_list.specs.Shifts.{HasOffsets, IsMovable, widened_of, later_by, flood_offset, ebb_offset, offset_of, moved, is_within, moved_within, shifted_of}
-use Rattle.event_list.specs.Events.{minutes_in, Followed, events_over, station_events, IsNamed, AreNamed}
+use Rattle.event_list.specs.Events.{span_minutes, Followed, events_over, station_events, IsNamed, AreNamed}
 use Rattle.event_list.proofs.EventLemmas.{events_of, events-parts}
 use Rattle.event_list.proofs.OrderLemmas.{All-ordered}
 use Rattle.event_list.proofs.PlainLemmas.{LiesIn, within-lies}
@@ -30,7 +30,8 @@ events-lie f b begin end =
     let all = map (moved b) (events_of (widened_of b begin end) f) in
     rw (events-parts f b begin end)
     (All-ordered (LiesIn begin end) (filter (is_within begin end) all)
-    (All-weaker (λ e. is_within begin end e ≡ true) (LiesIn begin end) (within-lies begin end) (filter (is_within begin end) all) (filter_passes (is_within begin end) all)))
+    (All-weaker (λ e. is_within begin end e ≡ true) (LiesIn begin end) (within-lies begin end)
+    (filter (is_within begin end) all) (filter_passes (is_within begin end) all)))
 
 -- ---- names
 
@@ -44,31 +45,37 @@ event-named units c m is = by_test (side_at c.track m)
 
 one-named : (units : Units) (c : Meaning) (a : ℤ) → IsNamed units c → All (Named units) (plain_list c.track a 1)
 one-named units c a is = by_test (has_event c.track a)
-    (λ turns. rw (plain_list-one c.track a, turns) (All-cons (Named units) (event_at c.track a) [] (event-named units c a is) (All-nil (Named units))))
+    (λ cell_events. rw (plain_list-one c.track a, cell_events)
+    (All-cons (Named units) (event_at c.track a) [] (event-named units c a is) (All-nil (Named units))))
     (λ still. rw (plain_list-one c.track a, still) (All-nil (Named units)))
 
 list-named : (units : Units) (c : Meaning) (a : ℤ) (n : ℕ) → IsNamed units c → All (Named units) (plain_list c.track a n)
 list-named units c a zero is = rw (plain_list-zero c.track a) (All-nil (Named units))
 list-named units c a (suc n) is = rw (plain_list-suc c.track a n)
-    (All-append (Named units) (plain_list c.track a 1) (plain_list c.track (a +ℤ pos 1) n) (one-named units c a is) (list-named units c (a +ℤ pos 1) n is))
+    (All-append (Named units) (plain_list c.track a 1) (plain_list c.track (a +ℤ pos 1) n) (one-named units c a is)
+    (list-named units c (a +ℤ pos 1) n is))
 
-option-named : (units : Units) (s : Span) (o : Option Meaning) → ForSome o (IsNamed units) → All (Named units) (flat_map (events_over s) (option_to_list o))
+option-named : (units : Units) (s : Span) (o : Option Meaning) → ForSome o (IsNamed units)
+    → All (Named units) (flat_map (events_over s) (option_to_list o))
 option-named units s None is = All-nil (Named units)
-option-named units s (Some c) is = All-append (Named units) (events_over s c) [] (list-named units c s.begin (minutes_in s) (is c refl)) (All-nil (Named units))
+option-named units s (Some c) is = All-append (Named units) (events_over s c)
+    [] (list-named units c s.begin (span_minutes s) (is c refl)) (All-nil (Named units))
 
 all-named : (units : Units) (s : Span) (f : Followed) → AreNamed units f → All (Named units) (events_of s f)
 all-named units s f is =
     let slack = flat_map (events_over s) (option_to_list f.slack) in
     let mark = flat_map (events_over s) (option_to_list f.mark) in
-    All-append (Named units) (events_over s f.turn) (slack ++ mark) (list-named units f.turn s.begin (minutes_in s) is.turn)
+    All-append (Named units) (events_over s f.turn) (slack ++ mark) (list-named units f.turn s.begin (span_minutes s) is.turn)
     (All-append (Named units) slack mark (option-named units s f.slack is.slack) (option-named units s f.mark is.mark))
 
-pub events-named : (units : Units) (f : Followed) (b : Basis) (begin end : ℤ) → AreNamed units f → All (Named units) (station_events f b begin end)
+pub events-named : (units : Units) (f : Followed) (b : Basis) (begin end : ℤ) → AreNamed units f
+    → All (Named units) (station_events f b begin end)
 events-named units f b begin end is =
     let all = events_of (widened_of b begin end) f in
     rw (events-parts f b begin end)
     (All-ordered (Named units) (moved_within b begin end all)
-    (All-filter (is_within begin end) (Named units) (map (moved b) all) (All-map (Named units) (moved b) all (all-named units (widened_of b begin end) f is))))
+    (All-filter (is_within begin end) (Named units) (map (moved b) all)
+    (All-map (Named units) (moved b) all (all-named units (widened_of b begin end) f is))))
 
 -- ---- sizes
 
@@ -98,9 +105,11 @@ offset-range b is MarkFalling = is.high
 abbrev pub IsSmall : Event → Type 0
 IsSmall e = unsigned_abs e.level ≤ 1110000000000
 
-pub shifted-small : (b : Basis) (begin end : ℤ) (events : List Event) → HasOffsets b → All IsMovable events → All IsSmall (shifted_of b begin end events)
+pub shifted-small : (b : Basis) (begin end : ℤ) (events : List Event) → HasOffsets b → All IsMovable events
+    → All IsSmall (shifted_of b begin end events)
 unfolding shifted_of
 shifted-small b begin end events is all =
     All-ordered IsSmall (moved_within b begin end events)
     (All-filter (is_within begin end) IsSmall (map (moved b) events) (All-map IsSmall (moved b) events
-    (All-weaker IsMovable (λ e. IsSmall (moved b e)) (λ e h. scaled-small (offset_of b e.kind) e.level (offset-range b is e.kind) h.level) events all)))
+    (All-weaker IsMovable (λ e. IsSmall (moved b e))
+    (λ e h. scaled-small (offset_of b e.kind) e.level (offset-range b is e.kind) h.level) events all)))

@@ -22,17 +22,20 @@ before m p l n q k = int_lt m n || (int_eq m n && (nat_lt p q || (p == q && int_
 before-asym : (m : ℤ) (p : ℕ) (l n : ℤ) (q : ℕ) (k : ℤ) → before m p l n q k ≡ true → before n q k m p l ≡ false
 before-asym m p l n q k h = grind (arith, ints, nat_tests)
 
-before-trans : (m : ℤ) (p : ℕ) (l n : ℤ) (q : ℕ) (k o : ℤ) (r : ℕ) (j : ℤ) → before m p l n q k ≡ false → before n q k o r j ≡ false → before m p l o r j ≡ false
+before-trans : (m : ℤ) (p : ℕ) (l n : ℤ) (q : ℕ) (k o : ℤ) (r : ℕ) (j : ℤ) → before m p l n q k ≡ false
+    → before n q k o r j ≡ false → before m p l o r j ≡ false
 before-trans m p l n q k o r j h i = grind (arith, ints, nat_tests)
 
-before-same : (m : ℤ) (p : ℕ) (l n : ℤ) (q : ℕ) (k : ℤ) → before m p l n q k ≡ false → before n q k m p l ≡ false → (m ≡ n) × (p ≡ q) × (l ≡ k)
+before-same : (m : ℤ) (p : ℕ) (l n : ℤ) (q : ℕ) (k : ℤ) → before m p l n q k ≡ false → before n q k m p l ≡ false
+    → (m ≡ n) × (p ≡ q) × (l ≡ k)
 before-same m p l n q k h i = (grind (arith, ints, nat_tests), grind (arith, ints, nat_tests), grind (arith, ints, nat_tests))
 
 pub comes_before-asym : (d e : Event) → comes_before d e ≡ true → comes_before e d ≡ false
 comes_before-asym d e h = before-asym d.minute (place_of d.kind) d.level e.minute (place_of e.kind) e.level h
 
 pub comes_before-trans : (c d e : Event) → comes_before c d ≡ false → comes_before d e ≡ false → comes_before c e ≡ false
-comes_before-trans c d e h i = before-trans c.minute (place_of c.kind) c.level d.minute (place_of d.kind) d.level e.minute (place_of e.kind) e.level h i
+comes_before-trans c d e h i = before-trans c.minute (place_of c.kind) c.level d.minute
+    (place_of d.kind) d.level e.minute (place_of e.kind) e.level h i
 
 pub comes_before-itself : (e : Event) → comes_before e e ≡ false
 comes_before-itself e = by_test (comes_before e e) (λ h. comes_before-asym e e h) (λ h. h)
@@ -68,7 +71,11 @@ unfolding with_event IsAscending
 with-ascending e [] up = (All-nil (λ d. comes_before d e ≡ false), tt)
 with-ascending e (d ∷ ds) up = by_test (comes_before d e)
     (λ first. rw first (All-with (λ x. comes_before x d ≡ false) e ds (comes_before-asym d e first) up.0, with-ascending e ds up.1))
-    (λ last. rw last (All-cons (λ x. comes_before x e ≡ false) d ds last (All-weaker (λ x. comes_before x d ≡ false) (λ x. comes_before x e ≡ false) (λ x h. comes_before-trans x d e h last) ds up.0), up))
+    (λ last. rw last (
+      All-cons (λ x. comes_before x e ≡ false) d ds last (All-weaker (λ x. comes_before x d ≡ false)
+          (λ x. comes_before x e ≡ false) (λ x h. comes_before-trans x d e h last) ds up.0),
+      up,
+    ))
 
 pub ordered-ascending : (es : List Event) → IsAscending (ordered es)
 unfolding ordered IsAscending
@@ -98,7 +105,8 @@ none-before e (d ∷ ds) all =
     omega (arith, sum_by-cons (counted e) d ds, none-before e ds (All-tail (λ x. comes_before x e ≡ false) d ds all))
 
 -- the first event of one list comes before no event of the other
-not_before : (d e : Event) (ds es : List Event) → All (λ x. comes_before x e ≡ false) es → sum_by (counted e) (d ∷ ds) ≡ sum_by (counted e) (e ∷ es) → comes_before d e ≡ false
+not_before : (d e : Event) (ds es : List Event) → All (λ x. comes_before x e ≡ false) es
+    → sum_by (counted e) (d ∷ ds) ≡ sum_by (counted e) (e ∷ es) → comes_before d e ≡ false
 not_before d e ds es up same = by_test (comes_before d e)
     (λ before. absurd (
     let one : counted e d ≡ 1 = rw before refl in
@@ -112,7 +120,8 @@ one-order [] [] up up' same = refl
 one-order [] (y ∷ ys) up up' same = absurd (omega (arith, same (λ e. 1), sum_by-cons (λ e. 1) y ys))
 one-order (x ∷ xs) [] up up' same = absurd (omega (arith, same (λ e. 1), sum_by-cons (λ e. 1) x xs))
 one-order (x ∷ xs) (y ∷ ys) up up' same =
-    let head : x ≡ y = comes_before-same x y (not_before x y xs ys up'.0 (same (counted y))) (not_before y x ys xs up.0 (sym (same (counted x)))) in
+    let head : x ≡ y = comes_before-same x y (not_before x y xs ys up'.0 (same (counted y)))
+    (not_before y x ys xs up.0 (sym (same (counted x)))) in
     let tail : xs ≡ ys = one-order xs ys up.1 up'.1 (λ f.
     let at : f x ≡ f y = ap f head in
     omega (arith, same f, sum_by-cons f x xs, sum_by-cons f y ys)) in
@@ -123,25 +132,33 @@ pub ordered-is : (xs ys : List Event) → IsAscending ys → ((f : Event → ℕ
 ordered-is xs ys up same = one-order ys (ordered xs) up (ordered-ascending xs) (λ f. sym (same f) ∙ sym (sum-ordered f xs))
 
 pub ordered-same : (xs ys : List Event) → ((f : Event → ℕ) → sum_by f xs ≡ sum_by f ys) → ordered xs ≡ ordered ys
-ordered-same xs ys same = one-order (ordered xs) (ordered ys) (ordered-ascending xs) (ordered-ascending ys) (λ f. sum-ordered f xs ∙ (same f ∙ sym (sum-ordered f ys)))
+ordered-same xs ys same = one-order (ordered xs) (ordered ys) (ordered-ascending xs) (ordered-ascending ys)
+    (λ f. sum-ordered f xs ∙ (same f ∙ sym (sum-ordered f ys)))
 
 -- ---- the result of a sort
 
 weak : IsStrictWeakOrder comes_before
 weak = record { one_way = comes_before-asym; chain = comes_before-trans }
 
-far-ascending : (xs : List Event) → ((i j : ℕ) (d : Event) → i ≤ j → j < length xs → comes_before (get_or xs j d) (get_or xs i d) ≡ false) → IsAscending xs
+far-ascending : (xs : List Event)
+    → ((i j : ℕ) (d : Event) → i ≤ j → j < length xs → comes_before (get_or xs j d) (get_or xs i d) ≡ false)
+    → IsAscending xs
 unfolding IsAscending
 far-ascending [] far = tt
-far-ascending (x ∷ xs) far =
-    (λ k d h. far 0 (suc k) d (omega arith) (omega arith), far-ascending xs (λ i j d l h. far (suc i) (suc j) d (omega arith) (omega arith)))
+far-ascending (x ∷ xs) far = (
+  λ k d h. far 0 (suc k) d (omega arith) (omega arith),
+  far-ascending xs (λ i j d l h. far (suc i) (suc j) d (omega arith) (omega arith)),
+)
 
 -- the order of three numbers as tuples compare
-ranked : (m : ℤ) (p : ℕ) (l n : ℤ) (q : ℕ) (k : ℤ) → is_lt (ordering_then (ordering_then (int_cmp m n) (nat_cmp p q)) (int_cmp l k)) ≡ before m p l n q k
+ranked : (m : ℤ) (p : ℕ) (l n : ℤ) (q : ℕ) (k : ℤ)
+    → is_lt (ordering_then (ordering_then (int_cmp m n) (nat_cmp p q)) (int_cmp l k)) ≡ before m p l n q k
 ranked m p l n q k = grind (arith, ints, nat_tests)
 
 abbrev pub ranks_before : Event → Event → Bool
-ranks_before d e = is_lt (ordering_then (ordering_then (int_cmp d.minute e.minute) (nat_cmp (place_of d.kind) (place_of e.kind))) (int_cmp d.level e.level))
+ranks_before d e =
+    is_lt (ordering_then (ordering_then (int_cmp d.minute e.minute) (nat_cmp (place_of d.kind) (place_of e.kind)))
+    (int_cmp d.level e.level))
 
 -- events sorted by their ranks are in order
 pub sorted-is : (xs ys : List Event) → IsPermutation xs ys → IsSortedBy ranks_before ys → ys ≡ ordered xs

@@ -19,7 +19,7 @@ use Rattle.station_table.specs.Bases.{usual, is_same, is_plain}
 use Rattle.event_list.specs.declared.span.Span.{Span}
 use Rattle.event_list.specs.Order.{ordered}
 use Rattle.event_list.specs.Shifts.{widened_of, offset_of, scaled, moved_by, moved, is_within, moved_within}
-use Rattle.event_list.specs.Events.{minutes_in, Followed, events_over, station_events, merged_of, covers_of, AreKnown, AreAccepted}
+use Rattle.event_list.specs.Events.{span_minutes, Followed, events_over, station_events, merged_of, covers_of, AreValidOver, AreAccepted}
 use Rattle.event_list.proofs.ScaleLemmas.{scaled-usual}
 use Rattle.event_list.proofs.EventLemmas.{events_of, merged-parts, events-parts, covers-accepted, accepted-events}
 
@@ -95,15 +95,18 @@ LiesIn begin end e = (begin ≤ℤ e.minute) × (e.minute <ℤ end)
 
 one-lies : (t : Track) (a : ℤ) → All (LiesIn a (a +ℤ pos 1)) (plain_list t a 1)
 one-lies t a = by_test (has_event t a)
-    (λ is. rw (plain_list-one t a, is) (All-cons (LiesIn a (a +ℤ pos 1)) (event_at t a) [] (omega (arith, ints), omega (arith, ints)) (All-nil (LiesIn a (a +ℤ pos 1)))))
+    (λ is. rw (plain_list-one t a, is) (All-cons (LiesIn a (a +ℤ pos 1)) (event_at t a)
+    [] (omega (arith, ints), omega (arith, ints)) (All-nil (LiesIn a (a +ℤ pos 1)))))
     (λ not. rw (plain_list-one t a, not) (All-nil (LiesIn a (a +ℤ pos 1))))
 
 pub plain_list-lies : (t : Track) (a : ℤ) (n : ℕ) → All (LiesIn a (a +ℤ pos n)) (plain_list t a n)
 plain_list-lies t a zero = rw (plain_list-zero t a) (All-nil (LiesIn a (a +ℤ pos 0)))
 plain_list-lies t a (suc n) = rw (plain_list-suc t a n)
     (All-append (LiesIn a (a +ℤ pos (suc n))) (plain_list t a 1) (plain_list t (a +ℤ pos 1) n)
-    (All-weaker (LiesIn a (a +ℤ pos 1)) (LiesIn a (a +ℤ pos (suc n))) (λ e h. let first = h.0 in let last = h.1 in (omega (arith, ints), omega (arith, ints))) (plain_list t a 1) (one-lies t a))
-    (All-weaker (LiesIn (a +ℤ pos 1) (a +ℤ pos 1 +ℤ pos n)) (LiesIn a (a +ℤ pos (suc n))) (λ e h. let first = h.0 in let last = h.1 in (omega (arith, ints), omega (arith, ints))) (plain_list t (a +ℤ pos 1) n) (plain_list-lies t (a +ℤ pos 1) n)))
+    (All-weaker (LiesIn a (a +ℤ pos 1)) (LiesIn a (a +ℤ pos (suc n))) (λ e h. let first = h.0 in let last = h.1 in
+    (omega (arith, ints), omega (arith, ints))) (plain_list t a 1) (one-lies t a))
+    (All-weaker (LiesIn (a +ℤ pos 1) (a +ℤ pos 1 +ℤ pos n)) (LiesIn a (a +ℤ pos (suc n))) (λ e h. let first = h.0 in let last = h.1 in
+    (omega (arith, ints), omega (arith, ints))) (plain_list t (a +ℤ pos 1) n) (plain_list-lies t (a +ℤ pos 1) n)))
 
 within-tests : (begin end : ℤ) (e : Event) → LiesIn begin end e → is_within begin end e ≡ true
 within-tests begin end e h = let first = h.0 in let last = h.1 in grind (arith, ints)
@@ -119,8 +122,8 @@ Inside s e = is_within s.begin s.end e ≡ true
 
 over-inside : (s : Span) (c : Meaning) → s.begin ≤ℤ s.end → All (Inside s) (events_over s c)
 over-inside s c forward =
-    let end : s.begin +ℤ pos (minutes_in s) ≡ s.end = omega (arith, ints) in
-    let lies = rw end at (plain_list-lies c.track s.begin (minutes_in s)) in
+    let end : s.begin +ℤ pos (span_minutes s) ≡ s.end = omega (arith, ints) in
+    let lies = rw end at (plain_list-lies c.track s.begin (span_minutes s)) in
     All-weaker (LiesIn s.begin s.end) (Inside s) (within-tests s.begin s.end) (events_over s c) lies
 
 option-inside : (s : Span) (o : Option Meaning) → s.begin ≤ℤ s.end → All (Inside s) (flat_map (events_over s) (option_to_list o))
@@ -131,19 +134,25 @@ pub events-inside : (s : Span) (f : Followed) → s.begin ≤ℤ s.end → All (
 events-inside s f forward =
     let slack = flat_map (events_over s) (option_to_list f.slack) in
     let mark = flat_map (events_over s) (option_to_list f.mark) in
-    All-append (Inside s) (events_over s f.turn) (slack ++ mark) (over-inside s f.turn forward) (All-append (Inside s) slack mark (option-inside s f.slack forward) (option-inside s f.mark forward))
+    All-append (Inside s) (events_over s f.turn) (slack ++ mark) (over-inside s f.turn forward)
+    (All-append (Inside s) slack mark (option-inside s f.slack forward) (option-inside s f.mark forward))
 
-pub plain-merged : (f : Followed) (b : Basis) (begin end : ℤ) (t : Tracks) → IsTrue (is_plain b) → begin ≤ℤ end → AreKnown f (record { begin = begin; end = end }) → AreAccepted f (record { begin = begin; end = end }) t → merged_of begin t ≡ station_events f b begin end
-plain-merged f b begin end t is forward known ok =
+pub plain-merged : (f : Followed) (b : Basis) (begin end : ℤ) (t : Tracks) → IsTrue (is_plain b) → begin ≤ℤ end
+    → AreValidOver f (record { begin = begin; end = end }) → AreAccepted f (record { begin = begin; end = end }) t
+    → merged_of begin t ≡ station_events f b begin end
+plain-merged f b begin end t is forward valid_over ok =
     let s : Span = record { begin = begin; end = end } in
     let all = events_of s f in
-    let kept = ap (filter (is_within begin end)) (map-plain b (plain-is b is) all) ∙ filter-all (is_within begin end) all (events-inside s f forward) in
+    let kept = ap (filter (is_within begin end)) (map-plain b (plain-is b is) all)
+    ∙ filter-all (is_within begin end) all (events-inside s f forward) in
     merged-parts begin t
-    ∙ ap ordered (accepted-events f s t known ok ∙ sym kept)
+    ∙ ap ordered (accepted-events f s t valid_over ok ∙ sym kept)
     ∙ ap (λ w. ordered (moved_within b begin end (events_of w f))) (sym (plain-span b begin end is))
     ∙ sym (events-parts f b begin end)
 
-pub plain-covers : (f : Followed) (b : Basis) (begin end : ℤ) → IsTrue (is_plain b) → begin ≤ℤ end → AreKnown f (record { begin = begin; end = end }) → merged_of begin (covers_of f (record { begin = begin; end = end })) ≡ station_events f b begin end
-plain-covers f b begin end is forward known =
+pub plain-covers : (f : Followed) (b : Basis) (begin end : ℤ) → IsTrue (is_plain b) → begin ≤ℤ end
+    → AreValidOver f (record { begin = begin; end = end })
+    → merged_of begin (covers_of f (record { begin = begin; end = end })) ≡ station_events f b begin end
+plain-covers f b begin end is forward valid_over =
     let s : Span = record { begin = begin; end = end } in
-    plain-merged f b begin end (covers_of f s) is forward known (covers-accepted f s)
+    plain-merged f b begin end (covers_of f s) is forward valid_over (covers-accepted f s)

@@ -28,7 +28,8 @@ rounded-same (negsuc n) =
 pub scaled-usual : (level : ℤ) → scaled usual level ≡ level
 scaled-usual level = let same = rounded-same level in omega (arith, ints)
 
-pub scaled-small : (offset : Offset) (level : ℤ) → IsOffset offset → unsigned_abs level ≤ 11000000000 → unsigned_abs (scaled offset level) ≤ 1110000000000
+pub scaled-small : (offset : Offset) (level : ℤ) → IsOffset offset → unsigned_abs level ≤ 11000000000
+    → unsigned_abs (scaled offset level) ≤ 1110000000000
 scaled-small offset level range small =
     let times = range.times in
     let plus = range.plus in

@@ -10,11 +10,15 @@ use Rattle.event_list.specs.Order.{ordered}
 use Rattle.event_list.specs.Shifts.{moved, is_within, moved_within, shifted_of}
 use Rattle.event_list.proofs.OrderLemmas.{ordered-same, sum-ordered}
 
-pub moved-kept : (b : Basis) (begin end : ℤ) (es : List Event) (k : ℕ) (d e : Event) → k < length es → e ≡ moved b (get_or es k d) → is_within begin end e ≡ true → moved_within b begin end (drop k es) ≡ e ∷ moved_within b begin end (drop (k + 1) es)
+pub moved-kept : (b : Basis) (begin end : ℤ) (es : List Event) (k : ℕ) (d e : Event) → k < length es
+    → e ≡ moved b (get_or es k d) → is_within begin end e ≡ true
+    → moved_within b begin end (drop k es) ≡ e ∷ moved_within b begin end (drop (k + 1) es)
 moved-kept b begin end es k d e within is kept =
     let test = rw is at kept in at_drop_more (moved_within b begin end) es k d within ∙ rw (is, test)
 
-pub moved-dropped : (b : Basis) (begin end : ℤ) (es : List Event) (k : ℕ) (d e : Event) → k < length es → e ≡ moved b (get_or es k d) → is_within begin end e ≡ false → moved_within b begin end (drop k es) ≡ moved_within b begin end (drop (k + 1) es)
+pub moved-dropped : (b : Basis) (begin end : ℤ) (es : List Event) (k : ℕ) (d e : Event) → k < length es
+    → e ≡ moved b (get_or es k d) → is_within begin end e ≡ false
+    → moved_within b begin end (drop k es) ≡ moved_within b begin end (drop (k + 1) es)
 moved-dropped b begin end es k d e within is kept =
     let test = rw is at kept in at_drop_more (moved_within b begin end) es k d within ∙ rw test
 
@@ -25,7 +29,8 @@ moved-done b begin end es k past = at_drop_all (moved_within b begin end) es k p
 abbrev moved_part : Basis → ℤ → ℤ → (Event → ℕ) → Event → ℕ
 moved_part b begin end f e = cond (is_within begin end (moved b e)) (f (moved b e)) 0
 
-sum-moved : (b : Basis) (begin end : ℤ) (f : Event → ℕ) (es : List Event) → sum_by f (moved_within b begin end es) ≡ sum_by (moved_part b begin end f) es
+sum-moved : (b : Basis) (begin end : ℤ) (f : Event → ℕ) (es : List Event)
+    → sum_by f (moved_within b begin end es) ≡ sum_by (moved_part b begin end f) es
 sum-moved b begin end f [] = refl
 sum-moved b begin end f (e ∷ es) =
     let rest = sum-moved b begin end f es in
@@ -43,7 +48,8 @@ sum-moved b begin end f (e ∷ es) =
     ap (sum_by f) list ∙ sum)
 
 -- the order of the events doesn't matter for the order of the moved ones
-pub shifted-ordered : (b : Basis) (begin end : ℤ) (es : List Event) → shifted_of b begin end (ordered es) ≡ ordered (moved_within b begin end es)
+pub shifted-ordered : (b : Basis) (begin end : ℤ) (es : List Event)
+    → shifted_of b begin end (ordered es) ≡ ordered (moved_within b begin end es)
 unfolding shifted_of
 shifted-ordered b begin end es =
     ordered-same (moved_within b begin end (ordered es)) (moved_within b begin end es)

@@ -1,11 +1,30 @@
 -- The events of a station (this project).
-use Rattle.std.specs.Prelude.{◌≡◌, ℕ, ◌≤◌, ℤ, ◌-ℤ◌, unsigned_abs, IsTrue, List, ◌∷◌, ◌++◌, flat_map, length, sum_by, Option, Some, None, option_map, option_to_list}
+use Rattle.std.specs.Prelude.{
+  ◌≡◌,
+  ℕ,
+  ◌≤◌,
+  ℤ,
+  ◌-ℤ◌,
+  unsigned_abs,
+  IsTrue,
+  List,
+  ◌∷◌,
+  ◌++◌,
+  flat_map,
+  length,
+  sum_by,
+  Option,
+  Some,
+  None,
+  option_map,
+  option_to_list,
+}
 use Rattle.std.specs.Option.{ForSome}
 use Rattle.curve_law.specs.declared.cell.Cell.{Cell}
 use Rattle.curve_law.specs.declared.event.Event.{Event}
 use Rattle.curve_law.specs.declared.tracks.Tracks.{Tracks}
 use Rattle.curve_law.specs.declared.verdict.Verdict.TheVariants.{Accepted}
-use Rattle.curve_law.specs.Cells.{all_minutes, turns}
+use Rattle.curve_law.specs.Cells.{all_minutes, cell_events}
 use Rattle.curve_law.specs.Cover.{cover}
 use Rattle.curve_law.specs.Meaning.{Meaning, IsMinute, IsSpan, IsLawful, AgreeOver}
 use Rattle.curve_law.specs.Track.{plain_list}
@@ -18,8 +37,8 @@ use Rattle.event_list.specs.Shifts.{widened_of, moved_within}
 use Rattle.event_text.specs.Words.{has_word}
 
 -- the number of minutes of a span
-abbrev pub minutes_in : Span → ℕ
-minutes_in s = unsigned_abs (s.end -ℤ s.begin)
+abbrev pub span_minutes : Span → ℕ
+span_minutes s = unsigned_abs (s.end -ℤ s.begin)
 
 -- ---- the events of the requested curves
 
@@ -35,7 +54,7 @@ curves_of f = f.turn ∷ (option_to_list f.slack ++ option_to_list f.mark)
 
 -- the plain list of a curve over a span
 abbrev pub events_over : Span → Meaning → List Event
-events_over s c = plain_list c.track s.begin (minutes_in s)
+events_over s c = plain_list c.track s.begin (span_minutes s)
 
 -- The events of a station: the plain lists of the reference's curves over the widened span, each event
 -- moved and scaled, those within the span, in order.
@@ -51,7 +70,7 @@ tracks_of t = t.turn ∷ (option_to_list t.slack ++ option_to_list t.mark)
 
 -- the events in the cells of all tracks, which begin at the minute `begin`, in order
 unfoldable pub merged_of : ℤ → Tracks → List Event
-merged_of begin t = ordered (flat_map (turns begin) (tracks_of t))
+merged_of begin t = ordered (flat_map (cell_events begin) (tracks_of t))
 
 -- the number of cells of all tracks
 unfoldable pub cells_in : Tracks → ℕ
@@ -59,7 +78,7 @@ cells_in t = sum_by length (tracks_of t)
 
 -- the cells of a curve over a span by the halving rule
 abbrev pub cover_over : Span → Meaning → List Cell
-cover_over s c = cover c s.begin (minutes_in s)
+cover_over s c = cover c s.begin (span_minutes s)
 
 -- the cells of each requested curve over a span by the halving rule
 abbrev pub covers_of : Followed → Span → Tracks
@@ -82,15 +101,15 @@ pub record AreShort (t : Tracks) : Type 0 where
   pub mark : ForSome t.mark (λ cells. all_minutes cells ≤ 6000000)
 
 -- a lawful curve whose minutes contain the span
-pub record IsKnown (s : Span) (c : Meaning) : Type 0 where
+pub record IsValidOver (s : Span) (c : Meaning) : Type 0 where
   pub lawful : IsLawful c
-  pub span : IsSpan c s.begin (minutes_in s)
+  pub span : IsSpan c s.begin (span_minutes s)
 
 -- all requested curves are lawful and contain the span
-pub record AreKnown (f : Followed) (s : Span) : Type 0 where
-  pub turn : IsKnown s f.turn
-  pub slack : ForSome f.slack (IsKnown s)
-  pub mark : ForSome f.mark (IsKnown s)
+pub record AreValidOver (f : Followed) (s : Span) : Type 0 where
+  pub turn : IsValidOver s f.turn
+  pub slack : ForSome f.slack (IsValidOver s)
+  pub mark : ForSome f.mark (IsValidOver s)
 
 -- the levels of a curve's events are at most 11,000,000,000 millionths in size
 abbrev pub HasLevels : Meaning → Type 0
@@ -107,11 +126,11 @@ abbrev pub IsAccepted : Span → Option Meaning → Option (List Cell) → Type 
 IsAccepted s None None = Unit {0}
 IsAccepted s None (Some cells) = ⊥
 IsAccepted s (Some c) None = ⊥
-IsAccepted s (Some c) (Some cells) = verdict c s.begin (minutes_in s) cells ≡ Accepted
+IsAccepted s (Some c) (Some cells) = verdict c s.begin (span_minutes s) cells ≡ Accepted
 
 -- the tracks are those of the requested curves, and are accepted over the span
 pub record AreAccepted (f : Followed) (s : Span) (t : Tracks) : Type 0 where
-  pub turn : verdict f.turn s.begin (minutes_in s) t.turn ≡ Accepted
+  pub turn : verdict f.turn s.begin (span_minutes s) t.turn ≡ Accepted
   pub slack : IsAccepted s f.slack t.slack
   pub mark : IsAccepted s f.mark t.mark
 
@@ -120,11 +139,11 @@ abbrev pub AgreeIfFollowed : Span → Option Meaning → Option Meaning → Type
 AgreeIfFollowed s None None = Unit {0}
 AgreeIfFollowed s None (Some d) = ⊥
 AgreeIfFollowed s (Some c) None = ⊥
-AgreeIfFollowed s (Some c) (Some d) = AgreeOver c d s.begin (minutes_in s)
+AgreeIfFollowed s (Some c) (Some d) = AgreeOver c d s.begin (span_minutes s)
 
 -- the same curves are requested, and agree over the span
 pub record AllAgree (f g : Followed) (s : Span) : Type 0 where
-  pub turn : AgreeOver f.turn g.turn s.begin (minutes_in s)
+  pub turn : AgreeOver f.turn g.turn s.begin (span_minutes s)
   pub slack : AgreeIfFollowed s f.slack g.slack
   pub mark : AgreeIfFollowed s f.mark g.mark
 

@@ -4,4 +4,4 @@ pub mod Events
 pub mod Merging
 pub mod Worked
 pub mod Workings
-pub mod Telling
+pub mod FreshCurves

@@ -113,6 +113,6 @@ abbrev pub tracks_left : {A B : Type 0} → Looking A → Option (Looking B) →
 tracks_left turn slack mark = record { turn = turn.left; slack = cells_left slack; mark = cells_left mark }
 
 -- a step returns the first of the events left, or none if none is left; then all cells were returned
-abbrev pub GivesNext : Merging → Option Event → Merging → Type 0
-GivesNext old None new = (old.left ≡ []) × (new.left ≡ []) × (new.cells ≡ new.all)
-GivesNext old (Some event) new = old.left ≡ event ∷ new.left
+abbrev pub ReturnsNext : Merging → Option Event → Merging → Type 0
+ReturnsNext old None new = (old.left ≡ []) × (new.left ≡ []) × (new.cells ≡ new.all)
+ReturnsNext old (Some event) new = old.left ≡ event ∷ new.left

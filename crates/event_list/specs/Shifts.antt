@@ -1,6 +1,27 @@
 -- Offsets of a basis: how they widen a span, and how they move and scale the events of the reference
 -- (this project).
-use Rattle.std.specs.Prelude.{◌^◌, ◌≤◌, ℤ, ◌+ℤ◌, ◌-ℤ◌, ◌*ℤ◌, int_lt, int_le, unsigned_abs, Bool, ◌&&◌, List, [], ◌∷◌, map, filter, fold, Option, Some, None}
+use Rattle.std.specs.Prelude.{
+  ◌^◌,
+  ◌≤◌,
+  ℤ,
+  ◌+ℤ◌,
+  ◌-ℤ◌,
+  ◌*ℤ◌,
+  int_lt,
+  int_le,
+  unsigned_abs,
+  Bool,
+  ◌&&◌,
+  List,
+  [],
+  ◌∷◌,
+  map,
+  filter,
+  fold,
+  Option,
+  Some,
+  None,
+}
 use Rattle.std.specs.Int.{int_max, int_min}
 use Rattle.std.specs.Option.{ForSome}
 use Rattle.decimal_text.specs.Rounding.{rounded_of}

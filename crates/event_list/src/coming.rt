@@ -3,7 +3,7 @@
 ghost use Rattle.std.specs.Prelude.{◌≡◌, ◌+◌, ◌^◌, ◌<◌, drop, length, [], None, option_to_list};
 ghost use Rattle.curve_law.specs.Cells.{event_in};
 ghost use Rattle.event_list.specs.Merging.{given, looked, waiting};
-ghost use Rattle.event_list.specs.Workings.Coming.{cells_ahead, searched_by, FindsNext, GivesEvent};
+ghost use Rattle.event_list.specs.Workings.Coming.{cells_ahead, searched_by, FindsNext, ReturnsEvent};
 
 use curve_law::{Cell, Curve, Event};
 use interval_search::{Found, Search};
@@ -61,7 +61,7 @@ impl<C: Curve> Coming<C> {
     pub fn peek(&mut self) -> Option<Event>
         ensures first { result ≡ first_of self.old.left }
         ensures found { result ≡ (looked self.old.waiting).found }
-        ensures same { self.new.left ≡ self.old.left }
+        ensures unchanged { self.new.left ≡ self.old.left }
         ensures asked { self.new.waiting ≡ looked self.old.waiting }
         ensures all { self.new.all ≡ self.old.all }
         ensures counted { self.new.cells + length self.new.waiting.cells ≡ self.new.all }
@@ -102,7 +102,7 @@ impl<C: Curve> Coming<C> {
 /// Returns the next event of `search`, and counts the cells up to it.
 fn next_event<C: Curve>(search: &mut Option<Search<C>>, given: &mut u64) -> Option<Event>
     requires { given.old + cells_ahead search.old < 2 ^ 64 }
-    ensures event { GivesEvent search.old result search.new }
+    ensures event { ReturnsEvent search.old result search.new }
     ensures asked { searched_by search.old ≡ waiting result search.new }
     ensures cells { given.new + cells_ahead search.new ≡ given.old + cells_ahead search.old }
 {

@@ -9,19 +9,32 @@ ghost use Rattle.station_table.specs.Bases.{is_plain};
 ghost use Rattle.event_list.specs.declared.span.Span.{Span};
 ghost use Rattle.event_text.specs.Words.{has_word};
 ghost use Rattle.event_list.specs.Shifts.{HasOffsets, IsMovable, widened_of, shifted_of};
-ghost use Rattle.event_list.specs.Events.{minutes_in, Followed, station_events, merged_of, cells_in, covers_of, cell_count, AllHaveLevels, AreKnown, AreAccepted, AllAgree, AreNamed};
+ghost use Rattle.event_list.specs.Events.{
+  span_minutes,
+  Followed,
+  station_events,
+  merged_of,
+  cells_in,
+  covers_of,
+  cell_count,
+  AllHaveLevels,
+  AreValidOver,
+  AreAccepted,
+  AllAgree,
+  AreNamed,
+};
 
 /// Proves that the events of accepted cells over the widened span, merged and shifted, are the station's,
 /// and that the cells by the halving rule are accepted and number at most three a minute.
 pub fn cells_give_the_events()
     ensures accepted { (f : Followed) (b : Basis) (begin end : ℤ) (t : Tracks) →
-        AreKnown f (widened_of b begin end) → AreAccepted f (widened_of b begin end) t →
+        AreValidOver f (widened_of b begin end) → AreAccepted f (widened_of b begin end) t →
         shifted_of b begin end (merged_of (widened_of b begin end).begin t) ≡ station_events f b begin end }
     ensures covers { (f : Followed) (s : Span) → AreAccepted f s (covers_of f s) }
-    ensures exact { (f : Followed) (b : Basis) (begin end : ℤ) → AreKnown f (widened_of b begin end) →
+    ensures exact { (f : Followed) (b : Basis) (begin end : ℤ) → AreValidOver f (widened_of b begin end) →
         shifted_of b begin end (merged_of (widened_of b begin end).begin (covers_of f (widened_of b begin end)))
         ≡ station_events f b begin end }
-    ensures few { (f : Followed) (s : Span) → cell_count f s ≤ 3 * minutes_in s }
+    ensures count_bound { (f : Followed) (s : Span) → cell_count f s ≤ 3 * span_minutes s }
 {}
 
 /// Proves that without offsets the widened span is the span, and the merged events are the station's
@@ -30,10 +43,10 @@ pub fn plain_bases_move_nothing()
     ensures span { (b : Basis) (begin end : ℤ) → IsTrue (is_plain b) →
         widened_of b begin end ≡ record { begin = begin; end = end } }
     ensures merged { (f : Followed) (b : Basis) (begin end : ℤ) (t : Tracks) → IsTrue (is_plain b) → begin ≤ℤ end →
-        AreKnown f (record { begin = begin; end = end }) → AreAccepted f (record { begin = begin; end = end }) t →
+        AreValidOver f (record { begin = begin; end = end }) → AreAccepted f (record { begin = begin; end = end }) t →
         merged_of begin t ≡ station_events f b begin end }
     ensures covers { (f : Followed) (b : Basis) (begin end : ℤ) → IsTrue (is_plain b) → begin ≤ℤ end →
-        AreKnown f (record { begin = begin; end = end }) →
+        AreValidOver f (record { begin = begin; end = end }) →
         merged_of begin (covers_of f (record { begin = begin; end = end })) ≡ station_events f b begin end }
 {}
 
@@ -42,7 +55,7 @@ pub fn plain_bases_move_nothing()
 pub fn accepted_events_can_be_moved()
     ensures { (f : Followed) (s : Span) (t : Tracks) → s.begin ≤ℤ s.end →
         unsigned_abs s.begin ≤ 10 ^ 12 → unsigned_abs s.end ≤ 10 ^ 12 →
-        AreKnown f s → AllHaveLevels f → AreAccepted f s t → All IsMovable (merged_of s.begin t) }
+        AreValidOver f s → AllHaveLevels f → AreAccepted f s t → All IsMovable (merged_of s.begin t) }
 {}
 
 /// Proves that each event of a station is in its span, and has a name if both kinds of each requested

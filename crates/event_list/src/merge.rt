@@ -3,7 +3,7 @@
 ghost use Rattle.std.specs.Prelude.{◌≡◌, ◌+◌, ◌^◌, ◌<◌, Some, None};
 ghost use Rattle.std.specs.Option.{ForSome};
 ghost use Rattle.event_list.specs.Events.{merged_of, cells_in};
-ghost use Rattle.event_list.specs.Merging.{cells_to_come, stepped, tracks_left, waiting, GivesNext};
+ghost use Rattle.event_list.specs.Merging.{cells_to_come, stepped, tracks_left, waiting, ReturnsNext};
 
 use crate::coming::Coming;
 use crate::leading::{Leading, leading_of};
@@ -25,13 +25,13 @@ pub struct Merge<A: Curve, B: Curve> {
 
 impl<A: Curve, B: Curve> Model for Merge<A, B> {
     ghost use Rattle.event_list.specs.Merging.{Merging};
-    ghost use Rattle.event_list.specs.Workings.Coming.{Stands, merging_of};
+    ghost use Rattle.event_list.specs.Workings.Coming.{MergeInvariant, merging_of};
 
     ghost Value = { Merging };
 
     ghost view = { λ m. merging_of m.turn m.slack m.mark };
 
-    ghost invariant = { λ m. Stands m.turn m.slack m.mark };
+    ghost invariant = { λ m. MergeInvariant m.turn m.slack m.mark };
 }
 
 impl<A: Curve, B: Curve> Merge<A, B> {
@@ -40,9 +40,10 @@ impl<A: Curve, B: Curve> Merge<A, B> {
     pub fn new(turn: Search<A>, slack: Option<Search<B>>, mark: Option<Search<B>>) -> Merge<A, B>
         requires slack_at { ForSome slack (λ search. search.at ≡ turn.at) }
         requires mark_at { ForSome mark (λ search. search.at ≡ turn.at) }
-        requires few { cells_in (tracks_left turn slack mark) < 2 ^ 64 }
+        requires count_bound { cells_in (tracks_left turn slack mark) < 2 ^ 64 }
         ensures left { result.left ≡ merged_of turn.at (tracks_left turn slack mark) }
-        ensures waiting { result.waiting ≡ record { turn = waiting None (Some turn); slack = waiting None slack; mark = waiting None mark } }
+        ensures waiting { result.waiting
+            ≡ record { turn = waiting None (Some turn); slack = waiting None slack; mark = waiting None mark } }
         ensures cells { result.cells ≡ 0 }
         ensures all { result.all ≡ cells_in (tracks_left turn slack mark) }
     {
@@ -56,7 +57,7 @@ impl<A: Curve, B: Curve> Merge<A, B> {
     /// Returns the next event, or `None` if no event is left; then the searches have returned all their
     /// cells. A search runs on only if it has no pending event.
     pub fn next(&mut self) -> Option<Event>
-        ensures next { GivesNext self.old result self.new }
+        ensures next { ReturnsNext self.old result self.new }
         ensures asked { self.new.waiting ≡ stepped self.old.waiting }
         ensures all { self.new.all ≡ self.old.all }
     {

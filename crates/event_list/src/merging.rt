@@ -14,7 +14,7 @@ use std::alloc::{AllocError, Global};
 /// # Errors
 /// [`AllocError`] if memory runs out.
 pub fn merged(alloc: Global, tracks: &Tracks, begin: i64) -> Result<Events, AllocError>
-    requires few { AreShort tracks.now }
+    requires count_bound { AreShort tracks.now }
     requires begin { unsigned_abs begin ≤ 10 ^ 12 }
     ensures { IfOk result (λ events. events ≡ merged_of begin tracks.now) }
 {

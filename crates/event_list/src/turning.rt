@@ -2,7 +2,7 @@
 
 ghost use Rattle.std.specs.Prelude.{◌≡◌, ◌^◌, ◌≤◌, ◌++◌, unsigned_abs, flat_map, option_to_list, IfOk, OnOk};
 ghost use Rattle.std.specs.Option.{ForSome};
-ghost use Rattle.curve_law.specs.Cells.{minutes_of, event_in, all_minutes, turns};
+ghost use Rattle.curve_law.specs.Cells.{minutes_of, event_in, all_minutes, cell_events};
 
 use curve_law::{Cell, Cells, Event, Events};
 use std::alloc::{AllocError, Global};
@@ -15,9 +15,9 @@ use std::alloc::{AllocError, Global};
 /// # Errors
 /// [`AllocError`] if memory runs out.
 pub fn track_events(alloc: Global, cells: &Cells, begin: i64) -> Result<Events, AllocError>
-    requires few { all_minutes cells.now ≤ 6000000 }
+    requires count_bound { all_minutes cells.now ≤ 6000000 }
     requires begin { unsigned_abs begin ≤ 10 ^ 12 }
-    ensures { IfOk result (λ events. events ≡ turns begin cells.now) }
+    ensures { IfOk result (λ events. events ≡ cell_events begin cells.now) }
 {
     let mut events = Vec::new(alloc);
     add_track_events(&mut events, cells, begin)?;
@@ -33,9 +33,9 @@ pub fn add_track_events(
     cells: &Cells,
     begin: i64,
 ) -> Result<(), AllocError>
-    requires few { all_minutes cells.now ≤ 6000000 }
+    requires count_bound { all_minutes cells.now ≤ 6000000 }
     requires begin { unsigned_abs begin ≤ 10 ^ 12 }
-    ensures { OnOk result (events.new.items ≡ events.old.items ++ turns begin cells.now) }
+    ensures { OnOk result (events.new.items ≡ events.old.items ++ cell_events begin cells.now) }
 {
     let mut at = begin;
     for cell in cells.as_slice() {
@@ -68,9 +68,9 @@ pub fn add_followed_events(
     cells: &Option<Cells>,
     begin: i64,
 ) -> Result<(), AllocError>
-    requires few { ForSome cells.now (λ cells. all_minutes cells ≤ 6000000) }
+    requires count_bound { ForSome cells.now (λ cells. all_minutes cells ≤ 6000000) }
     requires begin { unsigned_abs begin ≤ 10 ^ 12 }
-    ensures { OnOk result (events.new.items ≡ events.old.items ++ flat_map (turns begin) (option_to_list cells.now)) }
+    ensures { OnOk result (events.new.items ≡ events.old.items ++ flat_map (cell_events begin) (option_to_list cells.now)) }
 {
     match cells {
         Some(cells) => add_track_events(events, cells, begin),

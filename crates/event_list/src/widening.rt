@@ -2,7 +2,7 @@
 
 ghost use Rattle.std.specs.Prelude.{◌≡◌, ◌+◌, ◌^◌, ◌≤◌, ◌-ℤ◌, ◌≤ℤ◌, unsigned_abs};
 ghost use Rattle.event_list.specs.Shifts.{HasOffsets, greatest_add, least_add, widened_of};
-ghost use Rattle.event_list.specs.Events.{minutes_in};
+ghost use Rattle.event_list.specs.Events.{span_minutes};
 
 use crate::span::Span;
 use station_table::Basis;
@@ -17,9 +17,9 @@ pub fn widened(basis: &Basis, begin: i64, end: i64) -> Span
     requires offsets { HasOffsets basis.now }
     ensures exact { result ≡ widened_of basis.now begin end }
     ensures forward { result.begin ≤ℤ result.end }
-    ensures begin_near { unsigned_abs (result.begin -ℤ begin) ≤ 1440 }
-    ensures end_near { unsigned_abs (result.end -ℤ end) ≤ 1440 }
-    ensures few { minutes_in result ≤ unsigned_abs (end -ℤ begin) + 2880 }
+    ensures begin_in_range { unsigned_abs (result.begin -ℤ begin) ≤ 1440 }
+    ensures end_in_range { unsigned_abs (result.end -ℤ end) ≤ 1440 }
+    ensures count_bound { span_minutes result ≤ unsigned_abs (end -ℤ begin) + 2880 }
 {
     Span {
         begin: begin - i64::from(greatest_add(basis)),

@@ -31,7 +31,7 @@ pub fn worked_shifts()
 {}
 
 /// Proves the order of some events, and the events of three tracks from their cells.
-#[tactic(auto, unfolding(curve_law::specs::Cells::turns, crate::specs::Order::with_event, crate::specs::Order::ordered, crate::specs::Events::merged_of, crate::specs::Events::cells_in))]
+#[tactic(auto, unfolding(curve_law::specs::Cells::cell_events, crate::specs::Order::with_event, crate::specs::Order::ordered, crate::specs::Events::merged_of, crate::specs::Events::cells_in))]
 pub fn worked_orders()
     ensures one_minute { ordered (event (pos 5) Kind.MarkFalling (pos 0) ∷ event (pos 5) Kind.Low (pos 9)
         ∷ event (pos 4) Kind.EbbBegins (pos 8) ∷ event (pos 5) Kind.FloodBegins (negsuc 0) ∷ [])

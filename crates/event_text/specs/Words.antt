@@ -3,9 +3,27 @@ use Rattle.std.specs.Prelude.{ℕ, ℤ, pos, Bool, true, false, not, int_lt, if�
 use Rattle.harmonics_text.specs.declared.book.Units.{Units}
 use Rattle.harmonics_text.specs.declared.book.Units.TheVariants.{Feet, Meters, Knots, KnotsSquared}
 use Rattle.curve_law.specs.declared.kind.Kind.{Kind}
-use Rattle.curve_law.specs.declared.kind.Kind.TheVariants.{High, Low, FloodBegins, EbbBegins, MarkRising as RisesPastMark, MarkFalling as FallsToMark}
+use Rattle.curve_law.specs.declared.kind.Kind.TheVariants.{
+  High,
+  Low,
+  FloodBegins,
+  EbbBegins,
+  MarkRising as RisesPastMark,
+  MarkFalling as FallsToMark,
+}
 use Rattle.event_text.specs.declared.event_word.EventWord.{EventWord}
-use Rattle.event_text.specs.declared.event_word.EventWord.TheVariants.{HighTide, LowTide, MaxFlood, MinFlood, MaxEbb, MinEbb, SlackFloodBegins, SlackEbbBegins, MarkRising, MarkFalling}
+use Rattle.event_text.specs.declared.event_word.EventWord.TheVariants.{
+  HighTide,
+  LowTide,
+  MaxFlood,
+  MinFlood,
+  MaxEbb,
+  MinEbb,
+  SlackFloodBegins,
+  SlackEbbBegins,
+  MarkRising,
+  MarkFalling,
+}
 
 -- a kind is slack water
 abbrev pub is_slack : Kind → Bool

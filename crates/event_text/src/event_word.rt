@@ -22,7 +22,7 @@ impl EventWord {
     /// Returns the name as it is printed, in ASCII and at most 18 bytes.
     pub fn text(self) -> &'static str
         ensures text { result.now ≡ word_text self }
-        ensures short { length result.now ≤ 18 }
+        ensures length_bound { length result.now ≤ 18 }
     {
         match self {
             EventWord::HighTide => "High Tide",

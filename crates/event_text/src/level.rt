@@ -20,7 +20,7 @@ pub fn write_level(level: i64, out: &mut ArrayString<24>)
 pub(crate) fn push_level(level: i64, out: &mut ArrayString<96>)
     requires { array_string_len out.old + 24 ≤ 96 }
     ensures bytes { out.new.bytes ≡ out.old.bytes ++ padded 9 (level_text level) }
-    ensures short { array_string_len out.new ≤ array_string_len out.old + 24 }
+    ensures length_bound { array_string_len out.new ≤ array_string_len out.old + 24 }
 {
     let mut text = ArrayString::new();
     write_level(level, &mut text);
@@ -29,10 +29,10 @@ pub(crate) fn push_level(level: i64, out: &mut ArrayString<96>)
 
 #[tactic(auto, unfolding(crate::specs::Lines::padded))]
 fn push_right(text: &str, out: &mut ArrayString<96>)
-    requires short { length text.now ≤ 24 }
+    requires length_bound { length text.now ≤ 24 }
     requires room { array_string_len out.old + 24 ≤ 96 }
     ensures bytes { out.new.bytes ≡ out.old.bytes ++ padded 9 text.now }
-    ensures short { array_string_len out.new ≤ array_string_len out.old + 24 }
+    ensures length_bound { array_string_len out.new ≤ array_string_len out.old + 24 }
 {
     push_spaces(9usize.saturating_sub(text.len()), out);
     out.push_str(text);

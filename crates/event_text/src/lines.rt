@@ -38,7 +38,7 @@ pub fn height_line(local: &Local, level: i64, units: Units, out: &mut ArrayStrin
     requires local { IsLocal local.now }
     requires empty { out.old.bytes ≡ [] }
     ensures bytes { out.new.bytes ≡ height_line_of local.now level units }
-    ensures short { array_string_len out.new ≤ 57 }
+    ensures length_bound { array_string_len out.new ≤ 57 }
 {
     write_local(local, out);
     out.push_str("  ");

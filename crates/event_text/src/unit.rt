@@ -9,7 +9,7 @@ use harmonics_text::Units;
 #[tactic(auto, unfolding(crate::specs::Lines::text_of_unit))]
 pub fn unit_text(units: Units) -> &'static str
     ensures text { result.now ≡ text_of_unit units }
-    ensures short { length result.now ≤ 7 }
+    ensures length_bound { length result.now ≤ 7 }
 {
     match units {
         Units::Feet => "feet",

@@ -8,13 +8,17 @@ ghost use Rattle.event_text.specs.Lines.{level_text, padded, event_line_of, heig
 
 /// Proves the lines of a tide and of a current, in universal time and by a clock that is behind it.
 pub fn worked_lines()
-    ensures low_tide { event_line_of (record { minute = pos 15791400; label = Label.Utc }) (record { minute = pos 15791400; kind = Kind.Low; level = negsuc 999999 }) Units.Feet
+    ensures low_tide { event_line_of (record { minute = pos 15791400; label = Label.Utc })
+        (record { minute = pos 15791400; kind = Kind.Low; level = negsuc 999999 }) Units.Feet
         ≡ codes "2000-01-10 06:00 UTC      -1.00 feet  Low Tide\n" }
-    ensures high_tide { event_line_of (record { minute = pos 15791759; label = Label.Utc }) (record { minute = pos 15791759; kind = Kind.High; level = pos 999962 }) Units.Feet
+    ensures high_tide { event_line_of (record { minute = pos 15791759; label = Label.Utc })
+        (record { minute = pos 15791759; kind = Kind.High; level = pos 999962 }) Units.Feet
         ≡ codes "2000-01-10 11:59 UTC       1.00 feet  High Tide\n" }
-    ensures behind { event_line_of (record { minute = pos 15791100; label = Label.Minutes (negsuc 299) }) (record { minute = pos 15791400; kind = Kind.Low; level = negsuc 999999 }) Units.Feet
+    ensures behind { event_line_of (record { minute = pos 15791100; label = Label.Minutes (negsuc 299) })
+        (record { minute = pos 15791400; kind = Kind.Low; level = negsuc 999999 }) Units.Feet
         ≡ codes "2000-01-10 01:00 -05:00      -1.00 feet  Low Tide\n" }
-    ensures slack { event_line_of (record { minute = pos 15791219; label = Label.Utc }) (record { minute = pos 15791219; kind = Kind.EbbBegins; level = pos 8727 }) Units.Knots
+    ensures slack { event_line_of (record { minute = pos 15791219; label = Label.Utc })
+        (record { minute = pos 15791219; kind = Kind.EbbBegins; level = pos 8727 }) Units.Knots
         ≡ codes "2000-01-10 02:59 UTC       0.01 knots  Slack Ebb Begins\n" }
     ensures height { height_line_of (record { minute = pos 15791040; label = Label.Utc }) (pos 1000000) Units.Meters
         ≡ codes "2000-01-10 00:00 UTC       1.00 meters" }

@@ -10,7 +10,7 @@ use Rattle.fixed_sine.specs.declared.chords.TheConstants.{CHORDS}
 use Rattle.fixed_sine.specs.Workings.Degrees.{bend_at, slope_at}
 use Rattle.fixed_sine.specs.Sine.{half_of, isin_of}
 use Rattle.fixed_sine.specs.Table.{sines, sine_at, rise, correction}
-use Rattle.fixed_sine.specs.Turn.{units_of}
+use Rattle.fixed_sine.specs.BinaryAngle.{units_of}
 use Rattle.fixed_sine.specs.Chords.{degree_sine, degree_rise, chord_sine_of}
 use Rattle.fixed_sine.proofs.CircleLemmas.{isin_of-first, isin_of-second, isin_of_size}
 use Rattle.fixed_sine.proofs.DegreeLemmas.{raised, multiplied, row-at, sine_at-size}
@@ -24,12 +24,13 @@ is_row k =
     let row = get_or CHORDS k (pos 0, pos 0) in
     int_eq row.0 (degree_sine k) && int_eq row.1 (degree_rise k)
 
-unfoldable is_gentle : ℕ → Bool
-is_gentle k =
+unfoldable is_bounded : ℕ → Bool
+is_bounded k =
     let row = get_or CHORDS k (pos 0, pos 0) in
     nat_le (unsigned_abs row.0) 1000000000 && nat_le (unsigned_abs row.1) 17452406
 
-pub chord-row : (k : ℕ) → k < 360 → ((get_or CHORDS k (pos 0, pos 0)).0 ≡ degree_sine k) × ((get_or CHORDS k (pos 0, pos 0)).1 ≡ degree_rise k)
+pub chord-row : (k : ℕ) → k < 360
+    → ((get_or CHORDS k (pos 0, pos 0)).0 ≡ degree_sine k) × ((get_or CHORDS k (pos 0, pos 0)).1 ≡ degree_rise k)
 unfolding is_row degree_sine degree_rise sine_at sines
 chord-row k h =
     let all = and_parts _ _ (agree_below_at is_row (λ _. true) 360 k refl h) in
@@ -52,9 +53,9 @@ fitting s u sine rise =
     }
 
 pub chord-fits : (k : ℕ) → k < 360 → Fits (get_or CHORDS k (pos 0, pos 0)).0 (get_or CHORDS k (pos 0, pos 0)).1
-unfolding is_gentle
+unfolding is_bounded
 chord-fits k h =
-    let all = and_parts _ _ (agree_below_at is_gentle (λ _. true) 360 k refl h) in
+    let all = and_parts _ _ (agree_below_at is_bounded (λ _. true) 360 k refl h) in
     fitting _ _ (leb-true _ _ all.0) (leb-true _ _ all.1)
 
 -- ---- the distance of the sine from its chord
@@ -99,20 +100,20 @@ record IsSpot (p r w bent s n : ℕ) : Type 0 where
   times_least : 4294967296 * (r * w) ≤ 600000000 * (p * w) + 600000000 * w
   times_most : 600000000 * (p * w) ≤ 4294967296 * (r * w) + 4294967296 * w
 
-rising-near : (p r w bent s n g : ℕ) → IsSpot p r w bent s n
+rising-approximate : (p r w bent s n g : ℕ) → IsSpot p r w bent s n
     → g * 4294967296 + p * 17452406 ≤ p * w + 17452406 * 4294967296
     → p * w + 17452406 * 4294967296 < g * 4294967296 + 4294967296 + p * 17452406
     → (s + g ≤ n / 1440000000000000000 + 17452406 + 38100) × (n / 1440000000000000000 + 17452406 ≤ s + g + 38100)
-rising-near p r w bent s n g spot under over = (
+rising-approximate p r w bent s n g spot under over = (
   omega (arith, spot.few, spot.few_bent, spot.number, spot.part.least, spot.part.most, spot.times_least, spot.times_most, under, over),
   omega (arith, spot.few, spot.few_bent, spot.number, spot.part.least, spot.part.most, spot.times_least, spot.times_most, under, over),
 )
 
-falling-near : (p r w bent s n g : ℕ) → IsSpot p r w bent s n
+falling-approximate : (p r w bent s n g : ℕ) → IsSpot p r w bent s n
     → g * 4294967296 + p * w ≤ p * 17452406 + 17452406 * 4294967296
     → p * 17452406 + 17452406 * 4294967296 < g * 4294967296 + 4294967296 + p * w
     → (n / 1440000000000000000 + g ≤ s + 17452406 + 38100) × (s + 17452406 ≤ n / 1440000000000000000 + g + 38100)
-falling-near p r w bent s n g spot under over = (
+falling-approximate p r w bent s n g spot under over = (
   omega (arith, spot.few, spot.few_bent, spot.number, spot.part.least, spot.part.most, spot.times_least, spot.times_most, under, over),
   omega (arith, spot.few, spot.few_bent, spot.number, spot.part.least, spot.part.most, spot.times_least, spot.times_most, under, over),
 )
@@ -120,7 +121,8 @@ falling-near p r w bent s n g spot under over = (
 -- ---- the same for the signed numbers
 
 steep-counted : (u : ℤ) (w r c : ℕ) → u +ℤ pos 17452406 ≡ pos w → r ≤ 600000000
-    → (((pos 2400000000 *ℤ u) +ℤ pos (600000000 * c)) -ℤ pos (r * c)) +ℤ pos (2400000000 * 17452406) ≡ pos (2400000000 * w + (600000000 - r) * c)
+    → (((pos 2400000000 *ℤ u) +ℤ pos (600000000 * c)) -ℤ pos (r * c)) +ℤ pos (2400000000 * 17452406)
+    ≡ pos (2400000000 * w + (600000000 - r) * c)
 steep-counted u w r c is_w h =
     let split : 600000000 * c ≡ r * c + (600000000 - r) * c =
     ap (λ n. n * c) (let sum : 600000000 ≡ r + (600000000 - r) = omega arith in sum) ∙ (omega arith) in
@@ -146,7 +148,8 @@ degree_rise-first k h = cond-true (nat_lt k 180) _ _ (lt-ltb k 180 h)
 degree_rise-second : (k : ℕ) → degree_rise (k + 180) ≡ neg_ℤ (rise k)
 unfolding degree_rise
 degree_rise-second k =
-    cond-false (nat_lt (k + 180) 180) _ _ (le-ltb (k + 180) 180 (omega arith)) ∙ (let back : k + 180 - 180 ≡ k = omega arith in ap (λ i. neg_ℤ (rise i)) back)
+    cond-false (nat_lt (k + 180) 180) _ _ (le-ltb (k + 180) 180 (omega arith))
+    ∙ (let back : k + 180 - 180 ≡ k = omega arith in ap (λ i. neg_ℤ (rise i)) back)
 
 degree_sine-first : (k : ℕ) → k < 180 → degree_sine k ≡ sine_at (pos k)
 unfolding degree_sine
@@ -155,7 +158,8 @@ degree_sine-first k h = cond-true (nat_lt k 180) _ _ (lt-ltb k 180 h)
 degree_sine-second : (k : ℕ) → degree_sine (k + 180) ≡ neg_ℤ (sine_at (pos k))
 unfolding degree_sine
 degree_sine-second k =
-    cond-false (nat_lt (k + 180) 180) _ _ (le-ltb (k + 180) 180 (omega arith)) ∙ (let back : k + 180 - 180 ≡ k = omega arith in ap (λ i. neg_ℤ (sine_at (pos i))) back)
+    cond-false (nat_lt (k + 180) 180) _ _ (le-ltb (k + 180) 180 (omega arith))
+    ∙ (let back : k + 180 - 180 ≡ k = omega arith in ap (λ i. neg_ℤ (sine_at (pos i))) back)
 
 degree_rise-small : (k : ℕ) → k < 360 → unsigned_abs (degree_rise k) ≤ 17452406
 degree_rise-small k h = rw (← (chord-row k h).1) (chord-fits k h).rise
@@ -169,7 +173,8 @@ cut-small (negsuc n) small = omega (arith, ints, small)
 
 gain-small : (p : ℕ) (u : ℤ) → p < 4294967296 → unsigned_abs u ≤ 17452406 → unsigned_abs (int_shr (pos p *ℤ u) 32) ≤ 17452406
 gain-small p u in_degree small =
-    cut-small (pos p *ℤ u) (rw (unsigned_abs-mul (pos p) u) (mul-le p (unsigned_abs u) 4294967296 17452406 (omega (arith, in_degree)) small))
+    cut-small (pos p *ℤ u)
+    (rw (unsigned_abs-mul (pos p) u) (mul-le p (unsigned_abs u) 4294967296 17452406 (omega (arith, in_degree)) small))
 
 turned-rise : (u rise : ℤ) (w back : ℕ) → u ≡ neg_ℤ rise → rise +ℤ pos 17452406 ≡ pos w → back + w ≡ 34904812 → u +ℤ pos 17452406 ≡ pos back
 turned-rise u (pos n) w back is_u up sum = omega (arith, ints, is_u, up, sum)
@@ -181,7 +186,8 @@ is_number : (n s steep bent whole r : ℕ) (product : ℤ) → pos n ≡ pos (14
 is_number n s steep bent whole r product is_n is_product same = omega (arith, ints, is_n, is_product, same)
 
 spot-at : (k p r : ℕ) → k < 180 → r < 600000000 → IsPart p r
-    → IsSpot p r (unsigned_abs (rise k +ℤ pos 17452406)) (r * ((600000000 - r) * bend_at k)) (unsigned_abs (sine_at (pos k))) (half_num (600000000 * k + r))
+    → IsSpot p r (unsigned_abs (rise k +ℤ pos 17452406)) (r * ((600000000 - r) * bend_at k))
+    (unsigned_abs (sine_at (pos k))) (half_num (600000000 * k + r))
 spot-at k p r h small part =
     let w = unsigned_abs (rise k +ℤ pos 17452406) in
     let c = bend_at k in
@@ -203,39 +209,41 @@ spot-at k p r h small part =
       times_most = (let fact = mul-le (600000000 * p) w (4294967296 * r + 4294967296) w part.most (omega arith) in omega (arith, fact));
     }
 
-near-rising : (s n g : ℕ) (sine gain half : ℤ) → sine ≡ pos s → gain +ℤ pos 17452406 ≡ pos g → half ≡ pos n
+approximate-rising : (s n g : ℕ) (sine gain half : ℤ) → sine ≡ pos s → gain +ℤ pos 17452406 ≡ pos g → half ≡ pos n
     → (s + g ≤ n + 17452406 + 38100) × (n + 17452406 ≤ s + g + 38100) → unsigned_abs ((sine +ℤ gain) -ℤ half) ≤ 38100
-near-rising s n g sine gain half is_sine is_gain is_half both =
+approximate-rising s n g sine gain half is_sine is_gain is_half both =
     let over = both.0 in
     let under = both.1 in
     omega (arith, ints, is_sine, is_gain, is_half, over, under)
 
-near-falling : (s n g : ℕ) (sine gain half : ℤ) → sine ≡ neg_ℤ (pos s) → gain +ℤ pos 17452406 ≡ pos g → half ≡ neg_ℤ (pos n)
+approximate-falling : (s n g : ℕ) (sine gain half : ℤ) → sine ≡ neg_ℤ (pos s) → gain +ℤ pos 17452406 ≡ pos g → half ≡ neg_ℤ (pos n)
     → (n + g ≤ s + 17452406 + 38100) × (s + 17452406 ≤ n + g + 38100) → unsigned_abs ((sine +ℤ gain) -ℤ half) ≤ 38100
-near-falling s n g sine gain half is_sine is_gain is_half both =
+approximate-falling s n g sine gain half is_sine is_gain is_half both =
     let over = both.0 in
     let under = both.1 in
     omega (arith, ints, is_sine, is_gain, is_half, over, under)
 
 -- the error on the first half of the circle
-near-first : (k p r : ℕ) → k < 180 → r < 600000000 → IsPart p r → p < 4294967296
+approximate-first : (k p r : ℕ) → k < 180 → r < 600000000 → IsPart p r → p < 4294967296
     → unsigned_abs ((degree_sine k +ℤ int_shr (pos p *ℤ degree_rise k) 32) -ℤ isin_of (600000000 * k + r)) ≤ 38100
-near-first k p r h small part in_degree =
+approximate-first k p r h small part in_degree =
     let u = degree_rise k in
     let gain = int_shr (pos p *ℤ u) 32 in
     let w = unsigned_abs (rise k +ℤ pos 17452406) in
     let g = unsigned_abs (gain +ℤ pos 17452406) in
-    let is_w : u +ℤ pos 17452406 ≡ pos w = ap (λ z. z +ℤ pos 17452406) (degree_rise-first k h) ∙ raised (rise k) 17452406 (rise-small k h) in
+    let is_w : u +ℤ pos 17452406 ≡ pos w =
+    ap (λ z. z +ℤ pos 17452406) (degree_rise-first k h) ∙ raised (rise k) 17452406 (rise-small k h) in
     let is_g = raised gain 17452406 (gain-small p u in_degree (degree_rise-small k (omega (arith, h)))) in
     let cut = cut-rising (pos p *ℤ u) gain (p * 17452406) (p * w) g refl (multiplied p 17452406 w u is_w) is_g in
-    let near = rising-near p r w _ _ _ g (spot-at k p r h small part) cut.0 cut.1 in
+    let approximate = rising-approximate p r w _ _ _ g (spot-at k p r h small part) cut.0 cut.1 in
     let half = isin_of-first (600000000 * k + r) (omega arith) ∙ half_of-num (600000000 * k + r) (omega arith) in
-    near-rising _ _ g (degree_sine k) gain (isin_of (600000000 * k + r)) (degree_sine-first k h ∙ sym (sine_at-size k)) is_g half near
+    approximate-rising _ _ g (degree_sine k) gain (isin_of (600000000 * k + r))
+    (degree_sine-first k h ∙ sym (sine_at-size k)) is_g half approximate
 
 -- the error on the second half
-near-second : (k p r : ℕ) → k < 180 → r < 600000000 → IsPart p r → p < 4294967296
+approximate-second : (k p r : ℕ) → k < 180 → r < 600000000 → IsPart p r → p < 4294967296
     → unsigned_abs ((degree_sine (k + 180) +ℤ int_shr (pos p *ℤ degree_rise (k + 180)) 32) -ℤ isin_of (600000000 * (k + 180) + r)) ≤ 38100
-near-second k p r h small part in_degree =
+approximate-second k p r h small part in_degree =
     let u = degree_rise (k + 180) in
     let gain = int_shr (pos p *ℤ u) 32 in
     let w = unsigned_abs (rise k +ℤ pos 17452406) in
@@ -251,36 +259,40 @@ near-second k p r h small part in_degree =
     (let sum : back + w ≡ 34904812 = omega (arith, few) in (let all = ap (λ n. p * n) sum in omega (arith, all))) in
     let under = cut.0 in
     let over = cut.1 in
-    let near = falling-near p r w _ _ _ g spot (omega (arith, under, both)) (omega (arith, over, both)) in
+    let approximate = falling-approximate p r w _ _ _ g spot (omega (arith, under, both)) (omega (arith, over, both)) in
     let place : 600000000 * (k + 180) + r - 108000000000 ≡ 600000000 * k + r = omega arith in
-    let half = isin_of-second (600000000 * (k + 180) + r) (omega arith) ∙ ap (λ i. neg_ℤ (half_of i)) place ∙ ap neg_ℤ (half_of-num (600000000 * k + r) (omega arith)) in
-    near-falling _ _ g (degree_sine (k + 180)) gain (isin_of (600000000 * (k + 180) + r)) (degree_sine-second k ∙ ap neg_ℤ (sym (sine_at-size k))) is_g half near
+    let half = isin_of-second (600000000 * (k + 180) + r) (omega arith) ∙ ap (λ i. neg_ℤ (half_of i)) place
+    ∙ ap neg_ℤ (half_of-num (600000000 * k + r) (omega arith)) in
+    approximate-falling _ _ g (degree_sine (k + 180)) gain (isin_of (600000000 * (k + 180) + r))
+    (degree_sine-second k ∙ ap neg_ℤ (sym (sine_at-size k))) is_g half approximate
 
 -- the error at a fraction of a turn
-pub chord-near : (turn : ℕ) → turn < 18446744073709551616 → unsigned_abs (chord_sine_of turn -ℤ isin_of (units_of turn)) ≤ 38100
+pub chord-approximate : (binary_angle : ℕ) → binary_angle < 18446744073709551616
+    → unsigned_abs (chord_sine_of binary_angle -ℤ isin_of (units_of binary_angle)) ≤ 38100
 unfolding chord_sine_of
-chord-near turn in_turn =
-    let k = turn * 360 / 18446744073709551616 in
-    let p = turn * 360 % 18446744073709551616 / 4294967296 in
-    let r = turn * 360 % 18446744073709551616 * 600000000 / 18446744073709551616 in
-    let in_circle : k < 360 = omega (arith, in_turn) in
+chord-approximate binary_angle below_circle =
+    let k = binary_angle * 360 / 18446744073709551616 in
+    let p = binary_angle * 360 % 18446744073709551616 / 4294967296 in
+    let r = binary_angle * 360 % 18446744073709551616 * 600000000 / 18446744073709551616 in
+    let in_circle : k < 360 = omega (arith, below_circle) in
     let in_degree : p < 4294967296 = omega arith in
     let small : r < 600000000 = omega arith in
     let part : IsPart p r = record { least = omega arith; most = omega arith } in
-    let place : 600000000 * k + r ≡ units_of turn = omega arith in
+    let place : 600000000 * k + r ≡ units_of binary_angle = omega arith in
     rw (← place)
     (elim (cases_lt k 180) [
-      | inl first ↦ near-first k p r first small part in_degree
+      | inl first ↦ approximate-first k p r first small part in_degree
       | inr second ↦ (let back : (k - 180) + 180 ≡ k = omega (arith, second) in
-          rw back at (near-second (k - 180) p r (omega (arith, in_circle)) small part in_degree))
+          rw back at (approximate-second (k - 180) p r (omega (arith, in_circle)) small part in_degree))
     ])
 
-pub chord-size : (turn : ℕ) → turn < 18446744073709551616 → unsigned_abs (chord_sine_of turn) ≤ 1000038100
-chord-size turn in_turn =
-    near-size (chord_sine_of turn) (isin_of (units_of turn)) (chord-near turn in_turn) (isin_of_size (units_of turn) (omega (arith, in_turn)))
+pub chord-size : (binary_angle : ℕ) → binary_angle < 18446744073709551616 → unsigned_abs (chord_sine_of binary_angle) ≤ 1000038100
+chord-size binary_angle below_circle =
+    approximate-size (chord_sine_of binary_angle) (isin_of (units_of binary_angle))
+    (chord-approximate binary_angle below_circle) (isin_of_size (units_of binary_angle) (omega (arith, below_circle)))
   where
-    near-size : (z sine : ℤ) → unsigned_abs (z -ℤ sine) ≤ 38100 → unsigned_abs sine ≤ 1000000000 → unsigned_abs z ≤ 1000038100
-    near-size z sine near most = omega (arith, ints, near, most)
+    approximate-size : (z sine : ℤ) → unsigned_abs (z -ℤ sine) ≤ 38100 → unsigned_abs sine ≤ 1000000000 → unsigned_abs z ≤ 1000038100
+    approximate-size z sine approximate most = omega (arith, ints, approximate, most)
 
 -- the sum that the code computes fits 64 bits
 pub chord-sum : (here gain sine : ℤ) → here ≡ sine → unsigned_abs gain ≤ 17452406 → unsigned_abs sine ≤ 1000000000

@@ -30,7 +30,8 @@ pub isin_of-second : (p : ℕ) → 108000000000 ≤ p → isin_of p ≡ neg_ℤ 
 unfolding isin_of
 isin_of-second p h = cond-false (nat_lt p 108000000000) _ _ (le-ltb p 108000000000 h)
 
-pub isin_of-first_sign : (p : ℕ) (z : ℤ) → p < 108000000000 → unsigned_abs z ≤ 1000000000 → z ≡ half_of p → to_z w64 (of_z w64 z) ≡ isin_of p
+pub isin_of-first_sign : (p : ℕ) (z : ℤ) → p < 108000000000 → unsigned_abs z ≤ 1000000000 → z ≡ half_of p
+    → to_z w64 (of_z w64 z) ≡ isin_of p
 isin_of-first_sign p z h small value =
     to_z-of_z w64 z (fits_signed_from_abs w64 z (omega (arith, small))) ∙ value ∙ sym (isin_of-first p h)
 
@@ -39,7 +40,8 @@ negated (pos zero) h = refl
 negated (pos (suc n)) h = omega (arith, ints)
 negated (negsuc n) h = omega (arith, ints)
 
-pub isin_of-second_sign : (p : ℕ) (z : ℤ) → 108000000000 ≤ p → unsigned_abs z ≤ 1000000000 → z ≡ half_of (p - 108000000000) → to_z w64 (of_z w64 (pos 0 -ℤ to_z w64 (of_z w64 z))) ≡ isin_of p
+pub isin_of-second_sign : (p : ℕ) (z : ℤ) → 108000000000 ≤ p → unsigned_abs z ≤ 1000000000
+    → z ≡ half_of (p - 108000000000) → to_z w64 (of_z w64 (pos 0 -ℤ to_z w64 (of_z w64 z))) ≡ isin_of p
 isin_of-second_sign p z h small value =
     negated z small ∙ ap neg_ℤ value ∙ sym (isin_of-second p h)
 
@@ -51,7 +53,8 @@ quarter_of-first : (p : ℕ) → p < 54000000000 → IsUnsignedSine (quarter_of 
 quarter_of-first p h =
     let k = p / degree in
     let rising = sines_rise k (omega arith) in
-    let little = gain_bound (p % degree) (get_or sines (k + 1) 0 - get_or sines k 0) (unsigned_abs (correction k)) (omega arith) rising.enough in
+    let little = gain_bound (p % degree) (get_or sines (k + 1) 0 - get_or sines k 0) (unsigned_abs (correction k))
+    (omega arith) rising.enough in
     record {
       size = _;
       value = quarter_of-entries p (unsigned_abs (correction k)) (omega arith) (correction-size k (omega arith));
@@ -83,7 +86,8 @@ pub isin_of_size : (p : ℕ) → p < 216000000000 → unsigned_abs (isin_of p) �
 isin_of_size p h =
     elim (cases_lt p 108000000000) [
       | inl below ↦ rw (isin_of-first p below) (size_from (half_of p) (half_of_size p below))
-      | inr above ↦ rw (isin_of-second p above) (size_from_negative (half_of (p - 108000000000)) (half_of_size (p - 108000000000) (omega arith)))
+      | inr above ↦ rw (isin_of-second p above)
+          (size_from_negative (half_of (p - 108000000000)) (half_of_size (p - 108000000000) (omega arith)))
     ]
 
 pub icos_of_size : (p : ℕ) → p < 216000000000 → unsigned_abs (icos_of p) ≤ 1000000000

@@ -33,22 +33,29 @@ multiplied r b n (negsuc a) e =
 
 -- a degree in unsigned numbers
 pub record IsCounted (r slope bend ready_slope ready_bend lost mean ready : ℕ) : Type 0 where
-  pub under : mean * 18446744073709551616 + 1152921504606846976 * 1440000000000000000 ≤ ready * 1440000000000000000 + 43000000000000000 * 18446744073709551616
-  pub near : 256 * (ready * 1440000000000000000 + 43000000000000000 * 18446744073709551616) ≤ 256 * (mean * 18446744073709551616 + 1152921504606846976 * 1440000000000000000) + (512 + r) * 1440000000000000000
+  pub under : mean * 18446744073709551616 + 1152921504606846976 * 1440000000000000000
+      ≤ ready * 1440000000000000000 + 43000000000000000 * 18446744073709551616
+  pub approximate : 256 * (ready * 1440000000000000000 + 43000000000000000 * 18446744073709551616) ≤ 256
+      * (mean * 18446744073709551616 + 1152921504606846976 * 1440000000000000000) + (512 + r) * 1440000000000000000
 
 pub counted : (r slope bend ready_slope ready_bend lost mean ready : ℕ) → r < 600000000
-    → slope * 18446744073709551616 + 576460752303423488 * 1440000000000000000 ≤ ready_slope * 1440000000000000000 + 42200000000000000 * 18446744073709551616
-    → ready_slope * 1440000000000000000 + 42200000000000000 * 18446744073709551616 ≤ slope * 18446744073709551616 + 576460752303423489 * 1440000000000000000
-    → bend * 4722366482869645213696 + 2147483648 * 1440000000000000000 ≤ ready_bend * 1440000000000000000 + 1000000 * 4722366482869645213696 + 1440000000000000000
+    → slope * 18446744073709551616 + 576460752303423488 * 1440000000000000000
+    ≤ ready_slope * 1440000000000000000 + 42200000000000000 * 18446744073709551616
+    → ready_slope * 1440000000000000000 + 42200000000000000 * 18446744073709551616
+    ≤ slope * 18446744073709551616 + 576460752303423489 * 1440000000000000000
+    → bend * 4722366482869645213696 + 2147483648 * 1440000000000000000
+    ≤ ready_bend * 1440000000000000000 + 1000000 * 4722366482869645213696 + 1440000000000000000
     → ready_bend * 1440000000000000000 + 1000000 * 4722366482869645213696 ≤ bend * 4722366482869645213696 + 2147483648 * 1440000000000000000
     → lost ≡ r * ready_bend / 256
     → mean + r * bend ≡ slope + 800000000000000 + r * 1000000
     → ready + lost ≡ ready_slope + 576460752303423488 + r * 8388608
     → IsCounted r slope bend ready_slope ready_bend lost mean ready
 counted r slope bend ready_slope ready_bend lost mean ready h steep steeper bent flatter is_lost is_mean is_ready =
-    let less = mul-le r (bend * 4722366482869645213696 + 2147483648 * 1440000000000000000) r (ready_bend * 1440000000000000000 + 1000000 * 4722366482869645213696 + 1440000000000000000) (omega arith) bent in
-    let more = mul-le r (ready_bend * 1440000000000000000 + 1000000 * 4722366482869645213696) r (bend * 4722366482869645213696 + 2147483648 * 1440000000000000000) (omega arith) flatter in
-    record { under = omega (arith, less, more); near = omega (arith, less, more) }
+    let less = mul-le r (bend * 4722366482869645213696 + 2147483648 * 1440000000000000000) r (ready_bend
+    * 1440000000000000000 + 1000000 * 4722366482869645213696 + 1440000000000000000) (omega arith) bent in
+    let more = mul-le r (ready_bend * 1440000000000000000 + 1000000 * 4722366482869645213696) r
+    (bend * 4722366482869645213696 + 2147483648 * 1440000000000000000) (omega arith) flatter in
+    record { under = omega (arith, less, more); approximate = omega (arith, less, more) }
 
 shifted_8 : (z : ℤ) (k n : ℕ) → z +ℤ pos (256 * k) ≡ pos n → int_shr z 8 +ℤ pos k ≡ pos (n / 256)
 shifted_8 (pos a) k n e = let sum : a + 256 * k ≡ n = omega (arith, ints) in ap pos (omega arith)
@@ -63,25 +70,31 @@ lost-counted r b bend e =
 -- a gain of whole billionths: the product is between it and one more
 pub record IsGain (whole product : ℤ) : Type 0 where
   pub under : (whole *ℤ pos 1440000000000000000) <ℤ product
-  pub near : product <ℤ ((whole *ℤ pos 1440000000000000000) +ℤ pos 1440000000000000000)
+  pub approximate : product <ℤ ((whole *ℤ pos 1440000000000000000) +ℤ pos 1440000000000000000)
 
 -- a product with the prepared slope bounds that with the slope
-told : (r mean ready : ℕ) (whole product exact : ℤ) (rest : ℕ) → r < 600000000
-    → mean * 18446744073709551616 + 1152921504606846976 * 1440000000000000000 ≤ ready * 1440000000000000000 + 43000000000000000 * 18446744073709551616
-    → 256 * (ready * 1440000000000000000 + 43000000000000000 * 18446744073709551616) ≤ 256 * (mean * 18446744073709551616 + 1152921504606846976 * 1440000000000000000) + (512 + r) * 1440000000000000000
+stated : (r mean ready : ℕ) (whole product exact : ℤ) (rest : ℕ) → r < 600000000
+    → mean * 18446744073709551616 + 1152921504606846976 * 1440000000000000000
+    ≤ ready * 1440000000000000000 + 43000000000000000 * 18446744073709551616
+    → 256 * (ready * 1440000000000000000 + 43000000000000000 * 18446744073709551616) ≤ 256
+    * (mean * 18446744073709551616 + 1152921504606846976 * 1440000000000000000) + (512 + r) * 1440000000000000000
     → product +ℤ pos (r * 1152921504606846976) ≡ pos (r * ready)
     → exact +ℤ pos (r * 43000000000000000) ≡ pos (r * mean)
     → (whole *ℤ pos 18446744073709551616) +ℤ pos rest ≡ product
     → 2251799813685248 ≤ rest → rest < 18446744073709551616
     → IsGain whole exact
-told r mean ready whole product exact rest h under near is_product is_exact split sure less =
-    let low = mul-le r (mean * 18446744073709551616 + 1152921504606846976 * 1440000000000000000) r (ready * 1440000000000000000 + 43000000000000000 * 18446744073709551616) (omega arith) under in
-    let high = mul-le r (256 * (ready * 1440000000000000000 + 43000000000000000 * 18446744073709551616)) r (256 * (mean * 18446744073709551616 + 1152921504606846976 * 1440000000000000000) + (512 + r) * 1440000000000000000) (omega arith) near in
+stated r mean ready whole product exact rest h under approximate is_product is_exact split sure less =
+    let low = mul-le r (mean * 18446744073709551616 + 1152921504606846976 * 1440000000000000000) r
+    (ready * 1440000000000000000 + 43000000000000000 * 18446744073709551616) (omega arith) under in
+    let high = mul-le r (256 * (ready * 1440000000000000000 + 43000000000000000 * 18446744073709551616)) r
+    (256 * (mean * 18446744073709551616 + 1152921504606846976 * 1440000000000000000)
+    + (512 + r) * 1440000000000000000) (omega arith) approximate in
     let square : r * r ≤ r * 600000000 = mul-le r r r 600000000 (omega arith) (omega arith) in
-    record { under = omega (arith, ints, low, high, square); near = omega (arith, ints, low, high, square) }
+    record { under = omega (arith, ints, low, high, square); approximate = omega (arith, ints, low, high, square) }
 
 -- the gain over r units by a prepared slope and bend
-pub gained : (r : ℕ) (slope bend ready_slope ready_bend whole : ℤ) (rest : ℕ) → r < 600000000 → unsigned_abs ready_slope ≤ 540000000000000000 → unsigned_abs ready_bend ≤ 2000000000 → IsReady slope bend ready_slope ready_bend
+pub gained : (r : ℕ) (slope bend ready_slope ready_bend whole : ℤ) (rest : ℕ) → r < 600000000 → unsigned_abs ready_slope
+    ≤ 540000000000000000 → unsigned_abs ready_bend ≤ 2000000000 → IsReady slope bend ready_slope ready_bend
     → (whole *ℤ pos 18446744073709551616) +ℤ pos rest ≡ pos r *ℤ (ready_slope -ℤ int_shr (pos r *ℤ ready_bend) 8)
     → 2251799813685248 ≤ rest → rest < 18446744073709551616
     → IsGain whole (pos r *ℤ (slope -ℤ (pos r *ℤ bend)))
@@ -108,9 +121,14 @@ gained r slope bend ready_slope ready_bend whole rest h small little ready split
     let is_lost = lost-counted r b ready_bend is_b in
     let bends = multiplied r 1000000 c bend is_c in
     let is_mean : (slope -ℤ (pos r *ℤ bend)) +ℤ pos 43000000000000000 ≡ pos mean = omega (arith, ints, is_s, bends, c_product) in
-    let is_i : (ready_slope -ℤ int_shr (pos r *ℤ ready_bend) 8) +ℤ pos 1152921504606846976 ≡ pos i = omega (arith, ints, is_p, is_lost, b_product) in
-    let count = counted r s c p b lost mean i h (omega (arith, ints, is_s, is_p, steep)) (omega (arith, ints, is_s, is_p, steeper)) (omega (arith, ints, is_c, is_b, bent)) (omega (arith, ints, is_c, is_b, flatter)) refl (omega (arith, c_product)) (omega (arith, b_product)) in
-    told r mean i whole _ _ rest h count.under count.near (multiplied r 1152921504606846976 i (ready_slope -ℤ int_shr (pos r *ℤ ready_bend) 8) is_i) (multiplied r 43000000000000000 mean (slope -ℤ (pos r *ℤ bend)) is_mean) split sure less
+    let is_i : (ready_slope -ℤ int_shr (pos r *ℤ ready_bend) 8) +ℤ pos 1152921504606846976 ≡ pos i =
+    omega (arith, ints, is_p, is_lost, b_product) in
+    let count = counted r s c p b lost mean i h (omega (arith, ints, is_s, is_p, steep))
+    (omega (arith, ints, is_s, is_p, steeper)) (omega (arith, ints, is_c, is_b, bent))
+    (omega (arith, ints, is_c, is_b, flatter)) refl (omega (arith, c_product)) (omega (arith, b_product)) in
+    stated r mean i whole _ _ rest h count.under count.approximate
+    (multiplied r 1152921504606846976 i (ready_slope -ℤ int_shr (pos r *ℤ ready_bend) 8) is_i)
+    (multiplied r 43000000000000000 mean (slope -ℤ (pos r *ℤ bend)) is_mean) split sure less
 
 minus : (z : ℤ) (r : ℕ) → pos r *ℤ neg_ℤ z ≡ neg_ℤ (pos r *ℤ z)
 minus (pos n) r = minus_times r n
@@ -134,21 +152,26 @@ row-at k h =
     }
 
 -- the sine on the first half of the circle
-pub first-sine : (k r : ℕ) (whole sine : ℤ) → k < 180 → r < 600000000 → sine ≡ sine_at (pos k) → IsGain whole (pos r *ℤ (slope_at k -ℤ (pos r *ℤ pos (bend_at k)))) → sine +ℤ whole ≡ isin_of (600000000 * k + r)
+pub first-sine : (k r : ℕ) (whole sine : ℤ) → k < 180 → r < 600000000 → sine ≡ sine_at (pos k)
+    → IsGain whole (pos r *ℤ (slope_at k -ℤ (pos r *ℤ pos (bend_at k)))) → sine +ℤ whole ≡ isin_of (600000000 * k + r)
 first-sine k r whole sine h small here gain =
     let under = gain.under in
-    let near = gain.near in
-    let value = half_of-row k r (unsigned_abs (sine_at (pos k))) (bend_at k) (slope_at k) whole h small (row-at k h) (omega (arith, ints, under)) near in
+    let approximate = gain.approximate in
+    let value = half_of-row k r (unsigned_abs (sine_at (pos k))) (bend_at k) (slope_at k) whole h small (row-at k h)
+    (omega (arith, ints, under)) approximate in
     let half = isin_of-first (600000000 * k + r) (omega arith) in
     omega (arith, ints, sine_at-size k, here, value, half)
 
 -- the sine on the second half, where the stored sine is one more, since gains are rounded to the other
 -- side
-pub second-sine : (k r : ℕ) (whole sine : ℤ) → k < 180 → r < 600000000 → sine ≡ pos 1 -ℤ sine_at (pos k) → IsGain whole (pos r *ℤ (neg_ℤ (slope_at k) -ℤ (pos r *ℤ neg_ℤ (pos (bend_at k))))) → sine +ℤ whole ≡ isin_of (600000000 * (k + 180) + r)
+pub second-sine : (k r : ℕ) (whole sine : ℤ) → k < 180 → r < 600000000 → sine ≡ pos 1 -ℤ sine_at (pos k)
+    → IsGain whole (pos r *ℤ (neg_ℤ (slope_at k) -ℤ (pos r *ℤ neg_ℤ (pos (bend_at k)))))
+    → sine +ℤ whole ≡ isin_of (600000000 * (k + 180) + r)
 second-sine k r whole sine h small here gain =
     let under = rw (turned r (bend_at k) (slope_at k)) at gain.under in
-    let near = rw (turned r (bend_at k) (slope_at k)) at gain.near in
-    let value = half_of-row k r (unsigned_abs (sine_at (pos k))) (bend_at k) (slope_at k) (neg_ℤ (whole +ℤ pos 1)) h small (row-at k h) (omega (arith, ints, near)) (omega (arith, ints, under)) in
+    let approximate = rw (turned r (bend_at k) (slope_at k)) at gain.approximate in
+    let value = half_of-row k r (unsigned_abs (sine_at (pos k))) (bend_at k) (slope_at k)
+    (neg_ℤ (whole +ℤ pos 1)) h small (row-at k h) (omega (arith, ints, approximate)) (omega (arith, ints, under)) in
     let place : 600000000 * (k + 180) + r - 108000000000 ≡ 600000000 * k + r = omega arith in
     let half = isin_of-second (600000000 * (k + 180) + r) (omega arith) ∙ ap (λ p. neg_ℤ (half_of p)) place in
     omega (arith, ints, sine_at-size k, here, value, half)

@@ -27,7 +27,8 @@ minus_times g (suc c) = refl
 joined : (d f g s u c : ℕ) → ((pos d *ℤ pos s) +ℤ (pos f *ℤ pos u)) -ℤ (pos g *ℤ neg_ℤ (pos c)) ≡ pos (d * s + f * u + g * c)
 joined d f g s u c = rw (minus_times g c) (omega (arith, ints))
 
-pub scaled_between-entries : (k r c : ℕ) → k < 90 → correction k ≡ neg_ℤ (pos c) → scaled_between k r ≡ pos (4 * degree * degree * get_or sines k 0 + 4 * degree * r * (get_or sines (k + 1) 0 - get_or sines k 0) + r * (degree - r) * c)
+pub scaled_between-entries : (k r c : ℕ) → k < 90 → correction k ≡ neg_ℤ (pos c) → scaled_between k r ≡ pos (4 * degree
+    * degree * get_or sines k 0 + 4 * degree * r * (get_or sines (k + 1) 0 - get_or sines k 0) + r * (degree - r) * c)
 unfolding scaled_between
 scaled_between-entries k r c h size =
     rw (rise-entries k h, sine_at-entry k (omega arith), size)
@@ -37,7 +38,9 @@ scaled_between-entries k r c h size =
 pub scaled_quotient : (s u g : ℕ) → (1440000000000000000 * s + u + g) / 1440000000000000000 ≡ s + (u + g) / 1440000000000000000
 scaled_quotient s u g = omega arith
 
-pub quarter_of-entries : (p c : ℕ) → p < 90 * degree → correction (p / degree) ≡ neg_ℤ (pos c) → quarter_of p ≡ pos (get_or sines (p / degree) 0 + (4 * degree * (p % degree) * (get_or sines (p / degree + 1) 0 - get_or sines (p / degree) 0) + p % degree * (degree - p % degree) * c) / (4 * degree * degree))
+pub quarter_of-entries : (p c : ℕ) → p < 90 * degree → correction (p / degree) ≡ neg_ℤ (pos c)
+    → quarter_of p ≡ pos (get_or sines (p / degree) 0 + (4 * degree * (p % degree) * (get_or sines (p / degree + 1) 0
+    - get_or sines (p / degree) 0) + p % degree * (degree - p % degree) * c) / (4 * degree * degree))
 unfolding quarter_of
 quarter_of-entries p c h size =
     rw (scaled_between-entries (p / degree) (p % degree) c (omega arith) size)

@@ -11,7 +11,7 @@ use Rattle.fixed_sine.proofs.QuarterLemmas.{scaled_between-entries, quarter_of-n
 use Rattle.fixed_sine.proofs.CircleLemmas.{half_of-first, half_of-second, isin_of-first, isin_of-second}
 
 -- two numbers at most `distance` apart
-pub record IsNear (far a b : ℕ) : Type 0 where
+pub record AreWithin (far a b : ℕ) : Type 0 where
   pub above : a ≤ b + far
   pub below : b ≤ a + far
 
@@ -20,7 +20,8 @@ unfoldable pub formula : ℕ → ℕ → ℕ → ℕ → ℕ
 formula s u c r = 1440000000000000000 * s + 2400000000 * r * u + r * (600000000 - r) * c
 
 -- one unit further the formula rises, by at most 4 * degree * 17,454,000
-formula-step : (s u c r : ℕ) → r < 600000000 → c ≤ 4 * u → 4 * u + c ≤ 69816000 → IsNear 41889600000000000 (formula s u c (r + 1)) (formula s u c r)
+formula-step : (s u c r : ℕ) → r < 600000000 → c ≤ 4 * u → 4 * u + c ≤ 69816000
+    → AreWithin 41889600000000000 (formula s u c (r + 1)) (formula s u c r)
 unfolding formula
 formula-step s u c r h small steep =
     let q = 600000000 - r - 1 in
@@ -47,10 +48,10 @@ formula-begin s u c = omega arith
 unfoldable scaled : ℕ → ℕ → ℕ
 scaled k r = formula (get_or sines k 0) (get_or sines (k + 1) 0 - get_or sines k 0) (unsigned_abs (correction k)) r
 
-scaled-step : (k r : ℕ) → k < 90 → r < 600000000 → IsNear 41889600000000000 (scaled k (r + 1)) (scaled k r)
+scaled-step : (k r : ℕ) → k < 90 → r < 600000000 → AreWithin 41889600000000000 (scaled k (r + 1)) (scaled k r)
 unfolding scaled
 scaled-step k r h small =
-    formula-step _ _ _ r small (sines_rise k h).enough (sines_rise k h).gentle
+    formula-step _ _ _ r small (sines_rise k h).enough (sines_rise k h).bounded
 
 scaled-next : (k : ℕ) → k < 90 → scaled k 600000000 ≡ scaled (k + 1) 0
 unfolding scaled
@@ -68,7 +69,7 @@ num-at p k r e h =
     let quotient : p / 600000000 ≡ k = omega arith in
     let rest : p % 600000000 ≡ r = omega arith in rw (quotient, rest)
 
-pub num-step : (p : ℕ) → p < 54000000000 → IsNear 41889600000000000 (num (p + 1)) (num p)
+pub num-step : (p : ℕ) → p < 54000000000 → AreWithin 41889600000000000 (num (p + 1)) (num p)
 num-step p h =
     let k = p / 600000000 in
     let r = p % 600000000 in
@@ -109,7 +110,8 @@ num-between k r h small =
     ]
 
 -- the scaled formula in terms of the correction's size, the begin of the next degree included
-pub num-formula : (k r : ℕ) → k < 90 → r ≤ 600000000 → num (600000000 * k + r) ≡ formula (get_or sines k 0) (get_or sines (k + 1) 0 - get_or sines k 0) (unsigned_abs (correction k)) r
+pub num-formula : (k r : ℕ) → k < 90 → r ≤ 600000000 → num (600000000 * k + r)
+    ≡ formula (get_or sines k 0) (get_or sines (k + 1) 0 - get_or sines k 0) (unsigned_abs (correction k)) r
 unfolding scaled
 num-formula k r h small =
     num-between k r h small
@@ -130,10 +132,10 @@ pub half_num-second : (i : ℕ) → 54000000000 ≤ i → half_num i ≡ num (10
 unfolding half_num
 half_num-second i h = cond-false (nat_lt i 54000000000) _ _ (le-ltb i 54000000000 h)
 
-turned : (far a b : ℕ) → IsNear far a b → IsNear far b a
-turned far a b near = record { above = near.below; below = near.above }
+turned : (far a b : ℕ) → AreWithin far a b → AreWithin far b a
+turned far a b approximate = record { above = approximate.below; below = approximate.above }
 
-half_num-step : (i : ℕ) → i < 108000000000 → IsNear 41889600000000000 (half_num (i + 1)) (half_num i)
+half_num-step : (i : ℕ) → i < 108000000000 → AreWithin 41889600000000000 (half_num (i + 1)) (half_num i)
 half_num-step i h =
     elim (cases_lt i 54000000000) [
       | inl first ↦ (let next : half_num (i + 1) ≡ num (i + 1) =
@@ -196,14 +198,14 @@ signed_num-after_second i h =
           ∙ signed_num-first 0 (omega arith) ∙ ap pos half_num-begin ∙ sym (ap (λ n. neg_ℤ (pos n)) (ap half_num e ∙ half_num-end)))
     ]
 
-gap : (far a b : ℕ) → IsNear far a b → unsigned_abs (pos a -ℤ pos b) ≤ far
-gap far a b near = let up = near.above in let down = near.below in omega (arith, ints)
+gap : (far a b : ℕ) → AreWithin far a b → unsigned_abs (pos a -ℤ pos b) ≤ far
+gap far a b approximate = let up = approximate.above in let down = approximate.below in omega (arith, ints)
 
-gap_below : (far a b : ℕ) → IsNear far a b → unsigned_abs (neg_ℤ (pos a) -ℤ neg_ℤ (pos b)) ≤ far
-gap_below far zero zero near = zero-le
-gap_below far zero (suc b) near = let down = near.below in omega (arith, ints)
-gap_below far (suc a) zero near = let up = near.above in omega (arith, ints)
-gap_below far (suc a) (suc b) near = let up = near.above in let down = near.below in omega (arith, ints)
+gap_below : (far a b : ℕ) → AreWithin far a b → unsigned_abs (neg_ℤ (pos a) -ℤ neg_ℤ (pos b)) ≤ far
+gap_below far zero zero approximate = zero-le
+gap_below far zero (suc b) approximate = let down = approximate.below in omega (arith, ints)
+gap_below far (suc a) zero approximate = let up = approximate.above in omega (arith, ints)
+gap_below far (suc a) (suc b) approximate = let up = approximate.above in let down = approximate.below in omega (arith, ints)
 
 signed_num-step : (p : ℕ) → p < 216000000000 → unsigned_abs (signed_num ((p + 1) % 216000000000) -ℤ signed_num p) ≤ 41889600000000000
 signed_num-step p h =
@@ -235,13 +237,14 @@ signed_num-steps (suc w) p h =
     let next : (p + suc w) % 216000000000 ≡ (q + 1) % 216000000000 = omega arith in
     let far : 41889600000000000 * suc w ≡ 41889600000000000 + 41889600000000000 * w = omega arith in
     rw (next, far)
-    (triangle (signed_num ((q + 1) % 216000000000)) (signed_num q) (signed_num p) _ _ (signed_num-step q (omega arith)) (signed_num-steps w p h))
+    (triangle (signed_num ((q + 1) % 216000000000)) (signed_num q) (signed_num p) _ _ (signed_num-step q (omega arith))
+    (signed_num-steps w p h))
 
-near_from : (n a b : ℕ) → unsigned_abs (pos a -ℤ pos b) ≤ n → IsNear n a b
-near_from n a b h = record { above = omega (arith, ints); below = omega (arith, ints) }
+within_from : (n a b : ℕ) → unsigned_abs (pos a -ℤ pos b) ≤ n → AreWithin n a b
+within_from n a b h = record { above = omega (arith, ints); below = omega (arith, ints) }
 
-near_from_below : (n a b : ℕ) → unsigned_abs (negsuc a -ℤ negsuc b) ≤ n → IsNear n (suc a) (suc b)
-near_from_below n a b h = record { above = omega (arith, ints); below = omega (arith, ints) }
+within_from_below : (n a b : ℕ) → unsigned_abs (negsuc a -ℤ negsuc b) ≤ n → AreWithin n (suc a) (suc b)
+within_from_below n a b h = record { above = omega (arith, ints); below = omega (arith, ints) }
 
 apart : (x y : ℕ) → unsigned_abs (pos x -ℤ neg_ℤ (pos y)) ≡ x + y
 apart x zero = omega (arith, ints)
@@ -251,13 +254,15 @@ apart_below : (x y : ℕ) → unsigned_abs (neg_ℤ (pos x) -ℤ pos y) ≡ x + 
 apart_below zero y = omega (arith, ints)
 apart_below (suc x) y = omega (arith, ints)
 
-divided : (n a b : ℕ) → IsNear n a b → IsNear (n / 1440000000000000000 + 1) (a / 1440000000000000000) (b / 1440000000000000000)
-divided n a b near = let up = near.above in let down = near.below in
+divided : (n a b : ℕ) → AreWithin n a b → AreWithin (n / 1440000000000000000 + 1) (a / 1440000000000000000) (b / 1440000000000000000)
+divided n a b approximate = let up = approximate.above in let down = approximate.below in
     record { above = omega arith; below = omega arith }
 
 -- a distance after division and rounding is at most one more
-cut_gap : (a b : ℤ) (n : ℕ) → unsigned_abs (a -ℤ b) ≤ n → unsigned_abs (int_div a (pos 1440000000000000000) -ℤ int_div b (pos 1440000000000000000)) ≤ n / 1440000000000000000 + 1
-cut_gap (pos a) (pos b) n h = gap _ _ _ (divided n a b (near_from n a b h))
+cut_gap : (a b : ℤ) (n : ℕ) → unsigned_abs (a -ℤ b) ≤ n
+    → unsigned_abs (int_div a (pos 1440000000000000000) -ℤ int_div b (pos 1440000000000000000))
+    ≤ n / 1440000000000000000 + 1
+cut_gap (pos a) (pos b) n h = gap _ _ _ (divided n a b (within_from n a b h))
 cut_gap (pos a) (negsuc b) n h =
     let sum : a + suc b ≤ n = omega (arith, ints) in
     rw (apart (a / 1440000000000000000) (suc b / 1440000000000000000)) (omega arith)
@@ -265,7 +270,7 @@ cut_gap (negsuc a) (pos b) n h =
     let sum : suc a + b ≤ n = omega (arith, ints) in
     rw (apart_below (suc a / 1440000000000000000) (b / 1440000000000000000)) (omega arith)
 cut_gap (negsuc a) (negsuc b) n h =
-    gap_below _ _ _ (divided n (suc a) (suc b) (near_from_below n a b h))
+    gap_below _ _ _ (divided n (suc a) (suc b) (within_from_below n a b h))
 
 cut_negative : (h : ℕ) → neg_ℤ (pos (h / 1440000000000000000)) ≡ int_div (neg_ℤ (pos h)) (pos 1440000000000000000)
 cut_negative zero = refl

@@ -49,7 +49,8 @@ sine_at-mirrored k j h e =
           sine_at-entry k (omega arith) ∙ ap (λ i. pos (get_or sines i 0)) same)
     ]
 
-fall : (slope a b : ℤ) (s n size : ℕ) → slope ≡ (pos 2400000000 *ℤ (b -ℤ a)) +ℤ pos size → a ≡ pos n → b ≡ pos s → s ≤ n → slope +ℤ pos (2400000000 * (n - s)) ≡ pos size
+fall : (slope a b : ℤ) (s n size : ℕ) → slope ≡ (pos 2400000000 *ℤ (b -ℤ a)) +ℤ pos size → a ≡ pos n → b ≡ pos s → s ≤ n
+    → slope +ℤ pos (2400000000 * (n - s)) ≡ pos size
 fall slope a b s n size e is_a is_b h = omega (arith, ints, e, is_a, is_b, h)
 
 fallen : (k j sine size : ℕ) (slope : ℤ) → 90 ≤ k → k + j ≡ 179 → IsRow k slope sine size → Falls j slope sine size
@@ -81,7 +82,8 @@ added n m s p e is = omega (arith, ints, e, is)
 taken : (n m s : ℕ) (p : ℤ) → n + m ≡ s → p ≡ neg_ℤ (pos m) → pos n ≡ pos s +ℤ p
 taken n m s p e is = omega (arith, ints, e, is)
 
-half-risen : (k r sine size : ℕ) (slope : ℤ) → k < 90 → r < 600000000 → Rises k slope sine size → pos (half_num (600000000 * k + r)) ≡ pos (1440000000000000000 * sine) +ℤ (pos r *ℤ (slope -ℤ pos (r * size)))
+half-risen : (k r sine size : ℕ) (slope : ℤ) → k < 90 → r < 600000000 → Rises k slope sine size
+    → pos (half_num (600000000 * k + r)) ≡ pos (1440000000000000000 * sine) +ℤ (pos r *ℤ (slope -ℤ pos (r * size)))
 unfolding formula
 half-risen k r sine size slope h small row =
     let u = get_or sines (k + 1) 0 - get_or sines k 0 in
@@ -89,11 +91,13 @@ half-risen k r sine size slope h small row =
     let little : r * size ≤ 600000000 * size = mul-le r size 600000000 size (omega arith) (omega arith) in
     let steep : slope -ℤ pos (r * size) ≡ pos m = omega (arith, ints, row.steep, little) in
     let number = half_num-first (600000000 * k + r) (omega arith) ∙ num-formula k r h (omega arith) in
-    let bent : r * (600000000 - r) * unsigned_abs (correction k) ≡ r * (600000000 - r) * size = ap (λ c. r * (600000000 - r) * c) (sym row.bent) in
+    let bent : r * (600000000 - r) * unsigned_abs (correction k) ≡ r * (600000000 - r) * size =
+    ap (λ c. r * (600000000 - r) * c) (sym row.bent) in
     let start : 1440000000000000000 * get_or sines k 0 ≡ 1440000000000000000 * sine = ap (λ n. 1440000000000000000 * n) (sym row.here) in
     added _ (r * m) _ _ (omega (arith, number, bent, start, by_slope r u size (omega arith))) (ap (λ z. pos r *ℤ z) steep)
 
-half-fallen : (k j r sine size : ℕ) (slope : ℤ) → k + j ≡ 179 → j < 90 → r < 600000000 → Falls j slope sine size → pos (half_num (600000000 * k + r)) ≡ pos (1440000000000000000 * sine) +ℤ (pos r *ℤ (slope -ℤ pos (r * size)))
+half-fallen : (k j r sine size : ℕ) (slope : ℤ) → k + j ≡ 179 → j < 90 → r < 600000000 → Falls j slope sine size
+    → pos (half_num (600000000 * k + r)) ≡ pos (1440000000000000000 * sine) +ℤ (pos r *ℤ (slope -ℤ pos (r * size)))
 half-fallen k j r sine size slope e h small row =
     let s = get_or sines j 0 in
     let u = get_or sines (j + 1) 0 - s in
@@ -101,15 +105,18 @@ half-fallen k j r sine size slope e h small row =
     let m = 2400000000 * u - q * size in
     let enough : size ≤ 4 * u = rw row.bent (sines_rise j h).enough in
     let bound : q * size ≤ 600000000 * (4 * u) = mul-le q size 600000000 (4 * u) (omega arith) enough in
-    let split : 600000000 * size ≡ r * size + q * size = ap (λ n. n * size) (let sum : 600000000 ≡ r + q = omega arith in sum) ∙ (omega arith) in
+    let split : 600000000 * size ≡ r * size + q * size =
+    ap (λ n. n * size) (let sum : 600000000 ≡ r + q = omega arith in sum) ∙ (omega arith) in
     let steep : slope -ℤ pos (r * size) ≡ neg_ℤ (pos m) = omega (arith, ints, row.steep, bound, split) in
     let place : 108000000000 - (600000000 * k + r) ≡ 600000000 * j + q = omega arith in
-    let number = half_num-second (600000000 * k + r) (omega arith) ∙ ap num place ∙ num-formula j q h (omega arith) ∙ ap (λ c. formula s u c q) (sym row.bent) in
+    let number = half_num-second (600000000 * k + r) (omega arith) ∙ ap num place ∙ num-formula j q h (omega arith)
+    ∙ ap (λ c. formula s u c q) (sym row.bent) in
     let whole = turned r q s u size m (omega arith) (omega (arith, bound)) in
     let top : 1440000000000000000 * (s + u) ≡ 1440000000000000000 * sine = ap (λ n. 1440000000000000000 * n) (sym row.here) in
     taken _ (r * m) _ _ (ap (λ n. n + r * m) number ∙ whole ∙ top) (ap (λ z. pos r *ℤ z) steep ∙ minus_times r m)
 
-pub half_num-row : (k r sine size : ℕ) (slope : ℤ) → k < 180 → r < 600000000 → IsRow k slope sine size → pos (half_num (600000000 * k + r)) ≡ pos (1440000000000000000 * sine) +ℤ (pos r *ℤ (slope -ℤ pos (r * size)))
+pub half_num-row : (k r sine size : ℕ) (slope : ℤ) → k < 180 → r < 600000000 → IsRow k slope sine size
+    → pos (half_num (600000000 * k + r)) ≡ pos (1440000000000000000 * sine) +ℤ (pos r *ℤ (slope -ℤ pos (r * size)))
 half_num-row k r sine size slope h small row =
     elim (cases_lt k 90) [
       | inl first ↦ half-risen k r sine size slope first small (risen k sine size slope first row)
@@ -117,38 +124,43 @@ half_num-row k r sine size slope h small row =
           half-fallen k (179 - k) r sine size slope e (omega arith) small (fallen k (179 - k) sine size slope second e row))
     ]
 
-rounded : (n s : ℕ) (gain product : ℤ) → pos n ≡ pos (1440000000000000000 * s) +ℤ product → (gain *ℤ pos 1440000000000000000) ≤ℤ product → product <ℤ ((gain *ℤ pos 1440000000000000000) +ℤ pos 1440000000000000000) → pos (n / 1440000000000000000) ≡ pos s +ℤ gain
+rounded : (n s : ℕ) (gain product : ℤ) → pos n ≡ pos (1440000000000000000 * s) +ℤ product
+    → (gain *ℤ pos 1440000000000000000) ≤ℤ product → product
+    <ℤ ((gain *ℤ pos 1440000000000000000) +ℤ pos 1440000000000000000) → pos (n / 1440000000000000000) ≡ pos s +ℤ gain
 rounded n s gain product e least most = omega (arith, ints, e, least, most)
 
 -- the sine r units after k degrees: that of the row, and the gain since
-pub half_of-row : (k r sine size : ℕ) (slope gain : ℤ) → k < 180 → r < 600000000 → IsRow k slope sine size → (gain *ℤ pos 1440000000000000000) ≤ℤ (pos r *ℤ (slope -ℤ pos (r * size))) → (pos r *ℤ (slope -ℤ pos (r * size))) <ℤ ((gain *ℤ pos 1440000000000000000) +ℤ pos 1440000000000000000) → pos sine +ℤ gain ≡ half_of (600000000 * k + r)
+pub half_of-row : (k r sine size : ℕ) (slope gain : ℤ) → k < 180 → r < 600000000 → IsRow k slope sine size
+    → (gain *ℤ pos 1440000000000000000) ≤ℤ (pos r *ℤ (slope -ℤ pos (r * size))) → (pos r *ℤ (slope -ℤ pos (r * size)))
+    <ℤ ((gain *ℤ pos 1440000000000000000) +ℤ pos 1440000000000000000) → pos sine +ℤ gain ≡ half_of (600000000 * k + r)
 half_of-row k r sine size slope gain h small row least most =
     sym (half_of-num (600000000 * k + r) (omega arith)
     ∙ rounded _ sine gain _ (half_num-row k r sine size slope h small row) least most)
 
 -- no row is too steep, nor its slope with all of the correction
-pub record IsGentle (slope : ℤ) (r size : ℕ) : Type 0 where
+pub record IsWithinLimits (slope : ℤ) (r size : ℕ) : Type 0 where
   pub begin : unsigned_abs slope ≤ 41943040000000000
   pub mean : unsigned_abs (slope -ℤ pos (r * size)) ≤ 41943040000000000
 
-pub gentle : (k r sine size : ℕ) (slope : ℤ) → k < 180 → r < 600000000 → IsRow k slope sine size → IsGentle slope r size
-gentle k r sine size slope h small row =
+pub bounded : (k r sine size : ℕ) (slope : ℤ) → k < 180 → r < 600000000 → IsRow k slope sine size → IsWithinLimits slope r size
+bounded k r sine size slope h small row =
     let little : r * size ≤ 600000000 * size = mul-le r size 600000000 size (omega arith) (omega arith) in
     elim (cases_lt k 90) [
       | inl first ↦ (let rises = risen k sine size slope first row in
           let rising = sines_rise k first in
           record {
-            begin = omega (arith, ints, rises.steep, rises.bent, rising.gentle);
-            mean = omega (arith, ints, rises.steep, rises.bent, rising.gentle, little);
+            begin = omega (arith, ints, rises.steep, rises.bent, rising.bounded);
+            mean = omega (arith, ints, rises.steep, rises.bent, rising.bounded, little);
           })
       | inr second ↦ (let falls = fallen k (179 - k) sine size slope second (omega arith) row in
           let rising = sines_rise (179 - k) (omega arith) in
           record {
-            begin = omega (arith, ints, falls.steep, falls.bent, rising.gentle, rising.enough);
-            mean = omega (arith, ints, falls.steep, falls.bent, rising.gentle, rising.enough, little);
+            begin = omega (arith, ints, falls.steep, falls.bent, rising.bounded, rising.enough);
+            mean = omega (arith, ints, falls.steep, falls.bent, rising.bounded, rising.enough, little);
           })
     ]
 
 -- the sum that the code computes fits 64 bits
-pub summed : (here gain z sine : ℤ) → here ≡ sine → sine +ℤ gain ≡ z → unsigned_abs gain ≤ 300000000 → unsigned_abs z ≤ 1000000000 → to_z w64 (of_z w64 (to_z w64 (of_z w64 here) +ℤ to_z w64 (of_z w64 gain))) ≡ z
+pub summed : (here gain z sine : ℤ) → here ≡ sine → sine +ℤ gain ≡ z → unsigned_abs gain ≤ 300000000
+    → unsigned_abs z ≤ 1000000000 → to_z w64 (of_z w64 (to_z w64 (of_z w64 here) +ℤ to_z w64 (of_z w64 gain))) ≡ z
 summed here gain z sine is_here sum small most = omega (arith, ints)

@@ -59,7 +59,7 @@ pub record IsRising (here next size : ℕ) : Type 0 where
   pub little : next < here + 33554432
   pub enough : size ≤ 4 * (next - here)
   pub capped : next ≤ 1000000000
-  pub gentle : 4 * (next - here) + size ≤ 69816000
+  pub bounded : 4 * (next - here) + size ≤ 69816000
 
 pub sines_rise : (k : ℕ) → k < 90 → IsRising (get_or sines k 0) (get_or sines (k + 1) 0) (unsigned_abs (correction k))
 unfolding rises correction sine_at sines
@@ -73,7 +73,7 @@ sines_rise k h =
       little = leb-true _ _ rest.0;
       enough = leb-true _ _ third.0;
       capped = leb-true _ _ last.0;
-      gentle = leb-true _ _ last.1;
+      bounded = leb-true _ _ last.1;
     }
 
 -- the rows of the code are those of the table
@@ -108,7 +108,8 @@ is_ready slope bend ready_slope ready_bend =
     && (int_le (bend *ℤ pos (2 ^ 72)) ((ready_bend *ℤ pos 1440000000000000000) +ℤ pos 1440000000000000000)
     && int_le (ready_bend *ℤ pos 1440000000000000000) (bend *ℤ pos (2 ^ 72))))
 
-ready-parts : (slope bend ready_slope ready_bend : ℤ) → is_ready slope bend ready_slope ready_bend ≡ true → IsReady slope bend ready_slope ready_bend
+ready-parts : (slope bend ready_slope ready_bend : ℤ) → is_ready slope bend ready_slope ready_bend ≡ true
+    → IsReady slope bend ready_slope ready_bend
 unfolding is_ready
 ready-parts slope bend ready_slope ready_bend h =
     let all = and_parts _ _ h in
@@ -131,19 +132,22 @@ is_second k =
     let row = get_or DEGREES (k + 180) (pos 0, pos 0, pos 0) in
     is_ready (neg_ℤ (slope_at k)) (neg_ℤ (pos (bend_at k))) row.0 row.1 && int_eq row.2 (pos 1 -ℤ sine_at (pos k))
 
-unfoldable is_gentle : ℕ → Bool
-is_gentle k =
+unfoldable is_bounded : ℕ → Bool
+is_bounded k =
     let row = get_or DEGREES k (pos 0, pos 0, pos 0) in
     nat_le (unsigned_abs row.0) 540000000000000000
     && (nat_le (unsigned_abs row.1) 2000000000 && nat_le (unsigned_abs row.2) 1000000000)
 
-pub degree-first : (k : ℕ) → k < 180 → IsReady (slope_at k) (pos (bend_at k)) (get_or DEGREES k (pos 0, pos 0, pos 0)).0 (get_or DEGREES k (pos 0, pos 0, pos 0)).1 × ((get_or DEGREES k (pos 0, pos 0, pos 0)).2 ≡ sine_at (pos k))
+pub degree-first : (k : ℕ) → k < 180 → IsReady (slope_at k) (pos (bend_at k)) (get_or DEGREES k (pos 0, pos 0, pos 0)).0
+    (get_or DEGREES k (pos 0, pos 0, pos 0)).1 × ((get_or DEGREES k (pos 0, pos 0, pos 0)).2 ≡ sine_at (pos k))
 unfolding is_first is_ready correction sine_at sines
 degree-first k h =
     let all = and_parts _ _ (agree_below_at is_first (λ _. true) 180 k refl h) in
     (ready-parts _ _ _ _ all.0, (Decides-int_eq _ _).0 all.1)
 
-pub degree-second : (k : ℕ) → k < 180 → IsReady (neg_ℤ (slope_at k)) (neg_ℤ (pos (bend_at k))) (get_or DEGREES (k + 180) (pos 0, pos 0, pos 0)).0 (get_or DEGREES (k + 180) (pos 0, pos 0, pos 0)).1 × ((get_or DEGREES (k + 180) (pos 0, pos 0, pos 0)).2 ≡ pos 1 -ℤ sine_at (pos k))
+pub degree-second : (k : ℕ) → k < 180 → IsReady (neg_ℤ (slope_at k)) (neg_ℤ (pos (bend_at k)))
+    (get_or DEGREES (k + 180) (pos 0, pos 0, pos 0)).0 (get_or DEGREES (k + 180) (pos 0, pos 0, pos 0)).1
+    × ((get_or DEGREES (k + 180) (pos 0, pos 0, pos 0)).2 ≡ pos 1 -ℤ sine_at (pos k))
 unfolding is_second is_ready correction sine_at sines
 degree-second k h =
     let all = and_parts _ _ (agree_below_at is_second (λ _. true) 180 k refl h) in
@@ -167,9 +171,10 @@ fitting s b n slope bend sine =
       sine_kept = to_z-of_z w32 n (fits_signed_from_abs w32 n (omega (arith, sine)));
     }
 
-pub degree-fits : (k : ℕ) → k < 360 → Fits (get_or DEGREES k (pos 0, pos 0, pos 0)).0 (get_or DEGREES k (pos 0, pos 0, pos 0)).1 (get_or DEGREES k (pos 0, pos 0, pos 0)).2
-unfolding is_gentle
+pub degree-fits : (k : ℕ) → k < 360 → Fits (get_or DEGREES k (pos 0, pos 0, pos 0)).0
+    (get_or DEGREES k (pos 0, pos 0, pos 0)).1 (get_or DEGREES k (pos 0, pos 0, pos 0)).2
+unfolding is_bounded
 degree-fits k h =
-    let all = and_parts _ _ (agree_below_at is_gentle (λ _. true) 360 k refl h) in
+    let all = and_parts _ _ (agree_below_at is_bounded (λ _. true) 360 k refl h) in
     let rest = and_parts _ _ all.1 in
     fitting _ _ _ (leb-true _ _ all.0) (leb-true _ _ rest.0) (leb-true _ _ rest.1)

@@ -15,9 +15,9 @@ degree_sine k = if nat_lt k 180 then sine_at (pos k) else neg_ℤ (sine_at (pos 
 unfoldable pub degree_rise : ℕ → ℤ
 degree_rise k = if nat_lt k 180 then rise k else neg_ℤ (rise (k - 180))
 
--- the sine on the chord of the degree that contains `turn` (in 2^-64 of a turn), at whole 2^-32 of that
+-- the sine on the chord of the degree that contains `binary_angle` (in 2^-64 of a turn), at whole 2^-32 of that
 -- degree
 unfoldable pub chord_sine_of : ℕ → ℤ
-chord_sine_of turn =
-    degree_sine (turn * 360 / 2 ^ 64)
-    +ℤ int_shr (pos (turn * 360 % 2 ^ 64 / 2 ^ 32) *ℤ degree_rise (turn * 360 / 2 ^ 64)) 32
+chord_sine_of binary_angle =
+    degree_sine (binary_angle * 360 / 2 ^ 64)
+    +ℤ int_shr (pos (binary_angle * 360 % 2 ^ 64 / 2 ^ 32) *ℤ degree_rise (binary_angle * 360 / 2 ^ 64)) 32

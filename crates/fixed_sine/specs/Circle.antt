@@ -6,7 +6,7 @@ use Rattle.std.specs.Prelude.{ℕ, ℤ, pos, ◌≤ℤ◌, ◌<ℤ◌}
 abbrev pub degree : ℕ
 degree = 600000000
 
--- the number of units in a whole turn
+-- the number of units in a full circle
 abbrev pub circle : ℕ
 circle = 216000000000
 
@@ -14,7 +14,7 @@ circle = 216000000000
 abbrev pub radian : ℕ
 radian = 34377467708
 
--- an angle on the circle: from 0, and below the whole turn
+-- an angle on the circle: from 0, and below the full circle
 pub record IsOnCircle (p : ℤ) : Type 0 where
   pub least : pos 0 ≤ℤ p
   pub below : p <ℤ pos circle

@@ -2,6 +2,6 @@ pub mod Circle
 pub mod Table
 pub mod Sine
 pub mod Rate
-pub mod Turn
+pub mod BinaryAngle
 pub mod Chords
 pub mod Workings

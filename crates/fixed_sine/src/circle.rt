@@ -7,7 +7,7 @@ ghost use Rattle.fixed_sine.specs.Circle.{circle, IsOnCircle};
 /// The number of units in a degree.
 pub const DEGREE: i64 = 600_000_000;
 
-/// The number of units in a whole turn.
+/// The number of units in a full circle.
 pub const CIRCLE: i64 = 216_000_000_000;
 
 /// The number of units in a radian, rounded to a whole number.

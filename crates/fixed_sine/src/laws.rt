@@ -6,7 +6,7 @@ ghost use Rattle.fixed_sine.specs.Circle.{circle};
 ghost use Rattle.fixed_sine.specs.Table.{sine_at, rise, correction};
 ghost use Rattle.fixed_sine.specs.Sine.{isin_of, icos_of};
 ghost use Rattle.fixed_sine.specs.Rate.{step_of, RateLaw};
-ghost use Rattle.fixed_sine.specs.Turn.{units_of};
+ghost use Rattle.fixed_sine.specs.BinaryAngle.{units_of};
 ghost use Rattle.fixed_sine.specs.Chords.{chord_error, chord_sine_of};
 
 /// Proves two checks of the whole table: the rise of a degree plus a quarter of its correction is at most
@@ -31,9 +31,9 @@ pub fn sine_rates()
 {}
 
 /// Proves that [`crate::chord_sine`] is within 38,100 billionths of the sine.
-pub fn chords_are_near()
-    ensures { (turn : ℕ) → turn < 2 ^ 64
-        → unsigned_abs (chord_sine_of turn -ℤ isin_of (units_of turn)) ≤ chord_error }
+pub fn chords_are_approximate()
+    ensures { (binary_angle : ℕ) → binary_angle < 2 ^ 64
+        → unsigned_abs (chord_sine_of binary_angle -ℤ isin_of (units_of binary_angle)) ≤ chord_error }
 {}
 
 /// Proves values of sine, cosine, step and fractions of a turn that were computed elsewhere.

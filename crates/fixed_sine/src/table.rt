@@ -6,7 +6,7 @@ ghost use Rattle.fixed_sine.specs.Table.{sine_at, rise, correction};
 
 /// The row of one degree.
 #[derive(Clone, Copy)]
-pub struct Row {
+pub struct SineRow {
     /// The change of the sine per unit at the begin of the degree, in billionths, times 4 * degree *
     /// degree.
     pub slope: i64,
@@ -201,14 +201,14 @@ static ROWS: [(i64, u32, u32); 180] = [
 ];
 
 /// Returns the row of `degrees`, from 0 to 179. The corrections after 89 mirror those before it.
-pub fn row_of(degrees: usize) -> Row
+pub fn row_of(degrees: usize) -> SineRow
     requires { degrees < 180 }
     ensures slope { result.slope ≡ (pos (4 * degree) *ℤ rise degrees) +ℤ pos (degree * result.correction) }
     ensures sine { pos result.sine ≡ sine_at (pos degrees) }
     ensures correction { correction (min degrees (179 - degrees)) ≡ neg_ℤ (pos result.correction) }
 {
     let row = &ROWS[degrees];
-    Row {
+    SineRow {
         slope: row.0,
         sine: row.1,
         correction: row.2,

@@ -19,7 +19,8 @@ unchosen : (b : Bool) (n : ℕ) → cond b (Some n) None ≡ None → b ≡ fals
 unchosen true n e = absurd cc
 unchosen false n e = refl
 
-pub position_some : (p : ℕ → Bool) (xs : List ℕ) (k : ℕ) → position p xs ≡ Some k → (position_or_len p xs ≡ k) × (position_or_len p xs < length xs)
+pub position_some : (p : ℕ → Bool) (xs : List ℕ) (k : ℕ) → position p xs ≡ Some k
+    → (position_or_len p xs ≡ k) × (position_or_len p xs < length xs)
 position_some p xs k e =
     let c = chosen (ltb (position_or_len p xs) (length xs)) (position_or_len p xs) k e in
     (c.1, ltb-true _ _ c.0)
@@ -33,7 +34,8 @@ unwrapped false n m h = h refl
 
 pub unwrap_or-position : (p : ℕ → Bool) (xs : List ℕ) → unwrap_or (position p xs) (length xs) ≡ position_or_len p xs
 unwrap_or-position p xs =
-    unwrapped (ltb (position_or_len p xs) (length xs)) (position_or_len p xs) (length xs) (λ e. omega (arith, ltb-false (position_or_len p xs) (length xs) e, prefix_len-le-length (λ x. not (p x)) xs))
+    unwrapped (ltb (position_or_len p xs) (length xs)) (position_or_len p xs) (length xs)
+    (λ e. omega (arith, ltb-false (position_or_len p xs) (length xs) e, prefix_len-le-length (λ x. not (p x)) xs))
 
 -- ---- the first token
 
@@ -45,8 +47,10 @@ pub tokens_none : (xs : List ℕ) → length xs ≤ position_or_len is_visible x
 unfolding tokens
 tokens_none [] le = refl
 tokens_none (b ∷ bs) le =
-    elim (is_blank b) as (λ t. is_blank b ≡ t → (1 + length bs ≤ cond (not (not t)) (1 + position_or_len is_visible bs) 0) → tokens (b ∷ bs) ≡ [])
-    [ true ↦ λ e h. tokens_blank b bs e ∙ tokens_none bs (omega (arith, h)) | false ↦ λ e h. absurd (omega (arith, h)) ] refl (omega (arith, le))
+    elim (is_blank b) as (λ t. is_blank b ≡ t
+    → (1 + length bs ≤ cond (not (not t)) (1 + position_or_len is_visible bs) 0) → tokens (b ∷ bs) ≡ [])
+    [ true ↦ λ e h. tokens_blank b bs e ∙ tokens_none bs (omega (arith, h)) | false ↦ λ e h. absurd (omega (arith, h)) ]
+    refl (omega (arith, le))
 
 pub tokens_skip : (xs : List ℕ) → tokens xs ≡ tokens (drop (position_or_len is_visible xs) xs)
 tokens_skip [] = refl
@@ -61,42 +65,51 @@ rest_of : List ℕ → List (List ℕ)
 rest_of [] = []
 rest_of (y ∷ ys) = slice_split is_blank ys
 
-split_first : (xs : List ℕ) → slice_split is_blank xs ≡ take (position_or_len is_blank xs) xs ∷ rest_of (drop (position_or_len is_blank xs) xs)
+split_first : (xs : List ℕ)
+    → slice_split is_blank xs ≡ take (position_or_len is_blank xs) xs ∷ rest_of (drop (position_or_len is_blank xs) xs)
 unfolding rest_of
 split_first [] = refl
 split_first (b ∷ bs) =
     let n = position_or_len is_blank bs in
     let e : 1 + n ≡ suc n = omega arith in
-    elim (is_blank b) as (λ t. cond t ([] ∷ slice_split is_blank bs) (onto_first b (slice_split is_blank bs)) ≡ take (cond (not t) (1 + n) 0) (b ∷ bs) ∷ rest_of (drop (cond (not t) (1 + n) 0) (b ∷ bs)))
+    elim (is_blank b) as (λ t. cond t ([] ∷ slice_split is_blank bs) (onto_first b (slice_split is_blank bs))
+    ≡ take (cond (not t) (1 + n) 0) (b ∷ bs) ∷ rest_of (drop (cond (not t) (1 + n) 0) (b ∷ bs)))
     [ true ↦ refl | false ↦ rw (e, split_first bs) refl ]
 
-tokens_rest : (xs : List ℕ) → filter is_filled (rest_of (drop (position_or_len is_blank xs) xs)) ≡ tokens (drop (position_or_len is_blank xs) xs)
+tokens_rest : (xs : List ℕ) → filter is_filled (rest_of (drop (position_or_len is_blank xs) xs))
+    ≡ tokens (drop (position_or_len is_blank xs) xs)
 unfolding rest_of tokens
 tokens_rest [] = refl
 tokens_rest (b ∷ bs) =
     let n = position_or_len is_blank bs in
     let e : 1 + n ≡ suc n = omega arith in
-    elim (is_blank b) as (λ t. is_blank b ≡ t → filter is_filled (rest_of (drop (cond (not t) (1 + n) 0) (b ∷ bs))) ≡ tokens (drop (cond (not t) (1 + n) 0) (b ∷ bs)))
+    elim (is_blank b) as (λ t. is_blank b ≡ t → filter is_filled (rest_of (drop (cond (not t) (1 + n) 0) (b ∷ bs)))
+    ≡ tokens (drop (cond (not t) (1 + n) 0) (b ∷ bs)))
     [ true ↦ λ h. sym (tokens_blank b bs h) | false ↦ λ h. rw e (tokens_rest bs) ] refl
 
-filled : (xs : List ℕ) (n : ℕ) (more : List (List ℕ)) → 0 < n → n ≤ length xs → filter is_filled (take n xs ∷ more) ≡ take n xs ∷ filter is_filled more
+filled : (xs : List ℕ) (n : ℕ) (more : List (List ℕ)) → 0 < n → n ≤ length xs
+    → filter is_filled (take n xs ∷ more) ≡ take n xs ∷ filter is_filled more
 filled [] n more some le = absurd (omega (arith, some, le))
 filled (x ∷ xs) n more some le =
     let e : n ≡ suc (n - 1) = omega arith in
     rw e refl
 
-pub tokens_first : (xs : List ℕ) → 0 < position_or_len is_blank xs → tokens xs ≡ take (position_or_len is_blank xs) xs ∷ tokens (drop (position_or_len is_blank xs) xs)
+pub tokens_first : (xs : List ℕ) → 0 < position_or_len is_blank xs
+    → tokens xs ≡ take (position_or_len is_blank xs) xs ∷ tokens (drop (position_or_len is_blank xs) xs)
 unfolding tokens
 tokens_first xs some =
-    ap (filter is_filled) (split_first xs) ∙ filled xs (position_or_len is_blank xs) (rest_of (drop (position_or_len is_blank xs) xs)) some (prefix_len-le-length (λ x. not (is_blank x)) xs)
+    ap (filter is_filled) (split_first xs) ∙ filled xs (position_or_len is_blank xs)
+    (rest_of (drop (position_or_len is_blank xs) xs)) some (prefix_len-le-length (λ x. not (is_blank x)) xs)
     ∙ ap (λ (ts : List (List ℕ)). take (position_or_len is_blank xs) xs ∷ ts) (tokens_rest xs)
 
-pub starts_visible : (xs : List ℕ) → position_or_len is_visible xs < length xs → 0 < position_or_len is_blank (drop (position_or_len is_visible xs) xs)
+pub starts_visible : (xs : List ℕ) → position_or_len is_visible xs < length xs
+    → 0 < position_or_len is_blank (drop (position_or_len is_visible xs) xs)
 starts_visible [] lt = absurd (omega (arith, lt))
 starts_visible (b ∷ bs) lt =
     let n = position_or_len is_visible bs in
     let e : 1 + n ≡ suc n = omega arith in
-    elim (is_blank b) as (λ t. is_blank b ≡ t → (cond (not (not t)) (1 + n) 0 < 1 + length bs) → 0 < position_or_len is_blank (drop (cond (not (not t)) (1 + n) 0) (b ∷ bs)))
+    elim (is_blank b) as (λ t. is_blank b ≡ t → (cond (not (not t)) (1 + n) 0 < 1 + length bs)
+    → 0 < position_or_len is_blank (drop (cond (not (not t)) (1 + n) 0) (b ∷ bs)))
     [ true ↦ λ h l. rw e (starts_visible bs (omega (arith, l))) | false ↦ λ h l. rw h (omega arith) ] refl (omega (arith, lt))
 
 -- ---- the cuts of the code
@@ -104,7 +117,9 @@ starts_visible (b ∷ bs) lt =
 pub token_none : (xs : List ℕ) → position is_visible xs ≡ None → tokens xs ≡ []
 token_none xs e = tokens_none xs (position_none is_visible xs e)
 
-pub token_some : (xs rest token after : List ℕ) (k n : ℕ) → position is_visible xs ≡ Some k → rest ≡ drop k xs → n ≡ unwrap_or (position is_blank rest) (length rest) → token ≡ take n rest → after ≡ drop n rest → tokens xs ≡ token ∷ tokens after
+pub token_some : (xs rest token after : List ℕ) (k n : ℕ) → position is_visible xs ≡ Some k → rest ≡ drop k xs
+    → n ≡ unwrap_or (position is_blank rest) (length rest) → token ≡ take n rest → after ≡ drop n rest
+    → tokens xs ≡ token ∷ tokens after
 token_some xs rest token after k n e r m t a =
     let p = position_some is_visible xs k e in
     let q : n ≡ position_or_len is_blank rest = m ∙ unwrap_or-position is_blank rest in
@@ -112,20 +127,24 @@ token_some xs rest token after k n e r m t a =
     let one : tokens xs ≡ tokens rest = rw (r, ← p.0) (tokens_skip xs) in
     one ∙ rw (t, a, q) (tokens_first rest some)
 
-pub token_shorter : (xs rest : List ℕ) (k n : ℕ) → position is_visible xs ≡ Some k → rest ≡ drop k xs → n ≡ unwrap_or (position is_blank rest) (length rest) → 0 < n
+pub token_shorter : (xs rest : List ℕ) (k n : ℕ) → position is_visible xs ≡ Some k → rest ≡ drop k xs
+    → n ≡ unwrap_or (position is_blank rest) (length rest) → 0 < n
 token_shorter xs rest k n e r m =
     let p = position_some is_visible xs k e in
     let q : n ≡ position_or_len is_blank rest = m ∙ unwrap_or-position is_blank rest in
     let some : 0 < position_or_len is_blank rest = rw (r, ← p.0) (starts_visible xs p.1) in
     omega arith
 
-pub trimmed_is : (xs visible : List ℕ) (n : ℕ) → n ≡ unwrap_or (position is_visible xs) (length xs) → visible ≡ drop n xs → without_blank_end visible ≡ trimmed xs
+pub trimmed_is : (xs visible : List ℕ) (n : ℕ) → n ≡ unwrap_or (position is_visible xs) (length xs)
+    → visible ≡ drop n xs → without_blank_end visible ≡ trimmed xs
 unfolding trimmed
 trimmed_is xs visible n m v = rw (v, m ∙ unwrap_or-position is_visible xs) refl
 
 -- ---- the time of a meridian
 
-pub clock_is : (text hour rest minute : List ℕ) (k : ℕ) (r : Option ℕ) → position is_colon text ≡ Some k → hour ≡ take k text → rest ≡ drop k text → minute ≡ drop 1 rest → r ≡ minutes_of (digits_of 2 hour) (two_digits_of minute) → r ≡ clock_of text
+pub clock_is : (text hour rest minute : List ℕ) (k : ℕ) (r : Option ℕ) → position is_colon text ≡ Some k
+    → hour ≡ take k text → rest ≡ drop k text → minute ≡ drop 1 rest
+    → r ≡ minutes_of (digits_of 2 hour) (two_digits_of minute) → r ≡ clock_of text
 unfolding clock_of
 clock_is text hour rest minute k r e h d m i =
     let p = position_some is_colon text k e in

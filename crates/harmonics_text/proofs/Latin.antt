@@ -9,9 +9,11 @@ use Rattle.harmonics_text.specs.Latin.{utf8_byte_or_two, without_bytes}
 use Rattle.std.proofs.lemmas.List.{append-nil, take_more}
 use Rattle.std.proofs.lemmas.Str.{encodes-append}
 
-pub encode_utf8_all_more : (latin : List ℕ) (i : ℕ) (text : List ℕ) → i < length latin → text ≡ encode_utf8_all (take i latin) → text ++ encode_utf8 (get_or latin i 0) ≡ encode_utf8_all (take (i + 1) latin)
+pub encode_utf8_all_more : (latin : List ℕ) (i : ℕ) (text : List ℕ) → i < length latin → text
+    ≡ encode_utf8_all (take i latin) → text ++ encode_utf8 (get_or latin i 0) ≡ encode_utf8_all (take (i + 1) latin)
 encode_utf8_all_more latin i text lt e =
-    rw (take_more latin i 0 lt, encodes-append (take i latin) (get_or latin i 0 ∷ []), e) (ap (λ (l : List ℕ). encode_utf8_all (take i latin) ++ l) (sym (append-nil (encode_utf8 (get_or latin i 0)))))
+    rw (take_more latin i 0 lt, encodes-append (take i latin) (get_or latin i 0 ∷ []), e)
+    (ap (λ (l : List ℕ). encode_utf8_all (take i latin) ++ l) (sym (append-nil (encode_utf8 (get_or latin i 0)))))
 
 -- ---- a text that begins with a character
 
@@ -20,7 +22,8 @@ unfolding encode
 utf8_is c small =
     elim (cases_lt c 128) [
       | inl lt ↦ rw (lt-ltb c 128 lt) refl
-      | inr le ↦ let wide : c < 2048 = omega arith in let low : c / 64 % 64 ≡ c / 64 = omega arith in rw (le-ltb c 128 le, lt-ltb c 2048 wide) refl
+      | inr le ↦ let wide : c < 2048 = omega arith in let low : c / 64 % 64 ≡ c / 64 = omega arith in
+          rw (le-ltb c 128 le, lt-ltb c 2048 wide) refl
     ]
 
 same_byte : (b : ℕ) → eqb b b ≡ true
@@ -57,22 +60,29 @@ without_lost (b ∷ bs) (c ∷ text) tail e =
     ]
 
 -- the rest of a name after one more character
-pub name_more : (latin name rest after : List ℕ) (i : ℕ) → i < length latin → get_or latin i 0 < 256 → without_bytes (utf8_byte_or_two (get_or latin i 0)) rest ≡ Some after
-    → bytes_eq (encode_utf8_all (drop i latin)) rest ≡ bytes_eq (encode_utf8_all latin) name → bytes_eq (encode_utf8_all (drop (i + 1) latin)) after ≡ bytes_eq (encode_utf8_all latin) name
+pub name_more : (latin name rest after : List ℕ) (i : ℕ) → i < length latin → get_or latin i 0 < 256
+    → without_bytes (utf8_byte_or_two (get_or latin i 0)) rest ≡ Some after
+    → bytes_eq (encode_utf8_all (drop i latin)) rest ≡ bytes_eq (encode_utf8_all latin) name
+    → bytes_eq (encode_utf8_all (drop (i + 1) latin)) after ≡ bytes_eq (encode_utf8_all latin) name
 name_more latin name rest after i lt byte e so_far =
     let one : bytes_eq (encode_utf8_all (drop i latin)) rest ≡ bytes_eq (encode_utf8_all (drop (i + 1) latin)) after =
-    rw (drop_more latin i 0 lt, utf8_is (get_or latin i 0) byte) (without_found (utf8_byte_or_two (get_or latin i 0)) rest after (encode_utf8_all (drop (i + 1) latin)) e) in
+    rw (drop_more latin i 0 lt, utf8_is (get_or latin i 0) byte)
+    (without_found (utf8_byte_or_two (get_or latin i 0)) rest after (encode_utf8_all (drop (i + 1) latin)) e) in
     sym one ∙ so_far
 
-pub name_other : (latin name rest : List ℕ) (i : ℕ) → i < length latin → get_or latin i 0 < 256 → without_bytes (utf8_byte_or_two (get_or latin i 0)) rest ≡ None
+pub name_other : (latin name rest : List ℕ) (i : ℕ) → i < length latin → get_or latin i 0 < 256
+    → without_bytes (utf8_byte_or_two (get_or latin i 0)) rest ≡ None
     → bytes_eq (encode_utf8_all (drop i latin)) rest ≡ bytes_eq (encode_utf8_all latin) name → false ≡ bytes_eq (encode_utf8_all latin) name
 name_other latin name rest i lt byte e so_far =
     let one : bytes_eq (encode_utf8_all (drop i latin)) rest ≡ false =
-    rw (drop_more latin i 0 lt, utf8_is (get_or latin i 0) byte) (without_lost (utf8_byte_or_two (get_or latin i 0)) rest (encode_utf8_all (drop (i + 1) latin)) e) in
+    rw (drop_more latin i 0 lt, utf8_is (get_or latin i 0) byte)
+    (without_lost (utf8_byte_or_two (get_or latin i 0)) rest (encode_utf8_all (drop (i + 1) latin)) e) in
     sym one ∙ so_far
 
 -- if all characters are found, no byte may be left
-pub name_all : (latin name rest : List ℕ) (i : ℕ) (r : Bool) → length latin ≤ i → r ≡ eqb (length rest) 0 → bytes_eq (encode_utf8_all (drop i latin)) rest ≡ bytes_eq (encode_utf8_all latin) name → r ≡ bytes_eq (encode_utf8_all latin) name
+pub name_all : (latin name rest : List ℕ) (i : ℕ) (r : Bool) → length latin ≤ i → r ≡ eqb (length rest) 0
+    → bytes_eq (encode_utf8_all (drop i latin)) rest ≡ bytes_eq (encode_utf8_all latin) name
+    → r ≡ bytes_eq (encode_utf8_all latin) name
 name_all latin name rest i r le e so_far =
     let none : drop i latin ≡ [] = drop_all i latin le in
     let one : bytes_eq (encode_utf8_all (drop i latin)) rest ≡ eqb (length rest) 0 = rw none (empty_is rest) in

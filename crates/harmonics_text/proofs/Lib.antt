@@ -6,7 +6,7 @@ pub mod Steps
 pub mod Answer
 pub mod Values
 pub mod Ranges
-pub mod Sound
+pub mod Valid
 pub mod Keeping
 pub mod Readers
 pub mod Worked

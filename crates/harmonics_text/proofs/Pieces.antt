@@ -19,7 +19,8 @@ use Rattle.harmonics_text.proofs.Ranges.{neither}
 has_lf-push : (z : List ℕ) (b : ℕ) → has_lf z ≡ false → is_lf b ≡ false → has_lf (z ++ b ∷ []) ≡ false
 has_lf-push z b none other = rw (list_any-append, none, other) refl
 
-by_lines_from : (P : List ℕ → Type 0) → ((z : List ℕ) → has_lf z ≡ false → P z) → ((z r : List ℕ) → has_lf z ≡ false → P r → P (z ++ 10 ∷ r)) → (xs z : List ℕ) → has_lf z ≡ false → P (z ++ xs)
+by_lines_from : (P : List ℕ → Type 0) → ((z : List ℕ) → has_lf z ≡ false → P z)
+    → ((z r : List ℕ) → has_lf z ≡ false → P r → P (z ++ 10 ∷ r)) → (xs z : List ℕ) → has_lf z ≡ false → P (z ++ xs)
 by_lines_from P last line [] z none = subst P (sym (append-nil z)) (last z none)
 by_lines_from P last line (b ∷ bs) z none =
     elim (is_lf b) as (λ t. is_lf b ≡ t → P (z ++ b ∷ bs)) [
@@ -28,7 +29,8 @@ by_lines_from P last line (b ∷ bs) z none =
     ] refl
 
 -- induction over bytes: a property of bytes without LF that is preserved by one more line before them
-pub by_lines : (P : List ℕ → Type 0) → ((z : List ℕ) → has_lf z ≡ false → P z) → ((z r : List ℕ) → has_lf z ≡ false → P r → P (z ++ 10 ∷ r)) → (xs : List ℕ) → P xs
+pub by_lines : (P : List ℕ → Type 0) → ((z : List ℕ) → has_lf z ≡ false → P z)
+    → ((z r : List ℕ) → has_lf z ≡ false → P r → P (z ++ 10 ∷ r)) → (xs : List ℕ) → P xs
 by_lines P last line xs = by_lines_from P last line xs [] refl
 
 -- ---- all lines
@@ -94,13 +96,15 @@ prefix_stops (b ∷ bs) ys = rw (prefix_stops bs ys) refl
 suffix_first : (z r : List ℕ) → suffix_len is_other (z ++ 10 ∷ r) ≡ suffix_len is_other r
 suffix_first z r =
     let turned : reverse (z ++ 10 ∷ r) ≡ reverse r ++ 10 ∷ reverse z =
-    ap reverse (sym (append_assoc z (10 ∷ []) r)) ∙ reverse-append (z ++ 10 ∷ []) r ∙ ap (λ (ys : List ℕ). reverse r ++ ys) (reverse-append z (10 ∷ [])) in
+    ap reverse (sym (append_assoc z (10 ∷ []) r)) ∙ reverse-append (z ++ 10 ∷ []) r
+    ∙ ap (λ (ys : List ℕ). reverse r ++ ys) (reverse-append z (10 ∷ [])) in
     rw turned (prefix_stops (reverse r) (reverse z))
 
 pub pending_none : (z : List ℕ) → has_lf z ≡ false → pending_line z ≡ z
 unfolding pending_line
 pending_none z none =
-    let back : suffix_len is_other z ≡ length (reverse z) = prefix_all (reverse z) (sym (list_any-IsPermutation is_lf z (reverse z) (IsPermutation-reverse z)) ∙ none) in
+    let back : suffix_len is_other z ≡ length (reverse z) =
+    prefix_all (reverse z) (sym (list_any-IsPermutation is_lf z (reverse z) (IsPermutation-reverse z)) ∙ none) in
     let all : length z - suffix_len is_other z ≡ 0 = omega (arith, back, length-reverse z) in
     rw all refl
 
@@ -109,7 +113,8 @@ unfolding pending_line
 pending_first z r =
     let n = suffix_len is_other r in
     let le : n ≤ length r = omega (arith, prefix_len-le-length is_other (reverse r), length-reverse r) in
-    let at : length (z ++ 10 ∷ r) - n ≡ length (z ++ 10 ∷ []) + (length r - n) = omega (arith, length-append z (10 ∷ r), length-append z (10 ∷ [])) in
+    let at : length (z ++ 10 ∷ r) - n ≡ length (z ++ 10 ∷ []) + (length r - n) =
+    omega (arith, length-append z (10 ∷ r), length-append z (10 ∷ [])) in
     rw (suffix_first z r, at, ← append_assoc z (10 ∷ []) r) (drop-append-add (z ++ 10 ∷ []) r (length r - n))
 
 -- ---- the cuts of the code
@@ -136,7 +141,8 @@ first_lf (b ∷ bs) lt =
 pub line_none : (xs : List ℕ) → position is_lf xs ≡ None → has_lf xs ≡ false
 line_none xs e = no_lf xs (position_none is_lf xs e)
 
-pub line_some : (xs line rest after : List ℕ) (k : ℕ) → position is_lf xs ≡ Some k → line ≡ take k xs → rest ≡ drop k xs → after ≡ drop 1 rest → (xs ≡ line ++ 10 ∷ after) × (has_lf line ≡ false)
+pub line_some : (xs line rest after : List ℕ) (k : ℕ) → position is_lf xs ≡ Some k → line ≡ take k xs → rest ≡ drop k xs
+    → after ≡ drop 1 rest → (xs ≡ line ++ 10 ∷ after) × (has_lf line ≡ false)
 line_some xs line rest after k e l r a =
     let p = position_some is_lf xs k e in
     rw (l, a, r, ← p.0) (first_lf xs p.1)

@@ -96,10 +96,11 @@ name_byte b e = grind (arith, nat_tests)
 names_bytes : (latin : List ℕ) → list_all is_latin_name_byte latin ≡ true → All IsLatinNameByte latin
 names_bytes latin e k d lt = name_byte (get_or latin k d) (AllPass-from_list_all is_latin_name_byte latin e k d lt)
 
-pub name_sound : (most : ℕ) (latin name : List ℕ) → name_of most latin ≡ Ok name → IsName most name
+pub name_valid : (most : ℕ) (latin name : List ℕ) → name_of most latin ≡ Ok name → IsName most name
 unfolding name_of
-name_sound most latin name e =
-    let t = where_true (leb 1 (length latin) && leb (length latin) most && list_all is_latin_name_byte latin) _ (Ok (encode_utf8_all latin)) name e in
+name_valid most latin name e =
+    let t = where_true (leb 1 (length latin) && leb (length latin) most && list_all is_latin_name_byte latin) _
+    (Ok (encode_utf8_all latin)) name e in
     let k = both (leb 1 (length latin) && leb (length latin) most) (list_all is_latin_name_byte latin) t.0 in
     let l = both (leb 1 (length latin)) (leb (length latin) most) k.0 in
     record {
@@ -110,26 +111,27 @@ name_sound most latin name e =
       printable = names_bytes latin k.1;
     }
 
-new_name_sound : (earlier : List Constituent) (token name : List ℕ) → new_name_of earlier token ≡ Ok name → IsName 32 name
+new_name_valid : (earlier : List Constituent) (token name : List ℕ) → new_name_of earlier token ≡ Ok name → IsName 32 name
 unfolding new_name_of
-new_name_sound earlier token name e =
+new_name_valid earlier token name e =
     let t = unless (is_absent token || is_end token) _ _ name e in
     let b = bind_ok (name_of 32 token) (λ n. cond (has_name earlier n) (Err BadName) (Ok n)) name t.1 in
     let u = unless (has_name earlier b.0) _ (Ok b.0) name b.2 in
-    rw (← ok_is b.0 name u.1) (name_sound 32 token b.0 b.1)
+    rw (← ok_is b.0 name u.1) (name_valid 32 token b.0 b.1)
 
-constituent_sound : (earlier : List Constituent) (tokens : List (List ℕ)) (c : Constituent) → constituent_from earlier tokens ≡ Ok c → IsConstituent c
+constituent_valid : (earlier : List Constituent) (tokens : List (List ℕ)) (c : Constituent)
+    → constituent_from earlier tokens ≡ Ok c → IsConstituent c
 unfolding constituent_from
-constituent_sound earlier [] c e = absurd cc
-constituent_sound earlier (first ∷ rest) c e =
+constituent_valid earlier [] c e = absurd cc
+constituent_valid earlier (first ∷ rest) c e =
     let b = bind_ok (new_name_of earlier first) _ c e in
     let d = bind_ok (or_fault _ (only rest)) _ c b.2 in
     let n = bind_ok (number_of Speed d.0) _ c d.2 in
-    rw (← ok_is _ c n.2) record { name = new_name_sound earlier first b.0 b.1; speed = number_within Speed d.0 n.0 n.1 }
+    rw (← ok_is _ c n.2) record { name = new_name_valid earlier first b.0 b.1; speed = number_within Speed d.0 n.0 n.1 }
 
 pub IsConstituent-of : (earlier : List Constituent) (text : List ℕ) (c : Constituent) → constituent_of earlier text ≡ Ok c → IsConstituent c
 unfolding constituent_of
-IsConstituent-of earlier text c e = constituent_sound earlier _ c e
+IsConstituent-of earlier text c e = constituent_valid earlier _ c e
 
 -- ---- a station's lines
 
@@ -160,32 +162,33 @@ minutes_small (Some h) (Some m) n e =
 
 clock_small : (text : List ℕ) (n : ℕ) → clock_of text ≡ Some n → n ≤ 959
 unfolding clock_of
-clock_small text n e = clock_if (ltb (position_or_len is_colon text) (length text)) (minutes_of (digits_of 2 (before_first is_colon text)) (two_digits_of (after_first is_colon text))) n (minutes_small _ _ n) e
+clock_small text n e = clock_if (ltb (position_or_len is_colon text) (length text))
+    (minutes_of (digits_of 2 (before_first is_colon text)) (two_digits_of (after_first is_colon text))) n (minutes_small _ _ n) e
 
-meridian_sound : (token : List ℕ) (m : ℤ) → meridian_of token ≡ Ok m → IsWithin (negsuc 958) (pos 959) m
+meridian_valid : (token : List ℕ) (m : ℤ) → meridian_of token ≡ Ok m → IsWithin (negsuc 958) (pos 959) m
 unfolding meridian_of
-meridian_sound token m e =
+meridian_valid token m e =
     let b = bind_ok (or_fault BadMeridian (clock_of (without_leading_sign token))) _ m e in
     let small = clock_small (without_leading_sign token) b.0 (known BadMeridian _ b.0 b.1) in
     rw (← ok_is _ m b.2) (signed_within (starts_with_minus token) b.0 small)
 
-local_time_sound : (tokens : List (List ℕ)) (p : LocalTime) → local_time_from tokens ≡ Ok p → IsWithin (negsuc 958) (pos 959) p.meridian
+local_time_valid : (tokens : List (List ℕ)) (p : LocalTime) → local_time_from tokens ≡ Ok p → IsWithin (negsuc 958) (pos 959) p.meridian
 unfolding local_time_from
-local_time_sound [] p e = absurd cc
-local_time_sound (a ∷ []) p e = let b = bind_ok (meridian_of a) _ p e in rw (← ok_is _ p b.2) (meridian_sound a b.0 b.1)
-local_time_sound (a ∷ z ∷ []) p e =
+local_time_valid [] p e = absurd cc
+local_time_valid (a ∷ []) p e = let b = bind_ok (meridian_of a) _ p e in rw (← ok_is _ p b.2) (meridian_valid a b.0 b.1)
+local_time_valid (a ∷ z ∷ []) p e =
     let b = bind_ok (meridian_of a) _ p e in
     let d = bind_ok (zone_of z) _ p b.2 in
-    rw (← ok_is _ p d.2) (meridian_sound a b.0 b.1)
-local_time_sound (a ∷ z ∷ y ∷ more) p e = absurd cc
+    rw (← ok_is _ p d.2) (meridian_valid a b.0 b.1)
+local_time_valid (a ∷ z ∷ y ∷ more) p e = absurd cc
 
-pub local_time_of_sound : (text : List ℕ) (p : LocalTime) → local_time_of text ≡ Ok p → IsWithin (negsuc 958) (pos 959) p.meridian
+pub local_time_of_valid : (text : List ℕ) (p : LocalTime) → local_time_of text ≡ Ok p → IsWithin (negsuc 958) (pos 959) p.meridian
 unfolding local_time_of
-local_time_of_sound text p e = local_time_sound (tokens text) p e
+local_time_of_valid text p e = local_time_valid (tokens text) p e
 
-pub datum_sound : (text : List ℕ) (d : ℤ × Units) → datum_of text ≡ Ok d → IsWithin (negsuc 9999999999) (pos 10000000000) d.0
+pub datum_valid : (text : List ℕ) (d : ℤ × Units) → datum_of text ≡ Ok d → IsWithin (negsuc 9999999999) (pos 10000000000) d.0
 unfolding datum_of
-datum_sound text d e =
+datum_valid text d e =
     let b = bind_ok (or_fault BadUnits (only_two (tokens text))) _ d e in
     let n = bind_ok (number_of Height b.0.0) _ d b.2 in
     let u = bind_ok (units_of b.0.1) _ d n.2 in
@@ -196,22 +199,26 @@ pub record IsPair (p : ℤ × ℤ) : Type 0 where
   pub epoch : IsWithin (negsuc 7199999999) (pos 7200000000) p.1
 
 zero_pair : IsPair (pos 0, pos 0)
-zero_pair = record { amplitude = record { least = omega (arith, ints); most = omega (arith, ints) }; epoch = record { least = omega (arith, ints); most = omega (arith, ints) } }
+zero_pair = record {
+  amplitude = record { least = omega (arith, ints); most = omega (arith, ints) };
+  epoch = record { least = omega (arith, ints); most = omega (arith, ints) };
+}
 
 either_pair : (absent : Bool) (p : ℤ × ℤ) → IsPair p → IsPair (cond absent (pos 0, pos 0) p)
 either_pair true p h = zero_pair
 either_pair false p h = h
 
-pair_from_sound : (name : List ℕ) (tokens : List (List ℕ)) (p : ℤ × ℤ) → pair_from name tokens ≡ Ok p → IsPair p
+pair_from_valid : (name : List ℕ) (tokens : List (List ℕ)) (p : ℤ × ℤ) → pair_from name tokens ≡ Ok p → IsPair p
 unfolding pair_from
-pair_from_sound name [] p e = absurd cc
-pair_from_sound name (first ∷ rest) p e =
+pair_from_valid name [] p e = absurd cc
+pair_from_valid name (first ∷ rest) p e =
     let k = bind_ok (if_true (is_absent first || is_name first name) WrongConstituent) _ p e in
     let b = bind_ok (or_fault BadNumber (only_two rest)) _ p k.2 in
     let a = bind_ok (number_of Height b.0.0) _ p b.2 in
     let g = bind_ok (number_of Angle b.0.1) _ p a.2 in
-    rw (← ok_is _ p g.2) (either_pair (is_absent first) (a.0, g.0) record { amplitude = number_within Height b.0.0 a.0 a.1; epoch = number_within Angle b.0.1 g.0 g.1 })
+    rw (← ok_is _ p g.2) (either_pair (is_absent first)
+    (a.0, g.0) record { amplitude = number_within Height b.0.0 a.0 a.1; epoch = number_within Angle b.0.1 g.0 g.1 })
 
-pub pair_sound : (name text : List ℕ) (p : ℤ × ℤ) → pair_of name text ≡ Ok p → IsPair p
+pub pair_valid : (name text : List ℕ) (p : ℤ × ℤ) → pair_of name text ≡ Ok p → IsPair p
 unfolding pair_of
-pair_sound name text p e = pair_from_sound name (tokens text) p e
+pair_valid name text p e = pair_from_valid name (tokens text) p e

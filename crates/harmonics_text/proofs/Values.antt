@@ -15,62 +15,79 @@ use Rattle.harmonics_text.specs.declared.table.Table.{Table}
 use Rattle.harmonics_text.specs.declared.record.Constants.{Constants}
 use Rattle.harmonics_text.specs.declared.record.Record.{Record}
 use Rattle.harmonics_text.specs.declared.record.Record.TheVariants as records
-use Rattle.harmonics_text.specs.declared.draft.Draft.{Draft}
-use Rattle.harmonics_text.specs.declared.draft.Draft.TheVariants as drafts
+use Rattle.harmonics_text.specs.declared.book_parser.BookParser.{BookParser}
+use Rattle.harmonics_text.specs.declared.book_parser.BookParser.TheVariants as parsing
 use Rattle.harmonics_text.specs.Lines.{tokens}
 use Rattle.decimal_text.specs.Decimal.{after_point, made_of, decimal_of, scaled, scaled_or_bad, read_of}
 use Rattle.decimal_text.specs.Expected.{◌>>=◌}
 use Rattle.harmonics_text.specs.Rules.{in_scale, number_of, values_from, pair_from, pair_of}
-use Rattle.harmonics_text.specs.Workings.Drafts.{Fails, Follows, pushed, after_values, at_place, with_pair, after_pair, after_record, after_text}
+use Rattle.harmonics_text.specs.Workings.BookParsing.{Fails, Follows, pushed, after_values, at_place, with_pair, after_pair, after_record, after_text}
 use Rattle.harmonics_text.proofs.Steps.{unnamed}
 
-pub pushed_is : (s : Scale) (values : List ℤ) (token : List ℕ) (n : ℤ) (new : List ℤ) → number_of s token ≡ Ok n → new ≡ values ++ n ∷ [] → pushed s values token ≡ Ok new
+pub pushed_is : (s : Scale) (values : List ℤ) (token : List ℕ) (n : ℤ) (new : List ℤ) → number_of s token ≡ Ok n
+    → new ≡ values ++ n ∷ [] → pushed s values token ≡ Ok new
 unfolding pushed
 pushed_is s values token n new e new_is = rw (e, new_is) refl
 
 done_is : (x y : List ℤ) → (let r : Result (List ℤ) Why = Ok x in r) ≡ Ok y → x ≡ y
 done_is x y e = cc
 
-pub values_step : (s : Scale) (left : ℕ) (values : List ℤ) (token : List ℕ) (more : List (List ℕ)) (new : List ℤ) → 1 ≤ left → pushed s values token ≡ Ok new → values_from s left values (token ∷ more) ≡ values_from s (left - 1) new more
+pub values_step : (s : Scale) (left : ℕ) (values : List ℤ) (token : List ℕ) (more : List (List ℕ)) (new : List ℤ)
+    → 1 ≤ left → pushed s values token ≡ Ok new
+    → values_from s left values (token ∷ more) ≡ values_from s (left - 1) new more
 unfolding pushed values_from
 values_step s zero values token more new some e = absurd (omega (arith, some))
 values_step s (suc left) values token more new some e =
     let less : suc left - 1 ≡ left = omega arith in
-    let go : (r : Result ℤ Why) → (r >>= λ n. Ok (values ++ n ∷ [])) ≡ Ok new → (r >>= λ n. values_from s left (values ++ n ∷ []) more) ≡ values_from s left new more =
-    λ r. elim r as (λ (r : Result ℤ Why). (r >>= λ n. Ok (values ++ n ∷ [])) ≡ Ok new → (r >>= λ n. values_from s left (values ++ n ∷ []) more) ≡ values_from s left new more)
+    let go : (r : Result ℤ Why) → (r >>= λ n. Ok (values ++ n ∷ [])) ≡ Ok new
+    → (r >>= λ n. values_from s left (values ++ n ∷ []) more) ≡ values_from s left new more =
+    λ r. elim r as (λ (r : Result ℤ Why). (r >>= λ n. Ok (values ++ n ∷ [])) ≡ Ok new
+    → (r >>= λ n. values_from s left (values ++ n ∷ []) more) ≡ values_from s left new more)
     [ Ok n ↦ λ k. ap (λ (xs : List ℤ). values_from s left xs more) (done_is (values ++ n ∷ []) new k) | Err why ↦ λ k. absurd cc ] in
     rw less (go (number_of s token) e)
 
-values_fail : (s : Scale) (left : ℕ) (values : List ℤ) (token : List ℕ) (more : List (List ℕ)) (why : Why) → 1 ≤ left → pushed s values token ≡ Err why → values_from s left values (token ∷ more) ≡ Err why
+values_fail : (s : Scale) (left : ℕ) (values : List ℤ) (token : List ℕ) (more : List (List ℕ)) (why : Why) → 1 ≤ left
+    → pushed s values token ≡ Err why → values_from s left values (token ∷ more) ≡ Err why
 unfolding pushed values_from
 values_fail s zero values token more why some e = absurd (omega (arith, some))
 values_fail s (suc left) values token more why some e =
-    let go : (r : Result ℤ Why) → (r >>= λ n. Ok (values ++ n ∷ [])) ≡ Err why → (r >>= λ n. values_from s left (values ++ n ∷ []) more) ≡ Err why =
-    λ r. elim r as (λ (r : Result ℤ Why). (r >>= λ n. Ok (values ++ n ∷ [])) ≡ Err why → (r >>= λ n. values_from s left (values ++ n ∷ []) more) ≡ Err why)
+    let go : (r : Result ℤ Why) → (r >>= λ n. Ok (values ++ n ∷ [])) ≡ Err why
+    → (r >>= λ n. values_from s left (values ++ n ∷ []) more) ≡ Err why =
+    λ r. elim r as (λ (r : Result ℤ Why). (r >>= λ n. Ok (values ++ n ∷ [])) ≡ Err why
+    → (r >>= λ n. values_from s left (values ++ n ∷ []) more) ≡ Err why)
     [ Ok n ↦ λ k. absurd cc | Err other ↦ λ k. cc ] in
     go (number_of s token) e
 
 -- the end of a loop over the tokens
-pub values_end : (s : Scale) (t : Table) (text : List ℕ) (left : ℕ) (values : List ℤ) (rest : List ℕ) → values_from s left values (tokens rest) ≡ values_from s t.left t.values (tokens text) → tokens rest ≡ [] → after_values s t text ≡ Ok (record { place = at_place left t.place; left = left; values = values })
+pub values_end : (s : Scale) (t : Table) (text : List ℕ) (left : ℕ) (values : List ℤ) (rest : List ℕ)
+    → values_from s left values (tokens rest) ≡ values_from s t.left t.values (tokens text) → tokens rest ≡ []
+    → after_values s t text ≡ Ok (record { place = at_place left t.place; left = left; values = values })
 unfolding after_values values_from
 values_end s t text left values rest so_far none =
     let whole : values_from s t.left t.values (tokens text) ≡ Ok (left, values) = sym so_far ∙ ap (values_from s left values) none in
     rw whole refl
 
-pub values_full : (s : Scale) (t : Table) (text : List ℕ) (left : ℕ) (values : List ℤ) (rest token after : List ℕ) → values_from s left values (tokens rest) ≡ values_from s t.left t.values (tokens text) → tokens rest ≡ token ∷ tokens after → left ≡ 0 → after_values s t text ≡ Err BadNumber
+pub values_full : (s : Scale) (t : Table) (text : List ℕ) (left : ℕ) (values : List ℤ) (rest token after : List ℕ)
+    → values_from s left values (tokens rest) ≡ values_from s t.left t.values (tokens text)
+    → tokens rest ≡ token ∷ tokens after → left ≡ 0 → after_values s t text ≡ Err BadNumber
 unfolding after_values values_from
 values_full s t text left values rest token after so_far next none =
     let whole : values_from s t.left t.values (tokens text) ≡ Err BadNumber = sym so_far ∙ rw (next, none) refl in
     rw whole refl
 
-pub values_fails : (s : Scale) (t : Table) (text : List ℕ) (left : ℕ) (values : List ℤ) (rest token after : List ℕ) (e : LineFault) → values_from s left values (tokens rest) ≡ values_from s t.left t.values (tokens text) → tokens rest ≡ token ∷ tokens after → 1 ≤ left → Fails e (pushed s values token) → Fails e (after_values s t text)
+pub values_fails : (s : Scale) (t : Table) (text : List ℕ) (left : ℕ) (values : List ℤ) (rest token after : List ℕ)
+    (e : LineFault) → values_from s left values (tokens rest) ≡ values_from s t.left t.values (tokens text)
+    → tokens rest ≡ token ∷ tokens after → 1 ≤ left → Fails e (pushed s values token) → Fails e (after_values s t text)
 unfolding after_values
 values_fails s t text left values rest token after NoMemory so_far next some h = tt
 values_fails s t text left values rest token after (Bad why) so_far next some h =
-    let whole : values_from s t.left t.values (tokens text) ≡ Err why = sym so_far ∙ ap (values_from s left values) next ∙ values_fail s left values token (tokens after) why some h in
+    let whole : values_from s t.left t.values (tokens text) ≡ Err why =
+    sym so_far ∙ ap (values_from s left values) next ∙ values_fail s left values token (tokens after) why some h in
     rw whole refl
 
-pub values_goes_on : (s : Scale) (t : Table) (text : List ℕ) (left : ℕ) (values new : List ℤ) (rest token after : List ℕ) → values_from s left values (tokens rest) ≡ values_from s t.left t.values (tokens text) → tokens rest ≡ token ∷ tokens after → 1 ≤ left → pushed s values token ≡ Ok new
+pub values_goes_on : (s : Scale) (t : Table) (text : List ℕ) (left : ℕ) (values new : List ℤ)
+    (rest token after : List ℕ) → values_from s left values (tokens rest) ≡ values_from s t.left t.values (tokens text)
+    → tokens rest ≡ token ∷ tokens after → 1 ≤ left → pushed s values token ≡ Ok new
     → values_from s (left - 1) new (tokens after) ≡ values_from s t.left t.values (tokens text)
 values_goes_on s t text left values new rest token after so_far next some h =
     sym (values_step s left values token (tokens after) new some h) ∙ sym (ap (values_from s left values) next) ∙ so_far
@@ -80,14 +97,19 @@ values_goes_on s t text left values new rest token after so_far next some h =
 abbrev with_lists : Constants → List ℤ → List ℤ → Constants
 with_lists c amplitude epoch = record c { amplitude = amplitude; epoch = epoch }
 
-pub pair_added : (b : Book) (c : Constants) (text name : List ℕ) (p : ℤ × ℤ) (amplitude epoch : List ℤ) → name ≡ (get_or b.constituents (length c.amplitude) unnamed).name → pair_of name text ≡ Ok p → amplitude ≡ c.amplitude ++ p.0 ∷ [] → epoch ≡ c.epoch ++ p.1 ∷ []
+pub pair_added : (b : Book) (c : Constants) (text name : List ℕ) (p : ℤ × ℤ) (amplitude epoch : List ℤ)
+    → name ≡ (get_or b.constituents (length c.amplitude) unnamed).name → pair_of name text ≡ Ok p
+    → amplitude ≡ c.amplitude ++ p.0 ∷ [] → epoch ≡ c.epoch ++ p.1 ∷ []
     → after_pair b c text ≡ Ok (with_pair b (with_lists c amplitude epoch))
 unfolding after_pair unnamed
 pair_added b c text name p amplitude epoch name_is e a_is e_is = rw (← name_is, e, a_is, e_is) refl
 
 -- a pair that isn't the station's last
-pub pair_within : (d : Draft) (b : Book) (r : Record) (c new : Constants) (text : List ℕ) (result : Result (Unit {0}) LineFault) → d ≡ drafts.Stations b r → r ≡ records.Constants c → length c.amplitude + 1 < length b.constituents → IfOk result (λ _. length new.amplitude ≡ length c.amplitude + 1)
-    → Follows (λ _. with_pair b new) result (after_pair b c text) → Follows (λ _. drafts.Stations b (records.Constants new)) result (after_text d text)
+pub pair_within : (d : BookParser) (b : Book) (r : Record) (c new : Constants) (text : List ℕ)
+    (result : Result (Unit {0}) LineFault) → d ≡ parsing.Stations b r → r ≡ records.Constants c
+    → length c.amplitude + 1 < length b.constituents → IfOk result (λ _. length new.amplitude ≡ length c.amplitude + 1)
+    → Follows (λ _. with_pair b new) result (after_pair b c text)
+    → Follows (λ _. parsing.Stations b (records.Constants new)) result (after_text d text)
 unfolding after_text after_record
 pair_within d b r c new text (Ok x) d_is r_is lt one is =
     let more : ltb (length new.amplitude) (length b.constituents) ≡ true = lt-ltb _ _ (omega (arith, one)) in

@@ -1,5 +1,30 @@
 -- Lines of a file and tokens of a line (XTide's text harmonics file; this project).
-use Rattle.std.specs.Prelude.{ℕ, codes, ◌+◌, ◌-◌, ◌==◌, nat_eq, nat_lt, Bool, true, false, not, ◌&&◌, ◌||◌, if◌then◌else◌, List, [], ◌∷◌, length, take, drop, filter, Option, Some, None}
+use Rattle.std.specs.Prelude.{
+  ℕ,
+  codes,
+  ◌+◌,
+  ◌-◌,
+  ◌==◌,
+  nat_eq,
+  nat_lt,
+  Bool,
+  true,
+  false,
+  not,
+  ◌&&◌,
+  ◌||◌,
+  if◌then◌else◌,
+  List,
+  [],
+  ◌∷◌,
+  length,
+  take,
+  drop,
+  filter,
+  Option,
+  Some,
+  None,
+}
 use Rattle.std.specs.List.{onto_first, slice_split, list_all, starts_with, ends_with, position_or_len, suffix_len}
 
 -- a line without its LF, and its number

@@ -1,5 +1,23 @@
 -- The fault that a file's first bytes show, whatever bytes follow (this project).
-use Rattle.std.specs.Prelude.{◌≡◌, ℕ, ◌++◌, nat_lt, if◌then◌else◌, List, [], ◌∷◌, length, take, count_by, Option, Some, None, Result, Ok, Err}
+use Rattle.std.specs.Prelude.{
+  ◌≡◌,
+  ℕ,
+  ◌++◌,
+  nat_lt,
+  if◌then◌else◌,
+  List,
+  [],
+  ◌∷◌,
+  length,
+  take,
+  count_by,
+  Option,
+  Some,
+  None,
+  Result,
+  Ok,
+  Err,
+}
 use Rattle.std.specs.List.{after_last}
 use Rattle.harmonics_text.specs.declared.fault.BookFault.{BookFault}
 use Rattle.harmonics_text.specs.declared.fault.BookFault.TheVariants.{NoMemory}
@@ -33,10 +51,10 @@ unfoldable pub fault_so_far : List ℕ → Option At
 fault_so_far bytes = fault_in (book (kept (numbered 1 (judged_lines bytes))))
 
 -- A result is the fault so far, or that there is none, unless it is out of memory.
-abbrev pub GivesFault : Result (Unit {0}) BookFault → Option At → Type 0
-GivesFault (Ok x) fault = fault ≡ None
-GivesFault (Err NoMemory) fault = Unit {0}
-GivesFault (Err (faults.At line why)) fault = fault ≡ Some (record { line = line; why = why })
+abbrev pub ReturnsFault : Result (Unit {0}) BookFault → Option At → Type 0
+ReturnsFault (Ok x) fault = fault ≡ None
+ReturnsFault (Err NoMemory) fault = Unit {0}
+ReturnsFault (Err (faults.At line why)) fault = fault ≡ Some (record { line = line; why = why })
 
 -- a reader: the bytes that it was fed, and the fault that it returned
 pub record Fed : Type 0 where

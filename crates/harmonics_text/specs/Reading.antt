@@ -13,7 +13,19 @@ use Rattle.harmonics_text.specs.declared.scale.Scale.{Scale}
 use Rattle.harmonics_text.specs.declared.scale.Scale.TheVariants.{Angle, Factor}
 use Rattle.harmonics_text.specs.Lines.{Line, tokens, cut, numbered, kept, without_cr, is_too_long}
 use Rattle.decimal_text.specs.Expected.{◌>>=◌}
-use Rattle.harmonics_text.specs.Rules.{count_of, constituent_of, first_year_of, named, values_from, end_of, same_count_of, station_name_of, local_time_of, datum_of, pair_of}
+use Rattle.harmonics_text.specs.Rules.{
+  count_of,
+  constituent_of,
+  first_year_of,
+  named,
+  values_from,
+  end_of,
+  same_count_of,
+  station_name_of,
+  local_time_of,
+  datum_of,
+  pair_of,
+}
 
 -- the first fault of a file: the number of its line, and the reason
 pub record At : Type 0 where
@@ -71,7 +83,18 @@ station cs ls = do
   place ← one local_time_of name.1
   datum ← one datum_of place.1
   pair ← pairs cs [] [] datum.1
-  Ok (record { name = name.0; meridian = place.0.meridian; zone = place.0.zone; datum = datum.0.0; units = datum.0.1; amplitude = pair.0.0; epoch = pair.0.1 }, pair.1)
+  Ok (
+    record {
+      name = name.0;
+      meridian = place.0.meridian;
+      zone = place.0.zone;
+      datum = datum.0.0;
+      units = datum.0.1;
+      amplitude = pair.0.0;
+      epoch = pair.0.1;
+    },
+    pair.1,
+  )
 
 -- the most stations of a file
 unfoldable pub most_stations : ℕ
@@ -114,6 +137,6 @@ FailsBook NoMemory read = Unit {0}
 FailsBook (faults.At line why) read = read ≡ Err (record { line = line; why = why })
 
 -- A result is the book or the fault of the definition, unless it is out of memory.
-abbrev pub GivesBook : Result Book BookFault → Result Book At → Type 0
-GivesBook (Ok b) read = read ≡ Ok b
-GivesBook (Err e) read = FailsBook e read
+abbrev pub ReturnsBook : Result Book BookFault → Result Book At → Type 0
+ReturnsBook (Ok b) read = read ≡ Ok b
+ReturnsBook (Err e) read = FailsBook e read

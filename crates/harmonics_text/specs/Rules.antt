@@ -1,6 +1,42 @@
 -- The rules for each line of a harmonics file (XTide's text harmonics file; this project). A rule reads
 -- the text of a line.
-use Rattle.std.specs.Prelude.{ℕ, zero, suc, codes, ℤ, pos, negsuc, neg_ℤ, int_lt, ◌+◌, ◌*◌, ◌==◌, nat_eq, nat_le, nat_lt, Bool, true, false, ◌&&◌, ◌||◌, if◌then◌else◌, List, [], ◌∷◌, ◌++◌, length, drop, Option, Some, None, Result, Ok, Err, encode_utf8_all, option_and_then}
+use Rattle.std.specs.Prelude.{
+  ℕ,
+  zero,
+  suc,
+  codes,
+  ℤ,
+  pos,
+  negsuc,
+  neg_ℤ,
+  int_lt,
+  ◌+◌,
+  ◌*◌,
+  ◌==◌,
+  nat_eq,
+  nat_le,
+  nat_lt,
+  Bool,
+  true,
+  false,
+  ◌&&◌,
+  ◌||◌,
+  if◌then◌else◌,
+  List,
+  [],
+  ◌∷◌,
+  ◌++◌,
+  length,
+  drop,
+  Option,
+  Some,
+  None,
+  Result,
+  Ok,
+  Err,
+  encode_utf8_all,
+  option_and_then,
+}
 use Rattle.std.specs.List.{list_all, list_any, starts_with, before_first, after_first, position_or_len}
 use Rattle.std.specs.Str.{bytes_eq}
 use Rattle.std.specs.Str.Parse.{starts_with_minus, without_leading_sign}
@@ -13,7 +49,18 @@ use Rattle.harmonics_text.specs.declared.book.Constituent.{Constituent}
 use Rattle.harmonics_text.specs.declared.book.Units.{Units}
 use Rattle.harmonics_text.specs.declared.book.Units.TheVariants.{Feet, Meters, Knots, KnotsSquared}
 use Rattle.harmonics_text.specs.declared.fault.Why.{Why}
-use Rattle.harmonics_text.specs.declared.fault.Why.TheVariants.{BadCount, BadName, BadNumber, TooFine, OutOfRange, YearsDiffer, WrongConstituent, NoEnd, BadMeridian, BadUnits}
+use Rattle.harmonics_text.specs.declared.fault.Why.TheVariants.{
+  BadCount,
+  BadName,
+  BadNumber,
+  TooFine,
+  OutOfRange,
+  YearsDiffer,
+  WrongConstituent,
+  NoEnd,
+  BadMeridian,
+  BadUnits,
+}
 use Rattle.harmonics_text.specs.declared.scale.Scale.{Scale}
 use Rattle.harmonics_text.specs.declared.scale.Scale.TheVariants.{Speed, Angle, Factor, Height}
 use Rattle.harmonics_text.specs.declared.local_time.LocalTime.{LocalTime}

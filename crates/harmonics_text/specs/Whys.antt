@@ -1,7 +1,21 @@
 -- The numbers and the texts of the faults of a line (this project).
 use Rattle.std.specs.Prelude.{ℕ, List, codes}
 use Rattle.harmonics_text.specs.declared.fault.Why.{Why}
-use Rattle.harmonics_text.specs.declared.fault.Why.TheVariants.{BadCount, BadName, BadNumber, TooFine, OutOfRange, YearsDiffer, WrongConstituent, NoEnd, BadMeridian, BadUnits, CutShort, TooManyStations, LineTooLong}
+use Rattle.harmonics_text.specs.declared.fault.Why.TheVariants.{
+  BadCount,
+  BadName,
+  BadNumber,
+  TooFine,
+  OutOfRange,
+  YearsDiffer,
+  WrongConstituent,
+  NoEnd,
+  BadMeridian,
+  BadUnits,
+  CutShort,
+  TooManyStations,
+  LineTooLong,
+}
 
 -- the number of each reason
 abbrev pub number_of : Why → ℕ

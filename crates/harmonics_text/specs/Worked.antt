@@ -3,7 +3,18 @@ use Rattle.std.specs.Prelude.{ℕ, ◌-◌, pos, List, [], ◌∷◌, ◌++◌, 
 use Rattle.harmonics_text.specs.declared.book.Book.{Book}
 use Rattle.harmonics_text.specs.declared.book.Units.TheVariants.{Feet}
 use Rattle.harmonics_text.specs.declared.fault.Why.{Why}
-use Rattle.harmonics_text.specs.declared.fault.Why.TheVariants.{BadCount, BadName, BadNumber, TooFine, OutOfRange, YearsDiffer, WrongConstituent, NoEnd, BadMeridian, BadUnits}
+use Rattle.harmonics_text.specs.declared.fault.Why.TheVariants.{
+  BadCount,
+  BadName,
+  BadNumber,
+  TooFine,
+  OutOfRange,
+  YearsDiffer,
+  WrongConstituent,
+  NoEnd,
+  BadMeridian,
+  BadUnits,
+}
 
 -- the lines of a file with one constituent and one station
 abbrev pub pier_lines : List (List ℕ)
@@ -25,7 +36,15 @@ pier_book = record {
   years = 3;
   angles = pos 0 ∷ pos 0 ∷ pos 0 ∷ [];
   factors = pos 1000000 ∷ pos 1000000 ∷ pos 1000000 ∷ [];
-  stations = record { name = codes "Pier"; meridian = pos 0; zone = codes "UTC"; datum = pos 0; units = Feet; amplitude = pos 1000000 ∷ []; epoch = pos 0 ∷ [] } ∷ [];
+  stations = record {
+    name = codes "Pier";
+    meridian = pos 0;
+    zone = codes "UTC";
+    datum = pos 0;
+    units = Feet;
+    amplitude = pos 1000000 ∷ [];
+    epoch = pos 0 ∷ [];
+  } ∷ [];
 }
 
 -- another text for one line, and the fault of the changed file

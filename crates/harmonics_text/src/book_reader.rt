@@ -3,8 +3,8 @@
 ghost use Rattle.std.specs.Prelude.{◌≡◌, ◌+◌, ◌^◌, ◌++◌, ◌<◌, ◌≤◌, [], length, if◌then◌else◌, is_none, IfOk, IfSome, None};
 ghost use Rattle.std.specs.Result.{result_err};
 ghost use Rattle.harmonics_text.specs.Books.{IsBook};
-ghost use Rattle.harmonics_text.specs.Reading.{GivesBook, book_of};
-ghost use Rattle.harmonics_text.specs.Pieces.{GivesFault, fault_so_far, pending_length};
+ghost use Rattle.harmonics_text.specs.Reading.{ReturnsBook, book_of};
+ghost use Rattle.harmonics_text.specs.Pieces.{ReturnsFault, fault_so_far, pending_length};
 ghost use Rattle.decimal_text.specs.declared.limits.TheConstants.{MOST_BYTES};
 
 use crate::book::Book;
@@ -67,7 +67,7 @@ impl BookReader {
         requires { length self.old.bytes + length piece.now ≤ MOST_BYTES }
         ensures fed { self.new.bytes ≡ self.old.bytes ++ piece.now }
         ensures fault { self.new.fault ≡ result_err result }
-        ensures exact { GivesFault result (fault_so_far self.new.bytes) }
+        ensures exact { ReturnsFault result (fault_so_far self.new.bytes) }
         ensures again { IfSome self.old.fault (λ fault. result ≡ Err fault) }
     {
         self.history = self.history.then(piece);
@@ -84,9 +84,9 @@ impl BookReader {
     /// # Errors
     /// The [`BookFault`] that a call of [`BookReader::feed`] returned, or that the end of the file shows.
     pub fn finish(self) -> Result<Book, BookFault>
-        ensures exact { GivesBook result (book_of self.bytes) }
+        ensures exact { ReturnsBook result (book_of self.bytes) }
         ensures again { IfSome self.fault (λ fault. result ≡ Err fault) }
-        ensures sound { IfOk result IsBook }
+        ensures valid { IfOk result IsBook }
     {
         let BookReader {
             alloc,
@@ -107,7 +107,7 @@ impl BookReader {
     /// The program doesn't call it.
     pub fn pending(&self) -> u32
         ensures exact { result ≡ (if is_none self.now.fault then pending_length self.now.bytes else 0) }
-        ensures few { result ≤ 4096 }
+        ensures count_bound { result ≤ 4096 }
     {
         match self.fault {
             None => self.progress.pending.count(),

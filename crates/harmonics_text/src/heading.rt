@@ -2,7 +2,7 @@
 
 ghost use Rattle.std.specs.Prelude.{◌≡◌};
 ghost use Rattle.harmonics_text.specs.Rules.{is_absent, is_end, has_name, new_name_of, constituent_of};
-ghost use Rattle.harmonics_text.specs.Workings.Drafts.{Follows};
+ghost use Rattle.harmonics_text.specs.Workings.BookParsing.{Follows};
 
 use crate::book::Constituent;
 use crate::fault::{LineFault, Why};

@@ -1,6 +1,25 @@
 //! Theorems about reading a file, and examples of the definitions.
 
-ghost use Rattle.std.specs.Prelude.{◌≡◌, ◌≤◌, ℕ, List, ◌∷◌, ◌++◌, [], length, codes, map, take, replicate, pos, negsuc, Ok, Err, Some, None};
+ghost use Rattle.std.specs.Prelude.{
+  ◌≡◌,
+  ◌≤◌,
+  ℕ,
+  List,
+  ◌∷◌,
+  ◌++◌,
+  [],
+  length,
+  codes,
+  map,
+  take,
+  replicate,
+  pos,
+  negsuc,
+  Ok,
+  Err,
+  Some,
+  None,
+};
 ghost use Rattle.harmonics_text.specs.Rules.{count_of, station_name_of, local_time_of, pair_of};
 ghost use Rattle.harmonics_text.specs.Lines.{cut, numbered, kept, tokens};
 ghost use Rattle.harmonics_text.specs.Reading.{At, book_of};
@@ -53,5 +72,6 @@ pub fn worked_pieces()
 /// a bad line is reported as soon as it has ended.
 pub fn first_faults()
     ensures stand { (bytes more : List ℕ) (fault : At) → fault_so_far bytes ≡ Some fault → book_of (bytes ++ more) ≡ Err fault }
-    ensures told { (bytes : List ℕ) (fault : At) → book_of bytes ≡ Err fault → fault.line ≤ length (ended_lines bytes) → fault_so_far bytes ≡ Some fault }
+    ensures reported { (bytes : List ℕ) (fault : At) → book_of bytes ≡ Err fault
+        → fault.line ≤ length (ended_lines bytes) → fault_so_far bytes ≡ Some fault }
 {}

@@ -4,7 +4,19 @@ ghost use Rattle.std.specs.Prelude.{◌≡◌, ◌<◌, ◌∷◌, ◌++◌, [],
 ghost use Rattle.std.specs.List.{list_all};
 ghost use Rattle.std.specs.Option.{option_copied};
 ghost use Rattle.harmonics_text.specs.Workings.Readers.{has_lf};
-ghost use Rattle.harmonics_text.specs.Lines.{is_lf, is_blank, is_visible, is_comment, is_too_long, without_cr, tokens, only, only_two, trimmed, without_blank_end};
+ghost use Rattle.harmonics_text.specs.Lines.{
+  is_lf,
+  is_blank,
+  is_visible,
+  is_comment,
+  is_too_long,
+  without_cr,
+  tokens,
+  only,
+  only_two,
+  trimmed,
+  without_blank_end,
+};
 
 fn lf_at(bytes: &[u8]) -> Option<usize>
     ensures { result ≡ position is_lf bytes.now }

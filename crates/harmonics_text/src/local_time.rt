@@ -2,8 +2,17 @@
 
 ghost use Rattle.std.specs.Prelude.{◌≡◌, ◌≤◌, IfSome, position, encode_utf8_all};
 ghost use Rattle.std.specs.List.{list_all};
-ghost use Rattle.harmonics_text.specs.Rules.{is_colon, two_digits_of, minutes_of, clock_of, meridian_of, is_zone_byte, zone_of, local_time_of};
-ghost use Rattle.harmonics_text.specs.Workings.Drafts.{Follows};
+ghost use Rattle.harmonics_text.specs.Rules.{
+  is_colon,
+  two_digits_of,
+  minutes_of,
+  clock_of,
+  meridian_of,
+  is_zone_byte,
+  zone_of,
+  local_time_of,
+};
+ghost use Rattle.harmonics_text.specs.Workings.BookParsing.{Follows};
 
 use crate::fault::{LineFault, Why};
 use crate::lines::next_token;

@@ -5,7 +5,7 @@ ghost use Rattle.std.specs.Option.{option_copied};
 ghost use Rattle.harmonics_text.specs.Latin.{without_byte, without_bytes, utf8_byte_or_two};
 ghost use Rattle.std.specs.List.{list_all};
 ghost use Rattle.harmonics_text.specs.Rules.{is_latin_name_byte, name_of, is_name};
-ghost use Rattle.harmonics_text.specs.Workings.Drafts.{Follows};
+ghost use Rattle.harmonics_text.specs.Workings.BookParsing.{Follows};
 
 use crate::fault::{LineFault, Why};
 use decimal_text::Text;

@@ -2,7 +2,7 @@
 
 ghost use Rattle.std.specs.Prelude.{◌≡◌, ◌++◌, ◌≤◌, ◌↔◌, [], length, if◌then◌else◌, IfOk, IsTrue, Ok};
 ghost use Rattle.harmonics_text.specs.Lines.{is_comment, is_filled};
-ghost use Rattle.harmonics_text.specs.Workings.Drafts.{Follows};
+ghost use Rattle.harmonics_text.specs.Workings.BookParsing.{Follows};
 ghost use Rattle.harmonics_text.specs.Workings.Readers.{held};
 
 use crate::fault::{LineFault, Why};

@@ -1,12 +1,23 @@
 //! The state between two pieces of a file.
 
 ghost use Rattle.std.specs.Prelude.{◌≡◌, ◌+◌, ◌<◌, ◌≤◌, ◌^◌, ◌++◌, ◌∷◌, [], length, false, IfOk, MatchResult};
-ghost use Rattle.harmonics_text.specs.Workings.Drafts.{IsDraft, placed, book_in};
-ghost use Rattle.harmonics_text.specs.Workings.Readers.{IsProgress, GivesAt, FailsAt, has_lf, nothing_read, reached, with_pending, with_bytes, ended, finished};
+ghost use Rattle.harmonics_text.specs.Workings.BookParsing.{IsBookParser, placed, book_in};
+ghost use Rattle.harmonics_text.specs.Workings.Readers.{
+  IsProgress,
+  ReturnsAt,
+  FailsAt,
+  has_lf,
+  nothing_read,
+  reached,
+  with_pending,
+  with_bytes,
+  ended,
+  finished,
+};
 ghost use Rattle.std.specs.Result.{result_err};
 
 use crate::book::Book;
-use crate::draft::Draft;
+use crate::book_parser::BookParser;
 use crate::fault::{BookFault, LineFault, Why};
 use crate::lines::next_line;
 use crate::pending::Pending;
@@ -16,7 +27,7 @@ use std::alloc::{AllocError, Global};
 #[derive(Drop)]
 pub struct Progress {
     /// The parser state after the lines that have ended.
-    pub draft: Draft,
+    pub parser: BookParser,
     /// The number of the line that has not ended, counted from 1.
     pub number: u32,
     pub pending: Pending,
@@ -41,7 +52,7 @@ impl Progress {
     {
         let pending = Pending::new(alloc)?;
         Ok(Progress {
-            draft: Draft::Count,
+            parser: BookParser::Count,
             number: 1,
             pending,
         })
@@ -53,9 +64,10 @@ impl Progress {
     /// # Errors
     /// [`BookFault::At`] with the first bad line; [`BookFault::NoMemory`] if memory runs out.
     pub fn read_piece(&mut self, alloc: Global, piece: &[u8]) -> Result<(), BookFault>
-        requires sound { IsProgress self.old }
-        requires few { self.old.number + length piece.now < 2 ^ 32 }
-        ensures { GivesAt (reached self.new (result_err result)) (with_bytes self.old.draft self.old.number (self.old.pending ++ piece.now)) }
+        requires valid { IsProgress self.old }
+        requires count_bound { self.old.number + length piece.now < 2 ^ 32 }
+        ensures { ReturnsAt (reached self.new (result_err result))
+            (with_bytes self.old.parser self.old.number (self.old.pending ++ piece.now)) }
     {
         let Some((last, rest)) = next_line(piece) else {
             return self.add_rest(piece);
@@ -64,7 +76,7 @@ impl Progress {
             return Err(at_line(self.number, fault));
         }
         let line = self.pending.whole(last);
-        let (number, rest) = add_lines(&mut self.draft, self.number, alloc, line, rest)?;
+        let (number, rest) = add_lines(&mut self.parser, self.number, alloc, line, rest)?;
         self.number = number;
         self.pending.clear();
         self.add_rest(rest)
@@ -73,7 +85,8 @@ impl Progress {
     /// Appends `rest`, bytes of a line that doesn't end in them.
     #[tactic(auto, unfolding(crate::specs::Workings::Readers::with_pending))]
     fn add_rest(&mut self, rest: &[u8]) -> Result<(), BookFault>
-        ensures { GivesAt (reached self.new (result_err result)) (with_pending self.old.draft self.old.number (self.old.pending ++ rest.now)) }
+        ensures { ReturnsAt (reached self.new (result_err result))
+            (with_pending self.old.parser self.old.number (self.old.pending ++ rest.now)) }
     {
         match self.pending.add(rest) {
             Ok(()) => Ok(()),
@@ -87,15 +100,16 @@ impl Progress {
     /// [`BookFault::At`] if the last line is bad; [`BookFault::NoMemory`] if memory runs out.
     #[tactic(auto, unfolding(crate::specs::Workings::Readers::ended))]
     pub fn end(&mut self, alloc: Global) -> Result<(), BookFault>
-        requires sound { IsProgress self.old }
-        requires few { self.old.number + 1 < 2 ^ 32 }
-        ensures { MatchResult result (λ _. finished self.new.number (book_in self.new.draft) ≡ ended self.old) (λ fault. FailsAt fault (ended self.old)) }
+        requires valid { IsProgress self.old }
+        requires count_bound { self.old.number + 1 < 2 ^ 32 }
+        ensures { MatchResult result (λ _. finished self.new.number (book_in self.new.parser) ≡ ended self.old)
+            (λ fault. FailsAt fault (ended self.old)) }
     {
         if self.pending.is_empty() {
             return Ok(());
         }
         let line = self.pending.as_slice();
-        let (number, _) = add_lines(&mut self.draft, self.number, alloc, line, &[])?;
+        let (number, _) = add_lines(&mut self.parser, self.number, alloc, line, &[])?;
         self.number = number;
         self.pending.clear();
         Ok(())
@@ -106,9 +120,9 @@ impl Progress {
     /// # Errors
     /// [`BookFault::At`] with [`Why::CutShort`] if the file ends too early.
     pub fn into_book(self) -> Result<Book, BookFault>
-        ensures { GivesAt result (finished self.number (book_in self.draft)) }
+        ensures { ReturnsAt result (finished self.number (book_in self.parser)) }
     {
-        match self.draft.into_book() {
+        match self.parser.into_book() {
             Some(book) => Ok(book),
             None => Err(BookFault::At {
                 line: self.number,
@@ -121,22 +135,24 @@ impl Progress {
 /// Reads the line `first` and those that end in `bytes`: returns the number of the next line and the
 /// bytes left, or the fault.
 fn add_lines<'a>(
-    draft: &mut Draft,
+    parser: &mut BookParser,
     mut number: u32,
     alloc: Global,
     first: &[u8],
     bytes: &'a [u8],
 ) -> Result<(u32, &'a [u8]), BookFault>
-    requires sound { IsDraft draft.old }
+    requires valid { IsBookParser parser.old }
     requires one { has_lf first.now ≡ false }
-    requires few { number + length bytes.now + 1 < 2 ^ 32 }
-    ensures exact { MatchResult result (λ r. with_bytes draft.old number (first.now ++ 10 ∷ bytes.now) ≡ with_pending draft.new r.0 r.1.now) (λ e. FailsAt e (with_bytes draft.old number (first.now ++ 10 ∷ bytes.now))) }
+    requires count_bound { number + length bytes.now + 1 < 2 ^ 32 }
+    ensures exact { MatchResult result
+        (λ r. with_bytes parser.old number (first.now ++ 10 ∷ bytes.now) ≡ with_pending parser.new r.0 r.1.now)
+        (λ e. FailsAt e (with_bytes parser.old number (first.now ++ 10 ∷ bytes.now))) }
     ensures shorter { IfOk result (λ r. length r.1.now ≤ length bytes.now) }
 {
     let mut line = first;
     let mut rest = bytes;
     'lines: loop {
-        if let Err(fault) = draft.add_line(alloc, line) {
+        if let Err(fault) = parser.add_line(alloc, line) {
             return Err(at_line(number, fault));
         }
         number += 1;

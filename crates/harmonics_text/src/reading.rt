@@ -2,7 +2,7 @@
 
 ghost use Rattle.std.specs.Prelude.{◌≡◌, ◌≤◌, length, IfOk};
 ghost use Rattle.harmonics_text.specs.Books.{IsBook};
-ghost use Rattle.harmonics_text.specs.Reading.{GivesBook, book_of};
+ghost use Rattle.harmonics_text.specs.Reading.{ReturnsBook, book_of};
 ghost use Rattle.decimal_text.specs.declared.limits.TheConstants.{MOST_BYTES};
 
 use crate::book::Book;
@@ -35,8 +35,8 @@ use std::alloc::Global;
 /// ```
 pub fn read_book(alloc: Global, bytes: &[u8]) -> Result<Book, BookFault>
     requires { length bytes.now ≤ MOST_BYTES }
-    ensures exact { GivesBook result (book_of bytes.now) }
-    ensures sound { IfOk result IsBook }
+    ensures exact { ReturnsBook result (book_of bytes.now) }
+    ensures valid { IfOk result IsBook }
 {
     let mut reader = BookReader::new(alloc)?;
     // A fault is kept by the reader: `finish` returns it again.

@@ -2,7 +2,7 @@
 
 ghost use Rattle.std.specs.Prelude.{◌≡◌, pos, if◌then◌else◌};
 ghost use Rattle.harmonics_text.specs.Rules.{units_of, datum_of, pair_of};
-ghost use Rattle.harmonics_text.specs.Workings.Drafts.{station_of};
+ghost use Rattle.harmonics_text.specs.Workings.BookParsing.{station_of};
 
 use crate::book::{Station, Units};
 use crate::column::Column;

@@ -20,7 +20,7 @@ impl Scale {
     /// Returns the number of decimal places of the unit.
     pub fn places(self) -> u32
         ensures exact { result ≡ places_of self }
-        ensures few { result ≤ 9 }
+        ensures count_bound { result ≤ 9 }
     {
         match self {
             Scale::Speed | Scale::Angle => 7,

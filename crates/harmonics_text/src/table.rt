@@ -2,7 +2,15 @@
 
 ghost use Rattle.std.specs.Prelude.{◌≡◌, ◌<◌, ◌≤◌, length};
 ghost use Rattle.harmonics_text.specs.Rules.{named};
-ghost use Rattle.harmonics_text.specs.Workings.Drafts.{Follows, at_place, pushed, new_table, after_values, after_name, after_table_line};
+ghost use Rattle.harmonics_text.specs.Workings.BookParsing.{
+  Follows,
+  at_place,
+  pushed,
+  new_table,
+  after_values,
+  after_name,
+  after_table_line,
+};
 
 use crate::column::Column;
 use crate::fault::{LineFault, Why};
@@ -36,7 +44,7 @@ pub fn start_table(alloc: Global) -> Table
 }
 
 /// Appends the number in `token` to `values`.
-#[tactic(auto, unfolding(crate::specs::Workings::Drafts::pushed))]
+#[tactic(auto, unfolding(crate::specs::Workings::BookParsing::pushed))]
 fn push_number(values: &mut Column, scale: Scale, token: &[u8]) -> Result<(), LineFault>
     ensures { Follows (λ _. values.new) result (pushed scale values.old token.now) }
 {
@@ -53,7 +61,7 @@ fn next_place(left: u32, place: usize) -> usize
 }
 
 /// Returns `table` with the values of line `text`.
-#[tactic(auto, unfolding(crate::specs::Workings::Drafts::after_values))]
+#[tactic(auto, unfolding(crate::specs::Workings::BookParsing::after_values))]
 fn with_values(table: Table, scale: Scale, text: &[u8]) -> Result<Table, LineFault>
     requires { table.place < 500 }
     ensures { Follows (λ t. t) result (after_values scale table text.now) }
@@ -96,7 +104,7 @@ fn check_name(name: &Text, text: &[u8]) -> Result<(), Why>
 /// # Errors
 /// [`Why::WrongConstituent`] if the line should name the next constituent and doesn't, else the fault of
 /// the first bad number; [`LineFault::NoMemory`] if memory runs out.
-#[tactic(auto, unfolding(crate::specs::Workings::Drafts::after_table_line, crate::specs::Workings::Drafts::after_name))]
+#[tactic(auto, unfolding(crate::specs::Workings::BookParsing::after_table_line, crate::specs::Workings::BookParsing::after_name))]
 pub fn with_line(
     table: Table,
     heading: &Heading,
@@ -104,7 +112,7 @@ pub fn with_line(
     text: &[u8],
 ) -> Result<Table, LineFault>
     requires here { table.place < length heading.now.constituents }
-    requires few { length heading.now.constituents ≤ 500 }
+    requires count_bound { length heading.now.constituents ≤ 500 }
     ensures { Follows (λ t. t) result (after_table_line scale heading.now table text.now) }
 {
     if table.left > 0 {

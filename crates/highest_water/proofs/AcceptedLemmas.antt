@@ -94,7 +94,9 @@ or_next-assoc (WrongValue written computed) w x = refl
 or_next-assoc (Above cell) w x = refl
 or_next-assoc Accepted w x = refl
 
-cells_verdict-append : (c : Meaning) (at value a : ℤ) (number : ℕ) (xs ys : List PeakCell) → cells_verdict c at value a number (xs ++ ys) ≡ or_next (cells_verdict c at value a number xs) (cells_verdict c at value (a +ℤ pos (all_minutes xs)) (number + length xs) ys)
+cells_verdict-append : (c : Meaning) (at value a : ℤ) (number : ℕ) (xs ys : List PeakCell)
+    → cells_verdict c at value a number (xs ++ ys) ≡ or_next (cells_verdict c at value a number xs)
+    (cells_verdict c at value (a +ℤ pos (all_minutes xs)) (number + length xs) ys)
 unfolding cells_verdict all_minutes
 cells_verdict-append c at value a number [] ys =
     let here : a +ℤ pos 0 ≡ a = omega (arith, ints) in
@@ -103,7 +105,9 @@ cells_verdict-append c at value a number (x ∷ xs) ys =
     let rest = cells_verdict-append c at value (a +ℤ pos (minutes_of x)) (suc number) xs ys in
     let there : a +ℤ pos (minutes_of x) +ℤ pos (all_minutes xs) ≡ a +ℤ pos (minutes_of x + all_minutes xs) = omega (arith, ints) in
     let same : suc number + length xs ≡ number + suc (length xs) = omega arith in
-    rw (rest, there, same) (sym (or_next-assoc (cell_verdict c at value a number x) (cells_verdict c at value (a +ℤ pos (minutes_of x)) (suc number) xs) (cells_verdict c at value (a +ℤ pos (minutes_of x + all_minutes xs)) (number + suc (length xs)) ys)))
+    rw (rest, there, same)
+    (sym (or_next-assoc (cell_verdict c at value a number x) (cells_verdict c at value (a +ℤ pos (minutes_of x)) (suc number) xs)
+    (cells_verdict c at value (a +ℤ pos (minutes_of x + all_minutes xs)) (number + suc (length xs)) ys)))
 
 -- minutes of which none is higher
 record AreFit (c : Meaning) (at value begin end : ℤ) : Type 0 where
@@ -121,7 +125,8 @@ AreFit-part c at value begin end a b from to fit = record {
 not_higher : (at value m v : ℤ) → v ≤ℤ value → (m <ℤ at → v <ℤ value) → is_higher at value m v ≡ false
 not_higher at value m v most less = grind (arith, ints)
 
-single-right : (c : Meaning) (at value a : ℤ) (number : ℕ) → AreFit c at value a (a +ℤ pos 1) → cells_verdict c at value a number (Single ∷ []) ≡ Accepted
+single-right : (c : Meaning) (at value a : ℤ) (number : ℕ) → AreFit c at value a (a +ℤ pos 1)
+    → cells_verdict c at value a number (Single ∷ []) ≡ Accepted
 unfolding cells_verdict cell_verdict
 single-right c at value a number fit = by_test (int_eq a at)
     (λ here.
@@ -129,18 +134,24 @@ single-right c at value a number fit = by_test (int_eq a at)
     let right : int_eq value (c.track.value a) ≡ true = (Decides-int_eq value (c.track.value a)).1 (sym (rw (← at_it) at fit.has)) in
     rw (here, right) refl)
     (λ other.
-    let low = not_higher at value a (c.track.value a) (fit.greatest a (omega (arith, ints)) (omega (arith, ints))) (fit.first a (omega (arith, ints)) (omega (arith, ints))) in
+    let low = not_higher at value a (c.track.value a) (fit.greatest a (omega (arith, ints)) (omega (arith, ints)))
+    (fit.first a (omega (arith, ints)) (omega (arith, ints))) in
     rw (other, low) refl)
 
-under-right : (c : Meaning) (at value a : ℤ) (n number : ℕ) → is_under c at value a n ≡ true → cells_verdict c at value a number (Under n ∷ []) ≡ Accepted
+under-right : (c : Meaning) (at value a : ℤ) (n number : ℕ) → is_under c at value a n ≡ true
+    → cells_verdict c at value a number (Under n ∷ []) ≡ Accepted
 unfolding cells_verdict cell_verdict
 under-right c at value a n number under = rw under refl
 
-append-right : (c : Meaning) (at value a : ℤ) (n k number : ℕ) (xs ys : List PeakCell) → AreWhole n xs → ((number : ℕ) → cells_verdict c at value a number xs ≡ Accepted) → ((number : ℕ) → cells_verdict c at value (a +ℤ pos n) number ys ≡ Accepted) → cells_verdict c at value a number (xs ++ ys) ≡ Accepted
+append-right : (c : Meaning) (at value a : ℤ) (n k number : ℕ) (xs ys : List PeakCell) → AreWhole n xs
+    → ((number : ℕ) → cells_verdict c at value a number xs ≡ Accepted)
+    → ((number : ℕ) → cells_verdict c at value (a +ℤ pos n) number ys ≡ Accepted)
+    → cells_verdict c at value a number (xs ++ ys) ≡ Accepted
 append-right c at value a n k number xs ys whole first second =
     rw (cells_verdict-append c at value a number xs ys, first number, whole.whole) (second (number + length xs))
 
-split-right-within : (d : ℕ) (c : Meaning) (at value a : ℤ) (n : ℕ) → 1 ≤ n → n ≤ d → AreFit c at value a (a +ℤ pos n) → (number : ℕ) → cells_verdict c at value a number (peak_split c at value a n) ≡ Accepted
+split-right-within : (d : ℕ) (c : Meaning) (at value a : ℤ) (n : ℕ) → 1 ≤ n → n ≤ d → AreFit c at value a (a +ℤ pos n)
+    → (number : ℕ) → cells_verdict c at value a number (peak_split c at value a n) ≡ Accepted
 split-right-within zero c at value a n some few fit number = absurd (omega arith)
 split-right-within (suc d) c at value a n some few fit number = by_test (nat_le n 1)
     (λ one. let e : n ≡ 1 = grind (arith, nat_tests) in rw (e, split-one c at value a) (single-right c at value a number (rw e at fit)))
@@ -150,18 +161,23 @@ split-right-within (suc d) c at value a n some few fit number = by_test (nat_le 
     (λ under. rw (split-step c at value a n two, under) (under-right c at value a n number under))
     (λ other.
     let all : a +ℤ pos (n / 2) +ℤ pos (n - n / 2) ≡ a +ℤ pos n = omega (arith, ints) in
-    let first = split-right-within d c at value a (n / 2) (omega arith) (omega arith) (AreFit-part c at value a (a +ℤ pos n) a (a +ℤ pos (n / 2)) (omega (arith, ints)) (omega (arith, ints)) fit) in
-    let second = split-right-within d c at value (a +ℤ pos (n / 2)) (n - n / 2) (omega arith) (omega arith) (rw all (AreFit-part c at value a (a +ℤ pos n) (a +ℤ pos (n / 2)) (a +ℤ pos n) (omega (arith, ints)) (omega (arith, ints)) fit)) in
-    rw (split-step c at value a n two, other) (append-right c at value a (n / 2) (n - n / 2) number _ _ (split-whole c at value a (n / 2) (omega arith)) first second)))
+    let first = split-right-within d c at value a (n / 2) (omega arith) (omega arith)
+    (AreFit-part c at value a (a +ℤ pos n) a (a +ℤ pos (n / 2)) (omega (arith, ints)) (omega (arith, ints)) fit) in
+    let second = split-right-within d c at value (a +ℤ pos (n / 2)) (n - n / 2) (omega arith) (omega arith)
+    (rw all (AreFit-part c at value a (a +ℤ pos n) (a +ℤ pos (n / 2)) (a +ℤ pos n) (omega (arith, ints)) (omega (arith, ints)) fit)) in
+    rw (split-step c at value a n two, other) (append-right c
+    at value a (n / 2) (n - n / 2) number _ _ (split-whole c at value a (n / 2) (omega arith)) first second)))
 
-split-right : (c : Meaning) (at value a : ℤ) (n : ℕ) → 1 ≤ n → AreFit c at value a (a +ℤ pos n) → (number : ℕ) → cells_verdict c at value a number (peak_split c at value a n) ≡ Accepted
+split-right : (c : Meaning) (at value a : ℤ) (n : ℕ) → 1 ≤ n → AreFit c at value a (a +ℤ pos n) → (number : ℕ)
+    → cells_verdict c at value a number (peak_split c at value a n) ≡ Accepted
 split-right c at value a n some = split-right-within n c at value a n some (omega arith)
 
 none-right : (c : Meaning) (at value a : ℤ) (number : ℕ) → cells_verdict c at value a number [] ≡ Accepted
 unfolding cells_verdict
 none-right c at value a number = refl
 
-cover-right-within : (d : ℕ) (c : Meaning) (at value a : ℤ) (n : ℕ) → n ≤ d → AreFit c at value a (a +ℤ pos n) → (number : ℕ) → cells_verdict c at value a number (peak_cover c at value a n) ≡ Accepted
+cover-right-within : (d : ℕ) (c : Meaning) (at value a : ℤ) (n : ℕ) → n ≤ d → AreFit c at value a (a +ℤ pos n)
+    → (number : ℕ) → cells_verdict c at value a number (peak_cover c at value a n) ≡ Accepted
 cover-right-within d c at value a zero few fit number = rw (cover-none c at value a) (none-right c at value a number)
 cover-right-within zero c at value a (suc n) few fit number = absurd (omega arith)
 cover-right-within (suc d) c at value a (suc n) few fit number = by_test (nat_le (suc n) MOST_MINUTES)
@@ -170,20 +186,26 @@ cover-right-within (suc d) c at value a (suc n) few fit number = by_test (nat_le
     (λ more.
     let large : MOST_MINUTES < suc n = grind (arith, nat_tests) in
     let all : a +ℤ pos MOST_MINUTES +ℤ pos (suc n - MOST_MINUTES) ≡ a +ℤ pos (suc n) = omega (arith, ints) in
-    let first = split-right c at value a MOST_MINUTES (omega arith) (AreFit-part c at value a (a +ℤ pos (suc n)) a (a +ℤ pos MOST_MINUTES) (omega (arith, ints)) (omega (arith, ints)) fit) in
-    let second = cover-right-within d c at value (a +ℤ pos MOST_MINUTES) (suc n - MOST_MINUTES) (omega arith) (rw all (AreFit-part c at value a (a +ℤ pos (suc n)) (a +ℤ pos MOST_MINUTES) (a +ℤ pos (suc n)) (omega (arith, ints)) (omega (arith, ints)) fit)) in
-    rw (cover-block c at value a (suc n) large) (append-right c at value a MOST_MINUTES (suc n - MOST_MINUTES) number _ _ (split-whole c at value a MOST_MINUTES (omega arith)) first second))
+    let first = split-right c at value a MOST_MINUTES (omega arith) (AreFit-part c
+    at value a (a +ℤ pos (suc n)) a (a +ℤ pos MOST_MINUTES) (omega (arith, ints)) (omega (arith, ints)) fit) in
+    let second = cover-right-within d c at value (a +ℤ pos MOST_MINUTES) (suc n - MOST_MINUTES) (omega arith)
+    (rw all (AreFit-part c at value a (a +ℤ pos (suc n)) (a +ℤ pos MOST_MINUTES) (a +ℤ pos (suc n))
+    (omega (arith, ints)) (omega (arith, ints)) fit)) in
+    rw (cover-block c at value a (suc n) large) (append-right c at value a MOST_MINUTES
+    (suc n - MOST_MINUTES) number _ _ (split-whole c at value a MOST_MINUTES (omega arith)) first second))
 
 inside-true : (at a : ℤ) (n : ℕ) → a ≤ℤ at → at <ℤ (a +ℤ pos n) → is_inside at a n ≡ true
 inside-true at a n from before = grind (arith, ints)
 
 -- the cover of the highest water is accepted
-pub cover-accepted : (c : Meaning) (at value a : ℤ) (n : ℕ) → IsHighest c a (a +ℤ pos n) at value → peak_verdict c a n (record { at = at; value = value; cells = peak_cover c at value a n }) ≡ Accepted
+pub cover-accepted : (c : Meaning) (at value a : ℤ) (n : ℕ) → IsHighest c a (a +ℤ pos n) at value
+    → peak_verdict c a n (record { at = at; value = value; cells = peak_cover c at value a n }) ≡ Accepted
 unfolding peak_verdict
 cover-accepted c at value a n peak =
     let whole : (all_minutes (peak_cover c at value a n) == n) ≡ true = (Decides-eqb _ _).1 (cover-minutes c at value a n) in
     let inside = inside-true at a n peak.from peak.before in
-    let fit : AreFit c at value a (a +ℤ pos n) = record { has = peak.has; greatest = peak.greatest; first = λ m from before. peak.first m from } in
+    let fit : AreFit c at value a (a +ℤ pos n) =
+    record { has = peak.has; greatest = peak.greatest; first = λ m from before. peak.first m from } in
     rw (whole, inside) (cover-right-within n c at value a n (omega arith) fit 1)
 
 pub peak_of-accepted : (c : Meaning) (a : ℤ) (n : ℕ) → 1 ≤ n → peak_verdict c a n (peak_of c a n) ≡ Accepted

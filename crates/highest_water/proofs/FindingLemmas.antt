@@ -16,11 +16,13 @@ use Rattle.highest_water.proofs.HighestLemmas.{int_lt-false, highest-one, minute
 use Rattle.highest_water.proofs.VerdictLemmas.{below-append, below-none, below-one, below-at}
 
 -- a point at which the curve was evaluated
-pub asked-point : (c : Meaning) (begin end m : ℤ) (p : Point) → begin ≤ℤ m → m <ℤ end → p ≡ record { minute = m; value = c.track.value m } → IsPoint c begin end p
+pub asked-point : (c : Meaning) (begin end m : ℤ) (p : Point) → begin ≤ℤ m → m <ℤ end
+    → p ≡ record { minute = m; value = c.track.value m } → IsPoint c begin end p
 asked-point c begin end m p from before is = rw is (record { from = from; before = before; value = refl })
 
 -- the higher of two points
-pub higher-point : (c : Meaning) (begin end : ℤ) (h p : Point) → IsPoint c begin end h → IsPoint c begin end p → IsPoint c begin end (higher_of h p)
+pub higher-point : (c : Meaning) (begin end : ℤ) (h p : Point) → IsPoint c begin end h → IsPoint c begin end p
+    → IsPoint c begin end (higher_of h p)
 higher-point c begin end h p first second = by_test (is_higher h.minute h.value p.minute p.value)
     (λ higher. rw higher second)
     (λ other. rw other first)
@@ -45,14 +47,17 @@ least-higher at value m v k x h most least earlier = by_test (int_lt value v)
     let up = is_higher-value at value m v h in
     omega (arith, ints))
 
-below-higher : (c : Meaning) (at value m v begin end : ℤ) → is_higher at value m v ≡ true → AreBelow c at value begin end → AreBelow c m v begin end
+below-higher : (c : Meaning) (at value m v begin end : ℤ) → is_higher at value m v ≡ true
+    → AreBelow c at value begin end → AreBelow c m v begin end
 below-higher c at value m v begin end h below = record {
   greatest = λ k from before. let g = below.greatest k from before in let w = is_higher-value at value m v h in omega (arith, ints);
-  first = λ k from before earlier. least-higher at value m v k (c.track.value k) h (below.greatest k from before) (below.first k from before) earlier;
+  first = λ k from before earlier. least-higher
+      at value m v k (c.track.value k) h (below.greatest k from before) (below.first k from before) earlier;
 }
 
 -- one more minute
-higher-so_far : (c : Meaning) (begin end to : ℤ) (h p : Point) → IsHighestSoFar c begin end to h → begin ≤ℤ to → to <ℤ end → p.minute ≡ to → p.value ≡ c.track.value p.minute → IsHighestSoFar c begin end (to +ℤ pos 1) (higher_of h p)
+higher-so_far : (c : Meaning) (begin end to : ℤ) (h p : Point) → IsHighestSoFar c begin end to h → begin ≤ℤ to → to
+    <ℤ end → p.minute ≡ to → p.value ≡ c.track.value p.minute → IsHighestSoFar c begin end (to +ℤ pos 1) (higher_of h p)
 higher-so_far c begin end to h p so_far from before at value =
     let point : IsPoint c begin end p = record { from = omega (arith, ints); before = omega (arith, ints); value = value } in
     by_test (is_higher h.minute h.value p.minute p.value)
@@ -70,7 +75,10 @@ higher-so_far c begin end to h p so_far from before at value =
     }))
 
 -- one more cell
-pub cell-so_far : (c : Meaning) (begin end to : ℤ) (h p : Point) (cell : PeakCell) → IsLawful c → c.first ≤ℤ begin → end ≤ℤ c.last → IsHighestSoFar c begin end to h → begin ≤ℤ to → p.minute ≡ to → p.value ≡ c.track.value p.minute → IsRight c h to cell → (to +ℤ pos (minutes_of cell)) ≤ℤ end → IsHighestSoFar c begin end (to +ℤ pos (minutes_of cell)) (raised_at h p cell)
+pub cell-so_far : (c : Meaning) (begin end to : ℤ) (h p : Point) (cell : PeakCell) → IsLawful c → c.first ≤ℤ begin
+    → end ≤ℤ c.last → IsHighestSoFar c begin end to h → begin ≤ℤ to → p.minute ≡ to → p.value ≡ c.track.value p.minute
+    → IsRight c h to cell → (to +ℤ pos (minutes_of cell)) ≤ℤ end
+    → IsHighestSoFar c begin end (to +ℤ pos (minutes_of cell)) (raised_at h p cell)
 cell-so_far c begin end to h p (Under n) lawful first last so_far from at value under within = record {
   point = so_far.point;
   below = below-append c h.minute h.value begin to (to +ℤ pos n) so_far.below
@@ -80,7 +88,8 @@ cell-so_far c begin end to h p Single lawful first last so_far from at value rig
     higher-so_far c begin end to h p so_far from (omega (arith, ints)) at value
 
 -- all minutes
-pub all-so_far : (c : Meaning) (begin end to : ℤ) (h : Point) → to ≡ end → IsHighestSoFar c begin end to h → IsHighest c begin end h.minute h.value
+pub all-so_far : (c : Meaning) (begin end to : ℤ) (h : Point) → to ≡ end → IsHighestSoFar c begin end to h
+    → IsHighest c begin end h.minute h.value
 all-so_far c begin end to h all so_far =
     let before = so_far.point.before in
     record {
@@ -97,20 +106,24 @@ right-some c h a (Under n) right = let two = under-two c h.minute h.value a n ri
 right-some c h a Single right = omega arith
 
 -- the value of a point, and that of the highest water, are in range
-pub point-small : (c : Meaning) (begin end : ℤ) (p : Point) → IsLawful c → c.first ≤ℤ begin → end ≤ℤ c.last → IsPoint c begin end p → unsigned_abs p.value < 10 ^ 37
+pub point-small : (c : Meaning) (begin end : ℤ) (p : Point) → IsLawful c → c.first ≤ℤ begin → end ≤ℤ c.last
+    → IsPoint c begin end p → unsigned_abs p.value < 10 ^ 37
 point-small c begin end p lawful first last point =
     let from = point.from in
     let before = point.before in
     rw point.value (lawful.values p.minute (record { first = omega (arith, ints); last = omega (arith, ints) }))
 
-pub highest-small : (c : Meaning) (begin end at value : ℤ) → IsLawful c → c.first ≤ℤ begin → end ≤ℤ c.last → IsHighest c begin end at value → unsigned_abs value < 10 ^ 37
+pub highest-small : (c : Meaning) (begin end at value : ℤ) → IsLawful c → c.first ≤ℤ begin → end ≤ℤ c.last
+    → IsHighest c begin end at value → unsigned_abs value < 10 ^ 37
 highest-small c begin end at value lawful first last peak =
     let from = peak.from in
     let before = peak.before in
     rw (← peak.has) (lawful.values at (record { first = omega (arith, ints); last = omega (arith, ints) }))
 
 -- the highest water with its cells is that of an evaluation of each minute
-pub highest-peak_of : (c : Meaning) (begin end at value : ℤ) (cells : List PeakCell) → IsHighest c begin end at value → cells ≡ peak_cover c at value begin (unsigned_abs (end -ℤ begin)) → record { at = at; value = value; cells = cells } ≡ peak_of c begin (unsigned_abs (end -ℤ begin))
+pub highest-peak_of : (c : Meaning) (begin end at value : ℤ) (cells : List PeakCell) → IsHighest c begin end at value
+    → cells ≡ peak_cover c at value begin (unsigned_abs (end -ℤ begin))
+    → record { at = at; value = value; cells = cells } ≡ peak_of c begin (unsigned_abs (end -ℤ begin))
 unfolding peak_of
 highest-peak_of c begin end at value cells peak is =
     let from = peak.from in
@@ -128,7 +141,10 @@ highest-is c begin end at value peak =
     (ap (λ (p : Peak). p.at) same, ap (λ (p : Peak). p.value) same)
 
 -- the number of evaluations of the search and then of the cells
-pub values-counted : (c : Meaning) (begin end at value : ℤ) (before found after : ℕ) → IsHighest c begin end at value → found ≤ before + 2 * unsigned_abs (end -ℤ begin) + 1 → after ≤ found + length (peak_cover c at value begin (unsigned_abs (end -ℤ begin))) + 1 → after ≤ before + 2 * unsigned_abs (end -ℤ begin) + length (peak_of c begin (unsigned_abs (end -ℤ begin))).cells + 2
+pub values-counted : (c : Meaning) (begin end at value : ℤ) (before found after : ℕ) → IsHighest c begin end at value
+    → found ≤ before + 2 * unsigned_abs (end -ℤ begin) + 1
+    → after ≤ found + length (peak_cover c at value begin (unsigned_abs (end -ℤ begin))) + 1 → after
+    ≤ before + 2 * unsigned_abs (end -ℤ begin) + length (peak_of c begin (unsigned_abs (end -ℤ begin))).cells + 2
 values-counted c begin end at value before found after highest first second =
     let same = ap (λ (p : Peak). length p.cells) (highest-peak_of c begin end at value _ highest refl) in
     omega (arith, first, second, same)

@@ -9,7 +9,8 @@ use Rattle.highest_water.proofs.UnderLemmas.{int_lt-true}
 pub int_lt-false : (x y : ℤ) → int_lt x y ≡ false → y ≤ℤ x
 int_lt-false x y h = grind (arith, ints)
 
-one_minute : (c : Meaning) (begin end at value other_at other : ℤ) → IsHighest c begin end at value → IsHighest c begin end other_at other → at <ℤ other_at → ⊥
+one_minute : (c : Meaning) (begin end at value other_at other : ℤ) → IsHighest c begin end at value
+    → IsHighest c begin end other_at other → at <ℤ other_at → ⊥
 one_minute c begin end at value other_at other peak another less =
     let has = peak.has in
     let has' = another.has in
@@ -20,7 +21,8 @@ one_minute c begin end at value other_at other peak another less =
 same_or : (x y : ℤ) → (x <ℤ y → ⊥) → (y <ℤ x → ⊥) → x ≡ y
 same_or x y less more = grind (arith, ints)
 
-pub highest-one : (c : Meaning) (begin end at value other_at other : ℤ) → IsHighest c begin end at value → IsHighest c begin end other_at other → (at ≡ other_at) × (value ≡ other)
+pub highest-one : (c : Meaning) (begin end at value other_at other : ℤ) → IsHighest c begin end at value
+    → IsHighest c begin end other_at other → (at ≡ other_at) × (value ≡ other)
 highest-one c begin end at value other_at other peak another =
     let one = same_or at other_at
     (one_minute c begin end at value other_at other peak another)
@@ -37,7 +39,8 @@ first-highest c a = record {
   first = λ m from before. absurd (omega (arith, ints));
 }
 
-later-highest : (c : Meaning) (begin end at : ℤ) → IsHighest c begin end at (c.track.value at) → c.track.value at <ℤ c.track.value end → IsHighest c begin (end +ℤ pos 1) end (c.track.value end)
+later-highest : (c : Meaning) (begin end at : ℤ) → IsHighest c begin end at (c.track.value at)
+    → c.track.value at <ℤ c.track.value end → IsHighest c begin (end +ℤ pos 1) end (c.track.value end)
 later-highest c begin end at peak more =
     let from = peak.from in
     let before = peak.before in
@@ -51,7 +54,8 @@ later-highest c begin end at peak more =
       first = λ m from before. let g = peak.greatest m from before in omega (arith, ints);
     }
 
-earlier-highest : (c : Meaning) (begin end at : ℤ) → IsHighest c begin end at (c.track.value at) → c.track.value end ≤ℤ c.track.value at → IsHighest c begin (end +ℤ pos 1) at (c.track.value at)
+earlier-highest : (c : Meaning) (begin end at : ℤ) → IsHighest c begin end at (c.track.value at)
+    → c.track.value end ≤ℤ c.track.value at → IsHighest c begin (end +ℤ pos 1) at (c.track.value at)
 earlier-highest c begin end at peak less =
     let before = peak.before in
     record {
@@ -64,7 +68,8 @@ earlier-highest c begin end at peak less =
       first = peak.first;
     }
 
-higher-highest : (c : Meaning) (begin end at : ℤ) → IsHighest c begin end at (c.track.value at) → IsHighest c begin (end +ℤ pos 1) (higher_minute c at end) (c.track.value (higher_minute c at end))
+higher-highest : (c : Meaning) (begin end at : ℤ) → IsHighest c begin end at (c.track.value at)
+    → IsHighest c begin (end +ℤ pos 1) (higher_minute c at end) (c.track.value (higher_minute c at end))
 higher-highest c begin end at peak = by_test (int_lt (c.track.value at) (c.track.value end))
     (λ more. rw more (later-highest c begin end at peak (int_lt-true _ _ more)))
     (λ less. rw less (earlier-highest c begin end at peak (int_lt-false _ _ less)))
@@ -77,7 +82,8 @@ first-minute c a =
     rw (here, none) refl
 
 -- an evaluation of each minute finds the highest water
-pub minute-highest : (c : Meaning) (a : ℤ) (n : ℕ) → 1 ≤ n → IsHighest c a (a +ℤ pos n) (highest_minute c a n) (c.track.value (highest_minute c a n))
+pub minute-highest : (c : Meaning) (a : ℤ) (n : ℕ) → 1 ≤ n
+    → IsHighest c a (a +ℤ pos n) (highest_minute c a n) (c.track.value (highest_minute c a n))
 unfolding highest_minute
 minute-highest c a zero some = absurd (omega arith)
 minute-highest c a (suc zero) some = rw (first-minute c a) (first-highest c a)

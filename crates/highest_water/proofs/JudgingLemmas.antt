@@ -16,11 +16,13 @@ use Rattle.highest_water.specs.Workings.Findings.{under_finding, single_finding}
 
 -- ---- one cell
 
-pub under_finding-is_under : (c : Meaning) (h : Point) (a : ℤ) (number n : ℕ) → under_finding number (is_under c h.minute h.value a n) ≡ cell_verdict c h.minute h.value a number (Under n)
+pub under_finding-is_under : (c : Meaning) (h : Point) (a : ℤ) (number n : ℕ)
+    → under_finding number (is_under c h.minute h.value a n) ≡ cell_verdict c h.minute h.value a number (Under n)
 unfolding cell_verdict
 under_finding-is_under c h a number n = refl
 
-pub single_finding-at : (c : Meaning) (h at : Point) (number : ℕ) → at.value ≡ c.track.value at.minute → single_finding h number at ≡ cell_verdict c h.minute h.value at.minute number Single
+pub single_finding-at : (c : Meaning) (h at : Point) (number : ℕ) → at.value ≡ c.track.value at.minute
+    → single_finding h number at ≡ cell_verdict c h.minute h.value at.minute number Single
 unfolding cell_verdict
 single_finding-at c h at number value = rw value refl
 
@@ -29,14 +31,17 @@ single_finding-at c h at number value = rw value refl
 cells-left : (cells : List PeakCell) (i : ℕ) (d : PeakCell) → i < length cells → drop i cells ≡ get_or cells i d ∷ drop (i + 1) cells
 cells-left cells i d some = rw (add-one, drop-cons cells i d) refl
 
-pub first-span : (c : Meaning) (a : ℤ) (cells : List PeakCell) (i : ℕ) (d : PeakCell) → i < length cells → IsSpan c a (all_minutes (drop i cells)) → IsSpan c a (minutes_of (get_or cells i d))
+pub first-span : (c : Meaning) (a : ℤ) (cells : List PeakCell) (i : ℕ) (d : PeakCell) → i < length cells
+    → IsSpan c a (all_minutes (drop i cells)) → IsSpan c a (minutes_of (get_or cells i d))
 unfolding all_minutes
 first-span c a cells i d some span =
     let first = span.first in
     let last = (rw (cells-left cells i d some) at span).last in
     record { first = first; last = omega (arith, ints) }
 
-pub rest-span : (c : Meaning) (a : ℤ) (cells : List PeakCell) (i : ℕ) (d : PeakCell) → i < length cells → IsSpan c a (all_minutes (drop i cells)) → IsSpan c (a +ℤ pos (minutes_of (get_or cells i d))) (all_minutes (drop (i + 1) cells))
+pub rest-span : (c : Meaning) (a : ℤ) (cells : List PeakCell) (i : ℕ) (d : PeakCell) → i < length cells
+    → IsSpan c a (all_minutes (drop i cells))
+    → IsSpan c (a +ℤ pos (minutes_of (get_or cells i d))) (all_minutes (drop (i + 1) cells))
 unfolding all_minutes
 rest-span c a cells i d some span =
     let first = span.first in
@@ -52,29 +57,37 @@ wrong-first (Above cell) w wrong = refl
 wrong-first Accepted w wrong = absurd (wrong refl)
 
 -- the first verdict is that on this cell, or one on the cells after it, or there are no more cells
-pub first-found : (c : Meaning) (h : Point) (a : ℤ) (number : ℕ) (cells : List PeakCell) (i : ℕ) (d : PeakCell) (all found : PeakVerdict) → i < length cells → all ≡ cells_verdict c h.minute h.value a number (drop i cells) → found ≡ cell_verdict c h.minute h.value a number (get_or cells i d) → found ≢ Accepted → found ≡ all
+pub first-found : (c : Meaning) (h : Point) (a : ℤ) (number : ℕ) (cells : List PeakCell) (i : ℕ) (d : PeakCell)
+    (all found : PeakVerdict) → i < length cells → all ≡ cells_verdict c h.minute h.value a number (drop i cells)
+    → found ≡ cell_verdict c h.minute h.value a number (get_or cells i d) → found ≢ Accepted → found ≡ all
 unfolding cells_verdict
 first-found c h a number cells i d all found some left is wrong =
     rw (left, cells-left cells i d some, ← is) (sym (wrong-first found _ wrong))
 
-pub rest-found : (c : Meaning) (h : Point) (a : ℤ) (number : ℕ) (cells : List PeakCell) (i : ℕ) (d : PeakCell) (all : PeakVerdict) → i < length cells → all ≡ cells_verdict c h.minute h.value a number (drop i cells) → Accepted ≡ cell_verdict c h.minute h.value a number (get_or cells i d) → all ≡ cells_verdict c h.minute h.value (a +ℤ pos (minutes_of (get_or cells i d))) (number + 1) (drop (i + 1) cells)
+pub rest-found : (c : Meaning) (h : Point) (a : ℤ) (number : ℕ) (cells : List PeakCell) (i : ℕ) (d : PeakCell)
+    (all : PeakVerdict) → i < length cells → all ≡ cells_verdict c h.minute h.value a number (drop i cells)
+    → Accepted ≡ cell_verdict c h.minute h.value a number (get_or cells i d) → all
+    ≡ cells_verdict c h.minute h.value (a +ℤ pos (minutes_of (get_or cells i d))) (number + 1) (drop (i + 1) cells)
 unfolding cells_verdict
 rest-found c h a number cells i d all some left right =
     rw (left, cells-left cells i d some, ← right, ← add-one number) refl
 
-pub none-found : (c : Meaning) (h : Point) (a : ℤ) (number i : ℕ) (cells : List PeakCell) (all : PeakVerdict) → length cells ≤ i → all ≡ cells_verdict c h.minute h.value a number (drop i cells) → Accepted ≡ all
+pub none-found : (c : Meaning) (h : Point) (a : ℤ) (number i : ℕ) (cells : List PeakCell) (all : PeakVerdict)
+    → length cells ≤ i → all ≡ cells_verdict c h.minute h.value a number (drop i cells) → Accepted ≡ all
 unfolding cells_verdict
 none-found c h a number i cells all none left = rw (left, drop_all i cells none) refl
 
 -- ---- the whole
 
-pub verdict-outside : (c : Meaning) (a : ℤ) (n : ℕ) (peak : Peak) → all_minutes peak.cells ≡ n → is_inside peak.at a n ≡ false → Outside ≡ peak_verdict c a n peak
+pub verdict-outside : (c : Meaning) (a : ℤ) (n : ℕ) (peak : Peak) → all_minutes peak.cells ≡ n
+    → is_inside peak.at a n ≡ false → Outside ≡ peak_verdict c a n peak
 unfolding peak_verdict
 verdict-outside c a n peak whole outside =
     let all : (all_minutes peak.cells == n) ≡ true = (Decides-eqb (all_minutes peak.cells) n).1 whole in
     rw (all, outside) refl
 
-pub verdict-inside : (c : Meaning) (a : ℤ) (n : ℕ) (peak : Peak) → all_minutes peak.cells ≡ n → is_inside peak.at a n ≡ true → cells_verdict c peak.at peak.value a 1 peak.cells ≡ peak_verdict c a n peak
+pub verdict-inside : (c : Meaning) (a : ℤ) (n : ℕ) (peak : Peak) → all_minutes peak.cells ≡ n
+    → is_inside peak.at a n ≡ true → cells_verdict c peak.at peak.value a 1 peak.cells ≡ peak_verdict c a n peak
 unfolding peak_verdict
 verdict-inside c a n peak whole inside =
     let all : (all_minutes peak.cells == n) ≡ true = (Decides-eqb (all_minutes peak.cells) n).1 whole in

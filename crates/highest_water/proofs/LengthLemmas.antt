@@ -15,12 +15,16 @@ covered-none = refl
 saturated : (a m : ℕ) → saturate_signed w64 (pos (min a (2 ^ 63 - 1)) +ℤ pos m) ≡ pos (min (a + m) (2 ^ 63 - 1))
 saturated a m = grind arith
 
-minutes-take : (cells : List PeakCell) (i : ℕ) (d : PeakCell) → i < length cells → all_minutes (take (i + 1) cells) ≡ all_minutes (take i cells) + minutes_of (get_or cells i d)
+minutes-take : (cells : List PeakCell) (i : ℕ) (d : PeakCell) → i < length cells
+    → all_minutes (take (i + 1) cells) ≡ all_minutes (take i cells) + minutes_of (get_or cells i d)
 unfolding all_minutes
 minutes-take cells i d some =
     rw (take_more cells i d some) (omega (arith, all_minutes-append (take i cells) (get_or cells i d ∷ [])))
 
-pub covered-more : (cells : List PeakCell) (i : ℕ) (d : PeakCell) (covered : ℤ) → i < length cells → covered ≡ pos (min (all_minutes (take i cells)) (2 ^ 63 - 1)) → saturate_signed w64 (covered +ℤ pos (minutes_of (get_or cells i d))) ≡ pos (min (all_minutes (take (i + 1) cells)) (2 ^ 63 - 1))
+pub covered-more : (cells : List PeakCell) (i : ℕ) (d : PeakCell) (covered : ℤ) → i < length cells
+    → covered ≡ pos (min (all_minutes (take i cells)) (2 ^ 63 - 1))
+    → saturate_signed w64 (covered +ℤ pos (minutes_of (get_or cells i d)))
+    ≡ pos (min (all_minutes (take (i + 1) cells)) (2 ^ 63 - 1))
 covered-more cells i d covered some so_far =
     rw (so_far, minutes-take cells i d some) (saturated (all_minutes (take i cells)) (minutes_of (get_or cells i d)))
 

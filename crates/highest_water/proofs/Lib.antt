@@ -5,7 +5,7 @@ pub mod FindingLemmas
 pub mod HighestLemmas
 pub mod JudgingLemmas
 pub mod LengthLemmas
-mod PeakDraftLemmas
+mod PeakParserLemmas
 mod PeakGrammarLemmas
 mod PeakLengthLemmas
 mod PeakLineLemmas

@@ -40,7 +40,8 @@ unfolding peak_cell_line_of
 cell_is (Under n) line h = ((h.0, h.1), h.2)
 cell_is Single line h = (tt, h)
 
-cells_are : (cs : List PeakCell) (lines : List (List ℕ)) → SpellsPeakCells cs lines → AllByRecursion IsPeakCell cs × (lines ≡ cell_lines_of cs)
+cells_are : (cs : List PeakCell) (lines : List (List ℕ)) → SpellsPeakCells cs lines
+    → AllByRecursion IsPeakCell cs × (lines ≡ cell_lines_of cs)
 unfolding last_line
 cells_are [] [] h = absurd h
 cells_are (c ∷ cs) [] h = absurd h
@@ -49,7 +50,8 @@ cells_are (c ∷ cs) (l ∷ ls) h =
     let one = cell_is c l h.0 in let more = cells_are cs ls h.1 in
     ((one.0, more.0), ap (λ x. x ∷ ls) one.1 ∙ ap (λ xs. peak_cell_line_of c ∷ xs) more.1)
 
-pub peak_lines_of-spelled : (c : PeakCertificate) (lines : List (List ℕ)) → SpellsPeak c lines → IsPeakCertificate c × (lines ≡ peak_lines_of c)
+pub peak_lines_of-spelled : (c : PeakCertificate) (lines : List (List ℕ)) → SpellsPeak c lines
+    → IsPeakCertificate c × (lines ≡ peak_lines_of c)
 unfolding peak_title station_line_of begin_line_of end_line_of at_line_of value_line_of
 peak_lines_of-spelled c [] h = absurd h
 peak_lines_of-spelled c (t ∷ []) h = absurd h

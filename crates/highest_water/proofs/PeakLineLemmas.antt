@@ -19,7 +19,7 @@ use Rattle.highest_water.specs.declared.certificate.PeakCertificate.{PeakCertifi
 use Rattle.highest_water.specs.declared.peak_cell.PeakCell.{PeakCell}
 use Rattle.highest_water.specs.declared.peak_cell.PeakCell.TheVariants.{Under, Single}
 use Rattle.highest_water.specs.PeakTexts.{IsPeakValue, IsPeakCell, IsPeakCertificate, peak_title, at_line_of, value_line_of, peak_cell_line_of, cell_lines_of, peak_lines_of}
-use Rattle.highest_water.specs.Workings.PeakDrafts.{value_of, under_for, under_of, cell_of}
+use Rattle.highest_water.specs.Workings.PeakParsing.{value_of, under_for, under_of, cell_of}
 
 -- ---- values
 
@@ -41,7 +41,8 @@ unfolding peak_cell_line_of
 under_for_is n cell e =
     let got = cond_some _ (Under n) cell e in
     let both = and_parts _ _ got.0 in
-    subst (λ cell. IsPeakCell cell × (peak_cell_line_of cell ≡ codes "u " ++ decimal n)) got.1 ((leb-true 2 n both.0, leb-true n 1024 both.1), refl)
+    subst (λ cell. IsPeakCell cell × (peak_cell_line_of cell ≡ codes "u " ++ decimal n)) got.1
+    ((leb-true 2 n both.0, leb-true n 1024 both.1), refl)
 
 under_is : (line : List ℕ) (cell : PeakCell) → under_of line ≡ Some cell → IsPeakCell cell × (peak_cell_line_of cell ≡ line)
 unfolding under_of
@@ -55,15 +56,18 @@ under_is line cell e =
 pub cell_is : (line : List ℕ) (cell : PeakCell) → cell_of line ≡ Some cell → IsPeakCell cell × (peak_cell_line_of cell ≡ line)
 unfolding cell_of peak_cell_line_of
 cell_is line cell e =
-    elim (bytes_eq line (codes "m")) as (λ v. bytes_eq line (codes "m") ≡ v → cond v (Some Single) (under_of line) ≡ Some cell → IsPeakCell cell × (peak_cell_line_of cell ≡ line)) [
-      | true ↦ λ b k. subst (λ cell. IsPeakCell cell × (peak_cell_line_of cell ≡ line)) (same_Some Single cell k) (tt, sym (same_bytes _ _ b))
+    elim (bytes_eq line (codes "m")) as (λ v. bytes_eq line (codes "m") ≡ v
+    → cond v (Some Single) (under_of line) ≡ Some cell → IsPeakCell cell × (peak_cell_line_of cell ≡ line)) [
+      | true ↦ λ b k. subst (λ cell. IsPeakCell cell × (peak_cell_line_of cell ≡ line)) (same_Some Single cell k)
+          (tt, sym (same_bytes _ _ b))
       | false ↦ λ b k. under_is line cell k
     ] refl e
 
 under_of-line : (n : ℕ) → 2 ≤ n → n ≤ 1024 → under_of (codes "u " ++ decimal n) ≡ Some (Under n)
 unfolding under_of
 under_of-line n low high =
-    rw (after-append (codes "u ") (decimal n), size_of-decimal 4 n (lit< tt) (lit≤ tt) (omega arith), le-leb 2 n low, le-leb n 1024 high) refl
+    rw (after-append (codes "u ") (decimal n), size_of-decimal 4 n (lit< tt) (lit≤ tt) (omega arith), le-leb 2 n low, le-leb n 1024 high)
+    refl
 
 pub cell_of-line : (cell : PeakCell) → IsPeakCell cell → cell_of (peak_cell_line_of cell) ≡ Some cell
 unfolding cell_of peak_cell_line_of
@@ -102,6 +106,15 @@ lines_free c h = (
   title_free,
   (
     station_free c.station h.station,
-    (begin_free c.begin, (end_free c.end, (at_free c.peak.at, (value_free c.peak.value h.value, cells_free c.peak.cells (recursion_from_All IsPeakCell c.peak.cells h.cells))))),
+    (
+      begin_free c.begin,
+      (
+        end_free c.end,
+        (
+          at_free c.peak.at,
+          (value_free c.peak.value h.value, cells_free c.peak.cells (recursion_from_All IsPeakCell c.peak.cells h.cells)),
+        ),
+      ),
+    ),
   ),
 )

@@ -10,23 +10,24 @@ use Rattle.cert_text.specs.Workings.LineReading.{moment_after}
 use Rattle.cert_text.proofs.LineLemmas.{station_of-line, moment_after-text}
 use Rattle.cert_text.proofs.ByLineLemmas.{run, Reached, reached}
 use Rattle.highest_water.specs.declared.certificate.PeakCertificate.{PeakCertificate}
-use Rattle.highest_water.specs.declared.draft.Draft.{Draft}
+use Rattle.highest_water.specs.declared.peak_parser.PeakParser.{PeakParser}
 use Rattle.highest_water.specs.declared.part.Part.{Part}
 use Rattle.highest_water.specs.declared.part.Part.TheVariants.{Title, Cells, Done}
 use Rattle.highest_water.specs.declared.peak_cell.PeakCell.{PeakCell}
 use Rattle.highest_water.specs.PeakTexts.{IsPeakCell, IsPeakCertificate, peak_title, at_line_of, cell_lines_of, peak_lines_of}
-use Rattle.highest_water.specs.Workings.PeakDrafts.{start, next}
+use Rattle.highest_water.specs.Workings.PeakParsing.{start, next}
 use Rattle.highest_water.proofs.PeakLineLemmas.{value_of-line, cell_of-line, last_no_cell}
-use Rattle.highest_water.proofs.PeakDraftLemmas.{Knows, knows_start, said_at, step}
+use Rattle.highest_water.proofs.PeakParserLemmas.{ParserInvariant, invariant_start, said_at, step}
 
-pub reached_from_start : (lines : List (List ℕ)) (e : Draft) → run next start lines ≡ Some e → Reached Knows said_at Title start e lines
-reached_from_start lines e k = reached Knows said_at next step lines Title start e knows_start k
+pub reached_from_start : (lines : List (List ℕ)) (e : PeakParser) → run next start lines ≡ Some e
+    → Reached ParserInvariant said_at Title start e lines
+reached_from_start lines e k = reached ParserInvariant said_at next step lines Title start e invariant_start k
 
 -- ---- the lines of a certificate
 
 -- the state after all lines of a certificate, and those before it
-abbrev draft_at : Part → PeakCertificate → List PeakCell → Draft
-draft_at p c cells = record {
+abbrev parser_at : Part → PeakCertificate → List PeakCell → PeakParser
+parser_at p c cells = record {
   part = p;
   station = c.station;
   begin = c.begin;
@@ -36,18 +37,20 @@ draft_at p c cells = record {
   cells = cells;
 }
 
-abbrev pub final : PeakCertificate → Draft
-final c = draft_at Done c c.peak.cells
+abbrev pub final : PeakCertificate → PeakParser
+final c = parser_at Done c c.peak.cells
 
 done_line : bytes_eq last_line (codes "done") ≡ true
 unfolding last_line
 done_line = refl
 
-cells_run : (c : PeakCertificate) (cs earlier : List PeakCell) → AllByRecursion IsPeakCell cs → run next (draft_at Cells c earlier) (cell_lines_of cs) ≡ Some (draft_at Done c (earlier ++ cs))
+cells_run : (c : PeakCertificate) (cs earlier : List PeakCell) → AllByRecursion IsPeakCell cs
+    → run next (parser_at Cells c earlier) (cell_lines_of cs) ≡ Some (parser_at Done c (earlier ++ cs))
 unfolding run next
-cells_run c [] earlier h = rw (last_no_cell, done_line) (ap (λ xs. Some (draft_at Done c xs)) (sym (append-nil earlier)))
+cells_run c [] earlier h = rw (last_no_cell, done_line) (ap (λ xs. Some (parser_at Done c xs)) (sym (append-nil earlier)))
 cells_run c (cell ∷ cs) earlier h =
-    rw (cell_of-line cell h.0) (cells_run c cs (earlier ++ cell ∷ []) h.1 ∙ ap (λ xs. Some (draft_at Done c xs)) (append_assoc earlier (cell ∷ []) cs))
+    rw (cell_of-line cell h.0) (cells_run c cs (earlier ++ cell ∷ []) h.1
+    ∙ ap (λ xs. Some (parser_at Done c xs)) (append_assoc earlier (cell ∷ []) cs))
 
 title_line : bytes_eq peak_title (codes "peak certificate 1") ≡ true
 unfolding peak_title
@@ -68,5 +71,12 @@ at_read m h = moment_after-text (codes "at ") m h
 pub run-peak_lines_of : (c : PeakCertificate) → IsPeakCertificate c → run next start (peak_lines_of c) ≡ Some (final c)
 unfolding run next
 run-peak_lines_of c h =
-    rw (title_line, station_of-line c.station h.station, begin_read c.begin h.begin, end_read c.end h.end, at_read c.peak.at h.at, value_of-line c.peak.value h.value)
+    rw (
+      title_line,
+      station_of-line c.station h.station,
+      begin_read c.begin h.begin,
+      end_read c.end h.end,
+      at_read c.peak.at h.at,
+      value_of-line c.peak.value h.value,
+    )
     (cells_run c c.peak.cells [] (recursion_from_All IsPeakCell c.peak.cells h.cells))

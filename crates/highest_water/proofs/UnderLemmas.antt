@@ -13,7 +13,9 @@ use Rattle.highest_water.specs.Verdicts.{is_inside}
 use Rattle.highest_water.specs.Workings.Below.{AreBelow}
 
 -- twice a value inside is at most both values at the ends plus the rate times the minutes
-twice-most : (f : ℤ → ℤ) (a : ℤ) (r j i : ℕ) → ((k : ℕ) → k < j + i → unsigned_abs (f (a +ℤ pos k +ℤ pos 1) -ℤ f (a +ℤ pos k)) ≤ r) → (pos 2 *ℤ f (a +ℤ pos j)) ≤ℤ (f a +ℤ f (a +ℤ pos (j + i)) +ℤ pos (r * (j + i)))
+twice-most : (f : ℤ → ℤ) (a : ℤ) (r j i : ℕ)
+    → ((k : ℕ) → k < j + i → unsigned_abs (f (a +ℤ pos k +ℤ pos 1) -ℤ f (a +ℤ pos k)) ≤ r)
+    → (pos 2 *ℤ f (a +ℤ pos j)) ≤ℤ (f a +ℤ f (a +ℤ pos (j + i)) +ℤ pos (r * (j + i)))
 twice-most f a r j i steps =
     let first = drift_up f a r j (λ k h. steps k (omega arith)) in
     let second = drift_down f (a +ℤ pos j) r i (later_steps f a r j i steps) in
@@ -22,10 +24,14 @@ twice-most f a r j i steps =
     omega (arith, ints)
 
 -- twice a value inside, by the law of a rate
-rated-most : (c : Meaning) (a : ℤ) (j i : ℕ) (rate : ℤ) → 1 ≤ j + i → IsRate c a (j + i) rate → (pos 2 *ℤ c.track.value (a +ℤ pos j)) ≤ℤ (c.track.value a +ℤ c.track.value (a +ℤ pos (j + i)) +ℤ (rate *ℤ pos (j + i)))
+rated-most : (c : Meaning) (a : ℤ) (j i : ℕ) (rate : ℤ) → 1 ≤ j + i → IsRate c a (j + i) rate
+    → (pos 2 *ℤ c.track.value (a +ℤ pos j))
+    ≤ℤ (c.track.value a +ℤ c.track.value (a +ℤ pos (j + i)) +ℤ (rate *ℤ pos (j + i)))
 rated-most c a j i (negsuc r) some is = absurd (let step = is.steps 0 (omega arith) in omega (arith, ints))
 rated-most c a j i (pos r) some is =
-    let steps = λ (k : ℕ) (h : k < j + i). let step = is.steps k h in let s : unsigned_abs (c.track.value (a +ℤ pos k +ℤ pos 1) -ℤ c.track.value (a +ℤ pos k)) ≤ r = omega (arith, ints) in s in
+    let steps = λ (k : ℕ) (h : k < j + i). let step = is.steps k h in
+    let s : unsigned_abs (c.track.value (a +ℤ pos k +ℤ pos 1) -ℤ c.track.value (a +ℤ pos k)) ≤ r =
+    omega (arith, ints) in s in
     twice-most c.track.value a r j i steps
 
 pub int_lt-true : (x y : ℤ) → int_lt x y ≡ true → x <ℤ y
@@ -42,31 +48,39 @@ no_rate-within : (n : ℕ) (v w value : ℤ) → stays_within None n v w value �
 unfolding stays_within
 no_rate-within n v w value h = cc
 
-rate-below : (rate v w x value : ℤ) (n : ℕ) → (pos 2 *ℤ x) ≤ℤ (v +ℤ w +ℤ (rate *ℤ pos n)) → stays_below (Some rate) n v w value ≡ true → x <ℤ value
+rate-below : (rate v w x value : ℤ) (n : ℕ) → (pos 2 *ℤ x) ≤ℤ (v +ℤ w +ℤ (rate *ℤ pos n))
+    → stays_below (Some rate) n v w value ≡ true → x <ℤ value
 unfolding stays_below
 rate-below rate v w x value n bound stays =
     let less = int_lt-true (v +ℤ w +ℤ (rate *ℤ pos n)) (pos 2 *ℤ value) stays in
     omega (arith, ints)
 
-rate-within : (rate v w x value : ℤ) (n : ℕ) → (pos 2 *ℤ x) ≤ℤ (v +ℤ w +ℤ (rate *ℤ pos n)) → stays_within (Some rate) n v w value ≡ true → x ≤ℤ value
+rate-within : (rate v w x value : ℤ) (n : ℕ) → (pos 2 *ℤ x) ≤ℤ (v +ℤ w +ℤ (rate *ℤ pos n))
+    → stays_within (Some rate) n v w value ≡ true → x ≤ℤ value
 unfolding stays_within
 rate-within rate v w x value n bound stays =
     let less = int_le-true (v +ℤ w +ℤ (rate *ℤ pos n)) (pos 2 *ℤ value) stays in
     omega (arith, ints)
 
 -- the bound of a value inside by the rate of a cell
-inside-most : (c : Meaning) (a : ℤ) (n j : ℕ) (rate : ℤ) → c.rate a n ≡ Some rate → IsLawful c → IsSpan c a n → 2 ≤ n → n ≤ MOST_MINUTES → j < n → (pos 2 *ℤ c.track.value (a +ℤ pos j)) ≤ℤ (c.track.value a +ℤ c.track.value (a +ℤ pos n) +ℤ (rate *ℤ pos n))
+inside-most : (c : Meaning) (a : ℤ) (n j : ℕ) (rate : ℤ) → c.rate a n ≡ Some rate → IsLawful c → IsSpan c a n → 2 ≤ n
+    → n ≤ MOST_MINUTES → j < n
+    → (pos 2 *ℤ c.track.value (a +ℤ pos j)) ≤ℤ (c.track.value a +ℤ c.track.value (a +ℤ pos n) +ℤ (rate *ℤ pos n))
 inside-most c a n j rate is lawful span two most few =
     let all : j + (n - j) ≡ n = omega arith in
     let law = lawful.rates a n rate (record { first = span.first; last = span.last; some = omega arith; few = most }) is in
     rw all at (rated-most c a j (n - j) rate (omega arith) (rw all law))
 
-below-least : (c : Meaning) (a : ℤ) (n j : ℕ) (value : ℤ) (o : Option ℤ) → c.rate a n ≡ o → IsLawful c → IsSpan c a n → 2 ≤ n → n ≤ MOST_MINUTES → j < n → stays_below o n (c.track.value a) (c.track.value (a +ℤ pos n)) value ≡ true → c.track.value (a +ℤ pos j) <ℤ value
+below-least : (c : Meaning) (a : ℤ) (n j : ℕ) (value : ℤ) (o : Option ℤ) → c.rate a n ≡ o → IsLawful c → IsSpan c a n
+    → 2 ≤ n → n ≤ MOST_MINUTES → j < n → stays_below o n (c.track.value a) (c.track.value (a +ℤ pos n)) value ≡ true
+    → c.track.value (a +ℤ pos j) <ℤ value
 below-least c a n j value None is lawful span two most few stays = absurd (no_rate-below n _ _ value stays)
 below-least c a n j value (Some rate) is lawful span two most few stays =
     rate-below rate _ _ _ value n (inside-most c a n j rate is lawful span two most few) stays
 
-within-most : (c : Meaning) (a : ℤ) (n j : ℕ) (value : ℤ) (o : Option ℤ) → c.rate a n ≡ o → IsLawful c → IsSpan c a n → 2 ≤ n → n ≤ MOST_MINUTES → j < n → stays_within o n (c.track.value a) (c.track.value (a +ℤ pos n)) value ≡ true → c.track.value (a +ℤ pos j) ≤ℤ value
+within-most : (c : Meaning) (a : ℤ) (n j : ℕ) (value : ℤ) (o : Option ℤ) → c.rate a n ≡ o → IsLawful c → IsSpan c a n
+    → 2 ≤ n → n ≤ MOST_MINUTES → j < n → stays_within o n (c.track.value a) (c.track.value (a +ℤ pos n)) value ≡ true
+    → c.track.value (a +ℤ pos j) ≤ℤ value
 within-most c a n j value None is lawful span two most few stays = absurd (no_rate-within n _ _ value stays)
 within-most c a n j value (Some rate) is lawful span two most few stays =
     rate-within rate _ _ _ value n (inside-most c a n j rate is lawful span two most few) stays
@@ -115,7 +129,8 @@ under-other c at value a n under from before =
     let beside = under-beside c at value a n under from in omega (arith, ints)
 
 -- no minute of a cell that is under is higher
-below-of : (c : Meaning) (at value a : ℤ) (n : ℕ) → ((j : ℕ) → j < n → c.track.value (a +ℤ pos j) ≤ℤ value × ((a +ℤ pos j) <ℤ at → c.track.value (a +ℤ pos j) <ℤ value)) → AreBelow c at value a (a +ℤ pos n)
+below-of : (c : Meaning) (at value a : ℤ) (n : ℕ) → ((j : ℕ) → j < n → c.track.value (a +ℤ pos j) ≤ℤ value
+    × ((a +ℤ pos j) <ℤ at → c.track.value (a +ℤ pos j) <ℤ value)) → AreBelow c at value a (a +ℤ pos n)
 below-of c at value a n each = record {
   greatest = λ m from before.
       let j : a +ℤ pos (unsigned_abs (m -ℤ a)) ≡ m = omega (arith, ints) in
@@ -125,7 +140,8 @@ below-of c at value a n each = record {
       (rw j at (each (unsigned_abs (m -ℤ a)) (omega (arith, ints))).1) earlier;
 }
 
-pub under-below : (c : Meaning) (at value a : ℤ) (n : ℕ) → IsLawful c → IsSpan c a n → is_under c at value a n ≡ true → AreBelow c at value a (a +ℤ pos n)
+pub under-below : (c : Meaning) (at value a : ℤ) (n : ℕ) → IsLawful c → IsSpan c a n → is_under c at value a n ≡ true
+    → AreBelow c at value a (a +ℤ pos n)
 under-below c at value a n lawful span under = below-of c at value a n (λ j few.
     let two = under-two c at value a n under in
     let most = under-few c at value a n under in
@@ -174,17 +190,19 @@ or_false : (b : Bool) → b ≡ (b || false)
 or_false true = refl
 or_false false = refl
 
-pub is_under-rate : (c : Meaning) (at value a most rate : ℤ) (n : ℕ) → 2 ≤ n → n ≤ MOST_MINUTES → is_inside at a n ≡ false → Some rate ≡ c.rate a n → most ≡ twice_most rate n (c.track.value a) (c.track.value (a +ℤ pos n)) → low_enough most value (int_lt at a) ≡ is_under c at value a n
+pub is_under-rate : (c : Meaning) (at value a most rate : ℤ) (n : ℕ) → 2 ≤ n → n ≤ MOST_MINUTES → is_inside at a n
+    ≡ false → Some rate ≡ c.rate a n → most ≡ twice_most rate n (c.track.value a) (c.track.value (a +ℤ pos n))
+    → low_enough most value (int_lt at a) ≡ is_under c at value a n
 unfolding is_under stays_below stays_within
-is_under-rate c at value a most rate n two few outside told is =
+is_under-rate c at value a most rate n two few outside stated is =
     let e : (nat_le 2 n && nat_le n MOST_MINUTES) ≡ true = grind (arith, nat_tests) in
     by_test (int_lt at a)
-    (λ after. rw (is, ← told, e, after-not_by at a n after, after) refl)
-    (λ before. rw (is, ← told, e, outside-by at a n outside before, before) (or_false _))
+    (λ after. rw (is, ← stated, e, after-not_by at a n after, after) refl)
+    (λ before. rw (is, ← stated, e, outside-by at a n outside before, before) (or_false _))
 
 pub is_under-unrated : (c : Meaning) (at value a : ℤ) (n : ℕ) → None ≡ c.rate a n → false ≡ is_under c at value a n
 unfolding is_under stays_below stays_within
-is_under-unrated c at value a n told = rw (← told) (no_way (int_le (a +ℤ pos n) at) (int_lt at a) (nat_le 2 n && nat_le n MOST_MINUTES))
+is_under-unrated c at value a n stated = rw (← stated) (no_way (int_le (a +ℤ pos n) at) (int_lt at a) (nat_le 2 n && nat_le n MOST_MINUTES))
   where
     no_way : (p q b : Bool) → false ≡ (b && ((p && false) || (q && false)))
     no_way true true b = and_false b
@@ -192,11 +210,13 @@ is_under-unrated c at value a n told = rw (← told) (no_way (int_le (a +ℤ pos
     no_way false true b = and_false b
     no_way false false b = and_false b
 
-pub rate-small : (c : Meaning) (a : ℤ) (n : ℕ) (rate : ℤ) → IsLawful c → IsSpan c a n → 2 ≤ n → n ≤ MOST_MINUTES → Some rate ≡ c.rate a n → (rate *ℤ pos 1024) <ℤ pos (5 * 10 ^ 37)
+pub rate-small : (c : Meaning) (a : ℤ) (n : ℕ) (rate : ℤ) → IsLawful c → IsSpan c a n → 2 ≤ n → n ≤ MOST_MINUTES
+    → Some rate ≡ c.rate a n → (rate *ℤ pos 1024) <ℤ pos (5 * 10 ^ 37)
 rate-small c a n rate lawful span two most is =
     (lawful.rates a n rate (record { first = span.first; last = span.last; some = omega arith; few = most }) (sym is)).small
 
-pub value-small : (c : Meaning) (a m v : ℤ) (n : ℕ) → IsLawful c → IsSpan c a n → a ≤ℤ m → m ≤ℤ (a +ℤ pos n) → v ≡ c.track.value m → unsigned_abs v < 10 ^ 37
+pub value-small : (c : Meaning) (a m v : ℤ) (n : ℕ) → IsLawful c → IsSpan c a n → a ≤ℤ m → m ≤ℤ (a +ℤ pos n)
+    → v ≡ c.track.value m → unsigned_abs v < 10 ^ 37
 value-small c a m v n lawful span from to is =
     let first = span.first in
     let last = span.last in

@@ -83,7 +83,9 @@ record AreShown (c : Meaning) (at value begin end : ℤ) : Type 0 where
   below : AreBelow c at value begin end
   has : begin ≤ℤ at → at <ℤ end → c.track.value at ≡ value
 
-accepted-cell : (c : Meaning) (at value a : ℤ) (number : ℕ) (cell : PeakCell) → IsLawful c → IsSpan c a (minutes_of cell) → cell_verdict c at value a number cell ≡ Accepted → AreShown c at value a (a +ℤ pos (minutes_of cell))
+accepted-cell : (c : Meaning) (at value a : ℤ) (number : ℕ) (cell : PeakCell) → IsLawful c
+    → IsSpan c a (minutes_of cell) → cell_verdict c at value a number cell ≡ Accepted
+    → AreShown c at value a (a +ℤ pos (minutes_of cell))
 unfolding cell_verdict
 accepted-cell c at value a number (Under n) lawful span ok =
     let under = accepted_true (is_under c at value a n) (NotUnder number) (λ e. cc) ok in
@@ -109,27 +111,34 @@ accepted-cell c at value a number Single lawful span ok = by_test (int_eq a at)
     false_true : false ≡ true → ⊥
     false_true h = cc
 
-accepted-cells : (c : Meaning) (at value a : ℤ) (number : ℕ) (cells : List PeakCell) → IsLawful c → IsSpan c a (all_minutes cells) → cells_verdict c at value a number cells ≡ Accepted → AreShown c at value a (a +ℤ pos (all_minutes cells))
+accepted-cells : (c : Meaning) (at value a : ℤ) (number : ℕ) (cells : List PeakCell) → IsLawful c
+    → IsSpan c a (all_minutes cells) → cells_verdict c at value a number cells ≡ Accepted
+    → AreShown c at value a (a +ℤ pos (all_minutes cells))
 unfolding cells_verdict all_minutes
 accepted-cells c at value a number [] lawful span ok =
     let none : a +ℤ pos 0 ≡ a = omega (arith, ints) in
     rw none (record { below = below-none c at value a; has = λ from before. absurd (omega (arith, ints)) })
 accepted-cells c at value a number (cell ∷ cells) lawful span ok =
-    let parts = both_accepted (cell_verdict c at value a number cell) (cells_verdict c at value (a +ℤ pos (minutes_of cell)) (suc number) cells) ok in
+    let parts = both_accepted (cell_verdict c at value a number cell)
+    (cells_verdict c at value (a +ℤ pos (minutes_of cell)) (suc number) cells) ok in
     let first = span.first in
     let last = span.last in
     let here = accepted-cell c at value a number cell lawful (record { first = first; last = omega (arith, ints) }) parts.0 in
-    let rest = accepted-cells c at value (a +ℤ pos (minutes_of cell)) (suc number) cells lawful (record { first = omega (arith, ints); last = omega (arith, ints) }) parts.1 in
-    let all : a +ℤ pos (minutes_of cell) +ℤ pos (all_minutes cells) ≡ a +ℤ pos (minutes_of cell + all_minutes cells) = omega (arith, ints) in
+    let rest = accepted-cells c at value (a +ℤ pos (minutes_of cell)) (suc number) cells lawful
+    (record { first = omega (arith, ints); last = omega (arith, ints) }) parts.1 in
+    let all : a +ℤ pos (minutes_of cell) +ℤ pos (all_minutes cells) ≡ a +ℤ pos (minutes_of cell + all_minutes cells) =
+    omega (arith, ints) in
     rw (← all) (record {
-      below = below-append c at value a (a +ℤ pos (minutes_of cell)) (a +ℤ pos (minutes_of cell) +ℤ pos (all_minutes cells)) here.below rest.below;
+      below = below-append c at value a (a +ℤ pos (minutes_of cell))
+          (a +ℤ pos (minutes_of cell) +ℤ pos (all_minutes cells)) here.below rest.below;
       has = λ from before. by_test (int_lt at (a +ℤ pos (minutes_of cell)))
           (λ less. here.has from (int_lt-true _ _ less))
           (λ more. rest.has (int_lt-false _ _ more) before);
     })
 
 -- accepted cells show the highest water, whoever wrote them
-pub verdict-highest : (c : Meaning) (a : ℤ) (n : ℕ) (peak : Peak) → IsLawful c → IsSpan c a n → peak_verdict c a n peak ≡ Accepted → IsHighest c a (a +ℤ pos n) peak.at peak.value
+pub verdict-highest : (c : Meaning) (a : ℤ) (n : ℕ) (peak : Peak) → IsLawful c → IsSpan c a n
+    → peak_verdict c a n peak ≡ Accepted → IsHighest c a (a +ℤ pos n) peak.at peak.value
 unfolding peak_verdict
 verdict-highest c a n peak lawful span ok =
     let whole = tested (all_minutes peak.cells == n) _ _ (λ e. cc) ok in
@@ -148,35 +157,41 @@ verdict-highest c a n peak lawful span ok =
     }
 
 -- the highest water is the one that an evaluation of each minute finds
-highest-looked : (c : Meaning) (a : ℤ) (n : ℕ) (at value : ℤ) → IsHighest c a (a +ℤ pos n) at value → (at ≡ highest_minute c a n) × (value ≡ c.track.value (highest_minute c a n))
+highest-looked : (c : Meaning) (a : ℤ) (n : ℕ) (at value : ℤ) → IsHighest c a (a +ℤ pos n) at value
+    → (at ≡ highest_minute c a n) × (value ≡ c.track.value (highest_minute c a n))
 highest-looked c a n at value peak =
     let from = peak.from in
     let before = peak.before in
     highest-one c a (a +ℤ pos n) at value _ _ peak (minute-highest c a n (omega (arith, ints)))
 
-pub verdict-looked : (c : Meaning) (a : ℤ) (n : ℕ) (peak : Peak) → IsLawful c → IsSpan c a n → peak_verdict c a n peak ≡ Accepted → (peak.at ≡ highest_minute c a n) × (peak.value ≡ c.track.value (highest_minute c a n))
+pub verdict-looked : (c : Meaning) (a : ℤ) (n : ℕ) (peak : Peak) → IsLawful c → IsSpan c a n → peak_verdict c a n peak
+    ≡ Accepted → (peak.at ≡ highest_minute c a n) × (peak.value ≡ c.track.value (highest_minute c a n))
 verdict-looked c a n peak lawful span ok = highest-looked c a n peak.at peak.value (verdict-highest c a n peak lawful span ok)
 
 -- ---- accepted cells are within their ranges
 
-cell-range : (c : Meaning) (at value a : ℤ) (number : ℕ) (cell : PeakCell) → cell_verdict c at value a number cell ≡ Accepted → IsPeakCell cell
+cell-range : (c : Meaning) (at value a : ℤ) (number : ℕ) (cell : PeakCell)
+    → cell_verdict c at value a number cell ≡ Accepted → IsPeakCell cell
 unfolding cell_verdict
 cell-range c at value a number (Under n) ok =
     let under = accepted_true (is_under c at value a n) (NotUnder number) (λ e. cc) ok in
     (under-two c at value a n under, under-few c at value a n under)
 cell-range c at value a number Single ok = tt
 
-cells-range : (c : Meaning) (at value a : ℤ) (number : ℕ) (cells : List PeakCell) → cells_verdict c at value a number cells ≡ Accepted → All IsPeakCell cells
+cells-range : (c : Meaning) (at value a : ℤ) (number : ℕ) (cells : List PeakCell)
+    → cells_verdict c at value a number cells ≡ Accepted → All IsPeakCell cells
 unfolding cells_verdict
 cells-range c at value a number [] ok = All-nil IsPeakCell
 cells-range c at value a number (cell ∷ cells) ok =
-    let parts = both_accepted (cell_verdict c at value a number cell) (cells_verdict c at value (a +ℤ pos (minutes_of cell)) (suc number) cells) ok in
+    let parts = both_accepted (cell_verdict c at value a number cell)
+    (cells_verdict c at value (a +ℤ pos (minutes_of cell)) (suc number) cells) ok in
     All-cons IsPeakCell cell cells
     (cell-range c at value a number cell parts.0)
     (cells-range c at value (a +ℤ pos (minutes_of cell)) (suc number) cells parts.1)
 
 -- accepted cells have the minutes of the span, whatever the curve is
-pub verdict-cells : (c : Meaning) (a : ℤ) (n : ℕ) (peak : Peak) → peak_verdict c a n peak ≡ Accepted → (all_minutes peak.cells ≡ n) × All IsPeakCell peak.cells
+pub verdict-cells : (c : Meaning) (a : ℤ) (n : ℕ) (peak : Peak) → peak_verdict c a n peak ≡ Accepted
+    → (all_minutes peak.cells ≡ n) × All IsPeakCell peak.cells
 unfolding peak_verdict
 verdict-cells c a n peak ok =
     let whole = tested (all_minutes peak.cells == n) _ _ (λ e. cc) ok in

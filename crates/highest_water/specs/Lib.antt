@@ -4,7 +4,7 @@ pub mod PeakSpelling
 pub mod PeakTexts
 pub mod Peaks
 pub mod Samples
-pub mod Telling
+pub mod VerdictLines
 pub mod Verdicts
 pub mod Worked
 pub mod Workings

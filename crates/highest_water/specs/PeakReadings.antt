@@ -5,25 +5,25 @@ use Rattle.cert_text.specs.declared.fault.CertFault.{CertFault as ReadingFault}
 use Rattle.cert_text.specs.declared.fault.CertFault.TheVariants as reading
 use Rattle.cert_text.specs.ByLine.{read_from, pieces}
 use Rattle.highest_water.specs.declared.certificate.PeakCertificate.{PeakCertificate}
-use Rattle.highest_water.specs.declared.fault.CertFault.{CertFault}
-use Rattle.highest_water.specs.declared.fault.CertFault.TheVariants.{NoMemory, NotACertificate}
-use Rattle.highest_water.specs.Workings.PeakDrafts.{start, next, whole}
+use Rattle.highest_water.specs.declared.fault.PeakFault.{PeakFault}
+use Rattle.highest_water.specs.declared.fault.PeakFault.TheVariants.{NoMemory, NotACertificate}
+use Rattle.highest_water.specs.Workings.PeakParsing.{start, next, whole}
 
 -- the fault of reading line by line as a fault of this crate
-abbrev pub fault_of : ReadingFault → CertFault
+abbrev pub fault_of : ReadingFault → PeakFault
 fault_of reading.NoMemory = NoMemory
 fault_of (reading.NotACertificate line) = NotACertificate line
 
 -- the result of reading line by line with a fault of this crate
-abbrev pub with_fault : {C : Type 0} → Result C ReadingFault → Result C CertFault
+abbrev pub with_fault : {C : Type 0} → Result C ReadingFault → Result C PeakFault
 with_fault (Ok said) = Ok said
 with_fault (Err fault) = Err (fault_of fault)
 
 -- the certificate whose text the bytes are, or the line of the fault
-unfoldable pub peak_of : List ℕ → Result PeakCertificate CertFault
+unfoldable pub peak_of : List ℕ → Result PeakCertificate PeakFault
 peak_of bytes = with_fault (read_from next whole start 1 (pieces bytes))
 
 -- true if memory ran out
-abbrev pub wants_memory : CertFault → Bool
-wants_memory NoMemory = true
-wants_memory (NotACertificate line) = false
+abbrev pub is_out_of_memory : PeakFault → Bool
+is_out_of_memory NoMemory = true
+is_out_of_memory (NotACertificate line) = false

@@ -6,8 +6,8 @@ use Rattle.cert_text.specs.Spelling.{SpellsStation, SpellsMoment}
 use Rattle.cert_text.specs.Texts.{IsTextBy, IsFaultBy, RefusedBy}
 use Rattle.curve_law.specs.declared.quiet.TheConstants.{MOST_MINUTES}
 use Rattle.highest_water.specs.declared.certificate.PeakCertificate.{PeakCertificate}
-use Rattle.highest_water.specs.declared.fault.CertFault.{CertFault}
-use Rattle.highest_water.specs.declared.fault.CertFault.TheVariants.{NoMemory, NotACertificate}
+use Rattle.highest_water.specs.declared.fault.PeakFault.{PeakFault}
+use Rattle.highest_water.specs.declared.fault.PeakFault.TheVariants.{NoMemory, NotACertificate}
 use Rattle.highest_water.specs.declared.peak_cell.PeakCell.{PeakCell}
 use Rattle.highest_water.specs.declared.peak_cell.PeakCell.TheVariants.{Under, Single}
 use Rattle.highest_water.specs.PeakTexts.{IsPeakValue}
@@ -55,11 +55,11 @@ IsPeakFaultLine bytes line = IsFaultBy SpellsPeak bytes line
 -- ---- the result of reading
 
 -- a fault of reading is right; out of memory says nothing
-abbrev pub RefusesPeak : List ℕ → CertFault → Type 0
+abbrev pub RefusesPeak : List ℕ → PeakFault → Type 0
 RefusesPeak bytes NoMemory = Unit {0}
 RefusesPeak bytes (NotACertificate line) = RefusedBy SpellsPeak bytes line
 
 -- the result of reading is right: the certificate of the text, or the line of its first fault
-abbrev pub ReadsPeak : List ℕ → Result PeakCertificate CertFault → Type 0
+abbrev pub ReadsPeak : List ℕ → Result PeakCertificate PeakFault → Type 0
 ReadsPeak bytes (Ok c) = IsPeakTextOf c bytes
 ReadsPeak bytes (Err fault) = RefusesPeak bytes fault

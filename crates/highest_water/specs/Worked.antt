@@ -23,7 +23,8 @@ abbrev pub pier_lines : List (List ℕ)
 pier_lines =
     codes "peak certificate 1" ∷ codes "station Pier" ∷ codes "begin 2000-01-10T00:00Z" ∷ codes "end 2000-01-10T01:04Z"
     ∷ codes "at 2000-01-10T00:00Z" ∷ codes "value 4147200000000000000000000000000"
-    ∷ (replicate 16 (codes "m") ++ codes "u 2" ∷ codes "u 2" ∷ codes "u 4" ∷ codes "u 4" ∷ codes "u 4" ∷ codes "u 8" ∷ codes "u 8" ∷ codes "u 16"
+    ∷ (replicate 16 (codes "m") ++ codes "u 2" ∷ codes "u 2" ∷ codes "u 4" ∷ codes "u 4" ∷ codes "u 4" ∷ codes "u 8"
+    ∷ codes "u 8" ∷ codes "u 16"
     ∷ codes "done" ∷ [])
 
 -- Pier's text with a change

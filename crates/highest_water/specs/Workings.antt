@@ -1,4 +1,4 @@
 pub mod Below
 pub mod Findings
-pub mod PeakDrafts
+pub mod PeakParsing
 pub mod Walk

@@ -8,10 +8,10 @@ ghost use Rattle.highest_water.specs.Peaks.{IsHighest};
 ghost use Rattle.highest_water.specs.Covers.{minutes_of, all_minutes};
 ghost use Rattle.highest_water.specs.Verdicts.{cells_verdict, is_inside, peak_verdict};
 
-use crate::judging::finding_on;
 use crate::lengths::{covered_by, minutes_of};
 use crate::peak::Peak;
 use crate::peak_cell::PeakCell;
+use crate::peak_cell_finding::finding_on;
 use crate::verdict::PeakVerdict;
 use curve_law::{Curve, Point, point_at};
 
@@ -28,7 +28,7 @@ pub fn check_peak<C: Curve>(curve: &mut C, peak: &Peak, begin: i64, end: i64) ->
     requires first { (C.state curve.old).facts.meaning.first ≤ℤ begin }
     requires last { end ≤ℤ (C.state curve.old).facts.meaning.last }
     requires size { unsigned_abs peak.now.value < 10 ^ 37 }
-    requires few { length peak.now.cells < 2 ^ 32 }
+    requires count_bound { length peak.now.cells < 2 ^ 32 }
     requires count { (C.state curve.old).count + length peak.now.cells ≤ 2 ^ 62 }
     ensures verdict { result ≡ peak_verdict (C.state curve.old).facts.meaning begin (unsigned_abs (end -ℤ begin)) peak.now }
     ensures highest { result ≡ PeakVerdict.Accepted →
@@ -69,7 +69,7 @@ fn first_finding<C: Curve>(
 ) -> PeakVerdict
     requires size { unsigned_abs highest.value < 10 ^ 37 }
     requires span { IsSpan (C.state curve.old).facts.meaning begin (all_minutes cells.now) }
-    requires few { length cells.now < 2 ^ 32 }
+    requires count_bound { length cells.now < 2 ^ 32 }
     requires count { (C.state curve.old).count + length cells.now ≤ 2 ^ 62 }
     ensures verdict { result ≡ cells_verdict (C.state curve.old).facts.meaning highest.minute highest.value begin 1 cells.now }
     ensures count { (C.state curve.new).count ≤ (C.state curve.old).count + length cells.now + 1 }
@@ -91,7 +91,7 @@ fn first_finding<C: Curve>(
 /// Returns the point at which `cell` ends if it begins at minute `begin`.
 fn end_of<C: Curve>(curve: &mut C, begin: i64, cell: PeakCell) -> Point
     requires span { IsSpan (C.state curve.old).facts.meaning begin (minutes_of cell) }
-    requires few { (C.state curve.old).count < 2 ^ 63 }
+    requires count_bound { (C.state curve.old).count < 2 ^ 63 }
     ensures minute { result.minute ≡ begin +ℤ pos (minutes_of cell) }
     ensures value { result.value ≡ (C.state curve.old).facts.meaning.track.value result.minute }
     ensures after { C.state curve.new ≡ evaluated_once (C.state curve.old) }

@@ -26,10 +26,12 @@ pub fn peak_cover<C: Curve>(
     requires highest { IsHighest (C.state curve.old).facts.meaning begin end at value }
     requires first { (C.state curve.old).facts.meaning.first ≤ℤ begin }
     requires last { end ≤ℤ (C.state curve.old).facts.meaning.last }
-    requires few { (C.state curve.old).count ≤ 2 ^ 62 }
-    ensures cells { IfOk result (λ cells. cells ≡ peak_cover (C.state curve.old).facts.meaning at value begin (unsigned_abs (end -ℤ begin))) }
+    requires count_bound { (C.state curve.old).count ≤ 2 ^ 62 }
+    ensures cells { IfOk result
+        (λ cells. cells ≡ peak_cover (C.state curve.old).facts.meaning at value begin (unsigned_abs (end -ℤ begin))) }
     ensures count { (C.state curve.new).count
-        ≤ (C.state curve.old).count + length (peak_cover (C.state curve.old).facts.meaning at value begin (unsigned_abs (end -ℤ begin))) + 1 }
+        ≤ (C.state curve.old).count
+        + length (peak_cover (C.state curve.old).facts.meaning at value begin (unsigned_abs (end -ℤ begin))) + 1 }
     ensures unchanged { (C.state curve.new).facts ≡ (C.state curve.old).facts }
 {
     cells_by(alloc, curve, begin, end, Point { minute: at, value })
@@ -47,10 +49,12 @@ pub fn cells_by<C: Curve>(
     requires forward { begin ≤ℤ end }
     requires first { (C.state curve.old).facts.meaning.first ≤ℤ begin }
     requires last { end ≤ℤ (C.state curve.old).facts.meaning.last }
-    requires few { (C.state curve.old).count ≤ 2 ^ 62 + 2 ^ 60 }
-    ensures cells { IfOk result (λ cells. cells ≡ peak_cover (C.state curve.old).facts.meaning highest.minute highest.value begin (unsigned_abs (end -ℤ begin))) }
+    requires count_bound { (C.state curve.old).count ≤ 2 ^ 62 + 2 ^ 60 }
+    ensures cells { IfOk result (λ cells. cells
+        ≡ peak_cover (C.state curve.old).facts.meaning highest.minute highest.value begin (unsigned_abs (end -ℤ begin))) }
     ensures count { (C.state curve.new).count
-        ≤ (C.state curve.old).count + length (peak_cover (C.state curve.old).facts.meaning highest.minute highest.value begin (unsigned_abs (end -ℤ begin))) + 1 }
+        ≤ (C.state curve.old).count
+        + length (peak_cover (C.state curve.old).facts.meaning highest.minute highest.value begin (unsigned_abs (end -ℤ begin))) + 1 }
     ensures unchanged { (C.state curve.new).facts ≡ (C.state curve.old).facts }
 {
     let mut walk = walk_from(curve, begin, end);

@@ -6,7 +6,7 @@ use thiserror::Error;
 
 /// An error of reading bytes as a certificate of a highest water.
 #[derive(Clone, Copy, Debug, PartialEq, Eq, Error)]
-pub enum CertFault {
+pub enum PeakFault {
     /// Memory ran out.
     #[error("no memory for the certificate")]
     NoMemory,
@@ -16,15 +16,15 @@ pub enum CertFault {
     NotACertificate { line: u32 },
 }
 
-impl From<cert_text::CertFault> for CertFault {
+impl From<cert_text::CertFault> for PeakFault {
     ghost use Rattle.highest_water.specs.PeakReadings.{fault_of};
 
     ghost from_gives = { λ fault own. own ≡ fault_of fault };
 
-    fn from(fault: cert_text::CertFault) -> CertFault {
+    fn from(fault: cert_text::CertFault) -> PeakFault {
         match fault {
-            cert_text::CertFault::NoMemory => CertFault::NoMemory,
-            cert_text::CertFault::NotACertificate { line } => CertFault::NotACertificate { line },
+            cert_text::CertFault::NoMemory => PeakFault::NoMemory,
+            cert_text::CertFault::NotACertificate { line } => PeakFault::NotACertificate { line },
         }
     }
 }

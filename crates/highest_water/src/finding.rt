@@ -25,10 +25,10 @@ pub fn find_peak<C: Curve>(
     end: i64,
 ) -> Result<Peak, AllocError>
     requires some { begin <ℤ end }
-    requires short { (end -ℤ begin) ≤ℤ pos 5270400 }
+    requires length_bound { (end -ℤ begin) ≤ℤ pos 5270400 }
     requires first { (C.state curve.old).facts.meaning.first ≤ℤ begin }
     requires last { end ≤ℤ (C.state curve.old).facts.meaning.last }
-    requires few { (C.state curve.old).count ≤ 2 ^ 62 }
+    requires count_bound { (C.state curve.old).count ≤ 2 ^ 62 }
     ensures highest { IfOk result (λ peak. IsHighest (C.state curve.old).facts.meaning begin end peak.at peak.value) }
     ensures peak { IfOk result (λ peak. peak ≡ peak_of (C.state curve.old).facts.meaning begin (unsigned_abs (end -ℤ begin))) }
     ensures count { (C.state curve.new).count ≤ (C.state curve.old).count + 2 * unsigned_abs (end -ℤ begin)
@@ -50,10 +50,10 @@ pub fn find_peak<C: Curve>(
 /// twice a minute and once more. Makes no cells and doesn't allocate.
 pub fn highest_point<C: Curve>(curve: &mut C, begin: i64, end: i64) -> Point
     requires some { begin <ℤ end }
-    requires short { (end -ℤ begin) ≤ℤ pos 5270400 }
+    requires length_bound { (end -ℤ begin) ≤ℤ pos 5270400 }
     requires first { (C.state curve.old).facts.meaning.first ≤ℤ begin }
     requires last { end ≤ℤ (C.state curve.old).facts.meaning.last }
-    requires few { (C.state curve.old).count ≤ 2 ^ 62 }
+    requires count_bound { (C.state curve.old).count ≤ 2 ^ 62 }
     ensures highest { IsHighest (C.state curve.old).facts.meaning begin end result.minute result.value }
     ensures minute { result.minute ≡ (peak_of (C.state curve.old).facts.meaning begin (unsigned_abs (end -ℤ begin))).at }
     ensures value { result.value ≡ (peak_of (C.state curve.old).facts.meaning begin (unsigned_abs (end -ℤ begin))).value }
@@ -76,7 +76,7 @@ fn highest_block<C: Curve>(curve: &mut C, begin: i64, end: i64) -> Point
     requires some { begin <ℤ end }
     requires first { (C.state curve.old).facts.meaning.first ≤ℤ begin }
     requires last { end ≤ℤ (C.state curve.old).facts.meaning.last }
-    requires few { (C.state curve.old).count ≤ 2 ^ 62 }
+    requires count_bound { (C.state curve.old).count ≤ 2 ^ 62 }
     ensures point { IsPoint (C.state curve.old).facts.meaning begin end result }
     ensures count { (C.state curve.new).count ≤ (C.state curve.old).count + minutes_to begin end }
     ensures unchanged { (C.state curve.new).facts ≡ (C.state curve.old).facts }

@@ -5,7 +5,7 @@ ghost use Rattle.highest_water.specs.Peaks.{is_higher};
 ghost use Rattle.highest_water.specs.Workings.Walk.{higher_of, raised_by};
 
 use crate::peak_cell::PeakCell;
-use crate::walk::Found;
+use crate::walk::LocatedCell;
 use curve_law::Point;
 
 /// Returns true if `point` is higher than `highest`: its value is greater, or equal and its minute
@@ -28,7 +28,7 @@ pub fn higher_of(highest: Point, point: Point) -> Point
 }
 
 /// Returns the highest point after the cell `found`: a single minute may be higher.
-pub fn raised_by(highest: Point, found: Found) -> Point
+pub fn raised_by(highest: Point, found: LocatedCell) -> Point
     ensures { result ≡ raised_by highest found }
 {
     match found.cell {

@@ -68,7 +68,7 @@ pub fn accepted_highest_waters_are_right()
 /// span's highest water is accepted.
 pub fn covers_are_accepted()
     ensures minutes { (c : Meaning) (at value a : ℤ) (n : ℕ) → all_minutes (peak_cover c at value a n) ≡ n }
-    ensures few { (c : Meaning) (at value a : ℤ) (n : ℕ) → length (peak_cover c at value a n) ≤ n }
+    ensures count_bound { (c : Meaning) (at value a : ℤ) (n : ℕ) → length (peak_cover c at value a n) ≤ n }
     ensures accepted { (c : Meaning) (at value a : ℤ) (n : ℕ) → IsHighest c a (a +ℤ pos n) at value →
         peak_verdict c a n (record { at = at; value = value; cells = peak_cover c at value a n })
         ≡ PeakVerdict.Accepted }

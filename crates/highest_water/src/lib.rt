@@ -10,24 +10,24 @@
 mod certificate;
 mod checking;
 mod covering;
-mod draft;
 mod fault;
 mod finding;
 mod higher;
-mod judging;
 mod laws;
 mod lengths;
 mod line_reading;
 mod part;
 mod peak;
 mod peak_cell;
+mod peak_cell_finding;
 mod peak_cells;
+mod peak_parser;
 mod piece;
 mod reading;
-mod telling;
 mod text_laws;
 mod under;
 mod verdict;
+mod verdict_text;
 mod walk;
 mod worked;
 mod worked_texts;
@@ -36,7 +36,7 @@ mod writing;
 pub use certificate::PeakCertificate;
 pub use checking::check_peak;
 pub use covering::peak_cover;
-pub use fault::CertFault;
+pub use fault::PeakFault;
 pub use finding::{find_peak, highest_point};
 pub use laws::{
     accepted_highest_waters_are_right, agreeing_curves_have_one_highest_water, blocks_are_halved,
@@ -47,11 +47,11 @@ pub use peak::Peak;
 pub use peak_cell::PeakCell;
 pub use peak_cells::PeakCells;
 pub use reading::read_peak;
-pub use telling::verdict_line;
 pub use text_laws::{
     peak_certificates_have_one_text, peak_readings_go_by_the_grammar, peak_texts_are_short,
 };
 pub use verdict::PeakVerdict;
+pub use verdict_text::verdict_line;
 pub use worked::{worked_cells_under, worked_covers, worked_minutes, worked_verdicts};
 pub use worked_texts::{worked_peak_readings, worked_peak_texts};
 pub use writing::write_peak;

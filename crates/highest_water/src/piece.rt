@@ -37,7 +37,7 @@ pub fn cell_between<C: Curve>(
 /// one. The curve, which was evaluated fewer than 2^63 times, is evaluated once.
 pub fn middle<C: Curve>(curve: &mut C, begin: Point, end: Point) -> Point
     requires piece { IsPiece (C.state curve.old).facts.meaning (C.state curve.old).facts.meaning.track.value begin end }
-    requires few { (C.state curve.old).count < 2 ^ 63 }
+    requires count_bound { (C.state curve.old).count < 2 ^ 63 }
     ensures minute { result.minute ≡ begin.minute +ℤ pos (minutes_to begin.minute end.minute / 2) }
     ensures value { result.value ≡ (C.state curve.old).facts.meaning.track.value result.minute }
     ensures after { C.state curve.new ≡ evaluated_once (C.state curve.old) }

@@ -2,7 +2,7 @@
 
 ghost use Rattle.std.specs.Prelude.{◌≡◌, ◌≢◌, ℕ, ◌+◌, ◌*◌, ◌<◌, ◌≤◌, List, length, Ok, Err};
 ghost use Rattle.highest_water.specs.declared.certificate.PeakCertificate.{PeakCertificate};
-ghost use Rattle.highest_water.specs.declared.fault.CertFault.{CertFault};
+ghost use Rattle.highest_water.specs.declared.fault.PeakFault.{PeakFault};
 ghost use Rattle.highest_water.specs.Covers.{all_minutes};
 ghost use Rattle.highest_water.specs.PeakTexts.{IsPeakCertificate, peak_lines_of, peak_text};
 ghost use Rattle.highest_water.specs.PeakSpelling.{SpellsPeak, IsPeakTextOf, IsPeakFaultLine, ReadsPeak};
@@ -25,7 +25,7 @@ pub fn peak_certificates_have_one_text()
 /// 545. If they have no more than the 5,270,400 minutes of the longest span, the text has fewer
 /// than 10,542,000 bytes, and so can be read again.
 pub fn peak_texts_are_short()
-    ensures short { (c : PeakCertificate) → IsPeakCertificate c →
+    ensures length_bound { (c : PeakCertificate) → IsPeakCertificate c →
         length (peak_text c) ≤ 545 + 2 * all_minutes c.peak.cells }
     ensures fits { (c : PeakCertificate) → IsPeakCertificate c → all_minutes c.peak.cells ≤ 5270400 →
         length (peak_text c) < 10542000 }
@@ -36,7 +36,7 @@ pub fn peak_texts_are_short()
 /// a certificate reads as this certificate.
 pub fn peak_readings_go_by_the_grammar()
     ensures reads { (bytes : List ℕ) → ReadsPeak bytes (peak_of bytes) }
-    ensures never_memory { (bytes : List ℕ) → peak_of bytes ≢ Err CertFault.NoMemory }
+    ensures never_memory { (bytes : List ℕ) → peak_of bytes ≢ Err PeakFault.NoMemory }
     ensures again { (c : PeakCertificate) → IsPeakCertificate c → peak_of (peak_text c) ≡ Ok c }
     ensures one_line { (bytes : List ℕ) (m n : ℕ) →
         IsPeakFaultLine bytes m → IsPeakFaultLine bytes n → m ≡ n }

@@ -36,7 +36,7 @@ pub fn is_under<C: Curve>(curve: &C, highest: Point, begin: Point, n: u32, end_v
 
 /// Returns true if `minute` is one of the `n` minutes from `begin` on.
 fn holds(begin: i64, n: u32, minute: i64) -> bool
-    requires near { unsigned_abs begin ≤ 2 ^ 60 }
+    requires in_range { unsigned_abs begin ≤ 2 ^ 60 }
     ensures { result ≡ is_inside minute begin n }
 {
     begin <= minute && minute < begin + i64::from(n)
@@ -46,7 +46,7 @@ fn holds(begin: i64, n: u32, minute: i64) -> bool
 fn twice_most(rate: i128, n: u32, value: i128, end_value: i128) -> i128
     requires positive { pos 0 ≤ℤ rate }
     requires rate { (rate *ℤ pos MOST_MINUTES) <ℤ pos (5 * 10 ^ 37) }
-    requires few { n ≤ MOST_MINUTES }
+    requires count_bound { n ≤ MOST_MINUTES }
     requires value { unsigned_abs value < 10 ^ 37 }
     requires end_value { unsigned_abs end_value < 10 ^ 37 }
     ensures value { result ≡ twice_most rate n value end_value }

@@ -69,7 +69,8 @@ pub fn worked_verdicts()
     ensures each_minute { peak_verdict (hills (pos 2) (pos 5) (pos 6) (pos 5) (pos 1)) (pos 0) 8 (record {
       at = pos 2;
       value = pos 5;
-      cells = PeakCell.Single ∷ PeakCell.Single ∷ PeakCell.Single ∷ PeakCell.Single ∷ PeakCell.Single ∷ PeakCell.Single ∷ PeakCell.Single ∷ PeakCell.Single ∷ [];
+      cells = PeakCell.Single ∷ PeakCell.Single ∷ PeakCell.Single ∷ PeakCell.Single ∷ PeakCell.Single ∷ PeakCell.Single
+          ∷ PeakCell.Single ∷ PeakCell.Single ∷ [];
     })
         ≡ PeakVerdict.Accepted }
     ensures short { peak_verdict (hills (pos 2) (pos 5) (pos 6) (pos 5) (pos 1)) (pos 0) 8 (record {

@@ -2,7 +2,7 @@
 
 ghost use Rattle.std.specs.Prelude.{◌≡◌, ◌++◌, codes, map, take, Ok, Err};
 ghost use Rattle.cert_text.specs.Texts.{joined};
-ghost use Rattle.highest_water.specs.declared.fault.CertFault.{CertFault};
+ghost use Rattle.highest_water.specs.declared.fault.PeakFault.{PeakFault};
 ghost use Rattle.highest_water.specs.PeakTexts.{peak_text};
 ghost use Rattle.highest_water.specs.PeakReadings.{peak_of};
 ghost use Rattle.highest_water.specs.Worked.{pier, pier_lines, pier_with, changes};
@@ -16,9 +16,9 @@ pub fn worked_peak_texts()
 /// missing or more follows: the certificate, or the line of the fault.
 pub fn worked_peak_readings()
     ensures pier { peak_of (joined pier_lines) ≡ Ok pier }
-    ensures changed { map (λ c. peak_of (pier_with c)) changes ≡ map (λ c. Err (CertFault.NotACertificate c.at)) changes }
-    ensures empty { peak_of (codes "") ≡ Err (CertFault.NotACertificate 1) }
-    ensures not_done { peak_of (joined (take 30 pier_lines)) ≡ Err (CertFault.NotACertificate 31) }
-    ensures no_lf { peak_of (joined (take 30 pier_lines) ++ codes "done") ≡ Err (CertFault.NotACertificate 31) }
-    ensures more { peak_of (joined pier_lines ++ codes "m\n") ≡ Err (CertFault.NotACertificate 32) }
+    ensures changed { map (λ c. peak_of (pier_with c)) changes ≡ map (λ c. Err (PeakFault.NotACertificate c.at)) changes }
+    ensures empty { peak_of (codes "") ≡ Err (PeakFault.NotACertificate 1) }
+    ensures not_done { peak_of (joined (take 30 pier_lines)) ≡ Err (PeakFault.NotACertificate 31) }
+    ensures no_lf { peak_of (joined (take 30 pier_lines) ++ codes "done") ≡ Err (PeakFault.NotACertificate 31) }
+    ensures more { peak_of (joined pier_lines ++ codes "m\n") ≡ Err (PeakFault.NotACertificate 32) }
 {}

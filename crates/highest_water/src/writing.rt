@@ -4,7 +4,15 @@ ghost use Rattle.std.specs.Prelude.{◌≡◌, ◌++◌, map, IfOk, OnOk};
 ghost use Rattle.std.specs.Fmt.{signed_decimal};
 ghost use Rattle.zone_time.specs.Moments.{IsMoment};
 ghost use Rattle.cert_text.specs.Texts.{ended, joined};
-ghost use Rattle.highest_water.specs.PeakTexts.{IsPeakCertificate, peak_title, at_line_of, value_line_of, peak_cell_line_of, peak_head_lines_of, peak_text};
+ghost use Rattle.highest_water.specs.PeakTexts.{
+  IsPeakCertificate,
+  peak_title,
+  at_line_of,
+  value_line_of,
+  peak_cell_line_of,
+  peak_head_lines_of,
+  peak_text,
+};
 
 use crate::certificate::PeakCertificate;
 use crate::peak_cell::PeakCell;

@@ -54,7 +54,8 @@ not_yet false ended later n e l is = let m = mapped later n is in cc
 head_long : (bytes : List ℕ) (n : ℕ) → head_length bytes ≡ Some n → 2 ≤ length bytes
 head_long [] n is = let e = no_head in absurd (cc)
 head_long (a ∷ []) n is =
-    absurd (not_yet (a == 10 && is_some (empty_line [])) (empty_line []) (head_length []) n no_empty_line no_head (sym (head_unfolds a []) ∙ is))
+    absurd (not_yet (a == 10 && is_some (empty_line [])) (empty_line []) (head_length []) n no_empty_line no_head
+    (sym (head_unfolds a []) ∙ is))
 head_long (a ∷ b ∷ bytes) n is = omega arith
 
 within_by : (here : Bool) (ended later : Option ℕ) (long n : ℕ) → ((k : ℕ) → ended ≡ Some k → k ≤ long)

@@ -1,5 +1,27 @@
 -- The head of a request: its end, and the fields that the server uses (RFC 9112, sections 2 to 6).
-use Rattle.std.specs.Prelude.{◌≡◌, ℕ, ◌+◌, ◌<◌, ◌≤◌, ◌==◌, ◌&&◌, if◌then◌else◌, List, [], ◌∷◌, length, take, map, filter, count_by, Option, Some, None, is_some, codes}
+use Rattle.std.specs.Prelude.{
+  ◌≡◌,
+  ℕ,
+  ◌+◌,
+  ◌<◌,
+  ◌≤◌,
+  ◌==◌,
+  ◌&&◌,
+  if◌then◌else◌,
+  List,
+  [],
+  ◌∷◌,
+  length,
+  take,
+  map,
+  filter,
+  count_by,
+  Option,
+  Some,
+  None,
+  is_some,
+  codes,
+}
 use Rattle.std.specs.List.{starts_with}
 use Rattle.std.specs.Option.{option_map}
 use Rattle.std.specs.Str.{str_eq_ignore_ascii_case}

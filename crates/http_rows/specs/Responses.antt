@@ -1,10 +1,20 @@
 -- The bytes of a response (RFC 9112, sections 4 and 6; RFC 9110, sections 8, 10 and 15).
 use Rattle.std.specs.Prelude.{ℕ, Bool, if◌then◌else◌, List, [], ◌++◌, length, codes, decimal, Option, Some, None}
-use Rattle.http_rows.specs.Rows.{Row, rejects, asks}
+use Rattle.http_rows.specs.Rows.{ReplyRow, rejects, asks}
 use Rattle.http_rows.specs.declared.code.Code.{Code}
 use Rattle.http_rows.specs.declared.code.Code.TheVariants as code
-use Rattle.http_rows.specs.declared.rejection.Rejection.{Rejection}
-use Rattle.http_rows.specs.declared.rejection.Rejection.TheVariants.{HeadTooLarge, HeadCutShort, BadRequest, NotFound, WantsGet, WantsPost, LengthRequired, BodyTooLarge, BodyCutShort}
+use Rattle.http_rows.specs.declared.request_rejection.RequestRejection.{RequestRejection}
+use Rattle.http_rows.specs.declared.request_rejection.RequestRejection.TheVariants.{
+  HeadTooLarge,
+  HeadCutShort,
+  BadRequest,
+  NotFound,
+  RequiresGet,
+  RequiresPost,
+  LengthRequired,
+  BodyTooLarge,
+  BodyCutShort,
+}
 
 -- a status code with its reason phrase
 unfoldable pub status_of : Code → List ℕ
@@ -34,33 +44,33 @@ response code kind allow body bodiless = response_head code kind allow (length b
 -- ---- the fixed rows
 
 -- the status code of each rejection
-unfoldable pub code_of : Rejection → Code
+unfoldable pub code_of : RequestRejection → Code
 code_of HeadTooLarge = code.FieldsTooLarge
 code_of HeadCutShort = code.BadRequest
 code_of BadRequest = code.BadRequest
 code_of NotFound = code.NotFound
-code_of WantsGet = code.MethodNotAllowed
-code_of WantsPost = code.MethodNotAllowed
+code_of RequiresGet = code.MethodNotAllowed
+code_of RequiresPost = code.MethodNotAllowed
 code_of LengthRequired = code.LengthRequired
 code_of BodyTooLarge = code.ContentTooLarge
 code_of BodyCutShort = code.BadRequest
 
 -- the body of the reply to each rejection
-unfoldable pub body_of : Rejection → List ℕ
+unfoldable pub body_of : RequestRejection → List ℕ
 body_of HeadTooLarge = codes "header fields too large\n"
 body_of HeadCutShort = codes "bad request\n"
 body_of BadRequest = codes "bad request\n"
 body_of NotFound = codes "not found\n"
-body_of WantsGet = codes "method not allowed\n"
-body_of WantsPost = codes "method not allowed\n"
+body_of RequiresGet = codes "method not allowed\n"
+body_of RequiresPost = codes "method not allowed\n"
 body_of LengthRequired = codes "length required\n"
 body_of BodyTooLarge = codes "content too large\n"
 body_of BodyCutShort = codes "bad request\n"
 
 -- the line of allowed methods in the reply to each rejection
-unfoldable pub allow_of : Rejection → List ℕ
-allow_of WantsGet = codes "Allow: GET, HEAD\r\n"
-allow_of WantsPost = codes "Allow: POST\r\n"
+unfoldable pub allow_of : RequestRejection → List ℕ
+allow_of RequiresGet = codes "Allow: GET, HEAD\r\n"
+allow_of RequiresPost = codes "Allow: POST\r\n"
 allow_of HeadTooLarge = []
 allow_of HeadCutShort = []
 allow_of BadRequest = []
@@ -70,19 +80,19 @@ allow_of BodyTooLarge = []
 allow_of BodyCutShort = []
 
 -- the reply to a rejected request
-abbrev pub rejection_of : Rejection → Bool → List ℕ
+abbrev pub rejection_of : RequestRejection → Bool → List ℕ
 rejection_of rejection bodiless =
     response (code_of rejection) (codes "text/plain") (allow_of rejection) (body_of rejection) bodiless
 
 -- the reply of a fixed row; none for a request that the predictor answers
-abbrev pub fixed_of : Row → Option (List ℕ)
+abbrev pub fixed_of : ReplyRow → Option (List ℕ)
 fixed_of (rejects rejection bodiless) = Some (rejection_of rejection bodiless)
 fixed_of (asks asking) = None
 
 -- ---- out of memory
 
 -- the reply of a row has no body
-abbrev pub is_bodiless : Row → Bool
+abbrev pub is_bodiless : ReplyRow → Bool
 is_bodiless (rejects rejection bodiless) = bodiless
 is_bodiless (asks asking) = asking.bodiless
 
@@ -91,5 +101,5 @@ abbrev pub unavailable_to : Bool → List ℕ
 unavailable_to bodiless = response code.Unavailable (codes "text/plain") [] (codes "no memory\n") bodiless
 
 -- the reply to a row's request that replaces any other one if memory runs out
-abbrev pub unavailable_of : Row → List ℕ
+abbrev pub unavailable_of : ReplyRow → List ℕ
 unavailable_of row = unavailable_to (is_bodiless row)

@@ -1,6 +1,33 @@
 -- The row of the table of statuses that applies to a request (RFC 9110, sections 9 and 15; RFC 9112,
 -- sections 2, 3 and 6; the paths and the order are this project's).
-use Rattle.std.specs.Prelude.{◌≡◌, ℕ, ◌+◌, ◌==◌, nat_lt, nat_le, Bool, true, false, not, ◌&&◌, ◌||◌, if◌then◌else◌, List, [], ◌∷◌, ◌++◌, length, take, drop, Option, Some, None, is_none, unwrap_or, codes}
+use Rattle.std.specs.Prelude.{
+  ◌≡◌,
+  ℕ,
+  ◌+◌,
+  ◌==◌,
+  nat_lt,
+  nat_le,
+  Bool,
+  true,
+  false,
+  not,
+  ◌&&◌,
+  ◌||◌,
+  if◌then◌else◌,
+  List,
+  [],
+  ◌∷◌,
+  ◌++◌,
+  length,
+  take,
+  drop,
+  Option,
+  Some,
+  None,
+  is_none,
+  unwrap_or,
+  codes,
+}
 use Rattle.std.specs.List.{position_or_len, starts_with}
 use Rattle.std.specs.Option.{option_map_or}
 use Rattle.std.specs.Str.{bytes_eq}
@@ -9,8 +36,18 @@ use Rattle.http_rows.specs.Heads.{Head, head_end, line_feeds, ReadsAs}
 use Rattle.http_rows.specs.Paths.{is_posted, path_named}
 use Rattle.http_rows.specs.declared.limits.TheConstants.{MOST_BODY, MOST_DIGITS, MOST_HEAD, MOST_LINES}
 use Rattle.http_rows.specs.declared.path.Path.{Path}
-use Rattle.http_rows.specs.declared.rejection.Rejection.{Rejection}
-use Rattle.http_rows.specs.declared.rejection.Rejection.TheVariants.{HeadTooLarge, HeadCutShort, BadRequest, NotFound, WantsGet, WantsPost, LengthRequired, BodyTooLarge, BodyCutShort}
+use Rattle.http_rows.specs.declared.request_rejection.RequestRejection.{RequestRejection}
+use Rattle.http_rows.specs.declared.request_rejection.RequestRejection.TheVariants.{
+  HeadTooLarge,
+  HeadCutShort,
+  BadRequest,
+  NotFound,
+  RequiresGet,
+  RequiresPost,
+  LengthRequired,
+  BodyTooLarge,
+  BodyCutShort,
+}
 
 -- the path is the part of the target before its first `?` (63), and the query is the part after it
 abbrev pub path_of : List ℕ → List ℕ
@@ -24,12 +61,12 @@ abbrev pub path_in : Head → Option Path
 path_in head = path_named (path_of head.target)
 
 -- the path is for GET and HEAD
-abbrev pub wants_get : Head → Bool
-wants_get head = option_map_or (λ path. not (is_posted path)) (path_in head) false
+abbrev pub requires_get : Head → Bool
+requires_get head = option_map_or (λ path. not (is_posted path)) (path_in head) false
 
 -- the path is for POST
-abbrev pub wants_post : Head → Bool
-wants_post head = option_map_or is_posted (path_in head) false
+abbrev pub requires_post : Head → Bool
+requires_post head = option_map_or is_posted (path_in head) false
 
 -- the method is HEAD
 abbrev pub is_head : Head → Bool
@@ -56,40 +93,40 @@ length_of head = unwrap_or (length_in head) 0
 -- ---- the table, in its order
 
 -- the rows of a request whose head hasn't ended
-abbrev pub unended_rows : List ℕ → List (Bool × Rejection)
+abbrev pub unended_rows : List ℕ → List (Bool × RequestRejection)
 unended_rows request =
     (nat_le MOST_HEAD (length request), HeadTooLarge)
     ∷ (true, HeadCutShort)
     ∷ []
 
 -- the rows of a head that has ended, by its lines and its grammar
-abbrev pub head_rows : List ℕ → Option Head → List (Bool × Rejection)
+abbrev pub head_rows : List ℕ → Option Head → List (Bool × RequestRejection)
 head_rows bytes read =
     (nat_lt MOST_LINES (line_feeds bytes), HeadTooLarge)
     ∷ (is_none read, BadRequest)
     ∷ []
 
 -- the rows of a head's fields, path, method and length, in order
-abbrev pub field_rows : Head → List (Bool × Rejection)
+abbrev pub field_rows : Head → List (Bool × RequestRejection)
 field_rows head =
     (nat_lt 1 head.host.count || (head.minor == 1 && (head.host.count == 0)), BadRequest)
     ∷ (not (starts_with (λ a b. a == b) head.target (codes "/")), BadRequest)
     ∷ (is_none (path_in head), NotFound)
-    ∷ (wants_get head && not (is_read head), WantsGet)
-    ∷ (wants_post head && not (is_post head), WantsPost)
+    ∷ (requires_get head && not (is_read head), RequiresGet)
+    ∷ (requires_post head && not (is_post head), RequiresPost)
     ∷ (is_post head && (head.content_length.count == 0), LengthRequired)
     ∷ (is_post head && is_none (length_in head), BadRequest)
     ∷ (is_post head && nat_lt MOST_BODY (length_of head), BodyTooLarge)
     ∷ []
 
 -- the rows of the bytes after the head
-abbrev pub body_rows : Head → List ℕ → List (Bool × Rejection)
+abbrev pub body_rows : Head → List ℕ → List (Bool × RequestRejection)
 body_rows head rest =
     (is_post head && nat_lt (length rest) (length_of head), BodyCutShort)
     ∷ []
 
 -- the first row whose condition is true
-abbrev pub first_row : List (Bool × Rejection) → Option Rejection
+abbrev pub first_row : List (Bool × RequestRejection) → Option RequestRejection
 first_row [] = None
 first_row (row ∷ rows) = if row.0 then Some row.1 else first_row rows
 
@@ -104,9 +141,9 @@ pub record Asking : Type 0 where
 
 -- A fixed row rejects a request, and says whether its reply has no body. Any other request is for the
 -- predictor.
-pub data Row : Type 0 where
-  rejects : Rejection → Bool → Row
-  asks : Asking → Row
+pub data ReplyRow : Type 0 where
+  rejects : RequestRejection → Bool → ReplyRow
+  asks : Asking → ReplyRow
 
 -- the request of a head whose body is at the begin of `rest`
 abbrev pub asking : Head → List ℕ → Asking
@@ -118,47 +155,47 @@ asking head rest = record {
 }
 
 -- a rejection after the head was read: a reply to HEAD has no body
-abbrev pub field_row : Option Rejection → Head → List ℕ → Row
+abbrev pub field_row : Option RequestRejection → Head → List ℕ → ReplyRow
 field_row (Some rejection) head rest = rejects rejection (is_head head)
 field_row None head rest = asks (asking head rest)
 
 -- the row after the test of the head's end and grammar
-abbrev pub head_row : Option Rejection → Option Head → List ℕ → Row
+abbrev pub head_row : Option RequestRejection → Option Head → List ℕ → ReplyRow
 head_row (Some rejection) read rest = rejects rejection false
 head_row None None rest = rejects BadRequest false
 head_row None (Some head) rest = field_row (first_row (field_rows head ++ body_rows head rest)) head rest
 
 -- the row of a head that has ended
-abbrev pub ended_row : List ℕ → Option Head → List ℕ → Row
+abbrev pub ended_row : List ℕ → Option Head → List ℕ → ReplyRow
 ended_row bytes read rest = head_row (first_row (head_rows bytes read)) read rest
 
 -- the row of a request whose head hasn't ended
-abbrev pub unended_row : List ℕ → Row
+abbrev pub unended_row : List ℕ → ReplyRow
 unended_row request = head_row (first_row (unended_rows request)) None []
 
 -- the row of a request whose head ends at `end`, or not at all
-abbrev pub IsRowAt : Option ℕ → List ℕ → Row → Type 0
+abbrev pub IsRowAt : Option ℕ → List ℕ → ReplyRow → Type 0
 IsRowAt None request row = row ≡ unended_row request
 IsRowAt (Some end) request row =
     (read : Option Head) × ReadsAs (take end request) read × (row ≡ ended_row (take end request) read (drop end request))
 
 -- the row of the table that applies to a request
-abbrev pub IsRow : List ℕ → Row → Type 0
+abbrev pub IsRow : List ℕ → ReplyRow → Type 0
 IsRow request row = IsRowAt (head_end request) request row
 
 -- further bytes of the request can't change the row: neither its head nor its body was cut short
-abbrev pub is_settled_by : Rejection → Bool
+abbrev pub is_settled_by : RequestRejection → Bool
 is_settled_by HeadCutShort = false
 is_settled_by BodyCutShort = false
 is_settled_by HeadTooLarge = true
 is_settled_by BadRequest = true
 is_settled_by NotFound = true
-is_settled_by WantsGet = true
-is_settled_by WantsPost = true
+is_settled_by RequiresGet = true
+is_settled_by RequiresPost = true
 is_settled_by LengthRequired = true
 is_settled_by BodyTooLarge = true
 
 -- further bytes of the request can't change the row
-abbrev pub is_settled : Row → Bool
+abbrev pub is_settled : ReplyRow → Bool
 is_settled (rejects rejection bodiless) = is_settled_by rejection
 is_settled (asks asking) = true

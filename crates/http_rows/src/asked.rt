@@ -9,7 +9,7 @@ ghost use Rattle.http_rows.specs.Workings.Views.{IsAsking, head_seen, asking_see
 use crate::head::{Head, is_head};
 use crate::limits::{MOST_BODY, MOST_DIGITS};
 use crate::path::Path;
-use crate::rejection::Rejection;
+use crate::request_rejection::RequestRejection;
 use crate::target::{path_of, query_of};
 use decimal_text::digits;
 
@@ -61,40 +61,40 @@ fn is_path(target: &[u8]) -> bool
 /// Returns the request of `head`, whose body is at the begin of `rest`.
 ///
 /// # Errors
-/// The first [`Rejection`] of the table of statuses that applies.
-pub(crate) fn asked<'a>(head: &Head<'a>, rest: &'a [u8]) -> Result<Asking<'a>, Rejection>
+/// The first [`RequestRejection`] of the table of statuses that applies.
+pub(crate) fn asked<'a>(head: &Head<'a>, rest: &'a [u8]) -> Result<Asking<'a>, RequestRejection>
     ensures asks { IfOk result (λ a. (first_row (field_rows (head_seen head.now) ++ body_rows (head_seen head.now) rest.now) ≡ None)
         × (asking_seen a ≡ asking (head_seen head.now) rest.now)) }
     ensures rejects { IfErr result (λ r.
         first_row (field_rows (head_seen head.now) ++ body_rows (head_seen head.now) rest.now) ≡ Some r) }
-    ensures known { IfOk result (λ a. IsAsking (asking_seen a)) }
+    ensures answered { IfOk result (λ a. IsAsking (asking_seen a)) }
 {
     if has_bad_host(head) || !is_path(head.target) {
-        return Err(Rejection::BadRequest);
+        return Err(RequestRejection::BadRequest);
     }
     let Some(path) = Path::named(path_of(head.target)) else {
-        return Err(Rejection::NotFound);
+        return Err(RequestRejection::NotFound);
     };
     if !path.is_posted() && !is_read(head) {
-        return Err(Rejection::WantsGet);
+        return Err(RequestRejection::RequiresGet);
     }
     if path.is_posted() && !is_post(head) {
-        return Err(Rejection::WantsPost);
+        return Err(RequestRejection::RequiresPost);
     }
     if !is_post(head) {
         return Ok(asking_for(head, path, &[]));
     }
     if head.content_length.count == 0 {
-        return Err(Rejection::LengthRequired);
+        return Err(RequestRejection::LengthRequired);
     }
     let Some(length) = length_in(head) else {
-        return Err(Rejection::BadRequest);
+        return Err(RequestRejection::BadRequest);
     };
     if length > MOST_BODY as u64 {
-        return Err(Rejection::BodyTooLarge);
+        return Err(RequestRejection::BodyTooLarge);
     }
     if (rest.len() as u64) < length {
-        return Err(Rejection::BodyCutShort);
+        return Err(RequestRejection::BodyCutShort);
     }
     Ok(asking_for(head, path, &rest[..length as usize]))
 }

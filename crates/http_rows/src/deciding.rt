@@ -5,8 +5,8 @@ ghost use Rattle.http_rows.specs.Responses.{fixed_of, unavailable_of};
 ghost use Rattle.http_rows.specs.Rows.{is_settled, IsRow};
 ghost use Rattle.http_rows.specs.Rows as rows;
 
+use crate::reply_row::{ReplyRow, row_for};
 use crate::responses::{write_rejection, write_unavailable};
-use crate::row::{Row, row_for};
 use arrayvec::ArrayString;
 
 /// Returns true if the bytes received so far settle the reply: further bytes can't change it. It doesn't
@@ -14,7 +14,7 @@ use arrayvec::ArrayString;
 ///
 /// The program doesn't call it: it finds the row once, by [`row_for`], and uses that.
 pub fn enough(request: &[u8]) -> bool
-    ensures { (row : rows.Row) × IsRow request.now row × (result ≡ is_settled row) }
+    ensures { (row : rows.ReplyRow) × IsRow request.now row × (result ≡ is_settled row) }
 {
     row_for(request).is_settled()
 }
@@ -25,15 +25,15 @@ pub fn enough(request: &[u8]) -> bool
 /// The program doesn't call it: it finds the row once, by [`row_for`], and uses that.
 pub fn fixed_reply(request: &[u8], out: &mut ArrayString<256>) -> bool
     requires { out.old.bytes ≡ [] }
-    ensures { (row : rows.Row) × IsRow request.now row
+    ensures { (row : rows.ReplyRow) × IsRow request.now row
         × (result ≡ is_some (fixed_of row)) × (out.new.bytes ≡ unwrap_or (fixed_of row) []) }
 {
     match row_for(request) {
-        Row::Rejects(rejection, bodiless) => {
+        ReplyRow::Rejects(rejection, bodiless) => {
             write_rejection(rejection, bodiless, out);
             true
         }
-        Row::Asks(_) => false,
+        ReplyRow::Asks(_) => false,
     }
 }
 
@@ -43,7 +43,7 @@ pub fn fixed_reply(request: &[u8], out: &mut ArrayString<256>) -> bool
 /// The program doesn't call it: it finds the row once, by [`row_for`], and uses that.
 pub fn unavailable_reply(request: &[u8], out: &mut ArrayString<256>)
     requires { out.old.bytes ≡ [] }
-    ensures { (row : rows.Row) × IsRow request.now row × (out.new.bytes ≡ unavailable_of row) }
+    ensures { (row : rows.ReplyRow) × IsRow request.now row × (out.new.bytes ≡ unavailable_of row) }
 {
     write_unavailable(row_for(request).is_bodiless(), out);
 }

@@ -5,14 +5,14 @@ ghost use Rattle.arrayvec.specs.ArrayString.{array_string_len};
 ghost use Rattle.http_rows.specs.Responses.{status_of, code_of, body_of, allow_of, response_head, response, rejection_of, unavailable_to};
 
 use crate::code::Code;
-use crate::rejection::Rejection;
+use crate::request_rejection::RequestRejection;
 use arrayvec::ArrayString;
 use itoa::Buffer;
 
 #[tactic(auto, unfolding(crate::specs::Responses::status_of))]
 fn status_of(code: Code) -> &'static str
     ensures text { result.now ≡ status_of code }
-    ensures short { length result.now ≤ 35 }
+    ensures length_bound { length result.now ≤ 35 }
 {
     match code {
         Code::Success => "200 OK",
@@ -28,46 +28,46 @@ fn status_of(code: Code) -> &'static str
 }
 
 #[tactic(auto, unfolding(crate::specs::Responses::code_of))]
-fn code_of(rejection: Rejection) -> Code
+fn code_of(rejection: RequestRejection) -> Code
     ensures { result ≡ code_of rejection }
 {
     match rejection {
-        Rejection::HeadTooLarge => Code::FieldsTooLarge,
-        Rejection::HeadCutShort | Rejection::BadRequest | Rejection::BodyCutShort => {
-            Code::BadRequest
-        }
-        Rejection::NotFound => Code::NotFound,
-        Rejection::WantsGet | Rejection::WantsPost => Code::MethodNotAllowed,
-        Rejection::LengthRequired => Code::LengthRequired,
-        Rejection::BodyTooLarge => Code::ContentTooLarge,
+        RequestRejection::HeadTooLarge => Code::FieldsTooLarge,
+        RequestRejection::HeadCutShort
+        | RequestRejection::BadRequest
+        | RequestRejection::BodyCutShort => { Code::BadRequest }
+        RequestRejection::NotFound => Code::NotFound,
+        RequestRejection::RequiresGet | RequestRejection::RequiresPost => Code::MethodNotAllowed,
+        RequestRejection::LengthRequired => Code::LengthRequired,
+        RequestRejection::BodyTooLarge => Code::ContentTooLarge,
     }
 }
 
 #[tactic(auto, unfolding(crate::specs::Responses::body_of))]
-fn body_of(rejection: Rejection) -> &'static str
+fn body_of(rejection: RequestRejection) -> &'static str
     ensures text { result.now ≡ body_of rejection }
-    ensures short { length result.now ≤ 24 }
+    ensures length_bound { length result.now ≤ 24 }
 {
     match rejection {
-        Rejection::HeadTooLarge => "header fields too large\n",
-        Rejection::HeadCutShort | Rejection::BadRequest | Rejection::BodyCutShort => {
-            "bad request\n"
-        }
-        Rejection::NotFound => "not found\n",
-        Rejection::WantsGet | Rejection::WantsPost => "method not allowed\n",
-        Rejection::LengthRequired => "length required\n",
-        Rejection::BodyTooLarge => "content too large\n",
+        RequestRejection::HeadTooLarge => "header fields too large\n",
+        RequestRejection::HeadCutShort
+        | RequestRejection::BadRequest
+        | RequestRejection::BodyCutShort => { "bad request\n" }
+        RequestRejection::NotFound => "not found\n",
+        RequestRejection::RequiresGet | RequestRejection::RequiresPost => "method not allowed\n",
+        RequestRejection::LengthRequired => "length required\n",
+        RequestRejection::BodyTooLarge => "content too large\n",
     }
 }
 
 #[tactic(auto, unfolding(crate::specs::Responses::allow_of))]
-fn allow_of(rejection: Rejection) -> &'static str
+fn allow_of(rejection: RequestRejection) -> &'static str
     ensures text { result.now ≡ allow_of rejection }
-    ensures short { length result.now ≤ 18 }
+    ensures length_bound { length result.now ≤ 18 }
 {
     match rejection {
-        Rejection::WantsGet => "Allow: GET, HEAD\r\n",
-        Rejection::WantsPost => "Allow: POST\r\n",
+        RequestRejection::RequiresGet => "Allow: GET, HEAD\r\n",
+        RequestRejection::RequiresPost => "Allow: POST\r\n",
         _ => "",
     }
 }
@@ -75,7 +75,7 @@ fn allow_of(rejection: Rejection) -> &'static str
 fn push_number(number: usize, out: &mut ArrayString<256>)
     requires { array_string_len out.old + 40 ≤ 256 }
     ensures bytes { out.new.bytes ≡ out.old.bytes ++ decimal number }
-    ensures short { array_string_len out.new ≤ array_string_len out.old + 40 }
+    ensures length_bound { array_string_len out.new ≤ array_string_len out.old + 40 }
 {
     let mut buffer = Buffer::new();
     out.push_str(buffer.format(number));
@@ -94,7 +94,7 @@ pub(crate) fn write_head(
     requires kind { length kind.now ≤ 10 }
     requires allow { length allow.now ≤ 18 }
     ensures bytes { out.new.bytes ≡ response_head code kind.now allow.now size }
-    ensures short { array_string_len out.new ≤ 184 }
+    ensures length_bound { array_string_len out.new ≤ 184 }
 {
     out.push_str("HTTP/1.1 ");
     out.push_str(status_of(code));
@@ -123,7 +123,7 @@ fn write_plain(code: Code, allow: &str, body: &str, bodiless: bool, out: &mut Ar
 
 /// Writes the reply to a rejected request to the empty `out`; `bodiless` leaves the body out, but not its
 /// length. It doesn't allocate.
-pub fn write_rejection(rejection: Rejection, bodiless: bool, out: &mut ArrayString<256>)
+pub fn write_rejection(rejection: RequestRejection, bodiless: bool, out: &mut ArrayString<256>)
     requires { out.old.bytes ≡ [] }
     ensures { out.new.bytes ≡ rejection_of rejection bodiless }
 {

@@ -7,7 +7,7 @@ ghost use Rattle.http_rows.specs.Responses.{rejection_of};
 ghost use Rattle.http_rows.specs.Rows.{path_of, query_of, length_in, field_rows, first_row};
 
 use crate::path::Path;
-use crate::rejection::Rejection;
+use crate::request_rejection::RequestRejection;
 
 /// Proves examples of heads, targets, paths and lengths.
 #[tactic(auto, unfolding(crate::specs::Heads::empty_line, crate::specs::Heads::head_length))]
@@ -28,14 +28,14 @@ pub fn worked_rows()
 
 /// Proves examples of the order of the rows, and of the bytes of a reply.
 pub fn worked_replies()
-    ensures host_first { first_row (field_rows (head_of (codes "PUT") (codes "/tides") 1 [])) ≡ Some Rejection.BadRequest }
-    ensures path_before_method { first_row (field_rows (head_of (codes "PUT") (codes "/tides") 0 [])) ≡ Some Rejection.NotFound }
+    ensures host_first { first_row (field_rows (head_of (codes "PUT") (codes "/tides") 1 [])) ≡ Some RequestRejection.BadRequest }
+    ensures path_before_method { first_row (field_rows (head_of (codes "PUT") (codes "/tides") 0 [])) ≡ Some RequestRejection.NotFound }
     ensures no_length { first_row (field_rows (head_of (codes "POST") (codes "/check") 0
-        ((codes "Transfer-Encoding", codes "chunked") ∷ []))) ≡ Some Rejection.LengthRequired }
+        ((codes "Transfer-Encoding", codes "chunked") ∷ []))) ≡ Some RequestRejection.LengthRequired }
     ensures two_lengths { first_row (field_rows (head_of (codes "POST") (codes "/check") 0
-        ((codes "content-length", codes "5") ∷ (codes "Content-Length", codes "5") ∷ []))) ≡ Some Rejection.BadRequest }
+        ((codes "content-length", codes "5") ∷ (codes "Content-Length", codes "5") ∷ []))) ≡ Some RequestRejection.BadRequest }
     ensures asks { first_row (field_rows (head_of (codes "HEAD") (codes "/clock?station=Pier") 1
         ((codes "HOST", codes "a") ∷ []))) ≡ None }
-    ensures left_out { rejection_of Rejection.WantsPost true
+    ensures left_out { rejection_of RequestRejection.RequiresPost true
         ≡ codes "HTTP/1.1 405 Method Not Allowed\r\nContent-Type: text/plain; charset=utf-8\r\nContent-Length: 19\r\nAllow: POST\r\nConnection: close\r\n\r\n" }
 {}

@@ -15,7 +15,8 @@ unfolding physical_lines
 line-is_short line is = rw append-nil at (lines-folded line [] is (All-nil (λ (l : List ℕ). length l ≤ 75)))
 
 -- a folded line begins as the line does
-first_octet : (octet : ℕ) (others rest : List ℕ) (n : ℕ) → prefix_length 75 (octet ∷ others) ≡ suc n → slice_index (folded (octet ∷ others) ++ rest) 0 ≡ octet
+first_octet : (octet : ℕ) (others rest : List ℕ) (n : ℕ) → prefix_length 75 (octet ∷ others) ≡ suc n
+    → slice_index (folded (octet ∷ others) ++ rest) 0 ≡ octet
 unfolding folded
 first_octet octet others rest n some = rw some refl
 
@@ -23,7 +24,8 @@ folded-unindented : (line rest : List ℕ) → IsContentLine line → IsUnindent
 unfolding folded cut_up greatest
 folded-unindented [] rest is = (omega arith, omega arith)
 folded-unindented (octet ∷ others) rest is =
-    elim (prefix_length 75 (octet ∷ others)) as (λ n. prefix_length 75 (octet ∷ others) ≡ n → IsUnindented (folded (octet ∷ others) ++ rest)) [
+    elim (prefix_length 75 (octet ∷ others))
+    as (λ n. prefix_length 75 (octet ∷ others) ≡ n → IsUnindented (folded (octet ∷ others) ++ rest)) [
       | zero ↦ λ none. absurd (omega (arith, none, prefix-positive 75 (octet ∷ others) is.utf8 (omega arith) (omega arith)))
       | suc n ↦ λ some. rw (first_octet octet others rest n some) is.unindented
     ] refl
@@ -32,11 +34,13 @@ lines-unindented : (lines : List (List ℕ)) → All IsContentLine lines → IsU
 lines-unindented [] are = (omega arith, omega arith)
 lines-unindented (line ∷ lines) are = folded-unindented line (flat_map folded lines) (All-head IsContentLine line lines are)
 
-pub lines-unfold : (lines : List (List ℕ)) → All IsContentLine lines → unfolded (flat_map folded lines) ≡ flat_map (λ line. line ++ codes "\r\n") lines
+pub lines-unfold : (lines : List (List ℕ)) → All IsContentLine lines
+    → unfolded (flat_map folded lines) ≡ flat_map (λ line. line ++ codes "\r\n") lines
 unfolding unfolded
 lines-unfold [] are = refl
 lines-unfold (line ∷ lines) are =
-    unfolded-folded line (flat_map folded lines) (All-head IsContentLine line lines are) (lines-unindented lines (All-tail IsContentLine line lines are))
+    unfolded-folded line (flat_map folded lines) (All-head IsContentLine line lines are)
+    (lines-unindented lines (All-tail IsContentLine line lines are))
     ∙ ap (λ text. line ++ (codes "\r\n" ++ text)) (lines-unfold lines (All-tail IsContentLine line lines are))
     ∙ sym (append_assoc line (codes "\r\n") (flat_map (λ line. line ++ codes "\r\n") lines))
 
@@ -44,4 +48,5 @@ pub lines-are_short : (lines : List (List ℕ)) → All IsContentLine lines → 
 unfolding physical_lines
 lines-are_short [] are = All-nil (λ (l : List ℕ). length l ≤ 75)
 lines-are_short (line ∷ lines) are =
-    lines-folded line (flat_map folded lines) (All-head IsContentLine line lines are) (lines-are_short lines (All-tail IsContentLine line lines are))
+    lines-folded line (flat_map folded lines) (All-head IsContentLine line lines are)
+    (lines-are_short lines (All-tail IsContentLine line lines are))

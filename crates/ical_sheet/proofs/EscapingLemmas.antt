@@ -16,12 +16,16 @@ unfolding encode
 high_octets c h =
     let long : nat_lt c 128 ≡ false = grind (arith, nat_tests) in
     rw long (
-    elim (nat_lt c 2048) as (λ v. AreHigh (cond v ((192 + c / 64) ∷ (128 + c % 64) ∷ []) (cond (nat_lt c 65536) ((224 + c / 4096) ∷ (128 + c / 64 % 64) ∷ (128 + c % 64) ∷ []) ((240 + c / 262144) ∷ (128 + c / 4096 % 64) ∷ (128 + c / 64 % 64) ∷ (128 + c % 64) ∷ [])))) [
+    elim (nat_lt c 2048) as (λ v. AreHigh (cond v ((192 + c / 64) ∷ (128 + c % 64) ∷ [])
+    (cond (nat_lt c 65536) ((224 + c / 4096) ∷ (128 + c / 64 % 64) ∷ (128 + c % 64) ∷ [])
+    ((240 + c / 262144) ∷ (128 + c / 4096 % 64) ∷ (128 + c / 64 % 64) ∷ (128 + c % 64) ∷ [])))) [
       | true ↦ (omega arith, (omega arith, tt))
-      | false ↦ elim (nat_lt c 65536) as (λ v. AreHigh (cond v ((224 + c / 4096) ∷ (128 + c / 64 % 64) ∷ (128 + c % 64) ∷ []) ((240 + c / 262144) ∷ (128 + c / 4096 % 64) ∷ (128 + c / 64 % 64) ∷ (128 + c % 64) ∷ []))) [
-        | true ↦ (omega arith, (omega arith, (omega arith, tt)))
-        | false ↦ (omega arith, (omega arith, (omega arith, (omega arith, tt))))
-      ]
+      | false ↦
+          elim (nat_lt c 65536) as (λ v. AreHigh (cond v ((224 + c / 4096) ∷ (128 + c / 64 % 64) ∷ (128 + c % 64) ∷ [])
+          ((240 + c / 262144) ∷ (128 + c / 4096 % 64) ∷ (128 + c / 64 % 64) ∷ (128 + c % 64) ∷ []))) [
+            | true ↦ (omega arith, (omega arith, (omega arith, tt)))
+            | false ↦ (omega arith, (omega arith, (omega arith, (omega arith, tt))))
+          ]
     ]
     )
 
@@ -43,6 +47,7 @@ escaped-encode c =
     ] refl
 
 -- one more character
-pub escaped-more : (letters : List ℕ) (c : ℕ) → escaped (encodes (letters ++ c ∷ [])) ≡ escaped (encodes letters) ++ (if is_special c then 92 ∷ encode c else encode c)
+pub escaped-more : (letters : List ℕ) (c : ℕ) → escaped (encodes (letters ++ c ∷ []))
+    ≡ escaped (encodes letters) ++ (if is_special c then 92 ∷ encode c else encode c)
 escaped-more letters c =
     rw (encodes-append letters (c ∷ []), append-nil, flat_map-append escaped_octet (encodes letters) (encode c), escaped-encode c) refl

@@ -27,10 +27,14 @@ rest_of : (a b : Bool) → (a && b) ≡ true → b ≡ true
 rest_of true b h = h
 rest_of false b h = cc
 
-digits-counted : (w rest : List ℕ) → list_all is_ascii_digit w ≡ true → prefix_len is_ascii_digit rest ≡ 0 → prefix_len is_ascii_digit (w ++ rest) ≡ length w
+digits-counted : (w rest : List ℕ) → list_all is_ascii_digit w ≡ true → prefix_len is_ascii_digit rest ≡ 0
+    → prefix_len is_ascii_digit (w ++ rest) ≡ length w
 digits-counted [] rest h none = none
 digits-counted (c ∷ w) rest h none =
-    simp (first_of (is_ascii_digit c) (list_all is_ascii_digit w) h, digits-counted w rest (rest_of (is_ascii_digit c) (list_all is_ascii_digit w) h) none) (omega arith)
+    simp (
+      first_of (is_ascii_digit c) (list_all is_ascii_digit w) h,
+      digits-counted w rest (rest_of (is_ascii_digit c) (list_all is_ascii_digit w) h) none,
+    ) (omega arith)
 
 digits-unsigned : (w rest : List ℕ) → 0 < length w → list_all is_ascii_digit w ≡ true → starts_with_minus (w ++ rest) ≡ false
 digits-unsigned [] rest some h = absurd (omega arith)
@@ -51,9 +55,11 @@ digits-same w v rest more p q none nor same =
       sym (drop-append_seam w rest) ∙ ap (drop (length w)) same ∙ ap (λ k. drop k (v ++ more)) count ∙ drop-append_seam v more,
     )
 
-sizes-same : (a b : ℕ) (rest more : List ℕ) → a < 2 ^ 64 → b < 2 ^ 64 → decimal a ++ 45 ∷ rest ≡ decimal b ++ 45 ∷ more → (a ≡ b) × (rest ≡ more)
+sizes-same : (a b : ℕ) (rest more : List ℕ) → a < 2 ^ 64 → b < 2 ^ 64 → decimal a ++ 45 ∷ rest ≡ decimal b ++ 45 ∷ more
+    → (a ≡ b) × (rest ≡ more)
 sizes-same a b rest more small low same =
-    let parts = digits-same (decimal a) (decimal b) (45 ∷ rest) (45 ∷ more) (digits_decimal numerals a small) (digits_decimal numerals b low) refl refl same in (
+    let parts = digits-same (decimal a) (decimal b) (45 ∷ rest) (45 ∷ more) (digits_decimal numerals a small)
+    (digits_decimal numerals b low) refl refl same in (
       sym (digits_value-decimal numerals a small) ∙ ap (digits_value 10) parts.0 ∙ digits_value-decimal numerals b low,
       append_cancel_left (45 ∷ []) rest more parts.1,
     )
@@ -62,11 +68,13 @@ no_minus : (n : ℕ) (rest : List ℕ) → n < 2 ^ 64 → starts_with_minus (dec
 no_minus n rest small = digits-unsigned (decimal n) rest (decimal_nonempty n small) (digits_decimal numerals n small)
 
 minutes-same : (z k : ℤ) (rest more : List ℕ) → unsigned_abs z < 2 ^ 64 → unsigned_abs k < 2 ^ 64
-    → minus_of z ++ (decimal (unsigned_abs z) ++ 45 ∷ rest) ≡ minus_of k ++ (decimal (unsigned_abs k) ++ 45 ∷ more) → (z ≡ k) × (rest ≡ more)
+    → minus_of z ++ (decimal (unsigned_abs z) ++ 45 ∷ rest) ≡ minus_of k ++ (decimal (unsigned_abs k) ++ 45 ∷ more)
+    → (z ≡ k) × (rest ≡ more)
 minutes-same (pos a) (pos b) rest more small low same =
     let parts = sizes-same a b rest more small low same in (ap pos parts.0, parts.1)
 minutes-same (negsuc a) (negsuc b) rest more small low same =
-    let parts = sizes-same (suc a) (suc b) rest more small low (append_cancel_left (45 ∷ []) _ _ same) in (ap negsuc (suc_inj parts.0), parts.1)
+    let parts = sizes-same (suc a) (suc b) rest more small low (append_cancel_left (45 ∷ []) _ _ same) in
+    (ap negsuc (suc_inj parts.0), parts.1)
 minutes-same (pos a) (negsuc b) rest more small low same =
     let mixed : false ≡ true = sym (no_minus a (45 ∷ rest) small) ∙ ap starts_with_minus same in cc
 minutes-same (negsuc a) (pos b) rest more small low same =
@@ -100,7 +108,8 @@ names-same name other h k same =
 -- ---- the whole line
 
 line-parts : (name : List ℕ) (event : Event) → uid_line name event
-    ≡ codes "UID:" ++ (minus_of event.minute ++ (decimal (unsigned_abs event.minute) ++ 45 ∷ (number_of event.kind ++ 45 ∷ (encode_lower name ++ codes "@tide.invalid"))))
+    ≡ codes "UID:" ++ (minus_of event.minute ++ (decimal (unsigned_abs event.minute)
+    ++ 45 ∷ (number_of event.kind ++ 45 ∷ (encode_lower name ++ codes "@tide.invalid"))))
 unfolding uid_line write_of
 line-parts name event = simp (append_assoc, append-nil, div-one)
 
@@ -110,5 +119,6 @@ identifiers-apart name other event later h k narrow also same =
     let behind = append_cancel_left (codes "UID:") _ _ (sym (line-parts name event) ∙ same ∙ line-parts other later) in
     let minutes = minutes-same event.minute later.minute _ _ narrow.minute also.minute behind in
     let kinds = kinds-same event.kind later.kind _ _ minutes.1 in
-    let names = append_cancel_right (encode_lower name) (encode_lower other) (codes "@tide.invalid") (append_cancel_left (45 ∷ []) _ _ kinds.1) in
+    let names = append_cancel_right (encode_lower name) (encode_lower other) (codes "@tide.invalid")
+    (append_cancel_left (45 ∷ []) _ _ kinds.1) in
     (names-same name other h k names, minutes.0, kinds.0)

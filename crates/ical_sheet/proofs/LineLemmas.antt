@@ -65,7 +65,8 @@ plain-ascii text plain i =
     ] refl
 
 plain-unbroken : (text : List ℕ) → IsPlain text → IsUnbroken text
-plain-unbroken text plain = All-weaker (λ octet. is_plain octet ≡ true) (λ octet. (octet ≢ 13) × (octet ≢ 10)) (λ octet h. (grind (arith, nat_tests), grind (arith, nat_tests))) text (AllPass-from_list_all is_plain text plain)
+plain-unbroken text plain = All-weaker (λ octet. is_plain octet ≡ true) (λ octet. (octet ≢ 13) × (octet ≢ 10))
+    (λ octet h. (grind (arith, nat_tests), grind (arith, nat_tests))) text (AllPass-from_list_all is_plain text plain)
 
 plain-utf8 : (text : List ℕ) → IsPlain text → IsUtf8 text
 plain-utf8 text plain = IsUtf8-from_ascii text (plain-ascii text plain)
@@ -79,14 +80,16 @@ decimal-plain : (n : ℕ) → n < 2 ^ 64 → IsPlain (decimal n)
 decimal-plain n small =
     decimal_by_steps (λ m digits. IsPlain digits)
     (λ m h. plain-cons (48 + m) [] (plain_octet (48 + m) (omega (arith, h)) (omega arith) (omega arith)) refl)
-    (λ m digits h plain. plain-append digits ((48 + m % 10) ∷ []) plain (plain-cons (48 + m % 10) [] (plain_octet (48 + m % 10) (omega arith) (omega arith) (omega arith)) refl))
+    (λ m digits h plain. plain-append digits ((48 + m % 10) ∷ []) plain
+    (plain-cons (48 + m % 10) [] (plain_octet (48 + m % 10) (omega arith) (omega arith) (omega arith)) refl))
     n small
 
 last_digits-plain : (places n : ℕ) → IsPlain (last_digits places n)
 unfolding last_digits
 last_digits-plain zero n = refl
 last_digits-plain (suc places) n =
-    plain-cons (48 + n / 10 ^ places % 10) (last_digits places n) (plain_octet (48 + n / 10 ^ places % 10) (omega arith) (omega arith) (omega arith)) (last_digits-plain places n)
+    plain-cons (48 + n / 10 ^ places % 10) (last_digits places n)
+    (plain_octet (48 + n / 10 ^ places % 10) (omega arith) (omega arith) (omega arith)) (last_digits-plain places n)
 
 minus-plain : (z : ℤ) → IsPlain (minus_of z)
 minus-plain (pos n) = refl
@@ -95,7 +98,8 @@ minus-plain (negsuc n) = refl
 minute-plain : (z : ℤ) → unsigned_abs z < 2 ^ 64 → IsPlain (write_of z 0)
 unfolding write_of
 minute-plain z small =
-    plain-append (minus_of z ++ decimal (unsigned_abs z / 1)) [] (plain-append (minus_of z) (decimal (unsigned_abs z / 1)) (minus-plain z) (decimal-plain (unsigned_abs z / 1) (omega (arith, small)))) refl
+    plain-append (minus_of z ++ decimal (unsigned_abs z / 1)) [] (plain-append (minus_of z)
+    (decimal (unsigned_abs z / 1)) (minus-plain z) (decimal-plain (unsigned_abs z / 1) (omega (arith, small)))) refl
 
 size_of_neg : (n : ℕ) → unsigned_abs (neg_ℤ (pos n)) ≡ n
 size_of_neg zero = refl
@@ -111,7 +115,8 @@ unfolding write_of
 level-plain z small =
     let rounded = rounded_of z 10000 in
     plain-append (minus_of rounded ++ decimal (unsigned_abs rounded / 100)) (46 ∷ last_digits 2 (unsigned_abs rounded))
-    (plain-append (minus_of rounded) (decimal (unsigned_abs rounded / 100)) (minus-plain rounded) (decimal-plain (unsigned_abs rounded / 100) (rounded-small z small)))
+    (plain-append (minus_of rounded) (decimal (unsigned_abs rounded / 100)) (minus-plain rounded)
+    (decimal-plain (unsigned_abs rounded / 100) (rounded-small z small)))
     (plain-cons 46 (last_digits 2 (unsigned_abs rounded)) refl (last_digits-plain 2 (unsigned_abs rounded)))
 
 number-plain : (kind : Kind) → IsPlain (number_of kind)
@@ -159,7 +164,8 @@ hex-plain : (text : List ℕ) → IsPlain (encode_lower text)
 unfolding encode_with
 hex-plain [] = refl
 hex-plain (octet ∷ text) =
-    plain-cons (slice_index lower_digits (octet / 16)) (slice_index lower_digits (octet % 16) ∷ encode_lower text) (digit-plain lower_digits (octet / 16) refl)
+    plain-cons (slice_index lower_digits (octet / 16)) (slice_index lower_digits (octet % 16) ∷ encode_lower text)
+    (digit-plain lower_digits (octet / 16) refl)
     (plain-cons (slice_index lower_digits (octet % 16)) (encode_lower text) (digit-plain lower_digits (octet % 16) refl) (hex-plain text))
 
 stamp-plain : (moment : ℤ) → IsPlain (stamp_of moment)
@@ -174,7 +180,8 @@ escaped-unbroken (octet ∷ text) clean =
     let P : ℕ → Type 0 = λ octet. (octet ≢ 13) × (octet ≢ 10) in
     let one : All P (octet ∷ []) = All-cons P octet [] (All-head P octet text clean) (All-nil P) in
     All-append P (escaped_octet octet) (escaped text)
-    (elim (is_special octet) as (λ v. All P (if v then 92 ∷ octet ∷ [] else octet ∷ [])) [ true ↦ All-cons P 92 (octet ∷ []) (omega arith, omega arith) one | false ↦ one ])
+    (elim (is_special octet) as (λ v. All P (if v then 92 ∷ octet ∷ [] else octet ∷ []))
+    [ true ↦ All-cons P 92 (octet ∷ []) (omega arith, omega arith) one | false ↦ one ])
     (escaped-unbroken text (All-tail P octet text clean))
 
 letters-utf8 : (letters : List ℕ) → scalars letters ≡ true → IsUtf8 (escaped (encodes letters))
@@ -185,7 +192,8 @@ letters-utf8 (c ∷ letters) scalar =
     let others : scalars letters ≡ true = grind arith in
     rw (flat_map-append escaped_octet (encode c) (encodes letters), escaped-encode c) (
     IsUtf8-append (if is_special c then 92 ∷ encode c else encode c) (escaped (encodes letters))
-    (elim (is_special c) as (λ v. IsUtf8 (if v then 92 ∷ encode c else encode c)) [ true ↦ IsUtf8-append (92 ∷ []) (encode c) (plain-utf8 (92 ∷ []) refl) one | false ↦ one ])
+    (elim (is_special c) as (λ v. IsUtf8 (if v then 92 ∷ encode c else encode c))
+    [ true ↦ IsUtf8-append (92 ∷ []) (encode c) (plain-utf8 (92 ∷ []) refl) one | false ↦ one ])
     (letters-utf8 letters others)
     )
 
@@ -207,25 +215,36 @@ uid-line name event narrow =
     let minute : IsPlain (write_of event.minute 0) = minute-plain event.minute narrow.minute in
     plain-line (uid_line name event) (simp (list_all-append, minute, number-plain event.kind, hex-plain name)) (omega arith, omega arith)
 
-stamp-line : (title : List ℕ) (moment : ℤ) → IsPlain title → IsUnindented (title ++ stamp_of moment) → IsContentLine (title ++ stamp_of moment)
-stamp-line title moment plain start = plain-line (title ++ stamp_of moment) (plain-append title (stamp_of moment) plain (stamp-plain moment)) start
+stamp-line : (title : List ℕ) (moment : ℤ) → IsPlain title → IsUnindented (title ++ stamp_of moment)
+    → IsContentLine (title ++ stamp_of moment)
+stamp-line title moment plain start =
+    plain-line (title ++ stamp_of moment) (plain-append title (stamp_of moment) plain (stamp-plain moment)) start
 
-summary-line : (name : List ℕ) (units : Units) (event : Event) → IsUtf8 name → IsUnbroken name → IsNarrow event → IsContentLine (summary_line name units event)
+summary-line : (name : List ℕ) (units : Units) (event : Event) → IsUtf8 name → IsUnbroken name → IsNarrow event
+    → IsContentLine (summary_line name units event)
 unfolding summary_line
 summary-line name units event utf8 clean narrow =
     let title : List ℕ = codes "SUMMARY:" in
     let word : List ℕ = word_text (word_of units event.kind event.level) in
     let a : List ℕ = title ++ escaped name in
     let b : List ℕ = a ++ codes " " ++ word ++ codes " " ++ level_text event.level ++ codes " " in
-    let named : IsClean a = (IsUtf8-append title (escaped name) (plain-utf8 title refl) (escaped-utf8 name utf8), All-append (λ octet. (octet ≢ 13) × (octet ≢ 10)) title (escaped name) (plain-unbroken title refl) (escaped-unbroken name clean)) in
-    let worded : IsClean (a ++ codes " " ++ word) = clean-append (a ++ codes " ") word (clean-append a (codes " ") named refl) (word-plain (word_of units event.kind event.level)) in
-    let levelled : IsClean b = clean-append (a ++ codes " " ++ word ++ codes " " ++ level_text event.level) (codes " ") (clean-append (a ++ codes " " ++ word ++ codes " ") (level_text event.level) (clean-append (a ++ codes " " ++ word) (codes " ") worded refl) (level-plain event.level narrow.level)) refl in
+    let named : IsClean a = (
+      IsUtf8-append title (escaped name) (plain-utf8 title refl) (escaped-utf8 name utf8),
+      All-append (λ octet. (octet ≢ 13) × (octet ≢ 10)) title (escaped name) (plain-unbroken title refl)
+          (escaped-unbroken name clean),
+    ) in
+    let worded : IsClean (a ++ codes " " ++ word) = clean-append (a ++ codes " ") word
+    (clean-append a (codes " ") named refl) (word-plain (word_of units event.kind event.level)) in
+    let levelled : IsClean b = clean-append (a ++ codes " " ++ word ++ codes " " ++ level_text event.level) (codes " ")
+    (clean-append (a ++ codes " " ++ word ++ codes " ") (level_text event.level)
+    (clean-append (a ++ codes " " ++ word) (codes " ") worded refl) (level-plain event.level narrow.level)) refl in
     let all : IsClean (b ++ text_of_unit units) = clean-append b (text_of_unit units) levelled (unit-plain units) in
     record { utf8 = all.0; unbroken = all.1; unindented = (omega arith, omega arith) }
 
 module _ (head : Head) (utf8 : IsUtf8 head.name) (is : IsHead head) where
   name-unbroken : IsUnbroken head.name
-  name-unbroken = All-weaker (λ b. (32 ≤ b) × (b ≢ 127)) (λ octet. (octet ≢ 13) × (octet ≢ 10)) (λ b h. (omega (arith, h.0), omega (arith, h.0))) head.name is.printable
+  name-unbroken = All-weaker (λ b. (32 ≤ b) × (b ≢ 127)) (λ octet. (octet ≢ 13) × (octet ≢ 10))
+      (λ b h. (omega (arith, h.0), omega (arith, h.0))) head.name is.printable
 
   event_lines-content : (event : Event) → IsNarrow event → All IsContentLine (event_lines head event)
   unfolding event_lines
@@ -250,7 +269,8 @@ module _ (head : Head) (utf8 : IsUtf8 head.name) (is : IsHead head) where
   events-content : (events : List Event) → All IsNarrow events → All IsContentLine (flat_map (event_lines head) events)
   events-content [] narrow = All-nil IsContentLine
   events-content (event ∷ events) narrow =
-      All-append IsContentLine (event_lines head event) (flat_map (event_lines head) events) (event_lines-content event (All-head IsNarrow event events narrow)) (events-content events (All-tail IsNarrow event events narrow))
+      All-append IsContentLine (event_lines head event) (flat_map (event_lines head) events) (event_lines-content event
+      (All-head IsNarrow event events narrow)) (events-content events (All-tail IsNarrow event events narrow))
 
   first_lines-content : All IsContentLine first_lines
   first_lines-content =
@@ -266,5 +286,7 @@ module _ (head : Head) (utf8 : IsUtf8 head.name) (is : IsHead head) where
   content_lines-content [] narrow = All-nil IsContentLine
   content_lines-content (event ∷ events) narrow =
       All-append IsContentLine (first_lines ++ flat_map (event_lines head) (event ∷ events)) (codes "END:VCALENDAR" ∷ [])
-      (All-append IsContentLine first_lines (flat_map (event_lines head) (event ∷ events)) first_lines-content (events-content (event ∷ events) narrow))
-      (All-cons IsContentLine (codes "END:VCALENDAR") [] (plain-line (codes "END:VCALENDAR") refl (omega arith, omega arith)) (All-nil IsContentLine))
+      (All-append IsContentLine first_lines (flat_map (event_lines head) (event ∷ events)) first_lines-content
+      (events-content (event ∷ events) narrow))
+      (All-cons IsContentLine (codes "END:VCALENDAR")
+      [] (plain-line (codes "END:VCALENDAR") refl (omega arith, omega arith)) (All-nil IsContentLine))

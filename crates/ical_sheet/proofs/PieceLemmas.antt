@@ -11,12 +11,15 @@ use Rattle.ical_sheet.specs.Folding.{IsLongestPrefix, ends_at, folded, greatest,
 pub greatest-le : (passes : ℕ → Bool) (n : ℕ) → greatest passes n ≤ n
 unfolding greatest
 greatest-le passes zero = omega arith
-greatest-le passes (suc n) = elim (passes (suc n)) as (λ v. cond v (suc n) (greatest passes n) ≤ suc n) [ true ↦ omega arith | false ↦ omega (arith, greatest-le passes n) ]
+greatest-le passes (suc n) = elim (passes (suc n)) as (λ v. cond v (suc n) (greatest passes n) ≤ suc n)
+    [ true ↦ omega arith | false ↦ omega (arith, greatest-le passes n) ]
 
 pub greatest-passes : (passes : ℕ → Bool) (n : ℕ) → 0 < greatest passes n → passes (greatest passes n) ≡ true
 unfolding greatest
 greatest-passes passes zero h = absurd (omega (arith, h))
-greatest-passes passes (suc n) h = elim (passes (suc n)) as (λ v. passes (suc n) ≡ v → 0 < cond v (suc n) (greatest passes n) → passes (cond v (suc n) (greatest passes n)) ≡ true) [ true ↦ λ is _. is | false ↦ λ _ k. greatest-passes passes n k ] refl h
+greatest-passes passes (suc n) h = elim (passes (suc n))
+    as (λ v. passes (suc n) ≡ v → 0 < cond v (suc n) (greatest passes n) → passes (cond v (suc n) (greatest passes n))
+    ≡ true) [ true ↦ λ is _. is | false ↦ λ _ k. greatest-passes passes n k ] refl h
 
 pub greatest-most : (passes : ℕ → Bool) (n k : ℕ) → k ≤ n → passes k ≡ true → k ≤ greatest passes n
 unfolding greatest
@@ -44,7 +47,8 @@ pub greatest-min : (text : List ℕ) (most : ℕ) → greatest (ends_at text) mo
 unfolding greatest
 greatest-min text zero = let none : min 0 (length text) ≡ 0 = omega arith in rw none refl
 greatest-min text (suc most) =
-    elim (nat_le (suc most) (length text)) as (λ v. nat_le (suc most) (length text) ≡ v → greatest (ends_at text) (suc most) ≡ greatest (ends_at text) (min (suc most) (length text))) [
+    elim (nat_le (suc most) (length text)) as (λ v. nat_le (suc most) (length text) ≡ v
+    → greatest (ends_at text) (suc most) ≡ greatest (ends_at text) (min (suc most) (length text))) [
       | true ↦ λ is. (let same : min (suc most) (length text) ≡ suc most = grind (arith, nat_tests) in rw same refl)
       | false ↦ λ is.
           let same : min (suc most) (length text) ≡ min most (length text) = grind (arith, nat_tests) in
@@ -68,22 +72,34 @@ end_from_boundary text n h =
 first_character : (text : List ℕ) → IsUtf8 text → 0 < length text → (n : ℕ) × (0 < n) × (n ≤ 4) × IsCharBoundary text n
 first_character text ([], (scalar, spelled)) h = absurd (omega (arith, ap length spelled, h))
 first_character text (c ∷ cs, (scalar, spelled)) h =
-    let size = len_utf8_bounds c in
-    (len_utf8 c, omega (arith, size), omega (arith, size), rw zero-add at (IsCharBoundary-past_char text (encodes cs) 0 c (omega arith) (c ∷ cs, (scalar, spelled)) (sym spelled)))
+    let size = len_utf8_bounds c in (
+      len_utf8 c,
+      omega (arith, size),
+      omega (arith, size),
+      rw zero-add
+          at (IsCharBoundary-past_char text (encodes cs) 0 c (omega arith) (c ∷ cs, (scalar, spelled)) (sym spelled)),
+    )
 
 pub prefix-boundary : (most : ℕ) (text : List ℕ) → IsUtf8 text → IsCharBoundary text (prefix_length most text)
 prefix-boundary most text utf8 =
     elim (prefix_length most text) as (λ n. prefix_length most text ≡ n → IsCharBoundary text n) [
       | zero ↦ λ is. IsCharBoundary-start text utf8
-      | suc n ↦ λ is. boundary_from_end text (suc n) (subst (λ k. ends_at text k ≡ true) is (greatest-passes (ends_at text) most (omega (arith, is))))
+      | suc n ↦ λ is. boundary_from_end text (suc n)
+          (subst (λ k. ends_at text k ≡ true) is (greatest-passes (ends_at text) most (omega (arith, is))))
     ] refl
 
 pub prefix-positive : (most : ℕ) (text : List ℕ) → IsUtf8 text → 0 < length text → 4 ≤ most → 0 < prefix_length most text
 prefix-positive most text utf8 h room =
     let first = first_character text utf8 h in
-    omega (arith, first.1, first.2, greatest-most (ends_at text) most first.0 (omega (arith, first.2, room)) (end_from_boundary text first.0 first.3))
+    omega (
+      arith,
+      first.1,
+      first.2,
+      greatest-most (ends_at text) most first.0 (omega (arith, first.2, room)) (end_from_boundary text first.0 first.3),
+    )
 
-prefix-longest : (most : ℕ) (text : List ℕ) → IsUtf8 text → (k : ℕ) → k ≤ most → k ≤ length text → IsUtf8 (take k text) → k ≤ prefix_length most text
+prefix-longest : (most : ℕ) (text : List ℕ) → IsUtf8 text → (k : ℕ) → k ≤ most → k ≤ length text → IsUtf8 (take k text)
+    → k ≤ prefix_length most text
 prefix-longest most text utf8 k short within front =
     greatest-most (ends_at text) most k short (end_from_boundary text k (IsCharBoundary-from_take text k utf8 within front))
 
@@ -100,7 +116,8 @@ prefix-IsLongestPrefix most text utf8 = record {
 pub rest-text : (most : ℕ) (text : List ℕ) → IsUtf8 text → IsUtf8 (drop (prefix_length most text) text)
 rest-text most text utf8 = IsUtf8-drop text (prefix_length most text) utf8 (prefix-boundary most text utf8)
 
-shorter : (text : List ℕ) (more : ℕ) → IsUtf8 text → 0 < length text → length text ≤ suc more → length (drop (prefix_length 74 text) text) ≤ more
+shorter : (text : List ℕ) (more : ℕ) → IsUtf8 text → 0 < length text → length text ≤ suc more
+    → length (drop (prefix_length 74 text) text) ≤ more
 shorter text more utf8 h within =
     simp length-drop (omega (arith, within, prefix-positive 74 text utf8 h (omega arith)))
 
@@ -116,7 +133,8 @@ cut_up-enough (suc m) (suc k) (octet ∷ rest) utf8 h l =
     (shorter text m utf8 (omega arith) h) (shorter text k utf8 (omega arith) l)
     )
 
-pub further_pieces-step : (text : List ℕ) → IsUtf8 text → 0 < length text → further_pieces text ≡ take (prefix_length 74 text) text ∷ further_pieces (drop (prefix_length 74 text) text)
+pub further_pieces-step : (text : List ℕ) → IsUtf8 text → 0 < length text
+    → further_pieces text ≡ take (prefix_length 74 text) text ∷ further_pieces (drop (prefix_length 74 text) text)
 unfolding cut_up
 further_pieces-step [] utf8 h = absurd (omega (arith, h))
 further_pieces-step (octet ∷ rest) utf8 h =
@@ -132,6 +150,7 @@ unfolding folded cut_up
 folded-short line short =
     let least : min 75 (length line) ≡ length line = omega (arith, short) in
     let whole : prefix_length 75 line ≡ length line =
-    greatest-min line 75 ∙ ap (greatest (ends_at line)) least ∙ greatest-at (ends_at line) (length line) (end_from_boundary line (length line) (IsCharBoundary-end line))
+    greatest-min line 75 ∙ ap (greatest (ends_at line)) least
+    ∙ greatest-at (ends_at line) (length line) (end_from_boundary line (length line) (IsCharBoundary-end line))
     in
     rw (whole, take_all (length line) line (omega arith), drop_all (length line) line (omega arith), append-nil) refl

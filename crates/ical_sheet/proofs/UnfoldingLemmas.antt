@@ -25,7 +25,8 @@ unfolded-other octet (b ∷ c ∷ rest) h = let other : (octet == 13) ≡ false 
 pub unfolded-append : (piece rest : List ℕ) → LacksReturn piece → unfolded (piece ++ rest) ≡ piece ++ unfolded rest
 unfolded-append [] rest h = refl
 unfolded-append (octet ∷ piece) rest h =
-    unfolded-other octet (piece ++ rest) (All-head (λ octet. octet ≢ 13) octet piece h) ∙ ap (λ text. octet ∷ text) (unfolded-append piece rest (All-tail (λ octet. octet ≢ 13) octet piece h))
+    unfolded-other octet (piece ++ rest) (All-head (λ octet. octet ≢ 13) octet piece h)
+    ∙ ap (λ text. octet ∷ text) (unfolded-append piece rest (All-tail (λ octet. octet ≢ 13) octet piece h))
 
 lines-other : (octet : ℕ) (rest : List ℕ) → octet ≢ 13 → physical_lines (octet ∷ rest) ≡ begun_with octet (physical_lines rest)
 unfolding physical_lines
@@ -36,7 +37,8 @@ pub physical_lines-line : (line rest : List ℕ) → LacksReturn line → physic
 unfolding physical_lines
 physical_lines-line [] rest h = refl
 physical_lines-line (octet ∷ line) rest h =
-    lines-other octet (line ++ 13 ∷ 10 ∷ rest) (All-head (λ octet. octet ≢ 13) octet line h) ∙ ap (begun_with octet) (physical_lines-line line rest (All-tail (λ octet. octet ≢ 13) octet line h))
+    lines-other octet (line ++ 13 ∷ 10 ∷ rest) (All-head (λ octet. octet ≢ 13) octet line h)
+    ∙ ap (begun_with octet) (physical_lines-line line rest (All-tail (λ octet. octet ≢ 13) octet line h))
 
 -- ---- one step of unfolding
 
@@ -44,16 +46,19 @@ physical_lines-line (octet ∷ line) rest h =
 abbrev pub has_fold : List ℕ → ℕ → Bool
 has_fold text at = nat_lt (at + 2) (length text) && is_fold (slice_index text at) (slice_index text (at + 1)) (slice_index text (at + 2))
 
-next_three : (text : List ℕ) (at : ℕ) → at + 2 < length text → drop at text ≡ slice_index text at ∷ slice_index text (at + 1) ∷ slice_index text (at + 2) ∷ drop (at + 3) text
+next_three : (text : List ℕ) (at : ℕ) → at + 2 < length text
+    → drop at text ≡ slice_index text at ∷ slice_index text (at + 1) ∷ slice_index text (at + 2) ∷ drop (at + 3) text
 next_three text at within =
     let second : at + 1 + 1 ≡ at + 2 = omega arith in
     let third : at + 2 + 1 ≡ at + 3 = omega arith in
     let a : drop at text ≡ slice_index text at ∷ drop (at + 1) text = drop_more text at 0 (omega (arith, within)) in
-    let b : drop (at + 1) text ≡ slice_index text (at + 1) ∷ drop (at + 2) text = rw second at (drop_more text (at + 1) 0 (omega (arith, within))) in
+    let b : drop (at + 1) text ≡ slice_index text (at + 1) ∷ drop (at + 2) text =
+    rw second at (drop_more text (at + 1) 0 (omega (arith, within))) in
     let c : drop (at + 2) text ≡ slice_index text (at + 2) ∷ drop (at + 3) text = rw third at (drop_more text (at + 2) 0 within) in
     cc
 
-pub unfolded-fold : (text : List ℕ) (at : ℕ) → has_fold text at ≡ true → (at + 2 < length text) × (unfolded (drop at text) ≡ unfolded (drop (at + 3) text))
+pub unfolded-fold : (text : List ℕ) (at : ℕ) → has_fold text at ≡ true
+    → (at + 2 < length text) × (unfolded (drop at text) ≡ unfolded (drop (at + 3) text))
 unfolding unfolded
 unfolded-fold text at h =
     let within : at + 2 < length text = grind (arith, nat_tests) in
@@ -66,21 +71,26 @@ unfolded-short octet [] h = refl
 unfolded-short octet (b ∷ []) h = refl
 unfolded-short octet (b ∷ c ∷ rest) h = absurd (omega (arith, h))
 
-pub unfolded-octet : (text : List ℕ) (at : ℕ) → at < length text → has_fold text at ≡ false → unfolded (drop at text) ≡ slice_index text at ∷ unfolded (drop (at + 1) text)
+pub unfolded-octet : (text : List ℕ) (at : ℕ) → at < length text → has_fold text at ≡ false
+    → unfolded (drop at text) ≡ slice_index text at ∷ unfolded (drop (at + 1) text)
 unfolding unfolded
 unfolded-octet text at within h =
-    elim (nat_lt (at + 2) (length text)) as (λ v. nat_lt (at + 2) (length text) ≡ v → unfolded (drop at text) ≡ slice_index text at ∷ unfolded (drop (at + 1) text)) [
+    elim (nat_lt (at + 2) (length text)) as (λ v. nat_lt (at + 2) (length text) ≡ v
+    → unfolded (drop at text) ≡ slice_index text at ∷ unfolded (drop (at + 1) text)) [
       | true ↦ λ more.
           let three : at + 2 < length text = grind (arith, nat_tests) in
-          let other : is_fold (slice_index text at) (slice_index text (at + 1)) (slice_index text (at + 2)) ≡ false = grind (arith, nat_tests) in
+          let other : is_fold (slice_index text at) (slice_index text (at + 1)) (slice_index text (at + 2)) ≡ false =
+          grind (arith, nat_tests) in
           let second : at + 1 + 1 ≡ at + 2 = omega arith in
           let third : at + 2 + 1 ≡ at + 3 = omega arith in
-          let b : drop (at + 1) text ≡ slice_index text (at + 1) ∷ drop (at + 2) text = rw second at (drop_more text (at + 1) 0 (omega (arith, three))) in
+          let b : drop (at + 1) text ≡ slice_index text (at + 1) ∷ drop (at + 2) text =
+          rw second at (drop_more text (at + 1) 0 (omega (arith, three))) in
           let c : drop (at + 2) text ≡ slice_index text (at + 2) ∷ drop (at + 3) text = rw third at (drop_more text (at + 2) 0 three) in
           rw (next_three text at three, other, b, c) refl
       | false ↦ λ less.
           let last : length text ≤ at + 2 = grind (arith, nat_tests) in
-          rw (drop_more text at 0 within) (unfolded-short (slice_index text at) (drop (at + 1) text) (simp length-drop (omega (arith, last))))
+          rw (drop_more text at 0 within)
+          (unfolded-short (slice_index text at) (drop (at + 1) text) (simp length-drop (omega (arith, last))))
     ] refl
 
 -- ---- the pieces after the first, and what comes after the line
@@ -115,7 +125,8 @@ unfolded-continued (suc more) (octet ∷ others) rest utf8 clean start h =
 abbrev IsShort : List ℕ → Type 0
 IsShort line = length line ≤ 75
 
-lines-continued : (more : ℕ) (line text rest : List ℕ) → IsUtf8 text → LacksReturn line → LacksReturn text → length line ≤ 75 → length text ≤ more → AreShort (physical_lines rest)
+lines-continued : (more : ℕ) (line text rest : List ℕ) → IsUtf8 text → LacksReturn line → LacksReturn text
+    → length line ≤ 75 → length text ≤ more → AreShort (physical_lines rest)
     → AreShort (physical_lines (line ++ continued (cut_up more text) ++ (codes "\r\n" ++ rest)))
 unfolding cut_up
 lines-continued more line [] rest utf8 head clean short h others =
@@ -126,8 +137,10 @@ lines-continued (suc more) line (octet ∷ remainder) rest utf8 head clean short
     let n = prefix_length 74 text in
     let next : List ℕ = 32 ∷ take n text in
     let later : List ℕ = continued (cut_up more (drop n text)) in
-    let first : physical_lines (line ++ 13 ∷ 10 ∷ (next ++ later) ++ (codes "\r\n" ++ rest)) ≡ line ∷ physical_lines (next ++ later ++ (codes "\r\n" ++ rest)) =
-    ap physical_lines (append_assoc line (13 ∷ 10 ∷ (next ++ later)) (codes "\r\n" ++ rest)) ∙ physical_lines-line line (next ++ later ++ (codes "\r\n" ++ rest)) head
+    let first : physical_lines (line ++ 13 ∷ 10 ∷ (next ++ later) ++ (codes "\r\n" ++ rest))
+    ≡ line ∷ physical_lines (next ++ later ++ (codes "\r\n" ++ rest)) =
+    ap physical_lines (append_assoc line (13 ∷ 10 ∷ (next ++ later)) (codes "\r\n" ++ rest))
+    ∙ physical_lines-line line (next ++ later ++ (codes "\r\n" ++ rest)) head
     in
     let further : AreShort (physical_lines (next ++ later ++ (codes "\r\n" ++ rest))) =
     lines-continued more next (drop n text) rest (rest-text 74 text utf8)
@@ -137,7 +150,8 @@ lines-continued (suc more) line (octet ∷ remainder) rest utf8 head clean short
     (simp length-drop (omega (arith, h, prefix-positive 74 text utf8 (omega arith) (omega arith))))
     others
     in
-    All-same IsShort (physical_lines (line ++ 13 ∷ 10 ∷ (next ++ later) ++ (codes "\r\n" ++ rest))) (line ∷ physical_lines (next ++ later ++ (codes "\r\n" ++ rest))) first
+    All-same IsShort (physical_lines (line ++ 13 ∷ 10 ∷ (next ++ later) ++ (codes "\r\n" ++ rest)))
+    (line ∷ physical_lines (next ++ later ++ (codes "\r\n" ++ rest))) first
     (All-cons IsShort line (physical_lines (next ++ later ++ (codes "\r\n" ++ rest))) short further)
 
 -- ---- a whole line, and what comes after it
@@ -160,7 +174,8 @@ module _ (line rest : List ℕ) (is : IsContentLine line) where
   unfolded-folded start =
       ap unfolded (written ∙ append_assoc (take first line) later (codes "\r\n" ++ rest))
       ∙ unfolded-append (take first line) (later ++ (codes "\r\n" ++ rest)) (All-take (λ octet. octet ≢ 13) first line clean)
-      ∙ ap (λ t. take first line ++ t) (unfolded-continued (length (drop first line)) (drop first line) rest (rest-text 75 line is.utf8) (All-drop (λ octet. octet ≢ 13) first line clean) start (omega arith))
+      ∙ ap (λ t. take first line ++ t) (unfolded-continued (length (drop first line)) (drop first line) rest
+      (rest-text 75 line is.utf8) (All-drop (λ octet. octet ≢ 13) first line clean) start (omega arith))
       ∙ sym (append_assoc (take first line) (drop first line) (codes "\r\n" ++ unfolded rest))
       ∙ ap (λ t. t ++ (codes "\r\n" ++ unfolded rest)) (take-append-drop first line)
 

@@ -1,6 +1,30 @@
 -- Content lines, folded and unfolded (RFC 5545, section 3.1; the length of the pieces is this project's
 -- own).
-use Rattle.std.specs.Prelude.{ℕ, zero, suc, ◌≤◌, ◌≢◌, Bool, not, ◌==◌, ◌&&◌, ◌||◌, nat_le, nat_lt, if◌then◌else◌, List, [], ◌∷◌, ◌++◌, length, take, drop, slice_index, codes, All}
+use Rattle.std.specs.Prelude.{
+  ℕ,
+  zero,
+  suc,
+  ◌≤◌,
+  ◌≢◌,
+  Bool,
+  not,
+  ◌==◌,
+  ◌&&◌,
+  ◌||◌,
+  nat_le,
+  nat_lt,
+  if◌then◌else◌,
+  List,
+  [],
+  ◌∷◌,
+  ◌++◌,
+  length,
+  take,
+  drop,
+  slice_index,
+  codes,
+  All,
+}
 use Rattle.std.specs.List.{join_by}
 use Rattle.std.specs.Str.{IsUtf8}
 

@@ -49,7 +49,8 @@ fn push_events(
     events: &[Event],
 ) -> Result<(), AllocError>
     requires { All (IsListed head.now.units) events.now }
-    ensures { OnOk result (text.new.items ≡ text.old.items ++ flat_map (λ event. flat_map folded (event_lines head.entry.now event)) events.now) }
+    ensures { OnOk result (text.new.items
+        ≡ text.old.items ++ flat_map (λ event. flat_map folded (event_lines head.entry.now event)) events.now) }
 {
     let shared = Shared::new(alloc, head)?;
     let mut line = String::new(alloc);

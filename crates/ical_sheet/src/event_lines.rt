@@ -96,7 +96,8 @@ fn push_summary(
     event: &Event,
 ) -> Result<(), AllocError>
     requires { IsTrue (has_word shared.now.head.now.units event.now.kind) }
-    ensures { OnOk result (text.new.items ≡ text.old.items ++ folded (summary_line shared.now.head.now.name shared.now.head.now.units event.now)) }
+    ensures { OnOk result (text.new.items
+        ≡ text.old.items ++ folded (summary_line shared.now.head.now.name shared.now.head.now.units event.now)) }
 {
     let units = shared.head.units;
     line.clear();

@@ -3,7 +3,16 @@
 ghost use Rattle.std.specs.Prelude.{◌≡◌, ◌≤◌, ◌++◌, length, take, drop, codes, IfOk, OnOk};
 ghost use Rattle.std.specs.List.{flat_map};
 ghost use Rattle.std.specs.Str.{IsUtf8};
-ghost use Rattle.ical_sheet.specs.Folding.{AreShort, IsContentLine, ends_at, folded, further_pieces, physical_lines, prefix_length, unfolded};
+ghost use Rattle.ical_sheet.specs.Folding.{
+  AreShort,
+  IsContentLine,
+  ends_at,
+  folded,
+  further_pieces,
+  physical_lines,
+  prefix_length,
+  unfolded,
+};
 
 use decimal_text::Bytes;
 use std::alloc::{AllocError, Global};
@@ -19,7 +28,7 @@ const MOST_OCTETS: usize = 75;
 pub fn fold(alloc: Global, line: &[u8]) -> Result<Bytes, AllocError>
     requires { IsContentLine line.now }
     ensures text { IfOk result (λ text. text ≡ folded line.now) }
-    ensures short { IfOk result (λ text. AreShort (physical_lines text)) }
+    ensures length_bound { IfOk result (λ text. AreShort (physical_lines text)) }
     ensures unfolds { IfOk result (λ text. unfolded text ≡ line.now ++ codes "\r\n") }
 {
     let mut text = Vec::new(alloc);

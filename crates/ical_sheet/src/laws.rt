@@ -8,7 +8,16 @@ ghost use Rattle.report_sheets.specs.declared.head.Head.{Head};
 ghost use Rattle.report_sheets.specs.Sheets.{IsHead};
 ghost use Rattle.hex.specs.Hex.{IsBytes};
 ghost use Rattle.ical_sheet.specs.Calendars.{IsNarrow, calendar_of, content_lines, ical_sheet, uid_line};
-ghost use Rattle.ical_sheet.specs.Folding.{AreShort, IsContentLine, IsLongestPrefix, folded, further_pieces, physical_lines, prefix_length, unfolded};
+ghost use Rattle.ical_sheet.specs.Folding.{
+  AreShort,
+  IsContentLine,
+  IsLongestPrefix,
+  folded,
+  further_pieces,
+  physical_lines,
+  prefix_length,
+  unfolded,
+};
 
 use crate::sheet::IcalPage;
 use report_sheets::Layout;
@@ -28,7 +37,7 @@ pub fn folded_lines_unfold()
     ensures line { (line : List ℕ) → IsContentLine line → unfolded (folded line) ≡ line ++ codes "\r\n" }
     ensures lines { (lines : List (List ℕ)) → All IsContentLine lines →
         unfolded (flat_map folded lines) ≡ flat_map (λ line. line ++ codes "\r\n") lines }
-    ensures short { (lines : List (List ℕ)) → All IsContentLine lines → AreShort (physical_lines (flat_map folded lines)) }
+    ensures length_bound { (lines : List (List ℕ)) → All IsContentLine lines → AreShort (physical_lines (flat_map folded lines)) }
 {}
 
 /// The physical lines of a calendar have at most 75 octets each, and unfolded they are its content
@@ -36,7 +45,7 @@ pub fn folded_lines_unfold()
 pub fn calendars_unfold()
     ensures lines { (head : Head) (events : List Event) → IsUtf8 head.name → IsHead head → All IsNarrow events →
         unfolded (calendar_of head events) ≡ flat_map (λ line. line ++ codes "\r\n") (content_lines head events) }
-    ensures short { (head : Head) (events : List Event) → IsUtf8 head.name → IsHead head → All IsNarrow events →
+    ensures length_bound { (head : Head) (events : List Event) → IsUtf8 head.name → IsHead head → All IsNarrow events →
         AreShort (physical_lines (calendar_of head events)) }
 {}
 
@@ -47,7 +56,7 @@ pub fn calendars_are_sheets()
 
 /// Two events with the same identifier have the same minute, the same kind and stations of the same
 /// name.
-pub fn identifiers_tell_events_apart()
+pub fn identifiers_are_unique()
     ensures { (name other : List ℕ) (event later : Event) → IsBytes name → IsBytes other → IsNarrow event → IsNarrow later →
         uid_line name event ≡ uid_line other later → (name ≡ other) × (event.minute ≡ later.minute) × (event.kind ≡ later.kind) }
 {}

@@ -20,7 +20,7 @@ mod worked;
 pub use escaping::escape;
 pub use folding::fold;
 pub use laws::{
-    calendars_are_sheets, calendars_unfold, folded_lines_unfold, identifiers_tell_events_apart,
+    calendars_are_sheets, calendars_unfold, folded_lines_unfold, identifiers_are_unique,
     lines_are_cut_between_characters,
 };
 pub use sheet::{IcalPage, IcalSheet};

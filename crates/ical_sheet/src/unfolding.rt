@@ -29,7 +29,8 @@ pub fn unfold(alloc: Global, text: &[u8]) -> Result<Bytes, AllocError>
 /// Returns true if a CR LF and then a space or a tab are at index `at` of `text`.
 fn is_fold_at(text: &[u8], at: usize) -> bool
     requires { at ≤ length text.now }
-    ensures { result ≡ (nat_lt (at + 2) (length text.now) && is_fold (slice_index text.now at) (slice_index text.now (at + 1)) (slice_index text.now (at + 2))) }
+    ensures { result ≡ (nat_lt (at + 2) (length text.now)
+        && is_fold (slice_index text.now at) (slice_index text.now (at + 1)) (slice_index text.now (at + 2))) }
 {
     text.len() - at > 2
         && text[at] == b'\r'

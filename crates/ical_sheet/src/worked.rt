@@ -59,5 +59,6 @@ pub fn worked_calendars()
     ensures none { calendar_of pier [] ≡ [] }
     ensures long_uid { map length (pieces_of (uid_line long_name low_tide)) ≡ 75 ∷ 74 ∷ 39 ∷ [] }
     ensures long_summary { map length (pieces_of (summary_line long_name Units.Feet low_tide)) ≡ 75 ∷ 33 ∷ [] }
-    ensures escaped { summary_line (codes "Pier, North; A\\B") Units.Feet high_tide ≡ codes "SUMMARY:Pier\\, North\\; A\\\\B High Tide 1.00 feet" }
+    ensures escaped { summary_line (codes "Pier, North; A\\B") Units.Feet high_tide
+        ≡ codes "SUMMARY:Pier\\, North\\; A\\\\B High Tide 1.00 feet" }
 {}

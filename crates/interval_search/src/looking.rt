@@ -22,13 +22,13 @@ pub struct Search<C: Curve> {
 
 impl<C: Curve> Model for Search<C> {
     ghost use Rattle.interval_search.specs.Looking.{Looking};
-    ghost use Rattle.interval_search.specs.Workings.Ahead.{looking_at, Stands};
+    ghost use Rattle.interval_search.specs.Workings.Ahead.{looking_at, SearchInvariant};
 
     ghost Value = { Looking C };
 
     ghost view = { λ s. looking_at s.curve (C.state s.curve) s.front };
 
-    ghost invariant = { λ s. Stands (C.state s.curve) s.front.end s.front.at s.front.waiting };
+    ghost invariant = { λ s. SearchInvariant (C.state s.curve) s.front.end s.front.at s.front.waiting };
 }
 
 impl<C: Curve> Search<C> {
@@ -46,7 +46,7 @@ impl<C: Curve> Search<C> {
         requires forward { begin ≤ℤ end }
         requires first { (C.state curve).facts.meaning.first ≤ℤ begin }
         requires last { end ≤ℤ (C.state curve).facts.meaning.last }
-        requires few { (C.state curve).count ≤ 2 ^ 62 }
+        requires count_bound { (C.state curve).count ≤ 2 ^ 62 }
         ensures after { C.state result.curve ≡ evaluated_once (C.state curve) }
         ensures at { result.at ≡ begin }
         ensures left { result.left ≡ cover (C.state curve).facts.meaning begin (unsigned_abs (end -ℤ begin)) }

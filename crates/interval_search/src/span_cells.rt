@@ -29,7 +29,7 @@ pub fn search<C: Curve>(
     requires forward { begin ≤ℤ end }
     requires first { (C.state curve.old).facts.meaning.first ≤ℤ begin }
     requires last { end ≤ℤ (C.state curve.old).facts.meaning.last }
-    requires few { (C.state curve.old).count ≤ 2 ^ 62 }
+    requires count_bound { (C.state curve.old).count ≤ 2 ^ 62 }
     ensures cells { IfOk result (λ cells. cells ≡ cover (C.state curve.old).facts.meaning begin (unsigned_abs (end -ℤ begin))) }
     ensures count { (C.state curve.new).count
         ≤ (C.state curve.old).count + length (cover (C.state curve.old).facts.meaning begin (unsigned_abs (end -ℤ begin))) + 1 }

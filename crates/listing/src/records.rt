@@ -4,7 +4,17 @@ ghost use Rattle.std.specs.Prelude.{◌≡◌, [], ◌∷◌, ◌++◌, All, IfO
 ghost use Rattle.std.specs.List.{flat_map};
 ghost use Rattle.csv.specs.Writing.{row_text};
 ghost use Rattle.event_text.specs.Lines.{IsListed};
-ghost use Rattle.listing.specs.Records.{millionths_text, record_of, time_in, event_fields, event_header, row_fields, row_header, csv_events_of, csv_heights_of};
+ghost use Rattle.listing.specs.Records.{
+  millionths_text,
+  record_of,
+  time_in,
+  event_fields,
+  event_header,
+  row_fields,
+  row_header,
+  csv_events_of,
+  csv_heights_of,
+};
 ghost use Rattle.listing.specs.Workings.Writers.{IsAtRecord, written};
 ghost use Rattle.zone_time.specs.Moments.{moment_text};
 ghost use Rattle.zone_time.specs.Zones.{IsZone, InZoneYears};

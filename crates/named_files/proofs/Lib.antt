@@ -1,4 +1,4 @@
 pub mod OpenedLemmas
 pub mod ReadingLemmas
 pub mod SettledLemmas
-pub mod TellingLemmas
+pub mod ReportingLemmas

@@ -10,7 +10,7 @@ use Rattle.harmonics_text.specs.declared.book.Book.{Book as TheBook}
 use Rattle.harmonics_text.specs.declared.fault.BookFault.TheVariants as form
 use Rattle.question.specs.declared.question.Question.{Question}
 use Rattle.question.specs.declared.question.ZoneWord.{ZoneWord}
-use Rattle.station_table.specs.declared.offsets.Offsets.{Offsets as Row}
+use Rattle.station_table.specs.declared.offsets.Offsets.{Offsets as TableRow}
 use Rattle.std.specs.Option.{ForSome}
 use Rattle.std.proofs.lemmas.List.{length-append}
 use Rattle.tide_edge.specs.FileStates.{Opening, Openings, listed, openings_of}
@@ -27,7 +27,8 @@ use Rattle.named_files.specs.declared.materials.Materials.{Materials}
 use Rattle.named_files.specs.Readings.{book_named, bytes_from, bytes_of, certificate_named, files_in, limit_of, table_named, zone_file, zone_named}
 use Rattle.named_files.proofs.ReadingLemmas.{excuses_book, excuses_bytes, meets_at, named_book, named_from}
 
-out_of_memory_meets : {T : Type 0} (expected result : Result T NoAnswer) → IsOutOfMemory source_of result → Meets source_of (Unit {0}) expected result
+out_of_memory_meets : {T : Type 0} (expected result : Result T NoAnswer) → IsOutOfMemory source_of result
+    → Meets source_of (Unit {0}) expected result
 out_of_memory_meets expected (Ok value) of_memory = absurd of_memory
 out_of_memory_meets expected (Err none) of_memory = rw of_memory tt
 
@@ -65,7 +66,8 @@ opened_named slot name expected before after result (inr (opening, named, is, me
 }
 
 -- no file is named
-pub opened_none : {T : Type 0} (slot : Slot) (expected : Option (List ℕ) → Result T NoAnswer) (before : Openings) (result : Result T NoAnswer)
+pub opened_none : {T : Type 0} (slot : Slot) (expected : Option (List ℕ) → Result T NoAnswer) (before : Openings)
+    (result : Result T NoAnswer)
     → ((file : Option (List ℕ)) → Meets source_of (Unit {0}) (expected file) result) → Opened slot None expected before before result
 opened_none slot expected before result meets = record {
   openings = [];
@@ -96,7 +98,8 @@ pub opened_once_as : {T E S : Type 0} (slot : Slot) (name : List ℕ) (source : 
     (also : Option (List ℕ) → Result S NoAnswer) (before after : Openings) (result : Result T E) (other : Result S NoAnswer)
     → ((file : Option (List ℕ)) → Meets source (Unit {0}) (expected file) result → Meets source_of (Unit {0}) (also file) other)
     → (IsOutOfMemory source result → IsOutOfMemory source_of other)
-    → OpenedOnce source expected (limit_of slot) name before after result → OpenedOnce source_of also (limit_of slot) name before after other
+    → OpenedOnce source expected (limit_of slot) name before after result
+    → OpenedOnce source_of also (limit_of slot) name before after other
 opened_once_as slot name source expected also before after result other says out (inl (same, of_memory)) = inl (same, out of_memory)
 opened_once_as slot name source expected also before after result other says out (inr (opening, named, is, meets)) =
     inr (opening, named, is, says (as_came (limit_of slot) opening) meets)
@@ -122,7 +125,8 @@ memory_of_bytes slot (Err reading.Failed) out = let no : outside ≡ memory = ou
 memory_of_bytes slot (Err reading.TooLong) out = let no : given ≡ memory = out in cc
 
 bytes_meet : (slot : Slot) (file : Option (List ℕ)) (result : Result (List ℕ) ReadAllFault)
-    → Meets source_of_reading (Unit {0}) (whole (limit_of slot) file) result → Meets source_of (Unit {0}) (bytes_of slot file) (bytes_from slot result)
+    → Meets source_of_reading (Unit {0}) (whole (limit_of slot) file) result
+    → Meets source_of (Unit {0}) (bytes_of slot file) (bytes_from slot result)
 bytes_meet slot file (Ok bytes) meets = rw meets refl
 bytes_meet slot file (Err fault) meets = excuses_bytes (Unit {0}) slot file fault meets
 
@@ -143,7 +147,8 @@ memory_of_book (Err (load.Book form.NoMemory)) out = refl
 memory_of_book (Err (load.Book (form.At line why))) out = let no : given ≡ memory = out in cc
 
 book_meets : (name : List ℕ) (file : Option (List ℕ)) (result : Result TheBook LoadFault)
-    → Meets source_of_loading (Unit {0}) (loaded (limit_of File) file) result → Meets source_of (Unit {0}) (book_named (λ _. file) name) (named_from result)
+    → Meets source_of_loading (Unit {0}) (loaded (limit_of File) file) result
+    → Meets source_of (Unit {0}) (book_named (λ _. file) name) (named_from result)
 unfolding named_from
 book_meets name file (Ok book) meets = named_book (λ _. file) name book meets
 book_meets name file (Err fault) meets = excuses_book (Unit {0}) (λ _. file) name fault meets
@@ -153,7 +158,8 @@ pub opened_book : (name : List ℕ) (before after : Openings) (result : Result T
     → Opened File (Some name) (λ file. book_named (λ _. file) name) before after (named_from result)
 opened_book name before after result once =
     opened_named File name (λ file. book_named (λ _. file) name) before after (named_from result)
-    (opened_once_as File name source_of_loading (loaded (limit_of File)) (λ file. book_named (λ _. file) name) before after result (named_from result)
+    (opened_once_as File name source_of_loading (loaded (limit_of File))
+    (λ file. book_named (λ _. file) name) before after result (named_from result)
     (λ file meets. book_meets name file result meets) (memory_of_book result) once)
 
 -- ---- One file after the other
@@ -178,7 +184,8 @@ names_on first second names more left is then =
     ∙ ap (λ n. n ++ left) (sym (map-append first second))
 
 -- a file that was read was opened, if it is named
-pub all_named : {T : Type 0} (slot : Slot) (name : Option (List ℕ)) (expected : Option (List ℕ) → Result T NoAnswer) (before after : Openings)
+pub all_named : {T : Type 0} (slot : Slot) (name : Option (List ℕ)) (expected : Option (List ℕ) → Result T NoAnswer)
+    (before after : Openings)
     (value : T) (o : Opened slot name expected before after (Ok value)) → listed name ≡ map (λ it. it.name) o.openings
 all_named slot name expected before after value o =
     o.names ∙ ap (λ left. map (λ it. it.name) o.openings ++ left) o.whole ∙ append-nil (map (λ it. it.name) o.openings)
@@ -192,11 +199,14 @@ pub as_many : {T : Type 0} (slot : Slot) (name : Option (List ℕ)) (expected : 
 as_many slot name expected before after value o = ap length (all_named slot name expected before after value o) ∙ length-names o.openings
 
 -- the last of the files that were opened
-pub last_all : {T : Type 0} (slot : Slot) (name : Option (List ℕ)) (expected : Option (List ℕ) → Result T NoAnswer) (before after : Openings)
-    (result : Result T NoAnswer) (o : Opened slot name expected before after result) → openings_of after ≡ openings_of before ++ (o.openings ++ [])
+pub last_all : {T : Type 0} (slot : Slot) (name : Option (List ℕ)) (expected : Option (List ℕ) → Result T NoAnswer)
+    (before after : Openings)
+    (result : Result T NoAnswer) (o : Opened slot name expected before after result)
+    → openings_of after ≡ openings_of before ++ (o.openings ++ [])
 last_all slot name expected before after result o = o.all ∙ ap (λ it. openings_of before ++ it) (sym (append-nil o.openings))
 
-pub last_names : {T : Type 0} (slot : Slot) (name : Option (List ℕ)) (expected : Option (List ℕ) → Result T NoAnswer) (before after : Openings)
+pub last_names : {T : Type 0} (slot : Slot) (name : Option (List ℕ)) (expected : Option (List ℕ) → Result T NoAnswer)
+    (before after : Openings)
     (result : Result T NoAnswer) (o : Opened slot name expected before after result)
     → listed name ≡ map (λ it. it.name) (o.openings ++ []) ++ o.unopened
 last_names slot name expected before after result o =
@@ -204,11 +214,14 @@ last_names slot name expected before after result o =
 
 -- ---- The names up to a fault
 
-pub up_to : (name : List ℕ) (question : Question) (slot : Slot) → (more : List (List ℕ)) × (names_of name question ≡ names_to name question (Some slot) ++ more)
+pub up_to : (name : List ℕ) (question : Question) (slot : Slot)
+    → (more : List (List ℕ)) × (names_of name question ≡ names_to name question (Some slot) ++ more)
 up_to name question File = (listed question.offsets ++ (listed (zone_file question.zone) ++ listed question.certificate), refl)
 up_to name question Offsets = (listed (zone_file question.zone) ++ listed question.certificate, refl)
-up_to name question Zone =
-    (listed question.certificate, ap (λ n. name ∷ n) (sym (append_assoc (listed question.offsets) (listed (zone_file question.zone)) (listed question.certificate))))
+up_to name question Zone = (
+  listed question.certificate,
+  ap (λ n. name ∷ n) (sym (append_assoc (listed question.offsets) (listed (zone_file question.zone)) (listed question.certificate))),
+)
 up_to name question Certificate = ([], sym (append-nil (names_of name question)))
 
 stops_at : (name : List ℕ) (question : Question) (slot : Slot) (said : Option Slot) → ForSome said (λ other. other ≡ slot)
@@ -260,7 +273,7 @@ shown_fourth p q r s count also one counted too =
 abbrev pub book_shown : List ℕ → Option (List ℕ) → Result TheBook NoAnswer
 book_shown name file = book_named (λ _. file) name
 
-abbrev pub table_shown : Option (List ℕ) → Option (List ℕ) → Result (List Row) NoAnswer
+abbrev pub table_shown : Option (List ℕ) → Option (List ℕ) → Result (List TableRow) NoAnswer
 table_shown name file = table_named (λ _. file) name
 
 abbrev zone_shown : ZoneWord → Option (List ℕ) → Result TheZone NoAnswer
@@ -293,15 +306,17 @@ stopped_at_table question name before between after read none result is of_table
     let openings = book.openings ++ last in
     let one = as_many File (Some name) (book_shown name) before between read book in
     stopped question name Offsets before after none openings table.unopened of_table
-    (go_on before between after book.openings last book.all (last_all Offsets question.offsets (table_shown question.offsets) between after (Err none) table))
-    (names_on book.openings last (name ∷ []) (listed question.offsets) table.unopened (all_named File (Some name) (book_shown name) before between read book)
+    (go_on before between after book.openings last book.all
+    (last_all Offsets question.offsets (table_shown question.offsets) between after (Err none) table))
+    (names_on book.openings last (name ∷ []) (listed question.offsets) table.unopened
+    (all_named File (Some name) (book_shown name) before between read book)
     (last_names Offsets question.offsets (table_shown question.offsets) between after (Err none) table))
     (rw (book.answer (shown File (slice_get openings 0)) (shown_at File [] book.openings last 0 refl))
     (meets_at (Unit {0}) (table_named (folders_shown question openings Offsets) question.offsets) _ (Err none) none refl
     (table.answer (shown Offsets (slice_get openings 1)) (shown_second book.openings table.openings [] one))))
     result is
 
-pub stopped_at_zone : (question : Question) (name : List ℕ) (before between beyond after : Openings) (read : TheBook) (rows : List Row)
+pub stopped_at_zone : (question : Question) (name : List ℕ) (before between beyond after : Openings) (read : TheBook) (rows : List TableRow)
     (none : NoAnswer) (result : Result Materials NoAnswer) → IsErrAnd result (λ e. e ≡ none) → IsOf Zone none
     → Opened File (Some name) (book_shown name) before between (Ok read)
     → Opened Offsets question.offsets (table_shown question.offsets) between beyond (Ok rows)
@@ -316,7 +331,8 @@ stopped_at_zone question name before between beyond after read rows none result 
     let two = as_many Offsets question.offsets (table_shown question.offsets) between beyond rows table in
     stopped question name Zone before after none openings zone.unopened of_zone
     (go_on before between after book.openings last book.all
-    (go_on between beyond after table.openings third table.all (last_all Zone (zone_file question.zone) (zone_shown question.zone) beyond after (Err none) zone)))
+    (go_on between beyond after table.openings third table.all
+    (last_all Zone (zone_file question.zone) (zone_shown question.zone) beyond after (Err none) zone)))
     (names_on book.openings last (name ∷ []) (listed question.offsets ++ listed (zone_file question.zone)) zone.unopened
     (all_named File (Some name) (book_shown name) before between read book)
     (names_on table.openings third (listed question.offsets) (listed (zone_file question.zone)) zone.unopened
@@ -327,10 +343,12 @@ stopped_at_zone question name before between beyond after read rows none result 
       table.answer (shown Offsets (slice_get openings 1)) (shown_second book.openings table.openings third one),
     )
     (meets_at (Unit {0}) (zone_named (folders_shown question openings Zone) question.zone) _ (Err none) none refl
-    (zone.answer (shown Zone (slice_get openings (index_of question Zone))) (shown_third book.openings table.openings zone.openings [] (length (listed question.offsets)) one two))))
+    (zone.answer (shown Zone (slice_get openings (index_of question Zone)))
+    (shown_third book.openings table.openings zone.openings [] (length (listed question.offsets)) one two))))
     result is
 
-pub stopped_at_certificate : (question : Question) (name : List ℕ) (before between beyond later after : Openings) (read : TheBook) (rows : List Row)
+pub stopped_at_certificate : (question : Question) (name : List ℕ) (before between beyond later after : Openings)
+    (read : TheBook) (rows : List TableRow)
     (clock : TheZone) (none : NoAnswer) (result : Result Materials NoAnswer) → IsErrAnd result (λ e. e ≡ none) → IsOf Certificate none
     → Opened File (Some name) (book_shown name) before between (Ok read)
     → Opened Offsets question.offsets (table_shown question.offsets) between beyond (Ok rows)
@@ -338,7 +356,8 @@ pub stopped_at_certificate : (question : Question) (name : List ℕ) (before bet
     → Opened Certificate question.certificate (certificate_shown question.certificate) later after (Err none)
     → AreOpened question name before after result
 unfolding files_in
-stopped_at_certificate question name before between beyond later after read rows clock none result is of_certificate book table zone certificate =
+stopped_at_certificate question name before between beyond later after read rows clock none result is of_certificate
+    book table zone certificate =
     let fourth = certificate.openings ++ [] in
     let third = zone.openings ++ fourth in
     let last = table.openings ++ third in
@@ -361,14 +380,17 @@ stopped_at_certificate question name before between beyond later after read rows
     (rw (
       book.answer (shown File (slice_get openings 0)) (shown_at File [] book.openings last 0 refl),
       table.answer (shown Offsets (slice_get openings 1)) (shown_second book.openings table.openings third one),
-      zone.answer (shown Zone (slice_get openings (index_of question Zone))) (shown_third book.openings table.openings zone.openings fourth (length (listed question.offsets)) one two),
+      zone.answer (shown Zone (slice_get openings (index_of question Zone)))
+          (shown_third book.openings table.openings zone.openings fourth (length (listed question.offsets)) one two),
     )
     (meets_at (Unit {0}) (certificate_named (folders_shown question openings Certificate) question.certificate) _ (Err none) none refl
     (certificate.answer (shown Certificate (slice_get openings (index_of question Certificate)))
-    (shown_fourth book.openings table.openings zone.openings certificate.openings (length (listed question.offsets)) (length (listed (zone_file question.zone))) one two three))))
+    (shown_fourth book.openings table.openings zone.openings certificate.openings (length (listed question.offsets))
+    (length (listed (zone_file question.zone))) one two three))))
     result is
 
-pub all_opened : (question : Question) (name : List ℕ) (before between beyond later after : Openings) (read : TheBook) (rows : List Row)
+pub all_opened : (question : Question) (name : List ℕ) (before between beyond later after : Openings) (read : TheBook)
+    (rows : List TableRow)
     (clock : TheZone) (bytes : List ℕ)
     → Opened File (Some name) (book_shown name) before between (Ok read)
     → Opened Offsets question.offsets (table_shown question.offsets) between beyond (Ok rows)
@@ -405,9 +427,11 @@ all_opened question name before between beyond later after read rows clock bytes
           rw (
             book.answer (shown File (slice_get openings 0)) (shown_at File [] book.openings last 0 refl),
             table.answer (shown Offsets (slice_get openings 1)) (shown_second book.openings table.openings third one),
-            zone.answer (shown Zone (slice_get openings (index_of question Zone))) (shown_third book.openings table.openings zone.openings fourth (length (listed question.offsets)) one two),
+            zone.answer (shown Zone (slice_get openings (index_of question Zone)))
+                (shown_third book.openings table.openings zone.openings fourth (length (listed question.offsets)) one two),
             certificate.answer (shown Certificate (slice_get openings (index_of question Certificate)))
-                (shown_fourth book.openings table.openings zone.openings certificate.openings (length (listed question.offsets)) (length (listed (zone_file question.zone))) one two three),
+                (shown_fourth book.openings table.openings zone.openings certificate.openings
+                (length (listed question.offsets)) (length (listed (zone_file question.zone))) one two three),
           )
           refl;
     }

@@ -1,7 +1,7 @@
 -- The contents of files, from the steps of reading.
 use Rattle.std.proofs.Common.{◌≡◌, ◌∙◌, ap, sym, ℕ, nat_le, Bool, true, false, cond, List, length, Option, Some, None, Result, Ok, Err, refl, subst}
 use Rattle.std.specs.Result.{IsErrAnd}
-use Rattle.decimal_text.specs.Expected.{◌>>=◌, Excused, Gives}
+use Rattle.decimal_text.specs.Expected.{◌>>=◌, Excused, ReturnsUnless}
 use Rattle.harmonics_text.specs.declared.book.Book.{Book as TheBook}
 use Rattle.harmonics_text.specs.declared.fault.BookFault.TheVariants as form
 use Rattle.harmonics_text.specs.Reading.{At, book_of}
@@ -10,7 +10,7 @@ use Rattle.book_loading.specs.declared.loading.LoadFault.{LoadFault}
 use Rattle.book_loading.specs.declared.loading.LoadFault.TheVariants as load
 use Rattle.tide_fault.specs.declared.slot.Slot.{Slot}
 use Rattle.tide_fault.specs.declared.slot.Slot.TheVariants.{File, Offsets, Zone, Certificate}
-use Rattle.tide_fault.specs.Faults.{wants_memory as fault_wants_memory, wants_memory_of_refusal}
+use Rattle.tide_fault.specs.Faults.{is_out_of_memory as fault_is_out_of_memory, refusal_is_out_of_memory}
 use Rattle.book_loading.specs.Loading.{loaded, bytes_from as load_bytes_from, book_from as load_book_from, source_of as source_of_loading}
 use Rattle.tide_edge.specs.declared.read_all_fault.ReadAllFault.{ReadAllFault}
 use Rattle.tide_edge.specs.declared.read_all_fault.ReadAllFault.TheVariants as reading
@@ -23,63 +23,81 @@ use Rattle.tide_edge.specs.FileStates.{FilesState}
 use Rattle.tide_edge.specs.Whole.{ReadWithin, both, one_file, whole, source_of as source_of_reading}
 use Rattle.tide_edge.proofs.ReadingLemmas.{read_more, read_then}
 use Rattle.named_files.specs.declared.no_answer.NoAnswer.{NoAnswer}
-use Rattle.named_files.specs.declared.no_answer.NoAnswer.TheVariants.{Unread, Told, Refused}
-use Rattle.named_files.specs.NoAnswers.{IsOf, file_of, is_unread, reading_failed, source_of, told, wants_memory}
+use Rattle.named_files.specs.declared.no_answer.NoAnswer.TheVariants.{Unread, Faulty, Refused}
+use Rattle.named_files.specs.NoAnswers.{IsOf, file_of, is_unread, reading_failed, source_of, faulty, is_out_of_memory}
 use Rattle.named_files.specs.Readings.{allowed_for, allowed_to, files_allowed, zone_file, book_from, book_named, bytes_from, bytes_of, fault_of_loading, fault_of_reading, limit_of}
 
 -- ---- Steps, one after the other
 
 -- a fault of the first step is one of the whole
-excuses_next : {A B : Type 0} (firm : Type 0) (source : Source) (step : Result A NoAnswer) (next : A → Result B NoAnswer) (none : NoAnswer) → Excuses source firm step none → Excuses source firm (step >>= next) none
+excuses_next : {A B : Type 0} (firm : Type 0) (source : Source) (step : Result A NoAnswer)
+    (next : A → Result B NoAnswer) (none : NoAnswer) → Excuses source firm step none
+    → Excuses source firm (step >>= next) none
 excuses_next firm memory step next none excused = tt
 excuses_next firm outside step next none excused = λ f. rw (excused f) refl
 excuses_next firm given step next none excused = rw excused refl
 
 -- a result that is an excused fault meets the expected one
-meets_fault : {A : Type 0} (firm : Type 0) (expected result : Result A NoAnswer) (none : NoAnswer) → IsErrAnd result (λ e. e ≡ none) → Excuses (source_of none) firm expected none → Meets source_of firm expected result
+meets_fault : {A : Type 0} (firm : Type 0) (expected result : Result A NoAnswer) (none : NoAnswer)
+    → IsErrAnd result (λ e. e ≡ none) → Excuses (source_of none) firm expected none
+    → Meets source_of firm expected result
 meets_fault firm expected (Ok value) none is excused = absurd is
 meets_fault firm expected (Err e) none is excused =
     let P : NoAnswer → Type 0 = λ x. Excuses (source_of x) firm expected x in subst P (sym is) excused
 
-pub meets_at : {A B : Type 0} (firm : Type 0) (step : Result A NoAnswer) (next : A → Result B NoAnswer) (result : Result B NoAnswer) (none : NoAnswer) → IsErrAnd result (λ e. e ≡ none) → Excuses (source_of none) firm step none → Meets source_of firm (step >>= next) result
-meets_at firm step next result none is excused = meets_fault firm (step >>= next) result none is (excuses_next firm (source_of none) step next none excused)
+pub meets_at : {A B : Type 0} (firm : Type 0) (step : Result A NoAnswer) (next : A → Result B NoAnswer)
+    (result : Result B NoAnswer) (none : NoAnswer) → IsErrAnd result (λ e. e ≡ none)
+    → Excuses (source_of none) firm step none → Meets source_of firm (step >>= next) result
+meets_at firm step next result none is excused =
+    meets_fault firm (step >>= next) result none is (excuses_next firm (source_of none) step next none excused)
 
 -- reading has failed, if a step has
-pub failed_at : {A : Type 0} (result : Result A NoAnswer) (none : NoAnswer) → IsErrAnd result (λ e. e ≡ none) → reading_failed result ≡ is_unread none
+pub failed_at : {A : Type 0} (result : Result A NoAnswer) (none : NoAnswer) → IsErrAnd result (λ e. e ≡ none)
+    → reading_failed result ≡ is_unread none
 failed_at (Ok value) none is = absurd is
 failed_at (Err e) none is = ap is_unread is
 
 -- ---- The excuses of a fault
 
-inside_excuses : {A : Type 0} (firm : Type 0) (memory_wanted : Bool) (expected : Result A NoAnswer) (none : NoAnswer) → Excused memory_wanted expected none → Excuses (cond memory_wanted memory given) firm expected none
+inside_excuses : {A : Type 0} (firm : Type 0) (out_of_memory : Bool) (expected : Result A NoAnswer) (none : NoAnswer)
+    → Excused out_of_memory expected none → Excuses (cond out_of_memory memory given) firm expected none
 inside_excuses firm true expected none excused = tt
 inside_excuses firm false expected none excused = excused
 
-gives_excuses : {A : Type 0} (firm : Type 0) (expected : Result A NoAnswer) (none : NoAnswer) → Excused (wants_memory none) expected none → Excuses (source_of none) firm expected none
-gives_excuses firm expected Unread excused = λ f. excused
-gives_excuses firm expected (Told fault) excused = inside_excuses firm (fault_wants_memory fault) expected (Told fault) excused
-gives_excuses firm expected (Refused refusal rows) excused = inside_excuses firm (wants_memory_of_refusal refusal) expected (Refused refusal rows) excused
+returned_excuses : {A : Type 0} (firm : Type 0) (expected : Result A NoAnswer) (none : NoAnswer)
+    → Excused (is_out_of_memory none) expected none → Excuses (source_of none) firm expected none
+returned_excuses firm expected Unread excused = λ f. excused
+returned_excuses firm expected (Faulty fault) excused = inside_excuses firm (fault_is_out_of_memory fault) expected (Faulty fault) excused
+returned_excuses firm expected (Refused refusal rows) excused =
+    inside_excuses firm (refusal_is_out_of_memory refusal) expected (Refused refusal rows) excused
 
 -- a step that touches no file and no clock
-pub meets_inside : {A : Type 0} (firm : Type 0) (expected result : Result A NoAnswer) → Gives wants_memory expected result → Meets source_of firm expected result
-meets_inside firm expected (Ok value) gives = gives
-meets_inside firm expected (Err none) gives = gives_excuses firm expected none gives
+pub meets_inside : {A : Type 0} (firm : Type 0) (expected result : Result A NoAnswer)
+    → ReturnsUnless is_out_of_memory expected result → Meets source_of firm expected result
+meets_inside firm expected (Ok value) returned = returned
+meets_inside firm expected (Err none) returned = returned_excuses firm expected none returned
 
-told_inside : {A : Type 0} (firm : Type 0) (memory_wanted : Bool) (step : Result A Fault) (fault : Fault) → Excused memory_wanted step fault → Excuses (cond memory_wanted memory given) firm (told step) (Told fault)
-told_inside firm true step fault excused = tt
-told_inside firm false step fault excused = rw excused refl
+faulty_inside : {A : Type 0} (firm : Type 0) (out_of_memory : Bool) (step : Result A Fault) (fault : Fault)
+    → Excused out_of_memory step fault → Excuses (cond out_of_memory memory given) firm (faulty step) (Faulty fault)
+faulty_inside firm true step fault excused = tt
+faulty_inside firm false step fault excused = rw excused refl
 
-pub told_excuses : {A : Type 0} (firm : Type 0) (step : Result A Fault) (fault : Fault) → Excused (fault_wants_memory fault) step fault → Excuses (source_of (Told fault)) firm (told step) (Told fault)
-told_excuses firm step fault excused = told_inside firm (fault_wants_memory fault) step fault excused
+pub faulty_excuses : {A : Type 0} (firm : Type 0) (step : Result A Fault) (fault : Fault)
+    → Excused (fault_is_out_of_memory fault) step fault
+    → Excuses (source_of (Faulty fault)) firm (faulty step) (Faulty fault)
+faulty_excuses firm step fault excused = faulty_inside firm (fault_is_out_of_memory fault) step fault excused
 
-pub excuses_weaker : {A : Type 0} (firm weaker : Type 0) (source : Source) (expected : Result A NoAnswer) (none : NoAnswer) → (firm → weaker) → Excuses source weaker expected none → Excuses source firm expected none
+pub excuses_weaker : {A : Type 0} (firm weaker : Type 0) (source : Source) (expected : Result A NoAnswer)
+    (none : NoAnswer) → (firm → weaker) → Excuses source weaker expected none → Excuses source firm expected none
 excuses_weaker firm weaker memory expected none implies excused = tt
 excuses_weaker firm weaker outside expected none implies excused = λ f. excused (implies f)
 excuses_weaker firm weaker given expected none implies excused = excused
 
 -- ---- The bytes of a file
 
-pub excuses_bytes : (firm : Type 0) (slot : Slot) (file : Option (List ℕ)) (fault : ReadAllFault) → Excuses (source_of_reading fault) firm (whole (limit_of slot) file) fault → Excuses (source_of (fault_of_reading slot fault)) firm (bytes_of slot file) (fault_of_reading slot fault)
+pub excuses_bytes : (firm : Type 0) (slot : Slot) (file : Option (List ℕ)) (fault : ReadAllFault)
+    → Excuses (source_of_reading fault) firm (whole (limit_of slot) file) fault
+    → Excuses (source_of (fault_of_reading slot fault)) firm (bytes_of slot file) (fault_of_reading slot fault)
 excuses_bytes firm slot file reading.Failed excused = λ s. rw (excused s) refl
 excuses_bytes firm slot file reading.TooLong excused = rw excused refl
 excuses_bytes firm slot file reading.NoMemory excused = tt
@@ -95,66 +113,103 @@ unfolding named_from
 same_form (Ok book) = refl
 same_form (Err at) = refl
 
-same_cut : (short : Bool) (bytes : List ℕ) → (bytes_from File (cond short (Ok bytes) (Err reading.TooLong)) >>= λ bytes. book_from (book_of bytes)) ≡ named_from (load_bytes_from (cond short (Ok bytes) (Err reading.TooLong)) >>= λ bytes. load_book_from (book_of bytes))
+same_cut : (short : Bool) (bytes : List ℕ)
+    → (bytes_from File (cond short (Ok bytes) (Err reading.TooLong)) >>= λ bytes. book_from (book_of bytes))
+    ≡ named_from (load_bytes_from (cond short (Ok bytes) (Err reading.TooLong)) >>= λ bytes. load_book_from (book_of bytes))
 unfolding named_from
 same_cut true bytes = same_form (book_of bytes)
 same_cut false bytes = refl
 
-same_reading : (limit : ℕ) (file : Option (List ℕ)) → (bytes_from File (whole limit file) >>= λ bytes. book_from (book_of bytes)) ≡ named_from (load_bytes_from (whole limit file) >>= λ bytes. load_book_from (book_of bytes))
+same_reading : (limit : ℕ) (file : Option (List ℕ))
+    → (bytes_from File (whole limit file) >>= λ bytes. book_from (book_of bytes))
+    ≡ named_from (load_bytes_from (whole limit file) >>= λ bytes. load_book_from (book_of bytes))
 unfolding named_from
 same_reading limit None = refl
 same_reading limit (Some bytes) = same_cut (nat_le (length bytes) limit) bytes
 
-named_as_loaded : (folder : Folder) (name : List ℕ) (value : Result TheBook LoadFault) → loaded (limit_of File) (folder name) ≡ value → book_named folder name ≡ named_from value
+named_as_loaded : (folder : Folder) (name : List ℕ) (value : Result TheBook LoadFault)
+    → loaded (limit_of File) (folder name) ≡ value → book_named folder name ≡ named_from value
 unfolding book_named loaded
 named_as_loaded folder name value is = same_reading (limit_of File) (folder name) ∙ ap named_from is
 
-pub named_book : (folder : Folder) (name : List ℕ) (book : TheBook) → loaded (limit_of File) (folder name) ≡ Ok book → book_named folder name ≡ Ok book
+pub named_book : (folder : Folder) (name : List ℕ) (book : TheBook) → loaded (limit_of File) (folder name) ≡ Ok book
+    → book_named folder name ≡ Ok book
 unfolding named_from
 named_book folder name book is = named_as_loaded folder name (Ok book) is
 
-pub excuses_book : (firm : Type 0) (folder : Folder) (name : List ℕ) (fault : LoadFault) → Excuses (source_of_loading fault) firm (loaded (limit_of File) (folder name)) fault → Excuses (source_of (fault_of_loading fault)) firm (book_named folder name) (fault_of_loading fault)
+pub excuses_book : (firm : Type 0) (folder : Folder) (name : List ℕ) (fault : LoadFault)
+    → Excuses (source_of_loading fault) firm (loaded (limit_of File) (folder name)) fault
+    → Excuses (source_of (fault_of_loading fault)) firm (book_named folder name) (fault_of_loading fault)
 unfolding named_from
 excuses_book firm folder name load.Failed excused = λ s. named_as_loaded folder name (Err load.Failed) (excused s)
 excuses_book firm folder name load.TooLong excused = named_as_loaded folder name (Err load.TooLong) excused
 excuses_book firm folder name (load.Book form.NoMemory) excused = tt
-excuses_book firm folder name (load.Book (form.At line why)) excused = named_as_loaded folder name (Err (load.Book (form.At line why))) excused
+excuses_book firm folder name (load.Book (form.At line why)) excused =
+    named_as_loaded folder name (Err (load.Book (form.At line why))) excused
 
 -- ---- The bytes that were read before a fault
 
-to_fault : (question : Question) (slot : Slot) (said : Option Slot) (failed : Bool) (before after : FilesState) → ForSome said (λ other. other ≡ slot) → ReadWithin (files_allowed question) failed before after → ReadWithin (allowed_to question (Some slot)) failed before after → ReadWithin (allowed_to question said) failed before after
+to_fault : (question : Question) (slot : Slot) (said : Option Slot) (failed : Bool) (before after : FilesState)
+    → ForSome said (λ other. other ≡ slot) → ReadWithin (files_allowed question) failed before after
+    → ReadWithin (allowed_to question (Some slot)) failed before after
+    → ReadWithin (allowed_to question said) failed before after
 to_fault question slot None failed before after is all own = all
 to_fault question slot (Some other) failed before after is all own =
     subst (λ (s : Slot). ReadWithin (allowed_to question (Some s)) failed before after) (sym (is other refl)) own
 
-pub to_book : (question : Question) (none : NoAnswer) (before after : FilesState) → IsOf File none → ReadWithin (one_file (limit_of File)) (is_unread none) before after → ReadWithin (allowed_to question (file_of none)) (is_unread none) before after
+pub to_book : (question : Question) (none : NoAnswer) (before after : FilesState) → IsOf File none
+    → ReadWithin (one_file (limit_of File)) (is_unread none) before after
+    → ReadWithin (allowed_to question (file_of none)) (is_unread none) before after
 to_book question none before after is book =
     to_fault question File (file_of none) (is_unread none) before after is
-    (read_more (one_file (limit_of File)) (both (allowed_for Offsets question.offsets) (both (allowed_for Zone (zone_file question.zone)) (allowed_for Certificate question.certificate))) (is_unread none) before after book) book
+    (read_more (one_file (limit_of File)) (both (allowed_for Offsets question.offsets)
+    (both (allowed_for Zone (zone_file question.zone)) (allowed_for Certificate question.certificate)))
+    (is_unread none) before after book) book
 
-pub to_table : (question : Question) (none : NoAnswer) (before between after : FilesState) → IsOf Offsets none → ReadWithin (one_file (limit_of File)) false before between → ReadWithin (allowed_for Offsets question.offsets) (is_unread none) between after → ReadWithin (allowed_to question (file_of none)) (is_unread none) before after
+pub to_table : (question : Question) (none : NoAnswer) (before between after : FilesState) → IsOf Offsets none
+    → ReadWithin (one_file (limit_of File)) false before between
+    → ReadWithin (allowed_for Offsets question.offsets) (is_unread none) between after
+    → ReadWithin (allowed_to question (file_of none)) (is_unread none) before after
 to_table question none before between after is book table =
     to_fault question Offsets (file_of none) (is_unread none) before after is
-    (read_then (one_file (limit_of File)) (both (allowed_for Offsets question.offsets) (both (allowed_for Zone (zone_file question.zone)) (allowed_for Certificate question.certificate))) (is_unread none) before between after book
-    (read_more (allowed_for Offsets question.offsets) (both (allowed_for Zone (zone_file question.zone)) (allowed_for Certificate question.certificate)) (is_unread none) between after table))
+    (read_then (one_file (limit_of File)) (both (allowed_for Offsets question.offsets)
+    (both (allowed_for Zone (zone_file question.zone)) (allowed_for Certificate question.certificate)))
+    (is_unread none) before between after book
+    (read_more (allowed_for Offsets question.offsets) (both (allowed_for Zone (zone_file question.zone))
+    (allowed_for Certificate question.certificate)) (is_unread none) between after table))
     (read_then (one_file (limit_of File)) (allowed_for Offsets question.offsets) (is_unread none) before between after book table)
 
-pub to_zone : (question : Question) (none : NoAnswer) (before between beyond after : FilesState) → IsOf Zone none → ReadWithin (one_file (limit_of File)) false before between → ReadWithin (allowed_for Offsets question.offsets) false between beyond → ReadWithin (allowed_for Zone (zone_file question.zone)) (is_unread none) beyond after → ReadWithin (allowed_to question (file_of none)) (is_unread none) before after
+pub to_zone : (question : Question) (none : NoAnswer) (before between beyond after : FilesState) → IsOf Zone none
+    → ReadWithin (one_file (limit_of File)) false before between
+    → ReadWithin (allowed_for Offsets question.offsets) false between beyond
+    → ReadWithin (allowed_for Zone (zone_file question.zone)) (is_unread none) beyond after
+    → ReadWithin (allowed_to question (file_of none)) (is_unread none) before after
 to_zone question none before between beyond after is book table zone =
     to_fault question Zone (file_of none) (is_unread none) before after is
-    (read_then (one_file (limit_of File)) (both (allowed_for Offsets question.offsets) (both (allowed_for Zone (zone_file question.zone)) (allowed_for Certificate question.certificate))) (is_unread none) before between after book
-    (read_then (allowed_for Offsets question.offsets) (both (allowed_for Zone (zone_file question.zone)) (allowed_for Certificate question.certificate)) (is_unread none) between beyond after table
-    (read_more (allowed_for Zone (zone_file question.zone)) (allowed_for Certificate question.certificate) (is_unread none) beyond after zone)))
-    (read_then (one_file (limit_of File)) (both (allowed_for Offsets question.offsets) (allowed_for Zone (zone_file question.zone))) (is_unread none) before between after book
-    (read_then (allowed_for Offsets question.offsets) (allowed_for Zone (zone_file question.zone)) (is_unread none) between beyond after table zone))
+    (read_then (one_file (limit_of File)) (both (allowed_for Offsets question.offsets)
+    (both (allowed_for Zone (zone_file question.zone)) (allowed_for Certificate question.certificate)))
+    (is_unread none) before between after book
+    (read_then (allowed_for Offsets question.offsets) (both (allowed_for Zone (zone_file question.zone))
+    (allowed_for Certificate question.certificate)) (is_unread none) between beyond after table
+    (read_more (allowed_for Zone (zone_file question.zone)) (allowed_for Certificate question.certificate)
+    (is_unread none) beyond after zone)))
+    (read_then (one_file (limit_of File)) (both (allowed_for Offsets question.offsets)
+    (allowed_for Zone (zone_file question.zone))) (is_unread none) before between after book
+    (read_then (allowed_for Offsets question.offsets) (allowed_for Zone (zone_file question.zone))
+    (is_unread none) between beyond after table zone))
 
 -- a certificate is the last file
-pub to_certificate : (question : Question) (none : NoAnswer) (before after : FilesState) → IsOf Certificate none → ReadWithin (files_allowed question) (is_unread none) before after → ReadWithin (allowed_to question (file_of none)) (is_unread none) before after
+pub to_certificate : (question : Question) (none : NoAnswer) (before after : FilesState) → IsOf Certificate none
+    → ReadWithin (files_allowed question) (is_unread none) before after
+    → ReadWithin (allowed_to question (file_of none)) (is_unread none) before after
 to_certificate question none before after is all =
     to_fault question Certificate (file_of none) (is_unread none) before after is all all
 
 -- the returned fault is that of the step
-pub last_at : {A : Type 0} (question : Question) (result : Result A NoAnswer) (none : NoAnswer) (before after : FilesState) → IsErrAnd result (λ e. e ≡ none) → ReadWithin (allowed_to question (file_of none)) (is_unread none) before after → IfErr result (λ e. ReadWithin (allowed_to question (file_of e)) (is_unread e) before after)
+pub last_at :
+    {A : Type 0} (question : Question) (result : Result A NoAnswer) (none : NoAnswer) (before after : FilesState)
+    → IsErrAnd result (λ e. e ≡ none) → ReadWithin (allowed_to question (file_of none)) (is_unread none) before after
+    → IfErr result (λ e. ReadWithin (allowed_to question (file_of e)) (is_unread e) before after)
 last_at question (Ok value) none before after is read = absurd is
 last_at question (Err e) none before after is read =
     subst (λ (x : NoAnswer). ReadWithin (allowed_to question (file_of x)) (is_unread x) before after) (sym is) read

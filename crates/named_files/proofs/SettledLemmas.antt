@@ -10,33 +10,33 @@ use Rattle.tide_fault.specs.declared.refusal.Refusal.TheVariants as refusals
 use Rattle.tide_fault.specs.declared.status.Status.{Status}
 use Rattle.tide_fault.specs.declared.status.Status.TheVariants.{NoMemory}
 use Rattle.named_files.specs.declared.no_answer.NoAnswer.{NoAnswer}
-use Rattle.named_files.specs.declared.no_answer.NoAnswer.TheVariants.{Unread, Told}
+use Rattle.named_files.specs.declared.no_answer.NoAnswer.TheVariants.{Unread, Faulty}
 use Rattle.named_files.specs.declared.no_answer.NoAnswer.TheVariants as none_of
 use Rattle.named_files.specs.NoAnswers.{source_of, status_of}
-use Rattle.named_files.specs.Telling.{Tells}
+use Rattle.named_files.specs.Reporting.{Reports}
 
 settles : {T : Type 0} (expected : Result T NoAnswer) (none : NoAnswer) → Excuses (source_of none) (Unit {0}) expected none
     → ¬ (status_of none ≡ NoMemory) → expected ≡ Err none
 settles expected Unread excuses other = excuses tt
-settles expected (Told (Ask ask.NoMemory)) excuses other = absurd (other refl)
-settles expected (Told (Ask _)) excuses other = excuses
-settles expected (Told (NoSheet word)) excuses other = excuses
-settles expected (Told (TooLong slot)) excuses other = excuses
-settles expected (Told (Book form.NoMemory)) excuses other = absurd (other refl)
-settles expected (Told (Book (form.At line why))) excuses other = excuses
-settles expected (Told (Offsets table.NoMemory)) excuses other = absurd (other refl)
-settles expected (Told (Offsets (table.At row why))) excuses other = excuses
-settles expected (Told BadZone) excuses other = excuses
-settles expected (Told (Refused refusals.NoMemory)) excuses other = absurd (other refl)
-settles expected (Told (Refused _)) excuses other = excuses
+settles expected (Faulty (Ask ask.NoMemory)) excuses other = absurd (other refl)
+settles expected (Faulty (Ask _)) excuses other = excuses
+settles expected (Faulty (NoSheet word)) excuses other = excuses
+settles expected (Faulty (TooLong slot)) excuses other = excuses
+settles expected (Faulty (Book form.NoMemory)) excuses other = absurd (other refl)
+settles expected (Faulty (Book (form.At line why))) excuses other = excuses
+settles expected (Faulty (Offsets table.NoMemory)) excuses other = absurd (other refl)
+settles expected (Faulty (Offsets (table.At row why))) excuses other = excuses
+settles expected (Faulty BadZone) excuses other = excuses
+settles expected (Faulty (Refused refusals.NoMemory)) excuses other = absurd (other refl)
+settles expected (Faulty (Refused _)) excuses other = excuses
 settles expected (none_of.Refused refusals.NoMemory rows) excuses other = absurd (other refl)
 settles expected (none_of.Refused _ rows) excuses other = excuses
 
 -- a fault is the expected one, by the status with which its line was written
-pub told_settles : {T : Type 0} (expected : Result T NoAnswer) (none : NoAnswer) (status : Status) (before after : SinkState)
-    → Excuses (source_of none) (Unit {0}) expected none → Tells none status before after → ¬ (status ≡ NoMemory) → expected ≡ Err none
-told_settles expected none status before after excuses told other =
-    elim told [
+pub reported_settles : {T : Type 0} (expected : Result T NoAnswer) (none : NoAnswer) (status : Status) (before after : SinkState)
+    → Excuses (source_of none) (Unit {0}) expected none → Reports none status before after → ¬ (status ≡ NoMemory) → expected ≡ Err none
+reported_settles expected none status before after excuses reported other =
+    elim reported [
       | inl t ↦ settles expected none excuses (λ is. other (t.0 ∙ is))
       | inr t ↦ absurd (other t.0)
     ]

@@ -1,6 +1,6 @@
 pub mod NoAnswers
 pub mod Opened
 pub mod Readings
-pub mod Telling
+pub mod Reporting
 pub mod Worked
 pub mod Workings

@@ -9,15 +9,23 @@ use Rattle.tide_fault.specs.declared.slot.Slot.{Slot}
 use Rattle.tide_fault.specs.declared.slot.Slot.TheVariants as slots
 use Rattle.tide_fault.specs.declared.status.Status.{Status}
 use Rattle.tide_fault.specs.declared.status.Status.TheVariants as status
-use Rattle.tide_fault.specs.Faults.{status_of as status_of_fault, status_of_refusal, line_of as line_of_fault, wants_memory as fault_wants_memory, wants_memory_of_refusal, IsTold as IsToldFault, IsToldRefusal}
+use Rattle.tide_fault.specs.Faults.{
+  status_of as status_of_fault,
+  status_of_refusal,
+  line_of as line_of_fault,
+  is_out_of_memory as fault_is_out_of_memory,
+  refusal_is_out_of_memory,
+  IsPrintable as IsPrintableFault,
+  IsPrintableRefusal,
+}
 use Rattle.decimal_text.specs.Expected.{Source, memory, outside, given}
 use Rattle.named_files.specs.declared.no_answer.NoAnswer.{NoAnswer}
-use Rattle.named_files.specs.declared.no_answer.NoAnswer.TheVariants.{Unread, Told, Refused}
+use Rattle.named_files.specs.declared.no_answer.NoAnswer.TheVariants.{Unread, Faulty, Refused}
 
 -- the result of a step that touches no file and no clock
-abbrev pub told : {A : Type 0} → Result A Fault → Result A NoAnswer
-told (Ok value) = Ok value
-told (Err fault) = Err (Told fault)
+abbrev pub faulty : {A : Type 0} → Result A Fault → Result A NoAnswer
+faulty (Ok value) = Ok value
+faulty (Err fault) = Err (Faulty fault)
 
 -- the result of a step over a table, whose rows go with its refusals
 abbrev pub refused_over : {A : Type 0} → List Offsets → Result A Refusal → Result A NoAnswer
@@ -27,32 +35,32 @@ refused_over rows (Err refusal) = Err (Refused refusal rows)
 -- the exit status of a reason
 abbrev pub status_of : NoAnswer → Status
 status_of Unread = status.ReadFault
-status_of (Told fault) = status_of_fault fault
+status_of (Faulty fault) = status_of_fault fault
 status_of (Refused refusal rows) = status_of_refusal refusal
 
 -- the line of a reason
 abbrev pub line_of : NoAnswer → List ℕ
 line_of Unread = codes "read fault\n"
-line_of (Told fault) = line_of_fault [] fault
+line_of (Faulty fault) = line_of_fault [] fault
 line_of (Refused refusal rows) = line_of_fault rows (faults.Refused refusal)
 
 -- a reason whose line can be printed
-abbrev pub IsTold : NoAnswer → Type 0
-IsTold Unread = Unit {0}
-IsTold (Told fault) = IsToldFault [] fault
-IsTold (Refused refusal rows) = IsToldRefusal rows refusal
+abbrev pub IsPrintable : NoAnswer → Type 0
+IsPrintable Unread = Unit {0}
+IsPrintable (Faulty fault) = IsPrintableFault [] fault
+IsPrintable (Refused refusal rows) = IsPrintableRefusal rows refusal
 
 -- true if memory ran out
-abbrev pub wants_memory : NoAnswer → Bool
-wants_memory Unread = false
-wants_memory (Told fault) = fault_wants_memory fault
-wants_memory (Refused refusal rows) = wants_memory_of_refusal refusal
+abbrev pub is_out_of_memory : NoAnswer → Bool
+is_out_of_memory Unread = false
+is_out_of_memory (Faulty fault) = fault_is_out_of_memory fault
+is_out_of_memory (Refused refusal rows) = refusal_is_out_of_memory refusal
 
 -- the source of a reason: a file or the clock, memory, or the request and the bytes of the files
 abbrev pub source_of : NoAnswer → Source
 source_of Unread = outside
-source_of (Told fault) = if fault_wants_memory fault then memory else given
-source_of (Refused refusal rows) = if wants_memory_of_refusal refusal then memory else given
+source_of (Faulty fault) = if fault_is_out_of_memory fault then memory else given
+source_of (Refused refusal rows) = if refusal_is_out_of_memory refusal then memory else given
 
 -- the status for a file or a clock that couldn't be read
 abbrev pub is_read_fault : Status → Bool
@@ -62,7 +70,7 @@ is_read_fault _ = false
 -- the reason that a file or the clock couldn't be read
 abbrev pub is_unread : NoAnswer → Bool
 is_unread Unread = true
-is_unread (Told fault) = false
+is_unread (Faulty fault) = false
 is_unread (Refused refusal rows) = false
 
 -- a file or the clock couldn't be read
@@ -83,7 +91,7 @@ file_of_fault (faults.Refused refusal) = None
 -- the file that is too long or is not of its form, if this is the reason
 abbrev pub file_of : NoAnswer → Option Slot
 file_of Unread = None
-file_of (Told fault) = file_of_fault fault
+file_of (Faulty fault) = file_of_fault fault
 file_of (Refused refusal rows) = None
 
 -- no other file is the reason

@@ -66,7 +66,8 @@ pub record Opened {T : Type 0} (slot : Slot) (name : Option (List ℕ)) (expecte
 
 -- files were opened in the order of the names, each once and none after the one that is the reason; and the
 -- result is the expected one of the openings
-pub record IsResultOf {T : Type 0} (wanted : Option Slot → List (List ℕ)) (expected : List Opening → Result T NoAnswer) (before after : Openings)
+pub record IsResultOf {T : Type 0} (wanted : Option Slot → List (List ℕ)) (expected : List Opening → Result T NoAnswer)
+    (before after : Openings)
     (result : Result T NoAnswer) : Type 0 where
   pub openings : List Opening
   pub unopened : List (List ℕ)

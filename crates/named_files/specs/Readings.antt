@@ -9,7 +9,7 @@ use Rattle.question.specs.declared.question.Question.{Question}
 use Rattle.question.specs.declared.question.ZoneWord.{ZoneWord}
 use Rattle.question.specs.declared.question.ZoneWord.TheVariants as words
 use Rattle.station_table.specs.declared.fault.OffsetFault.{OffsetFault}
-use Rattle.station_table.specs.declared.offsets.Offsets.{Offsets as Row}
+use Rattle.station_table.specs.declared.offsets.Offsets.{Offsets as TableRow}
 use Rattle.station_table.specs.Table.{table_of}
 use Rattle.tide_fault.specs.declared.fault.Fault.TheVariants.{TooLong, Book, Offsets, BadZone, Refused}
 use Rattle.book_loading.specs.declared.loading.LoadFault.{LoadFault}
@@ -28,7 +28,7 @@ use Rattle.zone_time.specs.declared.zone_fault.ZoneFault.TheVariants as zones
 use Rattle.zone_time.specs.Zones.{zone_of}
 use Rattle.named_files.specs.declared.materials.Materials.{Materials}
 use Rattle.named_files.specs.declared.no_answer.NoAnswer.{NoAnswer}
-use Rattle.named_files.specs.declared.no_answer.NoAnswer.TheVariants.{Unread, Told}
+use Rattle.named_files.specs.declared.no_answer.NoAnswer.TheVariants.{Unread, Faulty}
 use Rattle.decimal_text.specs.declared.limits.TheConstants.{MOST_BYTES}
 
 -- ---- The bytes of a file
@@ -43,8 +43,8 @@ limit_of slots.Certificate = MOST_BYTES
 -- the reason for which a file couldn't be read
 abbrev pub fault_of_reading : Slot → ReadAllFault → NoAnswer
 fault_of_reading slot reading.Failed = Unread
-fault_of_reading slot reading.TooLong = Told (TooLong slot)
-fault_of_reading slot reading.NoMemory = Told (Refused NoMemory)
+fault_of_reading slot reading.TooLong = Faulty (TooLong slot)
+fault_of_reading slot reading.NoMemory = Faulty (Refused NoMemory)
 
 -- the bytes of a file, or the reason
 abbrev pub bytes_from : Slot → Result (List ℕ) ReadAllFault → Result (List ℕ) NoAnswer
@@ -58,26 +58,26 @@ bytes_of slot file = bytes_from slot (whole (limit_of slot) file)
 -- the reason for which a harmonics file, whose form is checked while it is read, couldn't be loaded
 abbrev pub fault_of_loading : LoadFault → NoAnswer
 fault_of_loading load.Failed = Unread
-fault_of_loading load.TooLong = Told (TooLong slots.File)
-fault_of_loading (load.Book fault) = Told (Book fault)
+fault_of_loading load.TooLong = Faulty (TooLong slots.File)
+fault_of_loading (load.Book fault) = Faulty (Book fault)
 
 -- ---- The contents
 
 -- the harmonic constants of a file, or the reason
 abbrev pub book_from : Result TheBook At → Result TheBook NoAnswer
 book_from (Ok book) = Ok book
-book_from (Err at) = Err (Told (Book (form.At at.line at.why)))
+book_from (Err at) = Err (Faulty (Book (form.At at.line at.why)))
 
 -- the rows of a table's file, or the reason
-abbrev pub table_from : Result (List Row) OffsetFault → Result (List Row) NoAnswer
+abbrev pub table_from : Result (List TableRow) OffsetFault → Result (List TableRow) NoAnswer
 table_from (Ok rows) = Ok rows
-table_from (Err fault) = Err (Told (Offsets fault))
+table_from (Err fault) = Err (Faulty (Offsets fault))
 
 -- the zone of a file, or the reason
 abbrev pub zone_from : Result Zone ZoneFault → Result Zone NoAnswer
 zone_from (Ok zone) = Ok zone
-zone_from (Err zones.BadZone) = Err (Told BadZone)
-zone_from (Err zones.NoMemory) = Err (Told (Refused NoMemory))
+zone_from (Err zones.BadZone) = Err (Faulty BadZone)
+zone_from (Err zones.NoMemory) = Err (Faulty (Refused NoMemory))
 
 -- ---- By the names of a request
 
@@ -88,7 +88,7 @@ book_named folder name = do
   book_from (book_of bytes)
 
 -- the rows in the file of a name; no row if no table is named
-unfoldable pub table_named : Folder → Option (List ℕ) → Result (List Row) NoAnswer
+unfoldable pub table_named : Folder → Option (List ℕ) → Result (List TableRow) NoAnswer
 table_named folder None = Ok []
 table_named folder (Some name) = do
   bytes ← bytes_of slots.Offsets (folder name)

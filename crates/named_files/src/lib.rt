@@ -2,18 +2,18 @@
 //!
 //! [`read_files`] reads the files of a request in their order; each is opened at most once and read
 //! to its end, or to a piece of 65,536 bytes past its limit, and its form is checked before the
-//! next is opened. [`NoAnswer`] is the reason for which a command line has no answer, and [`tell`]
+//! next is opened. [`NoAnswer`] is the reason for which a command line has no answer, and [`report`]
 //! writes its line.
 #![tactic(auto)]
 
 mod materials;
 mod no_answer;
 mod reading;
-mod telling;
+mod reporting;
 mod worked;
 
 pub use materials::Materials;
 pub use no_answer::NoAnswer;
 pub use reading::{read_book, read_files, read_table};
-pub use telling::{refuse, tell};
+pub use reporting::{refuse, report};
 pub use worked::{worked_faults, worked_files};

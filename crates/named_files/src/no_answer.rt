@@ -10,18 +10,18 @@ pub enum NoAnswer {
     Unread,
     /// The command line is no request, a file is not of its form, or a request that names no file
     /// has no answer.
-    Told(Fault),
+    Faulty(Fault),
     /// The request has no answer over the files that were read. The table is the one that was read.
     Refused(Refusal, OffsetTable),
 }
 
 impl From<Fault> for NoAnswer {
     ghost use Rattle.std.specs.Prelude.{◌≡◌};
-    ghost use Rattle.named_files.specs.declared.no_answer.NoAnswer.TheVariants.{Told};
+    ghost use Rattle.named_files.specs.declared.no_answer.NoAnswer.TheVariants.{Faulty};
 
-    ghost from_gives = { λ fault none. none ≡ Told fault };
+    ghost from_gives = { λ fault none. none ≡ Faulty fault };
 
     fn from(fault: Fault) -> NoAnswer {
-        NoAnswer::Told(fault)
+        NoAnswer::Faulty(fault)
     }
 }

@@ -1,15 +1,30 @@
 //! The files of a request, read.
 
 ghost use Rattle.std.specs.Prelude.{◌≡◌, ◌≤◌, false, IsTrue, [], length, Some, None, Ok, IfOk, IfErr};
-ghost use Rattle.decimal_text.specs.Expected.{Gives};
+ghost use Rattle.decimal_text.specs.Expected.{ReturnsUnless};
 ghost use Rattle.harmonics_text.specs.Books.{IsBook};
 ghost use Rattle.question.specs.Asked.{IsZoneWord};
 ghost use Rattle.station_table.specs.Table.{table_of};
 ghost use Rattle.zone_time.specs.Zones.{IsZone, zone_of};
 ghost use Rattle.tide_edge.specs.Whole.{ReadWithin, one_file};
-ghost use Rattle.named_files.specs.NoAnswers.{IsOf, IsTold, file_of, is_unread, reading_failed, source_of, wants_memory};
+ghost use Rattle.named_files.specs.NoAnswers.{IsOf, IsPrintable, file_of, is_unread, reading_failed, source_of, is_out_of_memory};
 ghost use Rattle.named_files.specs.Opened.{AreOpened, Opened};
-ghost use Rattle.named_files.specs.Readings.{allowed_for, allowed_to, files_allowed, zone_file, limit_of, fault_of_reading, bytes_of, book_named, table_from, table_named, zone_from, zone_named, certificate_named, files_in};
+ghost use Rattle.named_files.specs.Readings.{
+  allowed_for,
+  allowed_to,
+  files_allowed,
+  zone_file,
+  limit_of,
+  fault_of_reading,
+  bytes_of,
+  book_named,
+  table_from,
+  table_named,
+  zone_from,
+  zone_named,
+  certificate_named,
+  files_in,
+};
 ghost use Rattle.named_files.specs.Workings.Materials.{AreMaterials};
 ghost use Rattle.decimal_text.specs.Expected.{Meets};
 ghost use Rattle.decimal_text.specs.declared.limits.TheConstants.{MOST_BYTES};
@@ -19,7 +34,7 @@ use crate::no_answer::NoAnswer;
 use book_loading::{LoadFault, load_book};
 use decimal_text::{Bytes, MOST_BYTES, Text};
 use harmonics_text::Book;
-use question::{SoundQuestion, ZoneWord};
+use question::{ValidQuestion, ZoneWord};
 use station_table::{OffsetTable, read_offsets};
 use std::alloc::Global;
 use tide_edge::{Files, ReadAllFault, read_all};
@@ -32,21 +47,23 @@ use zone_time::{Zone, ZoneFault, read_zone};
 ///
 /// # Errors
 /// The first fault: [`NoAnswer::Unread`] if a file couldn't be opened or read, and
-/// [`NoAnswer::Told`] if one is too long or is not of its form, or if memory ran out.
+/// [`NoAnswer::Faulty`] if one is too long or is not of its form, or if memory ran out.
 #[tactic(auto, unfolding(crate::specs::Readings::files_in))]
 pub fn read_files<F: Files>(
     alloc: Global,
     files: &mut F,
-    question: &SoundQuestion<'_>,
+    question: &ValidQuestion<'_>,
     name: &Text,
 ) -> Result<Materials, NoAnswer>
     ensures own { IsTrue (F.state files.old).store.is_observable
-        → Meets source_of (IsTrue (F.state files.old).store.is_steady) (files_in (λ slot. (F.state files.old).store.folder) question.now name.now) result }
+        → Meets source_of (IsTrue (F.state files.old).store.is_steady)
+        (files_in (λ slot. (F.state files.old).store.folder) question.now name.now) result }
     ensures opened { AreOpened question.now name.now (F.state files.old).openings (F.state files.new).openings result }
-    ensures sound { IfOk result AreMaterials }
-    ensures told { IfErr result IsTold }
+    ensures valid { IfOk result AreMaterials }
+    ensures printable { IfErr result IsPrintable }
     ensures read { ReadWithin (files_allowed question.now) (reading_failed result) (F.state files.old) (F.state files.new) }
-    ensures last { IfErr result (λ none. ReadWithin (allowed_to question.now (file_of none)) (is_unread none) (F.state files.old) (F.state files.new)) }
+    ensures last { IfErr result (λ none.
+        ReadWithin (allowed_to question.now (file_of none)) (is_unread none) (F.state files.old) (F.state files.new)) }
 {
     let question = question.get();
     let book = read_book(alloc, files, name)?;
@@ -68,9 +85,10 @@ pub fn read_files<F: Files>(
 pub fn read_book<F: Files>(alloc: Global, files: &mut F, name: &Text) -> Result<Book, NoAnswer>
     ensures own { IsTrue (F.state files.old).store.is_observable
         → Meets source_of (IsTrue (F.state files.old).store.is_steady) (book_named (F.state files.old).store.folder name.now) result }
-    ensures opened { Opened Slot.File (Some name.now) (λ file. book_named (λ _. file) name.now) (F.state files.old).openings (F.state files.new).openings result }
-    ensures sound { IfOk result IsBook }
-    ensures told { IfErr result IsTold }
+    ensures opened { Opened Slot.File (Some name.now) (λ file. book_named (λ _. file) name.now)
+        (F.state files.old).openings (F.state files.new).openings result }
+    ensures valid { IfOk result IsBook }
+    ensures printable { IfErr result IsPrintable }
     ensures read { ReadWithin (one_file (limit_of Slot.File)) (reading_failed result) (F.state files.old) (F.state files.new) }
     ensures fault { IfErr result (IsOf Slot.File) }
 {
@@ -92,9 +110,10 @@ pub fn read_table<F: Files>(
 ) -> Result<OffsetTable, NoAnswer>
     ensures own { IsTrue (F.state files.old).store.is_observable
         → Meets source_of (IsTrue (F.state files.old).store.is_steady) (table_named (F.state files.old).store.folder name.now) result }
-    ensures opened { Opened Slot.Offsets name.now (λ file. table_named (λ _. file) name.now) (F.state files.old).openings (F.state files.new).openings result }
+    ensures opened { Opened Slot.Offsets name.now (λ file. table_named (λ _. file) name.now)
+        (F.state files.old).openings (F.state files.new).openings result }
     ensures unnamed { name.now ≡ None → result ≡ Ok [] }
-    ensures told { IfErr result IsTold }
+    ensures printable { IfErr result IsPrintable }
     ensures read { ReadWithin (allowed_for Slot.Offsets name.now) (reading_failed result) (F.state files.old) (F.state files.new) }
     ensures fault { IfErr result (IsOf Slot.Offsets) }
 {
@@ -110,14 +129,14 @@ pub fn read_table<F: Files>(
 /// Reads the table whose text is `bytes`.
 fn table_in(alloc: Global, bytes: &Bytes) -> Result<OffsetTable, NoAnswer>
     requires { length bytes.now ≤ MOST_BYTES }
-    ensures exact { Gives wants_memory (table_from (table_of bytes.now)) result }
-    ensures told { IfErr result IsTold }
+    ensures exact { ReturnsUnless is_out_of_memory (table_from (table_of bytes.now)) result }
+    ensures printable { IfErr result IsPrintable }
     ensures read { reading_failed result ≡ false }
     ensures fault { IfErr result (IsOf Slot.Offsets) }
 {
     match read_offsets(alloc, bytes.as_slice()) {
         Ok(table) => Ok(table),
-        Err(fault) => Err(NoAnswer::Told(Fault::Offsets(fault))),
+        Err(fault) => Err(NoAnswer::Faulty(Fault::Offsets(fault))),
     }
 }
 
@@ -130,10 +149,11 @@ fn read_zone_named<F: Files>(
     requires { IsZoneWord word.now }
     ensures own { IsTrue (F.state files.old).store.is_observable
         → Meets source_of (IsTrue (F.state files.old).store.is_steady) (zone_named (F.state files.old).store.folder word.now) result }
-    ensures opened { Opened Slot.Zone (zone_file word.now) (λ file. zone_named (λ _. file) word.now) (F.state files.old).openings (F.state files.new).openings result }
+    ensures opened { Opened Slot.Zone (zone_file word.now) (λ file. zone_named (λ _. file) word.now)
+        (F.state files.old).openings (F.state files.new).openings result }
     ensures unnamed { zone_file word.now ≡ None → result ≡ zone_named (λ _. None) word.now }
-    ensures sound { IfOk result IsZone }
-    ensures told { IfErr result IsTold }
+    ensures valid { IfOk result IsZone }
+    ensures printable { IfErr result IsPrintable }
     ensures read { ReadWithin (allowed_for Slot.Zone (zone_file word.now)) (reading_failed result) (F.state files.old) (F.state files.new) }
     ensures fault { IfErr result (IsOf Slot.Zone) }
 {
@@ -149,16 +169,16 @@ fn read_zone_named<F: Files>(
 
 /// Reads the zone file whose contents are `bytes`.
 fn zone_in(alloc: Global, bytes: &Bytes) -> Result<Zone, NoAnswer>
-    ensures exact { Gives wants_memory (zone_from (zone_of bytes.now)) result }
-    ensures sound { IfOk result IsZone }
-    ensures told { IfErr result IsTold }
+    ensures exact { ReturnsUnless is_out_of_memory (zone_from (zone_of bytes.now)) result }
+    ensures valid { IfOk result IsZone }
+    ensures printable { IfErr result IsPrintable }
     ensures read { reading_failed result ≡ false }
     ensures fault { IfErr result (IsOf Slot.Zone) }
 {
     match read_zone(alloc, bytes.as_slice()) {
         Ok(zone) => Ok(zone),
-        Err(ZoneFault::BadZone) => Err(NoAnswer::Told(Fault::BadZone)),
-        Err(ZoneFault::NoMemory) => Err(NoAnswer::Told(Fault::Refused(Refusal::NoMemory))),
+        Err(ZoneFault::BadZone) => Err(NoAnswer::Faulty(Fault::BadZone)),
+        Err(ZoneFault::NoMemory) => Err(NoAnswer::Faulty(Fault::Refused(Refusal::NoMemory))),
     }
 }
 
@@ -169,11 +189,13 @@ fn read_certificate<F: Files>(
     name: &Option<Text>,
 ) -> Result<Bytes, NoAnswer>
     ensures own { IsTrue (F.state files.old).store.is_observable
-        → Meets source_of (IsTrue (F.state files.old).store.is_steady) (certificate_named (F.state files.old).store.folder name.now) result }
-    ensures opened { Opened Slot.Certificate name.now (λ file. certificate_named (λ _. file) name.now) (F.state files.old).openings (F.state files.new).openings result }
+        → Meets source_of (IsTrue (F.state files.old).store.is_steady)
+        (certificate_named (F.state files.old).store.folder name.now) result }
+    ensures opened { Opened Slot.Certificate name.now (λ file. certificate_named (λ _. file) name.now)
+        (F.state files.old).openings (F.state files.new).openings result }
     ensures unnamed { name.now ≡ None → result ≡ Ok [] }
     ensures within { IfOk result (λ bytes. length bytes ≤ MOST_BYTES) }
-    ensures told { IfErr result IsTold }
+    ensures printable { IfErr result IsPrintable }
     ensures read { ReadWithin (allowed_for Slot.Certificate name.now) (reading_failed result) (F.state files.old) (F.state files.new) }
     ensures fault { IfErr result (IsOf Slot.Certificate) }
 {
@@ -194,7 +216,7 @@ fn read_file<F: Files>(
         → Meets source_of (IsTrue (F.state files.old).store.is_steady) (bytes_of slot ((F.state files.old).store.folder name.now)) result }
     ensures opened { Opened slot (Some name.now) (bytes_of slot) (F.state files.old).openings (F.state files.new).openings result }
     ensures within { IfOk result (λ bytes. length bytes ≤ limit_of slot) }
-    ensures told { IfErr result IsTold }
+    ensures printable { IfErr result IsPrintable }
     ensures read { ReadWithin (one_file (limit_of slot)) (reading_failed result) (F.state files.old) (F.state files.new) }
     ensures fault { IfErr result (IsOf slot) }
 {
@@ -221,8 +243,8 @@ fn fault_of_reading(slot: Slot, fault: ReadAllFault) -> NoAnswer
 {
     match fault {
         ReadAllFault::Failed => NoAnswer::Unread,
-        ReadAllFault::TooLong => NoAnswer::Told(Fault::TooLong(slot)),
-        ReadAllFault::NoMemory => NoAnswer::Told(Fault::Refused(Refusal::NoMemory)),
+        ReadAllFault::TooLong => NoAnswer::Faulty(Fault::TooLong(slot)),
+        ReadAllFault::NoMemory => NoAnswer::Faulty(Fault::Refused(Refusal::NoMemory)),
     }
 }
 
@@ -235,8 +257,8 @@ impl From<LoadFault> for NoAnswer {
     fn from(fault: LoadFault) -> NoAnswer {
         match fault {
             LoadFault::Failed => NoAnswer::Unread,
-            LoadFault::TooLong => NoAnswer::Told(Fault::TooLong(Slot::File)),
-            LoadFault::Book(form) => NoAnswer::Told(Fault::Book(form)),
+            LoadFault::TooLong => NoAnswer::Faulty(Fault::TooLong(Slot::File)),
+            LoadFault::Book(form) => NoAnswer::Faulty(Fault::Book(form)),
         }
     }
 }

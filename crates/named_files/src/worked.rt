@@ -20,13 +20,17 @@ use crate::no_answer::NoAnswer;
 
 /// The contents of files: an empty one under each name, or that of the pier alone.
 pub fn worked_files()
-    ensures form_before_table { files_in (λ slot name. Some []) (record (bare Command.Stations) { offsets = Some (codes "o.csv") }) (codes "pier.txt")
-        ≡ Err (NoAnswer.Told (Fault.Book (BookFault.At 1 Why.CutShort))) }
+    ensures form_before_table { files_in (λ slot name. Some [])
+        (record (bare Command.Stations) { offsets = Some (codes "o.csv") }) (codes "pier.txt")
+        ≡ Err (NoAnswer.Faulty (Fault.Book (BookFault.At 1 Why.CutShort))) }
     ensures alone { files_in pier_alone (bare Command.Stations) (codes "pier.txt")
         ≡ Ok (record { book = pier_book; table = []; zone = Zone.Utc; certificate = [] }) }
-    ensures absent_table { files_in pier_alone (record (bare Command.Stations) { offsets = Some (codes "o.csv") }) (codes "pier.txt") ≡ Err NoAnswer.Unread }
-    ensures absent_zone { files_in pier_alone (record (bare Command.Clock) { zone = ZoneWord.Named (codes "zone") }) (codes "pier.txt") ≡ Err NoAnswer.Unread }
-    ensures absent_certificate { files_in pier_alone (record (bare Command.Check) { certificate = Some (codes "cert") }) (codes "pier.txt") ≡ Err NoAnswer.Unread }
+    ensures absent_table { files_in pier_alone (record (bare Command.Stations) { offsets = Some (codes "o.csv") })
+        (codes "pier.txt") ≡ Err NoAnswer.Unread }
+    ensures absent_zone { files_in pier_alone (record (bare Command.Clock) { zone = ZoneWord.Named (codes "zone") })
+        (codes "pier.txt") ≡ Err NoAnswer.Unread }
+    ensures absent_certificate { files_in pier_alone (record (bare Command.Check) { certificate = Some (codes "cert") })
+        (codes "pier.txt") ≡ Err NoAnswer.Unread }
 {}
 
 /// The lines and statuses of reasons.

@@ -110,7 +110,8 @@ AllFit origin said = (k : Key) (text : List ℕ) → is_in k all_keys ≡ true �
 also_fits : (origin : Origin) (said : Said) (new : Key) (text : List ℕ) → is_in new all_keys ≡ true
     → has_form origin new text ≡ true → AllFit origin said → AllFit origin (also new text said)
 also_fits origin said new text member good fit k other known is =
-    elim (bytes_eq (name_of k) (name_of new)) as (λ b. bytes_eq (name_of k) (name_of new) ≡ b → (if b then Some text else said k) ≡ Some other → has_form origin k other ≡ true) [
+    elim (bytes_eq (name_of k) (name_of new)) as (λ b. bytes_eq (name_of k) (name_of new) ≡ b
+    → (if b then Some text else said k) ≡ Some other → has_form origin k other ≡ true) [
       | true ↦ λ same here. let one : new ≡ k = sym (same_named k new known member same) in let words : text ≡ other = cc in
           subst (λ i. has_form origin i other ≡ true) one (rw (← words) good)
       | false ↦ λ differs before. fit k other known before
@@ -127,7 +128,8 @@ item_fits origin command place item said more fit ok =
     let same : also new.0 text.0 said ≡ more = (let last = good.2 in cc) in
     let found = ok_some (key_named origin command item.key) (UnknownKey place) new.0 new.1 in
     let member = found_in (λ k. bytes_eq (name_of k) item.key && has_key origin command k) all_keys new.0 found in
-    subst (AllFit origin) same (also_fits origin said new.0 text.0 member (not_refused (has_form origin new.0 text.0) (BadValue place) good.0 good.1) fit)
+    subst (AllFit origin) same (also_fits origin said new.0 text.0 member
+    (not_refused (has_form origin new.0 text.0) (BadValue place) good.0 good.1) fit)
 
 items_fit : (origin : Origin) (command : Command) (items : List Item) (place : ℕ) (said more : Said) → AllFit origin said
     → with_items origin command place items said ≡ Ok more → AllFit origin more
@@ -240,8 +242,10 @@ IsMark millionths = unsigned_abs millionths ≤ 10000000000
 
 was_asked : (origin : Origin) (command : Command) (said : Said) → WasRead origin command said → IsAsked (asked origin command said)
 was_asked origin command said read =
-    let step = or_default IsStep (option_and_then step_of (said key.Step)) (pos 60) (in_range IsStep step_of (said key.Step) step_of-range) (omega (arith, ints), omega (arith, ints)) in
-    let port = or_default IsPort (option_and_then port_of (said key.Port)) 8080 (in_range IsPort port_of (said key.Port) port_of-range) (omega arith, omega arith) in
+    let step = or_default IsStep (option_and_then step_of (said key.Step)) (pos 60)
+    (in_range IsStep step_of (said key.Step) step_of-range) (omega (arith, ints), omega (arith, ints)) in
+    let port = or_default IsPort (option_and_then port_of (said key.Port)) 8080
+    (in_range IsPort port_of (said key.Port) port_of-range) (omega arith, omega arith) in
     record {
       whole = needed_there origin command read;
       begin = in_range IsMoment moment_of (said key.Begin) moment_of-range;
@@ -249,7 +253,8 @@ was_asked origin command said read =
       mark = in_range IsMark mark_of (said key.Mark) mark_of-range;
       step_first = step.0;
       step_last = step.1;
-      zone = or_default IsZoneWord (option_and_then (zone_of origin) (said key.Zone)) Utc (in_range IsZoneWord (zone_of origin) (said key.Zone) (zone_of-range origin)) tt;
+      zone = or_default IsZoneWord (option_and_then (zone_of origin) (said key.Zone)) Utc
+          (in_range IsZoneWord (zone_of origin) (said key.Zone) (zone_of-range origin)) tt;
       port_first = port.0;
       port_last = port.1;
     }

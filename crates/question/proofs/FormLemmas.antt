@@ -39,7 +39,8 @@ option_map-some : {A B : Type 0} (f : A → B) (o : Option A) (y : B) → option
 option_map-some f None y h = absurd (cc)
 option_map-some f (Some x) y h = (x, refl, cc)
 
-and_then-some : {A B : Type 0} (f : A → Option B) (o : Option A) (y : B) → option_and_then f o ≡ Some y → (x : A) × (o ≡ Some x) × (f x ≡ Some y)
+and_then-some : {A B : Type 0} (f : A → Option B) (o : Option A) (y : B) → option_and_then f o ≡ Some y
+    → (x : A) × (o ≡ Some x) × (f x ≡ Some y)
 and_then-some f None y h = absurd (cc)
 and_then-some f (Some x) y h = (x, refl, h)
 
@@ -53,7 +54,8 @@ pub mark_of-range : (text : List ℕ) (m : ℤ) → mark_of text ≡ Some m → 
 unfolding mark_of
 mark_of-range text m h =
     elim (read_of text 6) as (λ r. mark_from r ≡ Some m → unsigned_abs m ≤ 10000000000) [
-      | Ok n ↦ λ is. let it = if_some (nat_le (unsigned_abs n) 10000000000) n m is in rw (← it.1) (leb-true (unsigned_abs n) 10000000000 it.0)
+      | Ok n ↦ λ is. let it = if_some (nat_le (unsigned_abs n) 10000000000) n m is in
+          rw (← it.1) (leb-true (unsigned_abs n) 10000000000 it.0)
       | Err fault ↦ λ is. absurd (cc)
     ] h
 
@@ -73,7 +75,8 @@ clock_of-range text n h =
     let short = two_digits_of-range 59 (after_first is_colon text) minutes.0 minutes.1 in
     rw (← minutes.2) (omega (arith, few, short))
 
-or_some : {A : Type 0} (P : A → Type 0) (a b : Option A) (x : A) → ((y : A) → a ≡ Some y → P y) → ((y : A) → b ≡ Some y → P y) → option_or a b ≡ Some x → P x
+or_some : {A : Type 0} (P : A → Type 0) (a b : Option A) (x : A) → ((y : A) → a ≡ Some y → P y)
+    → ((y : A) → b ≡ Some y → P y) → option_or a b ≡ Some x → P x
 or_some P None b x first second h = second x h
 or_some P (Some y) b x first second h = first x h
 
@@ -97,7 +100,9 @@ file_zone-range Query name z h = absurd (cc)
 pub zone_of-range : (origin : Origin) (text : List ℕ) (z : ZoneWord) → zone_of origin text ≡ Some z → IsZoneWord z
 unfolding zone_of
 zone_of-range origin text z h =
-    elim (bytes_eq text (codes "UTC")) as (λ b. (if b then Some Utc else option_or (option_and_then (file_zone origin) (after 64 text)) (option_map Fixed (offset_of text))) ≡ Some z → IsZoneWord z) [
+    elim (bytes_eq text (codes "UTC"))
+    as (λ b. (if b then Some Utc else option_or (option_and_then (file_zone origin) (after 64 text))
+    (option_map Fixed (offset_of text))) ≡ Some z → IsZoneWord z) [
       | true ↦ λ is. let same : Utc ≡ z = cc in rw (← same) tt
       | false ↦ λ is. or_some IsZoneWord _ _ z
           (λ y e. let name = and_then-some (file_zone origin) (after 64 text) y e in file_zone-range origin name.0 y name.2)

@@ -50,33 +50,43 @@ with_items-none origin command place items i said h = rw (drop_all i items h)
 
 with_items-at : (origin : Origin) (command : Command) (items : List Item) (i : ℕ) (item : Item) (said : Said) → i < length items
     → item ≡ get_or items i item
-    → with_items origin command (i + 1) (drop i items) said ≡ (with_item origin command (i + 1) item said >>= with_items origin command (i + 1 + 1) (drop (i + 1) items))
+    → with_items origin command (i + 1) (drop i items) said
+    ≡ (with_item origin command (i + 1) item said >>= with_items origin command (i + 1 + 1) (drop (i + 1) items))
 unfolding with_items
 with_items-at origin command items i item said lt is = rw (add-one i, drop-cons items i item lt, sym is)
 
 -- after an item without a fault the result depends on the rest
 with_items-more : (origin : Origin) (command : Command) (items : List Item) (i : ℕ) (item : Item) (said more : Said)
     → i < length items → item ≡ get_or items i item
-    → with_item origin command (i + 1) item said ≡ Ok more → with_items origin command (i + 1) (drop i items) said ≡ with_items origin command (i + 1 + 1) (drop (i + 1) items) more
+    → with_item origin command (i + 1) item said ≡ Ok more → with_items origin command (i + 1) (drop i items) said
+    ≡ with_items origin command (i + 1 + 1) (drop (i + 1) items) more
 with_items-more origin command items i item said more lt is h = rw h at (with_items-at origin command items i item said lt is)
 
 -- a fault of an item is the fault of the items from it on
-Excused-then : {A B E : Type 0} (wants : Bool) (x : Result A E) (f : A → Result B E) (fault : E) → Excused wants x fault
-    → Excused wants (x >>= f) fault
+Excused-then : {A B E : Type 0} (is_out_of_memory : Bool) (x : Result A E) (f : A → Result B E) (fault : E)
+    → Excused is_out_of_memory x fault
+    → Excused is_out_of_memory (x >>= f) fault
 Excused-then true x f fault h = tt
 Excused-then false x f fault h = rw h
 
-Excused-same : {A E : Type 0} (wants : Bool) (x y : Result A E) (fault : E) → x ≡ y → Excused wants y fault → Excused wants x fault
+Excused-same : {A E : Type 0} (is_out_of_memory : Bool) (x y : Result A E) (fault : E) → x ≡ y
+    → Excused is_out_of_memory y fault → Excused is_out_of_memory x fault
 Excused-same true x y fault e h = tt
 Excused-same false x y fault e h = e ∙ h
 
-with_items-fault : (wants : Bool) (origin : Origin) (command : Command) (items : List Item) (i : ℕ) (item : Item) (said : Said) (whole : Result Said AskFault) (fault : AskFault) → i < length items → item ≡ get_or items i item
-    → whole ≡ with_items origin command (i + 1) (drop i items) said → Excused wants (with_item origin command (i + 1) item said) fault → Excused wants whole fault
-with_items-fault wants origin command items i item said whole fault lt is e h =
-    Excused-same wants _ _ fault (e ∙ with_items-at origin command items i item said lt is) (Excused-then wants _ _ fault h)
+with_items-fault : (is_out_of_memory : Bool) (origin : Origin) (command : Command) (items : List Item) (i : ℕ)
+    (item : Item) (said : Said) (whole : Result Said AskFault) (fault : AskFault) → i < length items
+    → item ≡ get_or items i item
+    → whole ≡ with_items origin command (i + 1) (drop i items) said
+    → Excused is_out_of_memory (with_item origin command (i + 1) item said) fault
+    → Excused is_out_of_memory whole fault
+with_items-fault is_out_of_memory origin command items i item said whole fault lt is e h =
+    Excused-same is_out_of_memory _ _ fault (e ∙ with_items-at origin command items i item said lt is)
+    (Excused-then is_out_of_memory _ _ fault h)
 
 -- after an item without a fault among earlier ones the result depends on the rest
-pub with_items-step : (origin : Origin) (command : Command) (items : List Item) (i : ℕ) (item : Item) (whole : Result Said AskFault) → i < length items → item ≡ get_or items i item
+pub with_items-step : (origin : Origin) (command : Command) (items : List Item) (i : ℕ) (item : Item)
+    (whole : Result Said AskFault) → i < length items → item ≡ get_or items i item
     → whole ≡ with_items origin command (i + 1) (drop i items) (said_by (take i items))
     → with_item origin command (length (take i items) + 1) item (said_by (take i items)) ≡ Ok (said_by (take i items ++ item ∷ []))
     → whole ≡ with_items origin command (i + 1 + 1) (drop (i + 1) items) (said_by (take (i + 1) items))
@@ -92,8 +102,11 @@ pub with_items-end : (origin : Origin) (command : Command) (items : List Item) (
 with_items-end origin command items i whole ge e =
     e ∙ with_items-none origin command (i + 1) items i (said_by (take i items)) ge ∙ ap (λ all. Ok (said_by all)) (take_all i items ge)
 
-pub with_items-stop : (wants : Bool) (origin : Origin) (command : Command) (items : List Item) (i : ℕ) (item : Item) (whole : Result Said AskFault) (fault : AskFault) → i < length items → item ≡ get_or items i item
+pub with_items-stop : (is_out_of_memory : Bool) (origin : Origin) (command : Command) (items : List Item) (i : ℕ)
+    (item : Item) (whole : Result Said AskFault) (fault : AskFault) → i < length items → item ≡ get_or items i item
     → whole ≡ with_items origin command (i + 1) (drop i items) (said_by (take i items))
-    → Excused wants (with_item origin command (length (take i items) + 1) item (said_by (take i items))) fault → Excused wants whole fault
-with_items-stop wants origin command items i item whole fault lt is e h =
-    with_items-fault wants origin command items i item (said_by (take i items)) whole fault lt is e (rw (length-take-le i items (omega (arith, lt))) at h)
+    → Excused is_out_of_memory (with_item origin command (length (take i items) + 1) item (said_by (take i items))) fault
+    → Excused is_out_of_memory whole fault
+with_items-stop is_out_of_memory origin command items i item whole fault lt is e h =
+    with_items-fault is_out_of_memory origin command items i item (said_by (take i items)) whole fault lt is e
+    (rw (length-take-le i items (omega (arith, lt))) at h)

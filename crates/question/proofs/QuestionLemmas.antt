@@ -8,12 +8,14 @@ use Rattle.question.specs.Questions.{Said, nothing_said, command_of, with_items,
 
 -- the result if a required key is missing
 pub question_of-missing : (pairs : Pairs) (command : Command) (said : Said) (k : Key) → command_of pairs.origin pairs.command ≡ Ok command
-    → with_items pairs.origin command 1 pairs.items nothing_said ≡ Ok said → missing_key pairs.origin command said ≡ Some k → question_of pairs ≡ Err (MissingKey k)
+    → with_items pairs.origin command 1 pairs.items nothing_said ≡ Ok said
+    → missing_key pairs.origin command said ≡ Some k → question_of pairs ≡ Err (MissingKey k)
 unfolding question_of
 question_of-missing pairs command said k is items h = rw (is, items, h)
 
 -- the result if there is no fault
 pub question_of-whole : (pairs : Pairs) (command : Command) (said : Said) → command_of pairs.origin pairs.command ≡ Ok command
-    → with_items pairs.origin command 1 pairs.items nothing_said ≡ Ok said → missing_key pairs.origin command said ≡ None → question_of pairs ≡ Ok (asked pairs.origin command said)
+    → with_items pairs.origin command 1 pairs.items nothing_said ≡ Ok said
+    → missing_key pairs.origin command said ≡ None → question_of pairs ≡ Ok (asked pairs.origin command said)
 unfolding question_of
 question_of-whole pairs command said is items h = rw (is, items, h)

@@ -18,11 +18,13 @@ use Rattle.question.specs.Workings.Said.{text_after, said_by}
 text_after-end : (items : List Item) (item : Item) (k : Key) (earlier : Option (List ℕ))
     → text_after (items ++ item ∷ []) k earlier ≡ (if bytes_eq (name_of k) item.key then item.value else text_after items k earlier)
 text_after-end [] item k earlier = refl
-text_after-end (first ∷ items) item k earlier = text_after-end items item k (if bytes_eq (name_of k) first.key then first.value else earlier)
+text_after-end (first ∷ items) item k earlier =
+    text_after-end items item k (if bytes_eq (name_of k) first.key then first.value else earlier)
 
 pub text_after-at : (items : List Item) (i : ℕ) (item : Item) (k : Key) (earlier : Option (List ℕ)) → i < length items
     → item ≡ get_or items i item
-    → text_after (drop i items) k earlier ≡ text_after (drop (i + 1) items) k (if bytes_eq (name_of k) item.key then item.value else earlier)
+    → text_after (drop i items) k earlier
+    ≡ text_after (drop (i + 1) items) k (if bytes_eq (name_of k) item.key then item.value else earlier)
 text_after-at items i item k earlier lt is = rw (add-one i, drop-cons items i item lt, sym is)
 
 found_passes : {X : Type 0} (test : X → Bool) (xs : List X) (x : X) → find test xs ≡ Some x → test x ≡ true
@@ -36,7 +38,8 @@ found_passes {X} test (y ∷ ys) x is =
 -- the key found by a name has that name
 named_so : (origin : Origin) (command : Command) (name : List ℕ) (k : Key) → key_named origin command name ≡ Some k → name_of k ≡ name
 named_so origin command name k is =
-    (bytes_eq-Decides (name_of k) name).0 (and_parts _ _ (found_passes (λ k. bytes_eq (name_of k) name && has_key origin command k) all_keys k is)).0
+    (bytes_eq-Decides (name_of k) name).0
+    (and_parts _ _ (found_passes (λ k. bytes_eq (name_of k) name && has_key origin command k) all_keys k is)).0
 
 -- an item without a fault gives its text to its key
 pub said_by-more : (origin : Origin) (command : Command) (items : List Item) (item : Item) (k : Key) (text : List ℕ)

@@ -21,11 +21,13 @@ cond_or true c = refl
 cond_or false c = refl
 
 -- one more word is among the earlier ones
-pub known_after : (w q : List ℕ) (before : List (List ℕ)) → cond (is_eq (slice_cmp nat_cmp w q)) true (list_any (bytes_eq q) before) ≡ list_any (bytes_eq q) (w ∷ before)
+pub known_after : (w q : List ℕ) (before : List (List ℕ))
+    → cond (is_eq (slice_cmp nat_cmp w q)) true (list_any (bytes_eq q) before) ≡ list_any (bytes_eq q) (w ∷ before)
 known_after w q before = rw (is_eq-slice_cmp w q, bytes_eq-sym w q) (cond_or (bytes_eq q w) (list_any (bytes_eq q) before))
 
 -- after a new name of a sheet the result depends on the rest
 pub are_sheets-new : (before : List (List ℕ)) (words : List (Bor (List ℕ))) (i : ℕ) (d : Bor (List ℕ)) → i < length words
     → is_sheet (get_or words i d).now ≡ true → list_any (bytes_eq (get_or words i d).now) before ≡ false
-    → are_sheets before (map (λ word. word.now) (drop i words)) ≡ are_sheets ((get_or words i d).now ∷ before) (map (λ word. word.now) (drop (i + 1) words))
+    → are_sheets before (map (λ word. word.now) (drop i words))
+    ≡ are_sheets ((get_or words i d).now ∷ before) (map (λ word. word.now) (drop (i + 1) words))
 are_sheets-new before words i d lt sheet new = rw (add-one, drop-cons words i d lt) (rw (sheet, new))

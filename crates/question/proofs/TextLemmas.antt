@@ -23,7 +23,8 @@ after_none c (b ∷ rest) h =
 after_some : (c : ℕ) (rest : List ℕ) → Some rest ≡ after c (c ∷ rest)
 after_some c rest = grind (arith, nat_tests)
 
-pub after_is : (c : ℕ) (bs : List ℕ) (r : Option (Bor (List ℕ))) → MatchOption r ((rest : List ℕ) → bs ≢ c ∷ rest) (λ x. bs ≡ c ∷ x.now) → option_copied r ≡ after c bs
+pub after_is : (c : ℕ) (bs : List ℕ) (r : Option (Bor (List ℕ)))
+    → MatchOption r ((rest : List ℕ) → bs ≢ c ∷ rest) (λ x. bs ≡ c ∷ x.now) → option_copied r ≡ after c bs
 after_is c bs None h = after_none c bs h
 after_is c bs (Some x) e = rw e (after_some c x.now)
 
@@ -60,10 +61,13 @@ item_of-plain word h = rw (list_any-none_at is_equals_sign word h)
 own : IsNumeralModel (λ ds. list_all is_ascii_digit ds ≡ true) (digits_value 10)
 own = numerals_by_value _ (search rules)
 
-from_ok_iff : {E : Type 0} (r : Result ℕ E) (some : Type 0) (n : ℕ) → some → OkIff r (some × (n < 2 ^ 64)) n → result_ok r ≡ (if ltb n (2 ^ 64) then Some n else None)
+from_ok_iff : {E : Type 0} (r : Result ℕ E) (some : Type 0) (n : ℕ) → some → OkIff r (some × (n < 2 ^ 64)) n
+    → result_ok r ≡ (if ltb n (2 ^ 64) then Some n else None)
 from_ok_iff (Ok x) some n h e = grind (arith, nat_tests)
 from_ok_iff (Err x) some n h e =
     elim (cases_lt n (2 ^ 64)) [ inl lt ↦ absurd (e (h, lt)) | inr above ↦ grind (arith, nat_tests) ]
 
-pub value_is : {E : Type 0} (bs : List ℕ) (r : Result ℕ E) → ParsesUnsigned 64 10 bs r → 0 < length bs → list_all is_ascii_digit bs ≡ true → result_ok r ≡ (if ltb (digits_value 10 bs) (2 ^ 64) then Some (digits_value 10 bs) else None)
+pub value_is : {E : Type 0} (bs : List ℕ) (r : Result ℕ E) → ParsesUnsigned 64 10 bs r → 0 < length bs
+    → list_all is_ascii_digit bs ≡ true
+    → result_ok r ≡ (if ltb (digits_value 10 bs) (2 ^ 64) then Some (digits_value 10 bs) else None)
 value_is bs r h some digits = from_ok_iff r (0 < length bs) (digits_value 10 bs) some (parse_digits own 64 bs r h digits)

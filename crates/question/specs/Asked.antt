@@ -3,7 +3,23 @@ use Rattle.std.specs.Prelude.{◌≤◌, pos, ◌≤ℤ◌, unsigned_abs, IsSome
 use Rattle.std.specs.Option.{ForSome}
 use Rattle.zone_time.specs.Moments.{IsMoment}
 use Rattle.question.specs.declared.command.Command.{Command}
-use Rattle.question.specs.declared.command.Command.TheVariants.{Predict, Certify, Check, Heights, Calendar, Clock, Stations, Sample, Trial, Serve, Report, Highest, Peak, PeakCheck, About}
+use Rattle.question.specs.declared.command.Command.TheVariants.{
+  Predict,
+  Certify,
+  Check,
+  Heights,
+  Calendar,
+  Clock,
+  Stations,
+  Sample,
+  Trial,
+  Serve,
+  Report,
+  Highest,
+  Peak,
+  PeakCheck,
+  About,
+}
 use Rattle.question.specs.declared.origin.Origin.{Origin}
 use Rattle.question.specs.declared.origin.Origin.TheVariants.{Line, Query}
 use Rattle.question.specs.declared.question.Question.{Question}

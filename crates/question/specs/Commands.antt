@@ -3,13 +3,30 @@ use Rattle.std.specs.Prelude.{ℕ, Bool, true, ◌&&◌, List, [], ◌∷◌, co
 use Rattle.std.specs.List.{find, list_any}
 use Rattle.std.specs.Str.{bytes_eq}
 use Rattle.question.specs.declared.command.Command.{Command}
-use Rattle.question.specs.declared.command.Command.TheVariants.{Predict, Certify, Check, Heights, Calendar, Clock, Stations, Sample, Trial, Serve, Report, Highest, Peak, PeakCheck, About}
+use Rattle.question.specs.declared.command.Command.TheVariants.{
+  Predict,
+  Certify,
+  Check,
+  Heights,
+  Calendar,
+  Clock,
+  Stations,
+  Sample,
+  Trial,
+  Serve,
+  Report,
+  Highest,
+  Peak,
+  PeakCheck,
+  About,
+}
 use Rattle.question.specs.declared.origin.Origin.{Origin}
 use Rattle.question.specs.declared.origin.Origin.TheVariants.{Line, Query}
 
 abbrev pub all_commands : List Command
 all_commands =
-    Predict ∷ Certify ∷ Check ∷ Heights ∷ Calendar ∷ Clock ∷ Stations ∷ Sample ∷ Trial ∷ Serve ∷ Report ∷ Highest ∷ Peak ∷ PeakCheck ∷ About ∷ []
+    Predict ∷ Certify ∷ Check ∷ Heights ∷ Calendar ∷ Clock ∷ Stations ∷ Sample ∷ Trial ∷ Serve ∷ Report ∷ Highest ∷ Peak
+    ∷ PeakCheck ∷ About ∷ []
 
 -- the commands that the web server has a path for
 abbrev pub with_path : List Command

@@ -1,5 +1,34 @@
 -- The forms of keys' values, and the values of texts in each form (this project).
-use Rattle.std.specs.Prelude.{ℕ, ◌+◌, ◌*◌, ◌==◌, ◌&&◌, nat_le, nat_lt, not, Bool, true, if◌then◌else◌, List, [], ◌∷◌, length, codes, ℤ, pos, neg_ℤ, unsigned_abs, Option, Some, None, option_and_then, is_some, Result, Ok, Err}
+use Rattle.std.specs.Prelude.{
+  ℕ,
+  ◌+◌,
+  ◌*◌,
+  ◌==◌,
+  ◌&&◌,
+  nat_le,
+  nat_lt,
+  not,
+  Bool,
+  true,
+  if◌then◌else◌,
+  List,
+  [],
+  ◌∷◌,
+  length,
+  codes,
+  ℤ,
+  pos,
+  neg_ℤ,
+  unsigned_abs,
+  Option,
+  Some,
+  None,
+  option_and_then,
+  is_some,
+  Result,
+  Ok,
+  Err,
+}
 use Rattle.std.specs.Option.{option_map, option_or}
 use Rattle.std.specs.List.{list_all, list_any, before_first, after_first, slice_split}
 use Rattle.std.specs.Char.{is_ascii_digit, is_ascii_lowercase}

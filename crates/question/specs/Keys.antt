@@ -4,7 +4,23 @@ use Rattle.std.specs.List.{find}
 use Rattle.std.specs.Str.{bytes_eq}
 use Rattle.zone_time.specs.Moments.{moment_of}
 use Rattle.question.specs.declared.command.Command.{Command}
-use Rattle.question.specs.declared.command.Command.TheVariants.{Predict, Certify, Check, Heights, Calendar, Clock, Stations, Sample, Trial, Serve, Report, Highest, Peak, PeakCheck, About}
+use Rattle.question.specs.declared.command.Command.TheVariants.{
+  Predict,
+  Certify,
+  Check,
+  Heights,
+  Calendar,
+  Clock,
+  Stations,
+  Sample,
+  Trial,
+  Serve,
+  Report,
+  Highest,
+  Peak,
+  PeakCheck,
+  About,
+}
 use Rattle.question.specs.declared.key.Key.{Key}
 use Rattle.question.specs.declared.key.Key.TheVariants as key
 use Rattle.question.specs.declared.origin.Origin.{Origin}
@@ -20,7 +36,8 @@ use Rattle.question.specs.Forms.{some_text, mark_of, step_of, zone_of, layout_of
 -- all keys, in the order in which a missing one is reported
 abbrev pub all_keys : List Key
 all_keys =
-    key.File ∷ key.Offsets ∷ key.Certificate ∷ key.Station ∷ key.Begin ∷ key.End ∷ key.Mark ∷ key.Step ∷ key.Zone ∷ key.Layout ∷ key.Seed ∷ key.Port ∷ key.Sheets ∷ []
+    key.File ∷ key.Offsets ∷ key.Certificate ∷ key.Station ∷ key.Begin ∷ key.End ∷ key.Mark ∷ key.Step ∷ key.Zone
+    ∷ key.Layout ∷ key.Seed ∷ key.Port ∷ key.Sheets ∷ []
 
 -- the name of each key
 abbrev pub name_of : Key → List ℕ
@@ -80,13 +97,13 @@ abbrev pub otherwise : {V : Type 0} → V → Need V V
 otherwise default = record { is_needed = false; field = λ value. unwrap_or value default }
 
 -- a key's row: the commands and the origins that have it, the form of its value, and its need
-pub record Row (V F : Type 0) : Type 0 where
+pub record KeyRow (V F : Type 0) : Type 0 where
   pub commands : List Command
   pub origins : List Origin
   pub form : Origin → List ℕ → Option V
   pub need : Need V F
 
-abbrev pub row : {V F : Type 0} → List Command → List Origin → (Origin → List ℕ → Option V) → Need V F → Row V F
+abbrev pub row : {V F : Type 0} → List Command → List Origin → (Origin → List ℕ → Option V) → Need V F → KeyRow V F
 row commands origins form need = record { commands = commands; origins = origins; form = form; need = need }
 
 -- a form that is the same for each origin
@@ -147,7 +164,7 @@ abbrev pub of_sheets : List Command
 of_sheets = Report ∷ []
 
 -- the table: key, commands, origins, form of the value, and need
-abbrev pub row_of : (k : Key) → Row (Value k) (Field k)
+abbrev pub row_of : (k : Key) → KeyRow (Value k) (Field k)
 row_of key.File = row of_file in_line (always some_text) needed
 row_of key.Offsets = row of_file in_line (always some_text) optional
 row_of key.Certificate = row of_check in_line (always some_text) needed

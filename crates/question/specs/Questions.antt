@@ -1,12 +1,41 @@
 -- The question of pairs, or their first fault (this project).
-use Rattle.std.specs.Prelude.{ℕ, ◌+◌, Bool, true, false, ◌&&◌, not, if◌then◌else◌, List, [], ◌∷◌, Option, Some, None, option_and_then, is_some, Result, Ok, Err}
+use Rattle.std.specs.Prelude.{
+  ℕ,
+  ◌+◌,
+  Bool,
+  true,
+  false,
+  ◌&&◌,
+  not,
+  if◌then◌else◌,
+  List,
+  [],
+  ◌∷◌,
+  Option,
+  Some,
+  None,
+  option_and_then,
+  is_some,
+  Result,
+  Ok,
+  Err,
+}
 use Rattle.std.specs.Option.{ok_or}
 use Rattle.std.specs.List.{find}
 use Rattle.std.specs.Str.{bytes_eq}
 use Rattle.decimal_text.specs.Expected.{◌>>=◌}
 use Rattle.question.specs.declared.command.Command.{Command}
 use Rattle.question.specs.declared.fault.AskFault.{AskFault}
-use Rattle.question.specs.declared.fault.AskFault.TheVariants.{NoMemory, NoCommand, UnknownCommand, NotAPair, UnknownKey, RepeatedKey, BadValue, MissingKey}
+use Rattle.question.specs.declared.fault.AskFault.TheVariants.{
+  NoMemory,
+  NoCommand,
+  UnknownCommand,
+  NotAPair,
+  UnknownKey,
+  RepeatedKey,
+  BadValue,
+  MissingKey,
+}
 use Rattle.question.specs.declared.key.Key.{Key}
 use Rattle.question.specs.declared.key.Key.TheVariants as key
 use Rattle.question.specs.declared.origin.Origin.{Origin}
@@ -17,9 +46,9 @@ use Rattle.question.specs.Commands.{command_named}
 use Rattle.question.specs.Keys.{all_keys, name_of, Field, row_of, is_needed, key_named}
 
 -- a fault is out of memory
-abbrev pub wants_memory : AskFault → Bool
-wants_memory NoMemory = true
-wants_memory _ = false
+abbrev pub is_out_of_memory : AskFault → Bool
+is_out_of_memory NoMemory = true
+is_out_of_memory _ = false
 
 -- the text that was given to each key, if any
 abbrev pub Said : Type 0

@@ -140,7 +140,7 @@ static ANYWHERE: [Origin; 2] = [Origin::Line, Origin::Query];
 
 /// The row of a key in the table.
 #[derive(Clone, Copy)]
-struct Row {
+struct KeyRow {
     /// The commands that have the key.
     commands: &'static [Command],
     /// The origins that have the key: a query names no files.
@@ -150,7 +150,7 @@ struct Row {
     is_needed: bool,
 }
 
-impl Row {
+impl KeyRow {
     ghost use Rattle.question.specs.Commands.{is_among};
     ghost use Rattle.question.specs.Origins.{is_one_of};
 
@@ -171,7 +171,7 @@ impl Row {
 /// required.
 macro_rules! row {
     ($commands:ident, $origins:ident, $form:ident, $is_needed:expr) => {
-        Row {
+        KeyRow {
             commands: &$commands,
             origins: &$origins,
             form: Form::$form,
@@ -180,7 +180,7 @@ macro_rules! row {
     };
 }
 
-fn row_of(key: Key) -> Row
+fn row_of(key: Key) -> KeyRow
     ensures commands { result.commands.now ≡ (row_of key).commands }
     ensures origins { result.origins.now ≡ (row_of key).origins }
     ensures form { (origin : Origin) (text : List ℕ) → meets result.form origin text ≡ has_form origin key text }

@@ -2,7 +2,7 @@
 //!
 //! [`pairs_of_words`] splits arguments at their first `=`, and [`read_question`] makes a [`Question`] of
 //! such pairs or returns their first fault. The table of keys for both is in `specs/Keys.antt`, and the
-//! properties of each question that was read are in `specs/Asked.antt`. A [`SoundQuestion`] is one that
+//! properties of each question that was read are in `specs/Asked.antt`. A [`ValidQuestion`] is one that
 //! is proved to have them.
 #![tactic(auto)]
 
@@ -16,7 +16,7 @@ mod question;
 mod reading;
 mod said;
 mod sheets;
-mod sound_question;
+mod valid_question;
 mod values;
 mod words;
 mod worked;
@@ -29,7 +29,7 @@ pub use origin::Origin;
 pub use pairs::{Item, Items, Pairs};
 pub use question::{Layout, Question, ZoneWord};
 pub use reading::read_question;
-pub use sound_question::SoundQuestion;
+pub use valid_question::ValidQuestion;
 pub use words::pairs_of_words;
 pub use worked::{
     worked_faults, worked_query_faults, worked_questions, worked_values, worked_words,

@@ -1,10 +1,10 @@
 //! Reading pairs as a question.
 
 ghost use Rattle.std.specs.Prelude.{◌≡◌, ◌+◌, ◌++◌, [], ◌∷◌, length, IfOk};
-ghost use Rattle.decimal_text.specs.Expected.{Gives};
+ghost use Rattle.decimal_text.specs.Expected.{ReturnsUnless};
 ghost use Rattle.question.specs.Asked.{IsAsked, NamesFiles};
-ghost use Rattle.question.specs.Questions.{wants_memory, nothing_said, command_of, with_item, with_items, question_of};
-ghost use Rattle.question.specs.Workings.Said.{said_by, GivesSaid};
+ghost use Rattle.question.specs.Questions.{is_out_of_memory, nothing_said, command_of, with_item, with_items, question_of};
+ghost use Rattle.question.specs.Workings.Said.{said_by, ReturnsSaid};
 
 use crate::asked::asked;
 use crate::command::{Command, command_named};
@@ -37,7 +37,7 @@ use std::alloc::Global;
 /// assert_eq!(rt; fault, Some(AskFault::MissingKey(Key::Begin)));
 /// ```
 pub fn read_question(alloc: Global, pairs: &Pairs) -> Result<Question, AskFault>
-    ensures exact { Gives wants_memory (question_of pairs.now) result }
+    ensures exact { ReturnsUnless is_out_of_memory (question_of pairs.now) result }
     ensures asked { IfOk result IsAsked }
     ensures named { IfOk result (NamesFiles pairs.now.origin) }
 {
@@ -47,7 +47,7 @@ pub fn read_question(alloc: Global, pairs: &Pairs) -> Result<Question, AskFault>
 
 #[tactic(auto, unfolding(crate::specs::Questions::question_of))]
 fn read_pairs(alloc: Global, pairs: &Pairs) -> Result<Question, AskFault>
-    ensures { Gives wants_memory (question_of pairs.now) result }
+    ensures { ReturnsUnless is_out_of_memory (question_of pairs.now) result }
 {
     let items = pairs.items.as_slice();
     let command = read_command(pairs.origin, &pairs.command)?;
@@ -73,7 +73,7 @@ fn check_items(
     command: Command,
     items: &[Item],
 ) -> Result<(), AskFault>
-    ensures { GivesSaid (with_items origin command 1 items.now nothing_said) (said_by items.now) result }
+    ensures { ReturnsSaid (with_items origin command 1 items.now nothing_said) (said_by items.now) result }
 {
     for (at, item) in items.iter().enumerate() {
         check_item(alloc, origin, command, &items[..at], item)?;
@@ -90,7 +90,7 @@ fn check_item(
     earlier: &[Item],
     item: &Item,
 ) -> Result<(), AskFault>
-    ensures { GivesSaid (with_item origin command (length earlier.now + 1) item.now (said_by earlier.now))
+    ensures { ReturnsSaid (with_item origin command (length earlier.now + 1) item.now (said_by earlier.now))
         (said_by (earlier.now ++ item.now ∷ [])) result }
 {
     let place = earlier.len() as u64 + 1;

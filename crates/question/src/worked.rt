@@ -16,17 +16,44 @@ ghost use Rattle.question.specs.declared.origin.Origin.{Origin};
 #[tactic(auto, unfolding(crate::specs::Questions::question_of, crate::specs::Questions::with_items, crate::specs::Questions::with_item, crate::specs::Forms::some_text, crate::specs::Forms::number_of, crate::specs::Forms::mark_of, crate::specs::Forms::layout_of, crate::specs::Forms::clock_of, crate::specs::Forms::offset_of, crate::specs::Forms::zone_of, crate::specs::Forms::sheets_of, zone_time::specs::Moments::moment_of, zone_time::specs::Moments::has_form, jiff_core::specs::Calendar::days_from_civil, jiff_core::specs::Calendar::day_count, jiff_core::specs::Calendar::days_of_years, jiff_core::specs::Calendar::days_of_months, decimal_text::specs::Decimal::read_of, decimal_text::specs::Decimal::decimal_of, decimal_text::specs::Decimal::after_point, decimal_text::specs::Decimal::made_of, decimal_text::specs::Decimal::scaled_or_bad, decimal_text::specs::Decimal::scaled))]
 pub fn worked_questions()
     ensures predict { of_line (codes "predict file=pier.txt station=Pier begin=2000-01-10T00:00Z end=2000-01-11T00:00Z")
-        ≡ Ok (record (bare Command.Predict) { file = Some (codes "pier.txt"); station = Some (codes "Pier"); begin = Some (pos 15791040); end = Some (pos 15792480) }) }
-    ensures calendar { of_line (codes "calendar mark=-.5 zone=-00:30 end=1970-01-01T00:00Z begin=1969-12-31T23:59Z station== file=a=b offsets=o")
-        ≡ Ok (record (bare Command.Calendar) { file = Some (codes "a=b"); offsets = Some (codes "o"); station = Some (codes "="); begin = Some (negsuc 0); end = Some (pos 0); mark = Some (negsuc 499999); zone = ZoneWord.Fixed (negsuc 29) }) }
+        ≡ Ok (record (bare Command.Predict) {
+          file = Some (codes "pier.txt");
+          station = Some (codes "Pier");
+          begin = Some (pos 15791040);
+          end = Some (pos 15792480);
+        }) }
+    ensures calendar { of_line
+        (codes "calendar mark=-.5 zone=-00:30 end=1970-01-01T00:00Z begin=1969-12-31T23:59Z station== file=a=b offsets=o")
+        ≡ Ok (record (bare Command.Calendar) {
+          file = Some (codes "a=b");
+          offsets = Some (codes "o");
+          station = Some (codes "=");
+          begin = Some (negsuc 0);
+          end = Some (pos 0);
+          mark = Some (negsuc 499999);
+          zone = ZoneWord.Fixed (negsuc 29);
+        }) }
     ensures check { of_line (codes "check file=f certificate=c zone=@rome")
-        ≡ Ok (record (bare Command.Check) { file = Some (codes "f"); certificate = Some (codes "c"); zone = ZoneWord.Named (codes "rome") }) }
+        ≡ Ok (record (bare Command.Check) {
+          file = Some (codes "f");
+          certificate = Some (codes "c");
+          zone = ZoneWord.Named (codes "rome");
+        }) }
     ensures stations { of_line (codes "stations file=f") ≡ Ok (record (bare Command.Stations) { file = Some (codes "f") }) }
-    ensures sample { of_line (codes "sample seed=18446744073709551615") ≡ Ok (record (bare Command.Sample) { seed = Some 18446744073709551615 }) }
+    ensures sample { of_line (codes "sample seed=18446744073709551615")
+        ≡ Ok (record (bare Command.Sample) { seed = Some 18446744073709551615 }) }
     ensures serve { of_line (codes "serve file=f port=65535") ≡ Ok (record (bare Command.Serve) { file = Some (codes "f"); port = 65535 }) }
-    ensures about { of_line (codes "about station=s file=f") ≡ Ok (record (bare Command.About) { file = Some (codes "f"); station = Some (codes "s") }) }
-    ensures heights_asked { of_query (codes "heights") (codes "station=Pier" ∷ codes "step=044640" ∷ codes "layout=csv" ∷ codes "begin=2000-01-10T00:00Z" ∷ codes "end=2000-01-10T00:00Z" ∷ [])
-        ≡ Ok (record (bare Command.Heights) { station = Some (codes "Pier"); begin = Some (pos 15791040); end = Some (pos 15791040); step = pos 44640; layout = Layout.Csv }) }
+    ensures about { of_line (codes "about station=s file=f")
+        ≡ Ok (record (bare Command.About) { file = Some (codes "f"); station = Some (codes "s") }) }
+    ensures heights_asked { of_query (codes "heights") (codes "station=Pier" ∷ codes "step=044640" ∷ codes "layout=csv"
+        ∷ codes "begin=2000-01-10T00:00Z" ∷ codes "end=2000-01-10T00:00Z" ∷ [])
+        ≡ Ok (record (bare Command.Heights) {
+          station = Some (codes "Pier");
+          begin = Some (pos 15791040);
+          end = Some (pos 15791040);
+          step = pos 44640;
+          layout = Layout.Csv;
+        }) }
     ensures check_asked { of_query (codes "check") [] ≡ Ok (bare Command.Check) }
 {}
 
@@ -35,14 +62,16 @@ pub fn worked_questions()
 pub fn worked_faults()
     ensures no_words { question_of (pairs_of []) ≡ Err AskFault.NoCommand }
     ensures capital { of_line (codes "Predict file=f") ≡ Err AskFault.UnknownCommand }
-    ensures date_alone { of_line (codes "predict file=pier.txt station=Pier begin=2000-01-10 end=2000-01-11T00:00Z") ≡ Err (AskFault.BadValue 3) }
+    ensures date_alone { of_line (codes "predict file=pier.txt station=Pier begin=2000-01-10 end=2000-01-11T00:00Z")
+        ≡ Err (AskFault.BadValue 3) }
     ensures not_a_pair { of_line (codes "predict x") ≡ Err (AskFault.NotAPair 1) }
     ensures other_commands_key { of_line (codes "stations file=f station=s") ≡ Err (AskFault.UnknownKey 2) }
     ensures repeated_before_bad { of_line (codes "predict zone=UTC zone=utc") ≡ Err (AskFault.RepeatedKey 2) }
     ensures first_item_first { of_line (codes "predict file= seed=1 x") ≡ Err (AskFault.BadValue 1) }
     ensures item_before_missing { of_line (codes "predict file=f step=60") ≡ Err (AskFault.UnknownKey 2) }
     ensures first_missing { of_line (codes "predict end=2000-01-11T00:00Z file=f") ≡ Err (AskFault.MissingKey Key.Station) }
-    ensures last_missing { of_line (codes "report file=f station=s begin=2000-01-10T00:00Z end=2000-01-11T00:00Z") ≡ Err (AskFault.MissingKey Key.Sheets) }
+    ensures last_missing { of_line (codes "report file=f station=s begin=2000-01-10T00:00Z end=2000-01-11T00:00Z")
+        ≡ Err (AskFault.MissingKey Key.Sheets) }
 {}
 
 /// Proves the faults of some queries, which name no files.

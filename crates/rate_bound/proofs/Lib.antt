@@ -1,5 +1,5 @@
 mod Parts
 mod Naming
-mod Telling
+mod RateCases
 pub mod Predicted
 mod SizeLemmas

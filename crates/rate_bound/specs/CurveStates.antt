@@ -1,7 +1,7 @@
 -- The states of a station's two curves, its slope and its level against a mark (this project).
 use Rattle.std.specs.Prelude.{◌*◌, unsigned_abs}
 use Rattle.curve_law.specs.CurveStates.{CurveState}
-use Rattle.station_curve.specs.Near.{near_level_of, near_slope_of}
+use Rattle.station_curve.specs.Approximate.{approximate_level_of, approximate_slope_of}
 use Rattle.station_curve.specs.Errors.{level_error_of, slope_error_of}
 use Rattle.rate_bound.specs.declared.mark.MarkCurve.{MarkCurve}
 use Rattle.rate_bound.specs.declared.turn.TurnCurve.{TurnCurve}
@@ -12,7 +12,7 @@ abbrev pub turn_state : TurnCurve → CurveState
 turn_state c = record {
   facts = record {
     meaning = turn_meaning c.version c.station.now;
-    approximate = near_slope_of c.station.now;
+    approximate = approximate_slope_of c.station.now;
     error = slope_error_of c.station.now;
   };
   count = c.evaluations;
@@ -23,7 +23,7 @@ abbrev pub mark_state : MarkCurve → CurveState
 mark_state c = record {
   facts = record {
     meaning = mark_meaning c.version c.station.now c.times c.plus c.mark c.slack;
-    approximate = λ m. over_mark c.times c.plus c.mark (near_level_of c.station.now m);
+    approximate = λ m. over_mark c.times c.plus c.mark (approximate_level_of c.station.now m);
     error = unsigned_abs c.times * level_error_of c.station.now;
   };
   count = c.evaluations;

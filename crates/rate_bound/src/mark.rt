@@ -3,7 +3,7 @@
 ghost use Rattle.std.specs.Prelude.{◌≡◌, ◌*◌, pos, true, unsigned_abs};
 ghost use Rattle.std.specs.Bool.{OnTrue};
 ghost use Rattle.station_curve.specs.Errors.{level_error_of};
-ghost use Rattle.station_curve.specs.Limits.{IsGentle};
+ghost use Rattle.station_curve.specs.Limits.{IsWithinLimits};
 ghost use Rattle.rate_bound.specs.Scale.{IsScale};
 ghost use Rattle.rate_bound.specs.declared.version.Version.TheVariants.{First, Second};
 
@@ -27,7 +27,7 @@ pub struct MarkCurve<'a> {
     slack: bool,
     error: i128,
     evaluations: u64,
-    ghost gentle: { IsGentle station.now },
+    ghost within_limits: { IsWithinLimits station.now },
     ghost scale: { IsScale times plus mark },
     ghost bound: { error ≡ pos (unsigned_abs times * level_error_of station.now) },
 }
@@ -79,7 +79,7 @@ impl<'a> MarkCurve<'a> {
             ≡ mark_meaning version station.now times plus mark slack }
         ensures count { (⟦<MarkCurve<'a> as Curve>⟧.state result).count ≡ 0 }
     {
-        station.known();
+        station.limits_hold();
         MarkCurve {
             station,
             version,
@@ -100,11 +100,11 @@ impl<'a> Curve for MarkCurve<'a> {
 
     ghost state = { λ c. mark_state c };
 
-    ghost lawful = { λ c. mark_lawful c.version c.station.now c.times c.plus c.mark c.slack c.gentle c.scale };
+    ghost lawful = { λ c. mark_lawful c.version c.station.now c.times c.plus c.mark c.slack c.within_limits c.scale };
 
-    ghost narrow = { λ c. level_narrow c.station.now c.times c.plus c.mark c.gentle c.scale };
+    ghost narrow = { λ c. level_narrow c.station.now c.times c.plus c.mark c.within_limits c.scale };
 
-    ghost close = { λ c m at. level_close c.version c.station.now c.times c.plus c.mark c.slack m c.gentle at };
+    ghost close = { λ c m at. level_close c.version c.station.now c.times c.plus c.mark c.slack m c.within_limits at };
 
     fn first(&self) -> i64 {
         self.station.first()
@@ -119,12 +119,17 @@ impl<'a> Curve for MarkCurve<'a> {
         over_mark(self.times, self.plus, self.mark, self.station.level(m))
     }
 
-    fn near_value(&mut self, m: i64) -> i128 {
+    fn approximate_value(&mut self, m: i64) -> i128 {
         self.evaluations += 1;
-        over_mark(self.times, self.plus, self.mark, self.station.near_level(m))
+        over_mark(
+            self.times,
+            self.plus,
+            self.mark,
+            self.station.approximate_level(m),
+        )
     }
 
-    fn exact_value(&self, m: i64, _near_value: i128) -> i128 {
+    fn exact_value(&self, m: i64, _approximate_value: i128) -> i128 {
         over_mark(self.times, self.plus, self.mark, self.station.level(m))
     }
 

@@ -4,8 +4,16 @@ ghost use Rattle.std.specs.Prelude.{◌≡◌, ◌*◌, ◌^◌, ◌≤◌, pos,
 ghost use Rattle.std.specs.Int.{int_max};
 ghost use Rattle.fixed_sine.specs.Circle.{radian};
 ghost use Rattle.year_blend.specs.Weights.{total_weight};
-ghost use Rattle.station_curve.specs.Limits.{AreGentle};
-ghost use Rattle.rate_bound.specs.Rates.{most_rise, most_bend, plain_slope_rate, plain_level_rate, blended_slope_rate, blended_level_rate, limited};
+ghost use Rattle.station_curve.specs.Limits.{AreWithinLimits};
+ghost use Rattle.rate_bound.specs.Rates.{
+  most_rise,
+  most_bend,
+  plain_slope_rate,
+  plain_level_rate,
+  blended_slope_rate,
+  blended_level_rate,
+  limited,
+};
 
 use fixed_sine::RADIAN;
 use station_curve::Sums;
@@ -28,7 +36,7 @@ const MOST_RATE: i128 = 40_000_000_000_000_000_000_000_000_000_000_000;
 
 /// Returns the most that the slope changes in a minute outside blends, from the sums of the year.
 pub fn plain_slope_rate(year: &Sums) -> i128
-    requires { AreGentle year.now }
+    requires { AreWithinLimits year.now }
     ensures value { result ≡ plain_slope_rate year.now }
 {
     WEIGHT * year.far
@@ -36,7 +44,7 @@ pub fn plain_slope_rate(year: &Sums) -> i128
 
 /// Returns the most that the level changes in a minute outside blends, from the sums of the year.
 pub fn plain_level_rate(year: &Sums) -> i128
-    requires { AreGentle year.now }
+    requires { AreWithinLimits year.now }
     ensures value { result ≡ plain_level_rate year.now }
     ensures size { unsigned_abs result ≤ 10 ^ 27 }
 {
@@ -45,8 +53,8 @@ pub fn plain_level_rate(year: &Sums) -> i128
 
 /// Returns the most that the slope changes in a minute across the new year between two years.
 pub fn blended_slope_rate(earlier: &Sums, later: &Sums) -> i128
-    requires earlier { AreGentle earlier.now }
-    requires later { AreGentle later.now }
+    requires earlier { AreWithinLimits earlier.now }
+    requires later { AreWithinLimits later.now }
     ensures { result ≡ blended_slope_rate earlier.now later.now }
 {
     WEIGHT * earlier.far.max(later.far)
@@ -57,8 +65,8 @@ pub fn blended_slope_rate(earlier: &Sums, later: &Sums) -> i128
 
 /// Returns the most that the level changes in a minute across the new year between two years.
 pub fn blended_level_rate(earlier: &Sums, later: &Sums) -> i128
-    requires earlier { AreGentle earlier.now }
-    requires later { AreGentle later.now }
+    requires earlier { AreWithinLimits earlier.now }
+    requires later { AreWithinLimits later.now }
     ensures value { result ≡ blended_level_rate earlier.now later.now }
     ensures size { unsigned_abs result ≤ 10 ^ 27 }
 {

@@ -13,10 +13,10 @@ use year_blend::Stretch;
 pub fn stretch_of(station: &StationCurve, a: i64, n: u32) -> Stretch
     requires first { InDomain station.now.first_year (length station.now.years) a }
     requires last { InDomain station.now.first_year (length station.now.years) (a +ℤ pos n) }
-    requires short { n ≤ LONGEST_SPAN }
+    requires length_bound { n ≤ LONGEST_SPAN }
     ensures value { result ≡ tide_stretch station.now a n }
     ensures years { NamesYears (length station.now.years) result }
 {
-    station.known();
+    station.limits_hold();
     station.stretch(a, n)
 }

@@ -2,7 +2,7 @@
 
 ghost use Rattle.std.specs.Prelude.{◌≡◌, pos};
 ghost use Rattle.station_curve.specs.Errors.{slope_error_of};
-ghost use Rattle.station_curve.specs.Limits.{IsGentle};
+ghost use Rattle.station_curve.specs.Limits.{IsWithinLimits};
 ghost use Rattle.rate_bound.specs.declared.version.Version.TheVariants.{First, Second};
 
 use crate::rates::{blended_slope_rate, limited, plain_slope_rate};
@@ -20,7 +20,7 @@ pub struct TurnCurve<'a> {
     version: Version,
     error: i128,
     evaluations: u64,
-    ghost gentle: { IsGentle station.now },
+    ghost within_limits: { IsWithinLimits station.now },
     ghost bound: { error ≡ pos (slope_error_of station.now) },
 }
 
@@ -52,7 +52,7 @@ impl<'a> TurnCurve<'a> {
         ensures meaning { (⟦<TurnCurve<'a> as Curve>⟧.state result).facts.meaning ≡ turn_meaning version station.now }
         ensures count { (⟦<TurnCurve<'a> as Curve>⟧.state result).count ≡ 0 }
     {
-        station.known();
+        station.limits_hold();
         TurnCurve {
             station,
             version,
@@ -69,11 +69,11 @@ impl<'a> Curve for TurnCurve<'a> {
 
     ghost state = { λ c. turn_state c };
 
-    ghost lawful = { λ c. turn_lawful c.version c.station.now c.gentle };
+    ghost lawful = { λ c. turn_lawful c.version c.station.now c.within_limits };
 
-    ghost narrow = { λ c. slope_narrow c.station.now c.gentle };
+    ghost narrow = { λ c. slope_narrow c.station.now c.within_limits };
 
-    ghost close = { λ c m at. slope_close c.version c.station.now m c.gentle at };
+    ghost close = { λ c m at. slope_close c.version c.station.now m c.within_limits at };
 
     fn first(&self) -> i64 {
         self.station.first()
@@ -88,12 +88,12 @@ impl<'a> Curve for TurnCurve<'a> {
         self.station.slope(m)
     }
 
-    fn near_value(&mut self, m: i64) -> i128 {
+    fn approximate_value(&mut self, m: i64) -> i128 {
         self.evaluations += 1;
-        self.station.near_slope(m)
+        self.station.approximate_slope(m)
     }
 
-    fn exact_value(&self, m: i64, _near_value: i128) -> i128 {
+    fn exact_value(&self, m: i64, _approximate_value: i128) -> i128 {
         self.station.slope(m)
     }
 

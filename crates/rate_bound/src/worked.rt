@@ -69,11 +69,14 @@ pub fn worked_marks()
         ≡ pos 4147200000000000000000000000000 }
     ensures at_the_mark { (predicted_mark Version.Second pier_book pier (pos 1000000) (pos 0) (pos 500000) false).track.value (pos 15791160)
         ≡ pos 0 }
-    ensures twice_and_more { (predicted_mark Version.Second pier_book pier (pos 2000000) (pos 500000) (pos 1500000) false).track.value (pos 15791160)
+    ensures twice_and_more { (predicted_mark Version.Second pier_book pier (pos 2000000) (pos 500000)
+        (pos 1500000) false).track.value (pos 15791160)
         ≡ pos 0 }
-    ensures a_minute_on { (predicted_mark Version.Second pier_book pier (pos 2000000) (pos 500000) (pos 1500000) false).track.value (pos 15791161)
+    ensures a_minute_on { (predicted_mark Version.Second pier_book pier (pos 2000000) (pos 500000)
+        (pos 1500000) false).track.value (pos 15791161)
         ≡ negsuc 62842040524799999999999999999 }
-    ensures falls_to_the_mark { cover (predicted_mark Version.Second pier_book pier (pos 1000000) (pos 0) (pos 500000) false) (pos 15791159) 1
+    ensures falls_to_the_mark { cover (predicted_mark Version.Second pier_book pier (pos 1000000) (pos 0) (pos 500000) false)
+        (pos 15791159) 1
         ≡ Cell.Turn Kind.MarkFalling (pos 507538) ∷ [] }
     ensures rises_past_it { cover (predicted_mark Version.Second pier_book pier (pos 1000000) (pos 0) (pos 500000) false) (pos 15791640) 1
         ≡ Cell.Turn Kind.MarkRising (pos 500000) ∷ [] }

@@ -16,7 +16,9 @@ const PIER: &str =
     "tide certificate 1\nstation Pier\nbegin 2000-01-10T00:00Z\nend 2000-01-10T00:08Z\nmark none\ntrack turn\ns\ns\nq 2\nq 4\ndone\n";
 
 const NARROWS: &str =
-    "tide certificate 2\nstation Pi\u{e9}r\nbegin 2000-01-10T05:59Z\nend 2000-01-10T06:01Z\nmark -500000\ntrack turn\ns\nt low -1000000\ntrack slack\nt flood 0\nt ebb 99999999999999\nq 1024\ntrack mark\nt rise -99999999999999\nt fall 7\ns\ndone\n";
+    "tide certificate 2\nstation Pi\u{e9}r\nbegin 2000-01-10T05:59Z\nend 2000-01-10T06:01Z\nmark -500000\ntrack turn\n\
+    s\nt low -1000000\ntrack slack\nt flood 0\nt ebb 99999999999999\nq 1024\ntrack mark\nt rise -99999999999999\n\
+    t fall 7\ns\ndone\n";
 
 /// Returns the line of the fault of `bytes`, or 0 if they are a certificate's text.
 fn fault(alloc: Global, bytes: &[u8]) -> u32 {

@@ -18,7 +18,7 @@ fn copies_are_equal(rt: HostRuntime) -> Result<(), Fail> {
 }
 
 #[test]
-fn bytes_of_names_are_told(rt: HostRuntime) {
+fn bytes_of_names_are_kept(rt: HostRuntime) {
     assert!(rt; are_name_bytes(b"Pier 1~\xc3\xa9"));
     assert!(rt; are_name_bytes(b""));
     assert!(rt; !are_name_bytes(b"Pier\x1f"));

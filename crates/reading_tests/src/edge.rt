@@ -115,7 +115,7 @@ fn a_failed_write_is_the_last(rt: HostRuntime) -> Result<(), Fail> {
 }
 
 #[test]
-fn a_fixed_clock_fails_when_told(rt: HostRuntime) -> Result<(), Fail> {
+fn a_fixed_clock_fails_as_required(rt: HostRuntime) -> Result<(), Fail> {
     let mut clock = FixedClock::new(-10_000_000_000, [2].to_vec(rt.alloc())?);
     assert_eq!(rt; clock.minute(), Ok(-10_000_000_000));
     assert_eq!(rt; clock.minute(), Err(Failed));
@@ -210,7 +210,7 @@ const DOORS: [(u64, u64, [Result<bool, Failed>; 3], &str); 7] = [
 ];
 
 #[test]
-fn a_door_in_memory_fails_when_told(rt: HostRuntime) -> Result<(), Fail> {
+fn a_door_in_memory_fails_as_required(rt: HostRuntime) -> Result<(), Fail> {
     let alloc = rt.alloc();
     for (room, failing, expected, first) in &DOORS {
         let mut door = MemoryDoor::new(alloc, requests(alloc)?, *room, [*failing].to_vec(alloc)?)?;

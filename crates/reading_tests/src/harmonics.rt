@@ -46,7 +46,9 @@ fn the_pier_is_read(rt: HostRuntime) -> Result<(), Fail> {
 }
 
 const REAL: [u8; 227] =
-    *b"# Constituents\r\n2\r\nM2 28.9841042\r\n  S2\t30.0000000  \r\n\r\n2000\r\n1\r\nM2\r\n120.50\r\n# between\r\nS2\r\n0.00\r\n*END*\r\n1\r\nM2\r\n0.9850\r\nS2\r\n1.0000\r\n*END*\r\n# A station\r\nPort\xe9, Bay\r\n-5:00 :America/New_York\r\n2.5 feet\r\nM2 1.234 45.0\r\nS2 0.4 300.0\r\n";
+    *b"# Constituents\r\n2\r\nM2 28.9841042\r\n  S2\t30.0000000  \r\n\r\n2000\r\n1\r\nM2\r\n120.50\r\n# between\r\n\
+    S2\r\n0.00\r\n*END*\r\n1\r\nM2\r\n0.9850\r\nS2\r\n1.0000\r\n*END*\r\n# A station\r\nPort\xe9, Bay\r\n\
+    -5:00 :America/New_York\r\n2.5 feet\r\nM2 1.234 45.0\r\nS2 0.4 300.0\r\n";
 
 const ELEVEN_YEARS: &str =
     "1\nM2 28.9841042\n1999\n11\nM2\n0 20 40 60 80 100 120 140 160 180 200\n*END*\n11\nM2\n\
@@ -141,7 +143,7 @@ fn changes_of_a_line(rt: HostRuntime) -> Result<(), Fail> {
 
 /// Reads `bytes` in pieces of `count` bytes.
 fn read_in_pieces(alloc: Global, bytes: &[u8], count: usize) -> Result<Book, BookFault>
-    requires few { length bytes.now ≤ MOST_BYTES }
+    requires count_bound { length bytes.now ≤ MOST_BYTES }
     requires some { 0 < count }
 {
     let mut reader = BookReader::new(alloc)?;
@@ -156,7 +158,7 @@ fn read_in_pieces(alloc: Global, bytes: &[u8], count: usize) -> Result<Book, Boo
 
 /// Returns the harmonic constants of `bytes`, fed in pieces of `count` bytes, as text, or their
 /// fault.
-pub fn told_in_pieces(alloc: Global, bytes: &[u8], count: usize) -> Result<String, AllocError> {
+pub fn printed_in_pieces(alloc: Global, bytes: &[u8], count: usize) -> Result<String, AllocError> {
     if bytes.len() > MOST_BYTES || count == 0 {
         return Ok(String::new(alloc));
     }
@@ -167,21 +169,21 @@ pub fn told_in_pieces(alloc: Global, bytes: &[u8], count: usize) -> Result<Strin
 fn a_file_may_be_cut_anywhere(rt: HostRuntime) -> Result<(), Fail> {
     let alloc = rt.alloc();
     for file in [PIER.as_bytes(), REAL.as_slice(), ELEVEN_YEARS.as_bytes()] {
-        let whole = told_in_pieces(alloc, file, file.len())?;
+        let whole = printed_in_pieces(alloc, file, file.len())?;
         assert!(rt; whole.starts_with("Ok("));
         for count in [1, 7] {
             assert_eq!(rt;
-                told_in_pieces(alloc, file, count)?.as_str(),
+                printed_in_pieces(alloc, file, count)?.as_str(),
                 whole.as_str()
             );
         }
     }
     for (line, text, _, _) in &CHANGES {
         let file = changed(alloc, PIER, *line, text)?;
-        let whole = told_in_pieces(alloc, file.as_bytes(), file.len())?;
+        let whole = printed_in_pieces(alloc, file.as_bytes(), file.len())?;
         for count in [1, 7] {
-            let told = told_in_pieces(alloc, file.as_bytes(), count)?;
-            assert_eq!(rt; told.as_str(), whole.as_str(), "line {line}: {text}");
+            let printed = printed_in_pieces(alloc, file.as_bytes(), count)?;
+            assert_eq!(rt; printed.as_str(), whole.as_str(), "line {line}: {text}");
         }
     }
     Ok(())

@@ -6,8 +6,6 @@
 #![tactic(auto)]
 
 #[cfg(test)]
-mod asking;
-#[cfg(test)]
 mod certificates;
 #[cfg(test)]
 mod decimals;
@@ -25,6 +23,8 @@ mod loading;
 mod offsets;
 #[cfg(test)]
 mod peak_texts;
+#[cfg(test)]
+mod questions;
 #[cfg(test)]
 mod samples;
 #[cfg(test)]

@@ -13,10 +13,12 @@ use std::test::Fail;
 const PLAIN: &[u8] = b"name,reference,high_add,low_add,high_times,low_times,high_plus,low_plus";
 
 const DOCKS: &[u8] =
-    b"name,reference,high_add,low_add,high_times,low_times,high_plus,low_plus\r\nDock,Pier,0:30,-0:10,1.1,0.9,0.1,0\r\n\"Outer, east\",Pier,,,,,,\nDock,Lost,0:00,0:00,1,1,0,0\nPier,Lost,0:00,0:00,1,1,0,0\nBuoy,Lost,,,,,,";
+    b"name,reference,high_add,low_add,high_times,low_times,high_plus,low_plus\r\nDock,Pier,0:30,-0:10,1.1,0.9,0.1,0\r\n\
+    \"Outer, east\",Pier,,,,,,\nDock,Lost,0:00,0:00,1,1,0,0\nPier,Lost,0:00,0:00,1,1,0,0\nBuoy,Lost,,,,,,";
 
 const GATES: &[u8] =
-    b"name,reference,high_add,low_add,high_times,low_times,high_plus,low_plus,flood_add,ebb_add\nGate,Pier,,,,,,,0:05,-24:00\nHut,Pier,,,,,,,,\n";
+    b"name,reference,high_add,low_add,high_times,low_times,high_plus,low_plus,flood_add,ebb_add\n\
+    Gate,Pier,,,,,,,0:05,-24:00\nHut,Pier,,,,,,,,\n";
 
 /// Returns the row and the number of the fault of `text`, or two zeros if it is a table.
 fn fault(alloc: Global, text: &[u8]) -> (u32, u32) {

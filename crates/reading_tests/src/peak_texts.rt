@@ -3,14 +3,16 @@
 use crate::texts::changed;
 use decimal_text::MOST_BYTES;
 use highest_water::{
-    CertFault, PeakCell, peak_certificates_have_one_text, peak_readings_go_by_the_grammar,
+    PeakCell, PeakFault, peak_certificates_have_one_text, peak_readings_go_by_the_grammar,
     peak_texts_are_short, read_peak, worked_peak_readings, worked_peak_texts, write_peak,
 };
 use std::alloc::Global;
 use std::test::Fail;
 
 const PIER: &str =
-    "peak certificate 1\nstation Pier\nbegin 2000-01-10T00:00Z\nend 2000-01-10T01:04Z\nat 2000-01-10T00:00Z\nvalue 4147200000000000000000000000000\nm\nm\nm\nm\nm\nm\nm\nm\nm\nm\nm\nm\nm\nm\nm\nm\nu 2\nu 2\nu 4\nu 4\nu 4\nu 8\nu 8\nu 16\ndone\n";
+    "peak certificate 1\nstation Pier\nbegin 2000-01-10T00:00Z\nend 2000-01-10T01:04Z\nat 2000-01-10T00:00Z\n\
+    value 4147200000000000000000000000000\nm\nm\nm\nm\nm\nm\nm\nm\nm\nm\nm\nm\nm\nm\nm\nm\nu 2\nu 2\nu 4\nu 4\nu 4\n\
+    u 8\nu 8\nu 16\ndone\n";
 
 /// Returns the line of the fault of `bytes`, or 0 if they are a certificate's text.
 fn fault(alloc: Global, bytes: &[u8]) -> u32 {
@@ -19,8 +21,8 @@ fn fault(alloc: Global, bytes: &[u8]) -> u32 {
     }
     match read_peak(alloc, bytes) {
         Ok(_) => 0,
-        Err(CertFault::NoMemory) => 9999,
-        Err(CertFault::NotACertificate { line }) => line,
+        Err(PeakFault::NoMemory) => 9999,
+        Err(PeakFault::NotACertificate { line }) => line,
     }
 }
 

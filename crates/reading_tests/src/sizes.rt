@@ -1,6 +1,6 @@
 //! Files, tables, requests and certificates of the sizes that users have.
 
-use crate::harmonics::told_in_pieces;
+use crate::harmonics::printed_in_pieces;
 use cert_text::{read_certificate, write_certificate};
 use curve_law::{Cell, Kind};
 use decimal_text::{Bytes, Numbers, Text, Words};
@@ -73,10 +73,10 @@ fn a_file_of_many_stations_is_read(rt: HostRuntime) -> Result<(), Fail> {
     assert_eq!(rt; book.angles.as_slice().len(), 1_110);
     assert_eq!(rt; book.factors.as_slice().len(), 1_110);
     assert_eq!(rt; book.stations.as_slice().len(), 200);
-    let whole = told_in_pieces(alloc, text, text.len())?;
+    let whole = printed_in_pieces(alloc, text, text.len())?;
     assert!(rt; whole.starts_with("Ok("));
-    let told = told_in_pieces(alloc, text, 4_096)?;
-    assert!(rt; told.as_str() == whole.as_str());
+    let printed = printed_in_pieces(alloc, text, 4_096)?;
+    assert!(rt; printed.as_str() == whole.as_str());
     Ok(())
 }
 

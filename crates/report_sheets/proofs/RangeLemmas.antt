@@ -47,7 +47,8 @@ all_reached : (extreme : Extreme) (events : List Event) (best : Event) → (firs
 all_reached extreme events best first =
     let P : Event → Type 0 = λ event. reaches extreme best.level event.level ≡ true in
     All-append P first.before (best ∷ first.after)
-    (All-weaker (λ event. reaches extreme event.level best.level ≡ false) P (λ event. reaches_back extreme event.level best.level) first.before first.passed)
+    (All-weaker (λ event. reaches extreme event.level best.level ≡ false) P
+    (λ event. reaches_back extreme event.level best.level) first.before first.passed)
     (All-cons P best first.after (reaches_itself extreme best.level) first.others)
 
 -- the first event of all
@@ -61,7 +62,8 @@ best_alone extreme events event none = record {
 }
 
 -- one more event, which is beyond the most extreme one
-best_passed : (extreme : Extreme) (events : List Event) (best event : Event) → IsFirst extreme events best → reaches extreme best.level event.level ≡ false
+best_passed : (extreme : Extreme) (events : List Event) (best event : Event) → IsFirst extreme events best
+    → reaches extreme best.level event.level ≡ false
     → IsFirst extreme (events ++ event ∷ []) event
 best_passed extreme events best event first beyond =
     let P : Event → Type 0 = λ other. reaches extreme other.level event.level ≡ false in
@@ -69,12 +71,15 @@ best_passed extreme events best event first beyond =
       before = first.before ++ best ∷ first.after;
       after = [];
       parts = ap (λ list. list ++ event ∷ []) first.parts;
-      passed = All-weaker (λ other. reaches extreme best.level other.level ≡ true) P (λ other near. reaches_on extreme other.level best.level event.level near beyond) (first.before ++ best ∷ first.after) (all_reached extreme events best first);
+      passed = All-weaker (λ other. reaches extreme best.level other.level ≡ true) P
+          (λ other near. reaches_on extreme other.level best.level event.level near beyond)
+          (first.before ++ best ∷ first.after) (all_reached extreme events best first);
       others = All-nil (λ other. reaches extreme event.level other.level ≡ true);
     }
 
 -- one more event, which isn't
-best_kept : (extreme : Extreme) (events : List Event) (best event : Event) → IsFirst extreme events best → reaches extreme best.level event.level ≡ true
+best_kept : (extreme : Extreme) (events : List Event) (best event : Event) → IsFirst extreme events best
+    → reaches extreme best.level event.level ≡ true
     → IsFirst extreme (events ++ event ∷ []) best
 best_kept extreme events best event first near = record {
   before = first.before;
@@ -88,7 +93,8 @@ best_of-more : (extreme : Extreme) (events : List Event) (best : Option Event) (
     → IsBest extreme (events ++ event ∷ []) (better_of extreme best event)
 best_of-more extreme events None event none = best_alone extreme events event none
 best_of-more extreme events (Some best) event first =
-    elim (reaches extreme best.level event.level) as (λ near. reaches extreme best.level event.level ≡ near → IsBest extreme (events ++ event ∷ []) (cond near (Some best) (Some event))) [
+    elim (reaches extreme best.level event.level) as (λ near. reaches extreme best.level event.level ≡ near
+    → IsBest extreme (events ++ event ∷ []) (cond near (Some best) (Some event))) [
       | true ↦ best_kept extreme events best event first
       | false ↦ best_passed extreme events best event first
     ] refl
@@ -110,19 +116,23 @@ best_same extreme events i best after d within so_far hidden same =
     rw (filter_more (λ event. is_of extreme event.kind) events i d within, hidden, append-nil, same)
     so_far
 
-find_past : (p : Event → Bool) (before after : List Event) (best : Event) → All (λ event. p event ≡ false) before → p best ≡ true → find p (before ++ best ∷ after) ≡ Some best
+find_past : (p : Event → Bool) (before after : List Event) (best : Event) → All (λ event. p event ≡ false) before
+    → p best ≡ true → find p (before ++ best ∷ after) ≡ Some best
 find_past p [] after best none is = rw is
 find_past p (x ∷ before) after best none is =
     rw (All-head (λ event. p event ≡ false) x before none)
     (find_past p before after best (All-tail (λ event. p event ≡ false) x before none) is)
 
-first_of-parts : (extreme : Extreme) (events : List Event) (best : Event) → IsFirst extreme events best → Some best ≡ first_of extreme events
+first_of-parts : (extreme : Extreme) (events : List Event) (best : Event) → IsFirst extreme events best
+    → Some best ≡ first_of extreme events
 first_of-parts extreme events best first =
     let all = first.before ++ best ∷ first.after in
     let test : Event → Bool = λ event. list_all (λ other. reaches extreme event.level other.level) all in
     let fails : (event : Event) → reaches extreme event.level best.level ≡ false → test event ≡ false =
-    λ event below. list_all_at (λ other. reaches extreme event.level other.level) all (length first.before) best (simp length-append (omega arith))
-    (ap (λ other. reaches extreme event.level other.level) (get_or_at first.before best first.after best (length first.before) refl) ∙ below) in
+    λ event below. list_all_at (λ other. reaches extreme event.level other.level) all (length first.before) best
+    (simp length-append (omega arith))
+    (ap (λ other. reaches extreme event.level other.level)
+    (get_or_at first.before best first.after best (length first.before) refl) ∙ below) in
     rw first.parts
     (sym (find_past test first.before first.after best
     (All-weaker (λ event. reaches extreme event.level best.level ≡ false) (λ event. test event ≡ false) fails first.before first.passed)
@@ -134,7 +144,8 @@ best_is extreme events None none = rw none refl
 best_is extreme events (Some best) first = first_of-parts extreme events best first
 
 -- a fact that holds of each event holds of the one that is found
-find-holds : (P : Event → Type 0) (p : Event → Bool) (events : List Event) (event : Event) → All P events → Some event ≡ find p events → P event
+find-holds : (P : Event → Type 0) (p : Event → Bool) (events : List Event) (event : Event) → All P events
+    → Some event ≡ find p events → P event
 find-holds P p [] event all is = cc
 find-holds P p (x ∷ events) event all is =
     elim (p x) as (λ found. Some event ≡ cond found (Some x) (find p events) → P event) [
@@ -142,7 +153,9 @@ find-holds P p (x ∷ events) event all is =
       | false ↦ λ later. find-holds P p events event (All-tail P x events all) later
     ] is
 
-pub extreme-holds : (P : Event → Type 0) (extreme : Extreme) (events : List Event) (event : Event) → All P events → Some event ≡ extreme_of extreme events → P event
+pub extreme-holds : (P : Event → Type 0) (extreme : Extreme) (events : List Event) (event : Event) → All P events
+    → Some event ≡ extreme_of extreme events → P event
 extreme-holds P extreme events event all is =
     let shown = filter (λ e. is_of extreme e.kind) events in
-    find-holds P (λ e. list_all (λ other. reaches extreme e.level other.level) shown) shown event (All-filter (λ e. is_of extreme e.kind) P events all) is
+    find-holds P (λ e. list_all (λ other. reaches extreme e.level other.level) shown) shown event
+    (All-filter (λ e. is_of extreme e.kind) P events all) is

@@ -13,7 +13,8 @@ use Rattle.report_sheets.specs.Tallies.{count_at, count_line, names, place_of}
 use Rattle.std.proofs.Common.{⊎_elim}
 
 -- one more count at the index of an event's name
-pub count_at-more : (units : Units) (events : List Event) (i : ℕ) (d : Event) (counts : List ℕ) (at place : ℕ) → i < length events → at < length counts
+pub count_at-more : (units : Units) (events : List Event) (i : ℕ) (d : Event) (counts : List ℕ) (at place : ℕ)
+    → i < length events → at < length counts
     → at ≡ place_of (word_of units (get_or events i d).kind (get_or events i d).level)
     → get_or counts at 0 ≡ count_at units (take i events) at
     → get_or counts place 0 ≡ count_at units (take i events) place
@@ -36,5 +37,12 @@ pub lines_more : (counts start text after : List ℕ) (i place : ℕ) (d : Event
 lines_more counts start text after i place d within is so_far next =
     let f : EventWord → List ℕ = λ word. count_line (slice_index counts (place_of word)) word in
     let one : flat_map f (get_or names i d ∷ []) ≡ f (get_or names i d) = append-nil (f (get_or names i d)) in
-    rw (take_more names i d within, flat_map-append f (take i names) (get_or names i d ∷ []), one, ← append_assoc start (flat_map f (take i names)) (f (get_or names i d)), ← so_far, ← is)
+    rw (
+      take_more names i d within,
+      flat_map-append f (take i names) (get_or names i d ∷ []),
+      one,
+      ← append_assoc start (flat_map f (take i names)) (f (get_or names i d)),
+      ← so_far,
+      ← is,
+    )
     next

@@ -4,7 +4,18 @@ use Rattle.std.specs.List.{flat_map}
 use Rattle.curve_law.specs.declared.event.Event.{Event}
 use Rattle.event_text.specs.Words.{word_of, word_text}
 use Rattle.event_text.specs.declared.event_word.EventWord.{EventWord}
-use Rattle.event_text.specs.declared.event_word.EventWord.TheVariants.{HighTide, LowTide, MaxFlood, MinFlood, MaxEbb, MinEbb, SlackFloodBegins, SlackEbbBegins, MarkRising, MarkFalling}
+use Rattle.event_text.specs.declared.event_word.EventWord.TheVariants.{
+  HighTide,
+  LowTide,
+  MaxFlood,
+  MinFlood,
+  MaxEbb,
+  MinEbb,
+  SlackFloodBegins,
+  SlackEbbBegins,
+  MarkRising,
+  MarkFalling,
+}
 use Rattle.harmonics_text.specs.declared.book.Units.{Units}
 use Rattle.report_sheets.specs.declared.head.Head.{Head}
 use Rattle.report_sheets.specs.Sheets.{SheetMeaning}

@@ -40,7 +40,7 @@ impl Extreme {
     /// Returns the first word of the end's line, at most 8 bytes.
     pub fn label(self) -> &'static str
         ensures text { result.now ≡ label_of self }
-        ensures short { length result.now ≤ 8 }
+        ensures length_bound { length result.now ≤ 8 }
     {
         match self {
             Extreme::Highest => "Highest ",

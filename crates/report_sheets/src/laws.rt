@@ -21,7 +21,8 @@ pub fn pages_show_the_first_events()
     ensures all { (sheet : SheetMeaning) (head : Head) (events : List Event)
         → length events ≤ sheet.limit → page_of head events sheet ≡ sheet.layout head events }
     ensures first { (sheet : SheetMeaning) (head : Head) (events : List Event)
-        → sheet.limit ≤ length events → (page_of head events sheet ≡ sheet.layout head (take sheet.limit events)) × (length (take sheet.limit events) ≡ sheet.limit) }
+        → sheet.limit ≤ length events → (page_of head events sheet ≡ sheet.layout head (take sheet.limit events))
+        × (length (take sheet.limit events) ≡ sheet.limit) }
 {}
 
 /// The layouts of a tally, of ranges and of first lines are those of their definitions.

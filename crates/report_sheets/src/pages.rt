@@ -19,7 +19,7 @@ pub fn missing(sheets: &Vec<Box<dyn Sheet>>, wanted: &Words) -> Option<u64>
     ensures { result ≡ missing_of (map meaning sheets.now.items) wanted.now }
 {
     for (place, word) in wanted.as_slice().iter().enumerate() {
-        if !is_known(sheets.as_slice(), word) {
+        if !is_sheet_name(sheets.as_slice(), word) {
             return Some(place as u64);
         }
     }
@@ -27,7 +27,7 @@ pub fn missing(sheets: &Vec<Box<dyn Sheet>>, wanted: &Words) -> Option<u64>
 }
 
 /// Returns true if one of `sheets` has the word `word`.
-fn is_known(sheets: &[Box<dyn Sheet>], word: &Text) -> bool
+fn is_sheet_name(sheets: &[Box<dyn Sheet>], word: &Text) -> bool
     ensures { result ≡ list_any (λ sheet. bytes_eq word.now (meaning sheet).word) sheets.now }
 {
     for sheet in sheets {
@@ -110,7 +110,7 @@ fn push_page(
 /// Offers `event` to `sheet`.
 fn offer(sheet: &mut Box<dyn Sheet>, event: &Event) -> Result<Taken, AllocError>
     requires { IsListed (heading sheet.old).units event.now }
-    ensures same { meaning sheet.new ≡ meaning sheet.old }
+    ensures unchanged { meaning sheet.new ≡ meaning sheet.old }
     ensures heading { heading sheet.new ≡ heading sheet.old }
     ensures answer { IfOk result (λ taken. taken ≡ taken_of (meaning sheet.old).limit (list sheet.old)) }
     ensures list { OnOk result (list sheet.new ≡ list_after (meaning sheet.old).limit (list sheet.old) event.now) }

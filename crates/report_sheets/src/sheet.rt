@@ -39,7 +39,7 @@ pub trait Sheet: Drop {
     /// [`AllocError`] if memory runs out: then the list is empty too, and the head is unchanged.
     fn open(&mut self, head: &Head) -> Result<(), AllocError>
         requires { IsHead head.now }
-        ensures same { meaning self.new ≡ meaning self.old }
+        ensures unchanged { meaning self.new ≡ meaning self.old }
         ensures empty { list self.new ≡ [] }
         ensures ok { OnOk result (heading self.new ≡ head.entry.now) }
         ensures err { OnErr result (heading self.new ≡ heading self.old) };
@@ -53,7 +53,7 @@ pub trait Sheet: Drop {
     /// [`AllocError`] if memory runs out: then nothing changes.
     fn take(&mut self, event: &Event) -> Result<Taken, AllocError>
         requires { IsListed (heading self.old).units event.now }
-        ensures same { meaning self.new ≡ meaning self.old }
+        ensures unchanged { meaning self.new ≡ meaning self.old }
         ensures heading { heading self.new ≡ heading self.old }
         ensures answer { IfOk result (λ taken. taken ≡ taken_of (meaning self.old).limit (list self.old)) }
         ensures list { OnOk result (list self.new ≡ list_after (meaning self.old).limit (list self.old) event.now) }

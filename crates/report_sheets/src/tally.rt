@@ -87,7 +87,8 @@ fn place(word: EventWord) -> usize
 /// Appends a line for each name with a count.
 fn push_counts(text: &mut Vec<u8>, counts: &[u64]) -> Result<(), AllocError>
     requires { length counts.now ≡ 10 }
-    ensures { OnOk result (text.new.items ≡ text.old.items ++ flat_map (λ word. count_line (slice_index counts.now (place_of word)) word) names) }
+    ensures { OnOk result (text.new.items
+        ≡ text.old.items ++ flat_map (λ word. count_line (slice_index counts.now (place_of word)) word) names) }
 {
     for word in NAMES {
         push_count(text, counts[place(word)], word)?;

@@ -7,13 +7,13 @@ use Rattle.std.proofs.lemmas.Nat.{div_below}
 use Rattle.std.proofs.lemmas.Fmt.{length-decimal-le}
 use Rattle.decimal_text.specs.Writing.{last_digits, minus_of, fraction_of, write_of}
 use Rattle.sample_tides.specs.Generator.{next, scaled_to}
-use Rattle.sample_tides.specs.Parts.{Draft, Part, append, line, moved, draw, ◌>>=◌, ◌>>◌, each}
+use Rattle.sample_tides.specs.Parts.{SampleWriter, Part, append, line, moved, draw, ◌>>=◌, ◌>>◌, each}
 use Rattle.sample_tides.specs.File.{name_of, slowest_of, constituent, hundredths, value, values, table, meridian, level, datum, constants, station, heading, file}
 use Rattle.decimal_text.specs.declared.limits.TheConstants.{MOST_BYTES}
 
 -- a part appends at most `most` bytes
 pub record Grows (most : ℕ) (part : Part) : Type 0 where
-  pub fits : (draft : Draft) → length (part draft).text ≤ length draft.text + most
+  pub fits : (writer : SampleWriter) → length (part writer).text ≤ length writer.text + most
 
 -- ---- texts
 
@@ -45,31 +45,33 @@ unfolding write_of
 write_short v places small few =
     let less = div-le_self (unsigned_abs v) (10 ^ places) in
     joined (minus_of v ++ decimal (unsigned_abs v / 10 ^ places)) (fraction_of places (unsigned_abs v)) 21 8
-    (joined (minus_of v) (decimal (unsigned_abs v / 10 ^ places)) 1 20 (minus_short v) (decimal_short (unsigned_abs v / 10 ^ places) (omega arith))) (fraction_short places (unsigned_abs v) few)
+    (joined (minus_of v) (decimal (unsigned_abs v / 10 ^ places)) 1 20 (minus_short v)
+    (decimal_short (unsigned_abs v / 10 ^ places) (omega arith))) (fraction_short places (unsigned_abs v) few)
 
 name_short : (k : ℕ) → k < 2 ^ 64 → length (name_of k) ≤ 21
 unfolding name_of
 name_short k small =
     pick (k == 1) _ _ 21 (omega arith) (pick (k == 2) _ _ 21 (omega arith) (pick (k == 3) _ _ 21 (omega arith)
-    (pick (k == 4) _ _ 21 (omega arith) (pick (k == 5) _ _ 21 (omega arith) (joined (codes "C") (decimal k) 1 20 (omega arith) (decimal_short k small))))))
+    (pick (k == 4) _ _ 21 (omega arith)
+    (pick (k == 5) _ _ 21 (omega arith) (joined (codes "C") (decimal k) 1 20 (omega arith) (decimal_short k small))))))
 
 -- ---- parts
 
 wider : (m n : ℕ) (part : Part) → m ≤ n → Grows m part → Grows n part
-wider m n part few grows = record { fits = λ draft. let own = grows.fits draft in omega arith }
+wider m n part few grows = record { fits = λ writer. let own = grows.fits writer in omega arith }
 
 appended : (most : ℕ) (text : List ℕ) → length text ≤ most → Grows most (append text)
 unfolding append
-appended most text few = record { fits = λ draft. let all = length-append draft.text text in omega arith }
+appended most text few = record { fits = λ writer. let all = length-append writer.text text in omega arith }
 
 lined : (most : ℕ) (text : List ℕ) → length text ≤ most → Grows (most + 1) (line text)
 lined most text few = appended (most + 1) _ (joined text (codes "\n") most 1 few (omega arith))
 
 both : (m n : ℕ) (p q : Part) → Grows m p → Grows n q → Grows (m + n) (p >> q)
 both m n p q first last = record {
-  fits = λ draft.
-      let a = first.fits draft in
-      let b = last.fits (p draft) in
+  fits = λ writer.
+      let a = first.fits writer in
+      let b = last.fits (p writer) in
       omega arith;
 }
 
@@ -87,17 +89,19 @@ scaled_below bound state some =
 drawn : (bound most : ℕ) (part : ℕ → Part) → 0 < bound → ((x : ℕ) → x < bound → Grows most (part x)) → Grows most (draw bound >>= part)
 unfolding moved
 drawn bound most part some one = record {
-  fits = λ draft.
-      (one (scaled_to bound (next draft.state)) (scaled_below bound draft.state some)).fits (record { text = draft.text; state = next draft.state });
+  fits = λ writer.
+      (one (scaled_to bound (next writer.state)) (scaled_below bound writer.state some)).fits
+      (record { text = writer.text; state = next writer.state });
 }
 
-repeated : (first count most : ℕ) (part : ℕ → Part) → ((k : ℕ) → k < first + count → Grows most (part k)) → Grows (count * most) (each first count part)
+repeated : (first count most : ℕ) (part : ℕ → Part) → ((k : ℕ) → k < first + count → Grows most (part k))
+    → Grows (count * most) (each first count part)
 unfolding each
-repeated first zero most part one = record { fits = λ draft. omega arith }
+repeated first zero most part one = record { fits = λ writer. omega arith }
 repeated first (suc more) most part one = record {
-  fits = λ draft.
-      let before = (repeated first more most part (λ k small. one k (omega arith))).fits draft in
-      let last = (one (first + more) (omega arith)).fits (each first more part draft) in
+  fits = λ writer.
+      let before = (repeated first more most part (λ k small. one k (omega arith))).fits writer in
+      let last = (one (first + more) (omega arith)).fits (each first more part writer) in
       grind (arith, before, last);
 }
 
@@ -117,10 +121,13 @@ slowest_small k = least_small (k % 2 == 0)
 
 constituent_grows : (k : ℕ) → k < 38 → Grows 52 (constituent k)
 unfolding constituent
-constituent_grows k few = drawn 40000000 52 (λ more. line (name_of k ++ codes " " ++ write_of (pos (slowest_of k + more)) 7)) (lit< tt) (λ more below.
+constituent_grows k few = drawn 40000000 52
+    (λ more. line (name_of k ++ codes " " ++ write_of (pos (slowest_of k + more)) 7)) (lit< tt) (λ more below.
     let slow = slowest_small k in
-    lined 51 (name_of k ++ codes " " ++ write_of (pos (slowest_of k + more)) 7) (joined (name_of k ++ codes " ") (write_of (pos (slowest_of k + more)) 7) 22 29
-    (joined (name_of k) (codes " ") 21 1 (name_short k (omega arith)) (omega arith)) (write_short (pos (slowest_of k + more)) 7 (omega arith) (omega arith))))
+    lined 51 (name_of k ++ codes " " ++ write_of (pos (slowest_of k + more)) 7)
+    (joined (name_of k ++ codes " ") (write_of (pos (slowest_of k + more)) 7) 22 29
+    (joined (name_of k) (codes " ") 21 1 (name_short k (omega arith)) (omega arith))
+    (write_short (pos (slowest_of k + more)) 7 (omega arith) (omega arith))))
 
 hundredths_short : (n : ℕ) → n < 2 ^ 64 → length (hundredths n) ≤ 29
 unfolding hundredths
@@ -151,7 +158,8 @@ hours_small hours few = omega (arith, ints)
 meridian_grows : Grows 40 meridian
 unfolding meridian
 meridian_grows = drawn 25 40 _ (lit< tt) (λ hours below.
-    lined 39 _ (joined _ (codes ":00 :UTC") 29 10 (write_short (pos hours -ℤ pos 12) 0 (hours_small hours below) (omega arith)) (omega arith)))
+    lined 39 _ (joined _ (codes ":00 :UTC") 29 10
+    (write_short (pos hours -ℤ pos 12) 0 (hours_small hours below) (omega arith)) (omega arith)))
 
 level_grows : Grows 40 level
 unfolding level
@@ -170,18 +178,24 @@ bound_small : (b : Bool) → (if b then 300 else 30) ≤ 300
 bound_small true = omega arith
 bound_small false = omega arith
 
-pair_grows : (k amplitude epoch : ℕ) → k < 38 → amplitude < 2 ^ 64 → epoch < 2 ^ 64 → Grows 82 (line (name_of k ++ codes " " ++ hundredths amplitude ++ codes " " ++ hundredths epoch))
+pair_grows : (k amplitude epoch : ℕ) → k < 38 → amplitude < 2 ^ 64 → epoch < 2 ^ 64
+    → Grows 82 (line (name_of k ++ codes " " ++ hundredths amplitude ++ codes " " ++ hundredths epoch))
 pair_grows k amplitude epoch few small low =
     lined 81 (name_of k ++ codes " " ++ hundredths amplitude ++ codes " " ++ hundredths epoch)
     (joined (name_of k ++ codes " " ++ hundredths amplitude ++ codes " ") (hundredths epoch) 52 29
     (joined (name_of k ++ codes " " ++ hundredths amplitude) (codes " ") 51 1
     (joined (name_of k ++ codes " ") (hundredths amplitude) 22 29
-    (joined (name_of k) (codes " ") 21 1 (name_short k (omega arith)) (omega arith)) (hundredths_short amplitude small)) (omega arith)) (hundredths_short epoch low))
+    (joined (name_of k) (codes " ") 21 1 (name_short k (omega arith)) (omega arith)) (hundredths_short amplitude small))
+    (omega arith)) (hundredths_short epoch low))
 
-given_grows : (k : ℕ) → k < 38 → Grows 82 (draw (if nat_le k 5 then 300 else 30) >>= (λ amplitude. draw 36000 >>= (λ epoch. line (name_of k ++ codes " " ++ hundredths amplitude ++ codes " " ++ hundredths epoch))))
+given_grows : (k : ℕ) → k < 38 → Grows 82 (draw (if nat_le k 5 then 300 else 30) >>= (λ amplitude. draw 36000
+    >>= (λ epoch. line (name_of k ++ codes " " ++ hundredths amplitude ++ codes " " ++ hundredths epoch))))
 given_grows k few =
-    drawn (if nat_le k 5 then 300 else 30) 82 (λ amplitude. draw 36000 >>= (λ epoch. line (name_of k ++ codes " " ++ hundredths amplitude ++ codes " " ++ hundredths epoch))) (bound_some (nat_le k 5)) (λ amplitude below.
-    drawn 36000 82 (λ epoch. line (name_of k ++ codes " " ++ hundredths amplitude ++ codes " " ++ hundredths epoch)) (lit< tt) (λ epoch under.
+    drawn (if nat_le k 5 then 300 else 30) 82 (λ amplitude. draw 36000
+    >>= (λ epoch. line (name_of k ++ codes " " ++ hundredths amplitude ++ codes " " ++ hundredths epoch)))
+    (bound_some (nat_le k 5)) (λ amplitude below.
+    drawn 36000 82 (λ epoch. line (name_of k ++ codes " " ++ hundredths amplitude ++ codes " " ++ hundredths epoch))
+    (lit< tt) (λ epoch under.
     let small = bound_small (nat_le k 5) in
     pair_grows k amplitude epoch few (omega arith) (omega arith)))
 
@@ -192,14 +206,16 @@ constants_grow k few = either (k % 7 == 0) 82 (line (codes "x 0 0")) _ (lined 81
 station_grows : (i : ℕ) → i < 201 → Grows 3144 (station i)
 unfolding station
 station_grows i few =
-    both 30 3114 _ _ (lined 29 (codes "Station " ++ decimal i) (joined (codes "Station ") (decimal i) 9 20 (omega arith) (decimal_short i (omega arith))))
+    both 30 3114 _ _ (lined 29 (codes "Station " ++ decimal i)
+    (joined (codes "Station ") (decimal i) 9 20 (omega arith) (decimal_short i (omega arith))))
     (both 40 3074 _ _ meridian_grows (both 40 3034 _ _ (datum_grows i) (repeated 1 37 82 constants constants_grow)))
 
 heading_grows : (seed : ℕ) → seed < 2 ^ 64 → Grows 168 (heading seed)
 unfolding heading
 heading_grows seed small =
     let short : (text : List ℕ) → length text ≤ 20 → Grows 21 (line text) = λ text few. lined 20 text few in
-    both 42 126 _ _ (lined 41 (codes "# sample tides, seed " ++ decimal seed) (joined (codes "# sample tides, seed ") (decimal seed) 21 20 (omega arith) (decimal_short seed small)))
+    both 42 126 _ _ (lined 41 (codes "# sample tides, seed " ++ decimal seed)
+    (joined (codes "# sample tides, seed ") (decimal seed) 21 20 (omega arith) (decimal_short seed small)))
     (both 21 105 _ _ (short (codes "37") (omega arith)) (both 21 84 _ _ (short (codes "M2 28.9841042") (omega arith))
     (both 21 63 _ _ (short (codes "S2 30.0000000") (omega arith)) (both 21 42 _ _ (short (codes "N2 28.4397295") (omega arith))
     (both 21 21 _ _ (short (codes "K1 15.0410686") (omega arith)) (short (codes "O1 13.9430356") (omega arith)))))))

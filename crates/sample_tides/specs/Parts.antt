@@ -3,22 +3,22 @@ use Rattle.std.specs.Prelude.{ℕ, zero, suc, ◌+◌, List, ◌++◌, codes}
 use Rattle.sample_tides.specs.Generator.{next, scaled_to}
 
 -- the text so far, and the state of the generator
-pub record Draft : Type 0 where
+pub record SampleWriter : Type 0 where
   pub text : List ℕ
   pub state : ℕ
 
 -- a part of the text: it appends to the text, and may draw numbers
 abbrev pub Part : Type 0
-Part = Draft → Draft
+Part = SampleWriter → SampleWriter
 
 -- one part after another
 infixl 10 ◌>>◌
 abbrev pub ◌>>◌ : Part → Part → Part
-(first >> then) draft = then (first draft)
+(first >> then) writer = then (first writer)
 
 -- appends a text
 unfoldable pub append : List ℕ → Part
-append text draft = record { text = draft.text ++ text; state = draft.state }
+append text writer = record { text = writer.text ++ text; state = writer.state }
 
 -- appends a text and the end of a line
 abbrev pub line : List ℕ → Part
@@ -26,18 +26,18 @@ line text = append (text ++ codes "\n")
 
 -- the state is advanced once, before each draw
 unfoldable pub moved : Part
-moved draft = record { text = draft.text; state = next draft.state }
+moved writer = record { text = writer.text; state = next writer.state }
 
 -- a drawn number below `bound`
-abbrev pub draw : ℕ → Draft → ℕ × Draft
-draw bound draft = (scaled_to bound (moved draft).state, moved draft)
+abbrev pub draw : ℕ → SampleWriter → ℕ × SampleWriter
+draw bound writer = (scaled_to bound (moved writer).state, moved writer)
 
 -- a draw, then the part that uses the number
 infixl 10 ◌>>=◌
-abbrev pub ◌>>=◌ : (Draft → ℕ × Draft) → (ℕ → Part) → Part
-(drawn >>= part) draft = part (drawn draft).0 (drawn draft).1
+abbrev pub ◌>>=◌ : (SampleWriter → ℕ × SampleWriter) → (ℕ → Part) → Part
+(drawn >>= part) writer = part (drawn writer).0 (drawn writer).1
 
 -- a part for each of `count` numbers from `first` on
 unfoldable pub each : ℕ → ℕ → (ℕ → Part) → Part
-each first zero part draft = draft
-each first (suc more) part draft = part (first + more) (each first more part draft)
+each first zero part writer = writer
+each first (suc more) part writer = part (first + more) (each first more part writer)

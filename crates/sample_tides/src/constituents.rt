@@ -5,7 +5,7 @@ ghost use Rattle.decimal_text.specs.Writing.{write_of};
 ghost use Rattle.sample_tides.specs.File.{name_of, slowest_of, constituent};
 ghost use Rattle.sample_tides.specs.Parts.{append};
 
-use crate::draft::Draft;
+use crate::sample_writer::SampleWriter;
 use std::alloc::AllocError;
 
 /// The number of constituents of the file.
@@ -13,40 +13,40 @@ pub(crate) const CONSTITUENTS: u32 = 37;
 
 /// Appends the name of constituent `number`, counted from 1.
 #[tactic(auto, using(crate::proofs::PartsLemmas::append_twice), unfolding(crate::specs::File::name_of))]
-pub(crate) fn append_name(draft: &mut Draft, number: u32) -> Result<(), AllocError>
-    ensures { OnOk result (draft.new ≡ append (name_of number) draft.old) }
+pub(crate) fn append_name(writer: &mut SampleWriter, number: u32) -> Result<(), AllocError>
+    ensures { OnOk result (writer.new ≡ append (name_of number) writer.old) }
 {
     match number {
-        1 => draft.append(b"M2"),
-        2 => draft.append(b"S2"),
-        3 => draft.append(b"N2"),
-        4 => draft.append(b"K1"),
-        5 => draft.append(b"O1"),
+        1 => writer.append(b"M2"),
+        2 => writer.append(b"S2"),
+        3 => writer.append(b"N2"),
+        4 => writer.append(b"K1"),
+        5 => writer.append(b"O1"),
         _ => {
-            draft.append(b"C")?;
-            draft.whole(u64::from(number))
+            writer.append(b"C")?;
+            writer.whole(u64::from(number))
         }
     }
 }
 
 /// Appends the line of constituent `number`, from 6 on: its name and a drawn speed in degrees an hour.
 #[tactic(auto, using(crate::proofs::PartsLemmas::append_twice), unfolding(crate::specs::File::constituent))]
-pub(crate) fn append_constituent(draft: &mut Draft, number: u32) -> Result<(), AllocError>
-    ensures { OnOk result (draft.new ≡ constituent number draft.old) }
+pub(crate) fn append_constituent(writer: &mut SampleWriter, number: u32) -> Result<(), AllocError>
+    ensures { OnOk result (writer.new ≡ constituent number writer.old) }
 {
-    let speed = slowest(number) + draft.draw(40_000_000);
-    append_name(draft, number)?;
-    draft.append(b" ")?;
-    append_speed(draft, speed)?;
-    draft.append(b"\n")
+    let speed = slowest(number) + writer.draw(40_000_000);
+    append_name(writer, number)?;
+    writer.append(b" ")?;
+    append_speed(writer, speed)?;
+    writer.append(b"\n")
 }
 
 /// Appends `speed`, in ten-millionths of a degree an hour, as degrees an hour.
-fn append_speed(draft: &mut Draft, speed: u32) -> Result<(), AllocError>
-    ensures { OnOk result (draft.new ≡ append (write_of (pos speed) 7) draft.old) }
+fn append_speed(writer: &mut SampleWriter, speed: u32) -> Result<(), AllocError>
+    ensures { OnOk result (writer.new ≡ append (write_of (pos speed) 7) writer.old) }
 {
-    draft.decimal(speed / 10, 6)?;
-    draft.whole(u64::from(speed % 10))
+    writer.decimal(speed / 10, 6)?;
+    writer.whole(u64::from(speed % 10))
 }
 
 fn slowest(number: u32) -> u32

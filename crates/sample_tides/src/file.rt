@@ -6,8 +6,8 @@ ghost use Rattle.sample_tides.specs.Parts.{line};
 ghost use Rattle.decimal_text.specs.declared.limits.TheConstants.{MOST_BYTES};
 
 use crate::constituents::{CONSTITUENTS, append_constituent};
-use crate::draft::Draft;
 use crate::quantity::Quantity;
+use crate::sample_writer::SampleWriter;
 use crate::stations::append_station;
 use crate::tables::append_table;
 use decimal_text::Bytes;
@@ -35,50 +35,50 @@ const FACTOR: Quantity = Quantity {
 #[tactic(auto, unfolding(crate::specs::File::sample_of))]
 pub fn sample(alloc: Global, seed: u64) -> Result<Bytes, AllocError>
     ensures exact { IfOk result (λ bytes. bytes ≡ sample_of seed) }
-    ensures short { IfOk result (λ bytes. length bytes ≤ MOST_BYTES) }
+    ensures length_bound { IfOk result (λ bytes. length bytes ≤ MOST_BYTES) }
 {
-    let mut draft = Draft::new(alloc, seed);
-    append_file(&mut draft, seed)?;
-    Ok(draft.into_bytes())
+    let mut writer = SampleWriter::new(alloc, seed);
+    append_file(&mut writer, seed)?;
+    Ok(writer.into_bytes())
 }
 
 #[tactic(auto, unfolding(crate::specs::File::file))]
-fn append_file(draft: &mut Draft, seed: u64) -> Result<(), AllocError>
-    ensures { OnOk result (draft.new ≡ file seed draft.old) }
+fn append_file(writer: &mut SampleWriter, seed: u64) -> Result<(), AllocError>
+    ensures { OnOk result (writer.new ≡ file seed writer.old) }
 {
-    append_heading(draft, seed)?;
+    append_heading(writer, seed)?;
     for number in 6..=CONSTITUENTS {
-        append_constituent(draft, number)?;
+        append_constituent(writer, number)?;
     }
-    draft.line(b"2000")?;
-    draft.line(b"30")?;
-    append_table(draft, ARGUMENT)?;
-    draft.line(b"30")?;
-    append_table(draft, FACTOR)?;
+    writer.line(b"2000")?;
+    writer.line(b"30")?;
+    append_table(writer, ARGUMENT)?;
+    writer.line(b"30")?;
+    append_table(writer, FACTOR)?;
     for number in 1..=STATIONS {
-        append_station(draft, number)?;
+        append_station(writer, number)?;
     }
     Ok(())
 }
 
 #[tactic(auto, unfolding(crate::specs::File::heading))]
-fn append_heading(draft: &mut Draft, seed: u64) -> Result<(), AllocError>
-    ensures { OnOk result (draft.new ≡ heading seed draft.old) }
+fn append_heading(writer: &mut SampleWriter, seed: u64) -> Result<(), AllocError>
+    ensures { OnOk result (writer.new ≡ heading seed writer.old) }
 {
-    append_title(draft, seed)?;
-    draft.line(b"37")?;
-    draft.line(b"M2 28.9841042")?;
-    draft.line(b"S2 30.0000000")?;
-    draft.line(b"N2 28.4397295")?;
-    draft.line(b"K1 15.0410686")?;
-    draft.line(b"O1 13.9430356")
+    append_title(writer, seed)?;
+    writer.line(b"37")?;
+    writer.line(b"M2 28.9841042")?;
+    writer.line(b"S2 30.0000000")?;
+    writer.line(b"N2 28.4397295")?;
+    writer.line(b"K1 15.0410686")?;
+    writer.line(b"O1 13.9430356")
 }
 
 #[tactic(auto, using(crate::proofs::PartsLemmas::append_twice))]
-fn append_title(draft: &mut Draft, seed: u64) -> Result<(), AllocError>
-    ensures { OnOk result (draft.new ≡ line (codes "# sample tides, seed " ++ decimal seed) draft.old) }
+fn append_title(writer: &mut SampleWriter, seed: u64) -> Result<(), AllocError>
+    ensures { OnOk result (writer.new ≡ line (codes "# sample tides, seed " ++ decimal seed) writer.old) }
 {
-    draft.append(b"# sample tides, seed ")?;
-    draft.whole(seed)?;
-    draft.append(b"\n")
+    writer.append(b"# sample tides, seed ")?;
+    writer.whole(seed)?;
+    writer.append(b"\n")
 }

@@ -6,10 +6,10 @@
 #![tactic(auto)]
 
 mod constituents;
-mod draft;
 mod file;
 mod generator;
 mod quantity;
+mod sample_writer;
 mod stations;
 mod tables;
 mod worked;

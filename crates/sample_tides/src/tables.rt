@@ -4,8 +4,8 @@ ghost use Rattle.std.specs.Prelude.{◌≡◌, OnOk};
 ghost use Rattle.sample_tides.specs.File.{value, values, table};
 
 use crate::constituents::{CONSTITUENTS, append_name};
-use crate::draft::Draft;
 use crate::quantity::Quantity;
+use crate::sample_writer::SampleWriter;
 use std::alloc::AllocError;
 
 const YEARS: u32 = 30;
@@ -13,34 +13,34 @@ const YEARS: u32 = 30;
 /// Appends a table of values drawn from `quantity`: for each constituent its name and a value for each
 /// year.
 #[tactic(auto, unfolding(crate::specs::File::table))]
-pub(crate) fn append_table(draft: &mut Draft, quantity: Quantity) -> Result<(), AllocError>
-    ensures { OnOk result (draft.new ≡ table (value quantity.least quantity.bound quantity.places) draft.old) }
+pub(crate) fn append_table(writer: &mut SampleWriter, quantity: Quantity) -> Result<(), AllocError>
+    ensures { OnOk result (writer.new ≡ table (value quantity.least quantity.bound quantity.places) writer.old) }
 {
     for number in 1..=CONSTITUENTS {
-        append_name(draft, number)?;
-        draft.append(b"\n")?;
-        append_values(draft, quantity)?;
+        append_name(writer, number)?;
+        writer.append(b"\n")?;
+        append_values(writer, quantity)?;
     }
-    draft.line(b"*END*")
+    writer.line(b"*END*")
 }
 
 /// Appends a line with a value drawn from `quantity` for each year.
 #[tactic(auto, unfolding(crate::specs::File::values))]
-fn append_values(draft: &mut Draft, quantity: Quantity) -> Result<(), AllocError>
-    ensures { OnOk result (draft.new ≡ values (value quantity.least quantity.bound quantity.places) draft.old) }
+fn append_values(writer: &mut SampleWriter, quantity: Quantity) -> Result<(), AllocError>
+    ensures { OnOk result (writer.new ≡ values (value quantity.least quantity.bound quantity.places) writer.old) }
 {
-    append_value(draft, quantity)?;
+    append_value(writer, quantity)?;
     for _year in 1..YEARS {
-        draft.append(b" ")?;
-        append_value(draft, quantity)?;
+        writer.append(b" ")?;
+        append_value(writer, quantity)?;
     }
-    draft.append(b"\n")
+    writer.append(b"\n")
 }
 
 #[tactic(auto, unfolding(crate::specs::File::value))]
-fn append_value(draft: &mut Draft, quantity: Quantity) -> Result<(), AllocError>
-    ensures { OnOk result (draft.new ≡ value quantity.least quantity.bound quantity.places draft.old) }
+fn append_value(writer: &mut SampleWriter, quantity: Quantity) -> Result<(), AllocError>
+    ensures { OnOk result (writer.new ≡ value quantity.least quantity.bound quantity.places writer.old) }
 {
-    let number = quantity.least + draft.draw(quantity.bound);
-    draft.decimal(number, quantity.places)
+    let number = quantity.least + writer.draw(quantity.bound);
+    writer.decimal(number, quantity.places)
 }

@@ -23,11 +23,12 @@ fn with_fields(alloc: Global, count: u32) -> Result<Vec<u8>, AllocError> {
 }
 
 #[test]
-fn fixed_rows_are_told_by_their_bytes(rt: HostRuntime) -> Result<(), Fail> {
+fn fixed_rows_are_found_by_their_bytes(rt: HostRuntime) -> Result<(), Fail> {
     for (request, expected) in [
         (
             "GET /tides HTTP/1.1\r\nHost: a\r\n\r\n",
-            "HTTP/1.1 404 Not Found\r\nContent-Type: text/plain; charset=utf-8\r\nContent-Length: 10\r\nConnection: close\r\n\r\nnot found\n",
+            "HTTP/1.1 404 Not Found\r\nContent-Type: text/plain; charset=utf-8\r\nContent-Length: 10\r\n\
+            Connection: close\r\n\r\nnot found\n",
         ),
         (
             "HEAD /tides HTTP/1.1\r\nHost: a\r\n\r\n",
@@ -35,15 +36,18 @@ fn fixed_rows_are_told_by_their_bytes(rt: HostRuntime) -> Result<(), Fail> {
         ),
         (
             "GET /check HTTP/1.1\nhOST: a\n\n",
-            "HTTP/1.1 405 Method Not Allowed\r\nContent-Type: text/plain; charset=utf-8\r\nContent-Length: 19\r\nAllow: POST\r\nConnection: close\r\n\r\nmethod not allowed\n",
+            "HTTP/1.1 405 Method Not Allowed\r\nContent-Type: text/plain; charset=utf-8\r\nContent-Length: 19\r\n\
+            Allow: POST\r\nConnection: close\r\n\r\nmethod not allowed\n",
         ),
         (
             "PUT /clock?a=b HTTP/1.0\r\n\r\n",
-            "HTTP/1.1 405 Method Not Allowed\r\nContent-Type: text/plain; charset=utf-8\r\nContent-Length: 19\r\nAllow: GET, HEAD\r\nConnection: close\r\n\r\nmethod not allowed\n",
+            "HTTP/1.1 405 Method Not Allowed\r\nContent-Type: text/plain; charset=utf-8\r\nContent-Length: 19\r\n\
+            Allow: GET, HEAD\r\nConnection: close\r\n\r\nmethod not allowed\n",
         ),
         (
             "HEAD /clock HTTP/1.1 \r\nHost: a\r\n\r\n",
-            "HTTP/1.1 400 Bad Request\r\nContent-Type: text/plain; charset=utf-8\r\nContent-Length: 12\r\nConnection: close\r\n\r\nbad request\n",
+            "HTTP/1.1 400 Bad Request\r\nContent-Type: text/plain; charset=utf-8\r\nContent-Length: 12\r\n\
+            Connection: close\r\n\r\nbad request\n",
         ),
     ] {
         let mut out = ArrayString::new();
@@ -159,15 +163,17 @@ fn a_request_is_enough_once_it_is_whole(rt: HostRuntime) {
 }
 
 #[test]
-fn want_of_memory_has_a_reply(rt: HostRuntime) {
+fn out_of_memory_has_a_reply(rt: HostRuntime) {
     for (request, expected) in [
         (
             "GET /stations HTTP/1.1\r\nHost: a\r\n\r\n",
-            "HTTP/1.1 503 Service Unavailable\r\nContent-Type: text/plain; charset=utf-8\r\nContent-Length: 10\r\nConnection: close\r\n\r\nno memory\n",
+            "HTTP/1.1 503 Service Unavailable\r\nContent-Type: text/plain; charset=utf-8\r\nContent-Length: 10\r\n\
+            Connection: close\r\n\r\nno memory\n",
         ),
         (
             "HEAD /stations HTTP/1.1\r\nHost: a\r\n\r\n",
-            "HTTP/1.1 503 Service Unavailable\r\nContent-Type: text/plain; charset=utf-8\r\nContent-Length: 10\r\nConnection: close\r\n\r\n",
+            "HTTP/1.1 503 Service Unavailable\r\nContent-Type: text/plain; charset=utf-8\r\nContent-Length: 10\r\n\
+            Connection: close\r\n\r\n",
         ),
     ] {
         let mut out = ArrayString::new();

@@ -21,7 +21,8 @@ signed_num-half p h =
           rw e (signed_num-second 108000000000 (omega arith) ∙ ap (λ n. neg_ℤ (pos n)) half_num-begin ∙ sym (ap pos half_num-end)))
     ]
 
-signed_num-other_half : (p : ℕ) → 108000000000 ≤ p → p ≤ 216000000000 → signed_num (p % 216000000000) ≡ neg_ℤ (pos (half_num (p - 108000000000)))
+signed_num-other_half : (p : ℕ) → 108000000000 ≤ p → p ≤ 216000000000
+    → signed_num (p % 216000000000) ≡ neg_ℤ (pos (half_num (p - 108000000000)))
 signed_num-other_half p from h =
     elim (cases_lt p 216000000000) [
       | inl inside ↦ ap signed_num (let e : p % 216000000000 ≡ p = omega arith in e) ∙ signed_num-second p from
@@ -80,21 +81,39 @@ rising_below far more a b c wide slope =
     turned_negated (pos a) (pos b) (pos c) more (signed far more a b c wide slope)
 
 -- one unit further round the circle
-pub signed_num-slope : (p : ℕ) → p < 216000000000 → slope_gap (signed_num ((p + 1) % 216000000000)) (signed_num p) (signed_num ((p + 54000000000) % 216000000000)) ≤ 103680000000000000000000
+pub signed_num-slope : (p : ℕ) → p < 216000000000
+    → slope_gap (signed_num ((p + 1) % 216000000000)) (signed_num p) (signed_num ((p + 54000000000) % 216000000000))
+    ≤ 103680000000000000000000
 signed_num-slope p h =
     elim (cases_lt p 54000000000) [
-      | inl first ↦ rw (first_quarter p p (omega arith) (omega arith), first_quarter ((p + 1) % 216000000000) (p + 1) (omega arith) (omega arith), second_quarter ((p + 54000000000) % 216000000000) p (omega arith) (omega arith))
+      | inl first ↦ rw (
+        first_quarter p p (omega arith) (omega arith),
+        first_quarter ((p + 1) % 216000000000) (p + 1) (omega arith) (omega arith),
+        second_quarter ((p + 54000000000) % 216000000000) p (omega arith) (omega arith),
+      )
           (signed _ _ _ _ _ (omega arith) (num-slope p first))
       | inr past_first ↦ elim (cases_lt p 108000000000) [
         | inl second ↦ (let i = p - 54000000000 in
-            rw (second_quarter p i (omega arith) (omega arith), second_quarter ((p + 1) % 216000000000) (i + 1) (omega arith) (omega arith), third_quarter ((p + 54000000000) % 216000000000) i (omega arith) (omega arith))
+            rw (
+              second_quarter p i (omega arith) (omega arith),
+              second_quarter ((p + 1) % 216000000000) (i + 1) (omega arith) (omega arith),
+              third_quarter ((p + 54000000000) % 216000000000) i (omega arith) (omega arith),
+            )
             (falling _ _ _ _ _ (omega arith) (num-slope_back i (omega arith))))
         | inr past_second ↦ elim (cases_lt p 162000000000) [
           | inl third ↦ (let i = p - 108000000000 in
-              rw (third_quarter p i (omega arith) (omega arith), third_quarter ((p + 1) % 216000000000) (i + 1) (omega arith) (omega arith), fourth_quarter ((p + 54000000000) % 216000000000) i (omega arith) (omega arith))
+              rw (
+                third_quarter p i (omega arith) (omega arith),
+                third_quarter ((p + 1) % 216000000000) (i + 1) (omega arith) (omega arith),
+                fourth_quarter ((p + 54000000000) % 216000000000) i (omega arith) (omega arith),
+              )
               (falling_below _ _ _ _ _ (omega arith) (num-slope i (omega arith))))
           | inr fourth ↦ (let i = p - 162000000000 in
-              rw (fourth_quarter p i (omega arith) (omega arith), fourth_quarter ((p + 1) % 216000000000) (i + 1) (omega arith) (omega arith), first_quarter ((p + 54000000000) % 216000000000) i (omega arith) (omega arith))
+              rw (
+                fourth_quarter p i (omega arith) (omega arith),
+                fourth_quarter ((p + 1) % 216000000000) (i + 1) (omega arith) (omega arith),
+                first_quarter ((p + 54000000000) % 216000000000) i (omega arith) (omega arith),
+              )
               (rising_below _ _ _ _ _ (omega arith) (num-slope_back i (omega arith))))
         ]
       ]

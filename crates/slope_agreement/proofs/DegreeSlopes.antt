@@ -4,7 +4,7 @@ use Rattle.std.proofs.lemmas.Bool.{cases_lt}
 use Rattle.std.proofs.lemmas.Nat.{mul-le}
 use Rattle.fixed_sine.specs.Table.{sines, correction}
 use Rattle.fixed_sine.proofs.RateLemmas.{formula, num, num-formula, num-step}
-use Rattle.slope_agreement.proofs.TableChecks.{IsNearCosine, near_cosine}
+use Rattle.slope_agreement.proofs.TableChecks.{IsApproximateCosine, approximate_cosine}
 
 -- two values a unit apart whose difference, times the units of a radian, is that close to a slope
 pub record IsSlope (far later earlier slope : ℕ) : Type 0 where
@@ -36,18 +36,26 @@ formula-at s u c r p sum =
     omega arith
 
 -- the rise of the formula over one unit, with q units left after it
-formula-unit : (s u c r q : ℕ) → r + q + 1 ≡ 600000000 → formula s u c (r + 1) + (r + 1) * c ≡ formula s u c r + 2400000000 * u + (q + 1) * c
+formula-unit : (s u c r q : ℕ) → r + q + 1 ≡ 600000000
+    → formula s u c (r + 1) + (r + 1) * c ≡ formula s u c r + 2400000000 * u + (q + 1) * c
 formula-unit s u c r q sum =
     omega (arith, formula-at s u c r (q + 1) (omega arith), formula-at s u c (r + 1) q (omega arith))
 
 -- between the ends of a degree, r units after one and p before the other: the slope is linear, and so is
 -- the cosine but for its own correction
-slope_inside : (r p gain size end more bend later earlier cosine : ℕ) → r + p ≡ 600000000 → IsNearCosine gain size end more → bend ≤ 640000 → later + (r + 1) * size ≡ earlier + 2400000000 * gain + p * size → cosine ≡ 1440000000000000000 * end + 2400000000 * (p * more) + p * r * bend → IsSlope 102240000000000000000000 later earlier cosine
+slope_inside : (r p gain size end more bend later earlier cosine : ℕ) → r + p ≡ 600000000
+    → IsApproximateCosine gain size end more → bend ≤ 640000 → later + (r + 1) * size ≡ earlier + 2400000000 * gain
+    + p * size → cosine ≡ 1440000000000000000 * end + 2400000000 * (p * more) + p * r * bend
+    → IsSlope 102240000000000000000000 later earlier cosine
 slope_inside r p gain size end more bend later earlier cosine sum near small rise is =
-    let begin_above = mul-le p (34377467708 * (4 * gain + size)) p (2400000000 * (end + more) + 72000000000000) (omega arith) near.begin_above in
-    let begin_below = mul-le p (2400000000 * (end + more)) p (34377467708 * (4 * gain + size) + 72000000000000) (omega arith) near.begin_below in
-    let end_above = mul-le r (34377467708 * (4 * gain)) r (34377467708 * size + 2400000000 * end + 72000000000000) (omega arith) near.end_above in
-    let end_below = mul-le r (34377467708 * size + 2400000000 * end) r (34377467708 * (4 * gain) + 72000000000000) (omega arith) near.end_below in
+    let begin_above = mul-le p (34377467708 * (4 * gain + size)) p (2400000000 * (end + more) + 72000000000000)
+    (omega arith) near.begin_above in
+    let begin_below = mul-le p (2400000000 * (end + more)) p (34377467708 * (4 * gain + size) + 72000000000000)
+    (omega arith) near.begin_below in
+    let end_above = mul-le r (34377467708 * (4 * gain)) r (34377467708 * size + 2400000000 * end + 72000000000000)
+    (omega arith) near.end_above in
+    let end_below = mul-le r (34377467708 * size + 2400000000 * end) r (34377467708 * (4 * gain) + 72000000000000)
+    (omega arith) near.end_below in
     let bent = mul-le (4 * (r * p)) bend 360000000000000000 640000 (greatest_product r p sum) small in
     let gains : (r + p) * gain ≡ 600000000 * gain = ap (λ n. n * gain) sum in
     let ends : (r + p) * end ≡ 600000000 * end = ap (λ n. n * end) sum in
@@ -67,13 +75,17 @@ num-slope i h =
     let there : num (i + 1) ≡ in_degree k (r + 1) = ap num (omega arith) ∙ num-formula k (r + 1) (omega arith) (omega arith) in
     let back : num (54000000000 - i) ≡ in_degree (89 - k) p = ap num (omega arith) ∙ num-formula (89 - k) p (omega arith) (omega arith) in
     let left : p - 1 + 1 ≡ p = omega arith in
-    let rise = rw left at (formula-unit (get_or sines k 0) (get_or sines (k + 1) 0 - get_or sines k 0) (unsigned_abs (correction k)) r (p - 1) (omega arith)) in
-    let cosine = formula-at (get_or sines (89 - k) 0) (get_or sines (89 - k + 1) 0 - get_or sines (89 - k) 0) (unsigned_abs (correction (89 - k))) p r (omega arith) in
+    let rise = rw left at (formula-unit (get_or sines k 0) (get_or sines (k + 1) 0 - get_or sines k 0)
+    (unsigned_abs (correction k)) r (p - 1) (omega arith)) in
+    let cosine = formula-at (get_or sines (89 - k) 0) (get_or sines (89 - k + 1) 0 - get_or sines (89 - k) 0)
+    (unsigned_abs (correction (89 - k))) p r (omega arith) in
     rw (here, there, back)
-    (slope_inside r p _ _ _ _ (unsigned_abs (correction (89 - k))) _ _ _ (omega arith) (near_cosine k (omega arith)) (near_cosine (89 - k) (omega arith)).small rise cosine)
+    (slope_inside r p _ _ _ _ (unsigned_abs (correction (89 - k))) _ _ _ (omega arith)
+    (approximate_cosine k (omega arith)) (approximate_cosine (89 - k) (omega arith)).small rise cosine)
 
 -- the bound on the first quarter, counted back from 90 degrees
-pub num-slope_back : (i : ℕ) → i < 54000000000 → IsSlope 103680000000000000000000 (num (54000000000 - i)) (num (54000000000 - (i + 1))) (num i)
+pub num-slope_back : (i : ℕ) → i < 54000000000
+    → IsSlope 103680000000000000000000 (num (54000000000 - i)) (num (54000000000 - (i + 1))) (num i)
 num-slope_back i h =
     let j = 54000000000 - (i + 1) in
     let slope = num-slope j (omega arith) in

@@ -27,8 +27,10 @@ pub fn table_checks()
 /// end.
 pub fn predicted_agreements()
     ensures value { (b : Book) (s : Station) (tide : Tide) → Predicts b s tide → agreement_of tide ≡ predicted_agreement b s }
-    ensures law { (b : Book) (s : Station) (m : ℤ) (year : ℕ) → IsBook b → IsStation (length b.constituents) s → first_fault b s b.years ≡ None
+    ensures law { (b : Book) (s : Station) (m : ℤ) (year : ℕ) → IsBook b → IsStation (length b.constituents) s
+        → first_fault b s b.years ≡ None
         → IsPlainMinute b.first_year b.years m year → pos (predicted_gap b s m) ≤ℤ predicted_agreement b s }
-    ensures before { (b : Book) (s : Station) (m : ℤ) (year : ℕ) → IsBook b → IsStation (length b.constituents) s → first_fault b s b.years ≡ None
+    ensures before { (b : Book) (s : Station) (m : ℤ) (year : ℕ) → IsBook b → IsStation (length b.constituents) s
+        → first_fault b s b.years ≡ None
         → IsPlainMinute b.first_year b.years m year → pos (predicted_gap_before b s m) ≤ℤ predicted_agreement b s }
 {}

@@ -1,7 +1,7 @@
 //! The slope error bound of a station.
 
 ghost use Rattle.std.specs.Prelude.{◌≡◌, ℕ, ◌*◌, ◌^◌, ◌≤◌, length, ℤ, pos, ◌≤ℤ◌, unsigned_abs};
-ghost use Rattle.station_curve.specs.Limits.{AreGentle};
+ghost use Rattle.station_curve.specs.Limits.{AreWithinLimits};
 ghost use Rattle.slope_agreement.specs.Agreements.{gap_of, IsPlainMinute, year_agreement, agreement_of};
 
 use crate::unit_gaps::{EACH_UNIT, TWO_CUTS};
@@ -21,7 +21,7 @@ pub fn agreement(station: &StationCurve) -> i128
     ensures least { pos 0 ≤ℤ result }
     ensures most { result ≤ℤ pos (5 * 10 ^ 34) }
 {
-    station.known();
+    station.limits_hold();
     let mut most: i128 = 0;
     for year in 0..station.years() {
         most = most.max(year_agreement(&station.sums(year)));
@@ -31,7 +31,7 @@ pub fn agreement(station: &StationCurve) -> i128
 
 /// Returns the bound of a year by its sums.
 fn year_agreement(year: &Sums) -> i128
-    requires { AreGentle year.now }
+    requires { AreWithinLimits year.now }
     ensures value { result ≡ year_agreement year.now }
     ensures size { unsigned_abs result ≤ 5 * 10 ^ 34 }
 {

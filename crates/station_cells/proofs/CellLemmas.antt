@@ -21,7 +21,7 @@ use Rattle.curve_law.specs.Track.{side_at, has_event, event_at}
 use Rattle.curve_law.specs.Verdicts.{same_kind, cell_verdict, or_next, cells_verdict, verdict}
 use Rattle.curve_law.proofs.VerdictLemmas.{one_kind}
 use Rattle.event_list.specs.declared.span.Span.{Span}
-use Rattle.event_list.specs.Events.{minutes_in}
+use Rattle.event_list.specs.Events.{span_minutes}
 
 -- the facts of an accepted cell
 both_true : (a b : Bool) → (a && b) ≡ true → (a ≡ true) × (b ≡ true)
@@ -60,7 +60,9 @@ quiet_length c a n quiet =
     (grind (arith, nat_tests), grind (arith, nat_tests))
 
 -- an event that is accepted is the curve's
-accepted_event : (c : Meaning) (a : ℤ) (number : ℕ) (kind : Kind) (level : ℤ) → cell_verdict c a number (Turn kind level) ≡ Accepted → (kind ≡ (event_at c.track a).kind) × (level ≡ c.track.note a)
+accepted_event : (c : Meaning) (a : ℤ) (number : ℕ) (kind : Kind) (level : ℤ)
+    → cell_verdict c a number (Turn kind level) ≡ Accepted
+    → (kind ≡ (event_at c.track a).kind) × (level ≡ c.track.note a)
 unfolding cell_verdict
 accepted_event c a number kind level ok =
     let event = accepted_if (has_event c.track a) _ (WrongStep number) (λ e. cc) ok in
@@ -68,7 +70,8 @@ accepted_event c a number kind level ok =
     let written = accepted_if (int_eq level (c.track.note a)) _ (WrongLevel number level (c.track.note a)) (λ e. cc) alike.1 in
     (one_kind kind (event_at c.track a).kind alike.0, (Decides-int_eq level (c.track.note a)).0 written.0)
 
-accepted_cell : (track : TrackName) (c : Meaning) (a : ℤ) (number : ℕ) (cell : Cell) → IsOf track c → IsMinute c a → cell_verdict c a number cell ≡ Accepted → IsCellOf track cell
+accepted_cell : (track : TrackName) (c : Meaning) (a : ℤ) (number : ℕ) (cell : Cell) → IsOf track c → IsMinute c a
+    → cell_verdict c a number cell ≡ Accepted → IsCellOf track cell
 unfolding cell_verdict
 accepted_cell track c a number (Quiet n) is at ok = quiet_length c a n (accepted_if (is_quiet c a n) _ (NotQuiet number) (λ e. cc) ok).0
 accepted_cell track c a number Still is at ok = tt
@@ -77,7 +80,8 @@ accepted_cell track c a number (Turn kind level) is at ok =
     let small = is.small a at in
     (ap track_of event.0 ∙ event_track track c (side_at c.track a) is, rw event.1 (omega (arith, small)))
 
-usual_cell : (track : TrackName) (c : Meaning) (a : ℤ) (number : ℕ) (cell : Cell) → IsOf track c → IsMinute c a → cell_verdict c a number cell ≡ Accepted → HasUsualLevel cell
+usual_cell : (track : TrackName) (c : Meaning) (a : ℤ) (number : ℕ) (cell : Cell) → IsOf track c → IsMinute c a
+    → cell_verdict c a number cell ≡ Accepted → HasUsualLevel cell
 usual_cell track c a number (Quiet n) is at ok = tt
 usual_cell track c a number Still is at ok = tt
 usual_cell track c a number (Turn kind level) is at ok = rw (accepted_event c a number kind level ok).1 (is.small a at)
@@ -86,7 +90,8 @@ usual_cell track c a number (Turn kind level) is at ok = rw (accepted_event c a 
 abbrev IfAccepted : Meaning → (Cell → Type 0) → Type 0
 IfAccepted c P = (a : ℤ) (number : ℕ) (cell : Cell) → IsMinute c a → cell_verdict c a number cell ≡ Accepted → P cell
 
-accepted_cells : (P : Cell → Type 0) (c : Meaning) (a : ℤ) (number : ℕ) (cells : List Cell) → IfAccepted c P → IsSpan c a (all_minutes cells) → cells_verdict c a number cells ≡ Accepted → All P cells
+accepted_cells : (P : Cell → Type 0) (c : Meaning) (a : ℤ) (number : ℕ) (cells : List Cell) → IfAccepted c P
+    → IsSpan c a (all_minutes cells) → cells_verdict c a number cells ≡ Accepted → All P cells
 unfolding cells_verdict all_minutes
 accepted_cells P c a number [] each span ok = All-nil P
 accepted_cells P c a number (cell ∷ cells) each span ok =
@@ -95,20 +100,25 @@ accepted_cells P c a number (cell ∷ cells) each span ok =
     let last = span.last in
     All-cons P cell cells
     (each a number cell (record { first = first; last = omega (arith, ints) }) parts.0)
-    (accepted_cells P c (a +ℤ pos (minutes_of cell)) (suc number) cells each (record { first = omega (arith, ints); last = omega (arith, ints) }) parts.1)
+    (accepted_cells P c (a +ℤ pos (minutes_of cell)) (suc number) cells each
+    (record { first = omega (arith, ints); last = omega (arith, ints) }) parts.1)
 
-accepted_all : (P : Cell → Type 0) (c : Meaning) (s : Span) (cells : List Cell) → IfAccepted c P → IsSpan c s.begin (minutes_in s) → verdict c s.begin (minutes_in s) cells ≡ Accepted → All P cells
+accepted_all : (P : Cell → Type 0) (c : Meaning) (s : Span) (cells : List Cell) → IfAccepted c P
+    → IsSpan c s.begin (span_minutes s) → verdict c s.begin (span_minutes s) cells ≡ Accepted → All P cells
 unfolding verdict
 accepted_all P c s cells each span ok =
-    let whole = accepted_if (all_minutes cells == minutes_in s) _ _ (λ e. cc) ok in
-    let all : all_minutes cells ≡ minutes_in s = (Decides-eqb (all_minutes cells) (minutes_in s)).0 whole.0 in
+    let whole = accepted_if (all_minutes cells == span_minutes s) _ _ (λ e. cc) ok in
+    let all : all_minutes cells ≡ span_minutes s = (Decides-eqb (all_minutes cells) (span_minutes s)).0 whole.0 in
     accepted_cells P c s.begin 1 cells each (rw all span) whole.1
 
-pub accepted_track : (track : TrackName) (c : Meaning) (s : Span) (cells : List Cell) → IsOf track c → IsSpan c s.begin (minutes_in s) → verdict c s.begin (minutes_in s) cells ≡ Accepted → All (IsCellOf track) cells
+pub accepted_track : (track : TrackName) (c : Meaning) (s : Span) (cells : List Cell) → IsOf track c
+    → IsSpan c s.begin (span_minutes s) → verdict c s.begin (span_minutes s) cells ≡ Accepted
+    → All (IsCellOf track) cells
 accepted_track track c s cells is span ok =
     accepted_all (IsCellOf track) c s cells (λ a number cell at right. accepted_cell track c a number cell is at right) span ok
 
-pub usual_track : (track : TrackName) (c : Meaning) (s : Span) (cells : List Cell) → IsOf track c → IsSpan c s.begin (minutes_in s) → verdict c s.begin (minutes_in s) cells ≡ Accepted → All HasUsualLevel cells
+pub usual_track : (track : TrackName) (c : Meaning) (s : Span) (cells : List Cell) → IsOf track c
+    → IsSpan c s.begin (span_minutes s) → verdict c s.begin (span_minutes s) cells ≡ Accepted → All HasUsualLevel cells
 usual_track track c s cells is span ok =
     accepted_all HasUsualLevel c s cells (λ a number cell at right. usual_cell track c a number cell is at right) span ok
 
@@ -121,7 +131,8 @@ accepted_least c a number (Quiet n) ok =
 accepted_least c a number Still ok = omega arith
 accepted_least c a number (Turn kind level) ok = omega arith
 
-few_cells : (c : Meaning) (a : ℤ) (number : ℕ) (cells : List Cell) → cells_verdict c a number cells ≡ Accepted → length cells ≤ all_minutes cells
+few_cells : (c : Meaning) (a : ℤ) (number : ℕ) (cells : List Cell) → cells_verdict c a number cells ≡ Accepted
+    → length cells ≤ all_minutes cells
 unfolding cells_verdict all_minutes
 few_cells c a number [] ok = omega arith
 few_cells c a number (cell ∷ cells) ok =
@@ -130,9 +141,10 @@ few_cells c a number (cell ∷ cells) ok =
     let more = few_cells c (a +ℤ pos (minutes_of cell)) (suc number) cells parts.1 in
     omega (arith, one, more)
 
-pub few_track : (c : Meaning) (s : Span) (cells : List Cell) → verdict c s.begin (minutes_in s) cells ≡ Accepted → length cells ≤ minutes_in s
+pub few_track : (c : Meaning) (s : Span) (cells : List Cell) → verdict c s.begin (span_minutes s) cells ≡ Accepted
+    → length cells ≤ span_minutes s
 unfolding verdict
 few_track c s cells ok =
-    let whole = accepted_if (all_minutes cells == minutes_in s) _ _ (λ e. cc) ok in
-    let all : all_minutes cells ≡ minutes_in s = (Decides-eqb (all_minutes cells) (minutes_in s)).0 whole.0 in
+    let whole = accepted_if (all_minutes cells == span_minutes s) _ _ (λ e. cc) ok in
+    let all : all_minutes cells ≡ span_minutes s = (Decides-eqb (all_minutes cells) (span_minutes s)).0 whole.0 in
     rw (← all) (few_cells c s.begin 1 cells whole.1)

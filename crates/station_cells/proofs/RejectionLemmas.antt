@@ -13,7 +13,7 @@ use Rattle.curve_law.specs.Meaning.{Meaning}
 use Rattle.curve_law.specs.Verdicts.{verdict}
 use Rattle.curve_law.proofs.AgreeLemmas.{verdict-agrees}
 use Rattle.event_list.specs.declared.span.Span.{Span}
-use Rattle.event_list.specs.Events.{Followed, IsAccepted, AreAccepted, AgreeIfFollowed, AllAgree, AreShort, minutes_in}
+use Rattle.event_list.specs.Events.{Followed, IsAccepted, AreAccepted, AgreeIfFollowed, AllAgree, AreShort, span_minutes}
 use Rattle.station_cells.specs.declared.rejection.Rejection.{Rejection}
 use Rattle.station_cells.specs.Rejections.{slack_fault, fault_from, track_fault, rejection_of}
 use Rattle.station_cells.proofs.CellLemmas.{accepted_if}
@@ -37,11 +37,12 @@ slack_same true false h = absurd cc
 slack_same false true h = absurd cc
 slack_same false false h = refl
 
-if_accepted : (s : Span) (track : TrackName) (curve : Option Meaning) (cells : Option (List Cell)) → is_some curve ≡ is_some cells → track_fault s track curve cells ≡ None → IsAccepted s curve cells
+if_accepted : (s : Span) (track : TrackName) (curve : Option Meaning) (cells : Option (List Cell))
+    → is_some curve ≡ is_some cells → track_fault s track curve cells ≡ None → IsAccepted s curve cells
 if_accepted s track None None same none = tt
 if_accepted s track None (Some cells) same none = absurd cc
 if_accepted s track (Some c) None same none = absurd cc
-if_accepted s track (Some c) (Some cells) same none = fault_none track (verdict c s.begin (minutes_in s) cells) none
+if_accepted s track (Some c) (Some cells) same none = fault_none track (verdict c s.begin (span_minutes s) cells) none
 
 pub all_accepted : (f : Followed) (s : Span) (t : Tracks) → is_some f.mark ≡ is_some t.mark → rejection_of f s t ≡ None → AreAccepted f s t
 unfolding rejection_of
@@ -50,7 +51,7 @@ all_accepted f s t marked none =
     let slack = none_of _ _ mark.0 in
     let turn = none_of _ _ slack.0 in
     record {
-      turn = fault_none Turn (verdict f.turn s.begin (minutes_in s) t.turn) turn.1;
+      turn = fault_none Turn (verdict f.turn s.begin (span_minutes s) t.turn) turn.1;
       slack = if_accepted s Slack f.slack t.slack (slack_same _ _ turn.0) slack.1;
       mark = if_accepted s Mark f.mark t.mark marked mark.1;
     }
@@ -61,18 +62,19 @@ verdict_minutes : (c : Meaning) (a : ℤ) (n : ℕ) (cells : List Cell) → verd
 unfolding verdict
 verdict_minutes c a n cells ok = (Decides-eqb (all_minutes cells) n).0 (accepted_if (all_minutes cells == n) _ _ (λ e. cc) ok).0
 
-short_if : (s : Span) (curve : Option Meaning) (cells : Option (List Cell)) → minutes_in s ≤ 6000000 → IsAccepted s curve cells → ForSome cells (λ cells. all_minutes cells ≤ 6000000)
+short_if : (s : Span) (curve : Option Meaning) (cells : Option (List Cell)) → span_minutes s ≤ 6000000
+    → IsAccepted s curve cells → ForSome cells (λ cells. all_minutes cells ≤ 6000000)
 short_if s None (Some cells) few ok x e = absurd ok
 short_if s (Some c) (Some cells) few ok x e =
     let same : cells ≡ x = cc in
-    let all = verdict_minutes c s.begin (minutes_in s) cells ok in
+    let all = verdict_minutes c s.begin (span_minutes s) cells ok in
     rw (← same) (omega (arith, all, few))
 short_if s None None few ok x e = absurd cc
 short_if s (Some c) None few ok x e = absurd cc
 
-pub tracks_short : (f : Followed) (s : Span) (t : Tracks) → minutes_in s ≤ 6000000 → AreAccepted f s t → AreShort t
+pub tracks_short : (f : Followed) (s : Span) (t : Tracks) → span_minutes s ≤ 6000000 → AreAccepted f s t → AreShort t
 tracks_short f s t few ok =
-    let all = verdict_minutes f.turn s.begin (minutes_in s) t.turn ok.turn in
+    let all = verdict_minutes f.turn s.begin (span_minutes s) t.turn ok.turn in
     record {
       turn = omega (arith, all, few);
       slack = short_if s f.slack t.slack few ok.slack;
@@ -87,12 +89,13 @@ some_alike s None (Some d) agree = absurd agree
 some_alike s (Some c) None agree = absurd agree
 some_alike s (Some c) (Some d) agree = refl
 
-fault_alike : (s : Span) (track : TrackName) (c d : Option Meaning) (cells : Option (List Cell)) → AgreeIfFollowed s c d → track_fault s track c cells ≡ track_fault s track d cells
+fault_alike : (s : Span) (track : TrackName) (c d : Option Meaning) (cells : Option (List Cell)) → AgreeIfFollowed s c d
+    → track_fault s track c cells ≡ track_fault s track d cells
 fault_alike s track None None cells agree = refl
 fault_alike s track None (Some d) cells agree = absurd agree
 fault_alike s track (Some c) None cells agree = absurd agree
 fault_alike s track (Some c) (Some d) None agree = refl
-fault_alike s track (Some c) (Some d) (Some cells) agree = ap (fault_from track) (verdict-agrees c d s.begin (minutes_in s) cells agree)
+fault_alike s track (Some c) (Some d) (Some cells) agree = ap (fault_from track) (verdict-agrees c d s.begin (span_minutes s) cells agree)
 
 pub rejection_alike : (f g : Followed) (s : Span) (t : Tracks) → AllAgree f g s → rejection_of f s t ≡ rejection_of g s t
 unfolding rejection_of

@@ -12,7 +12,7 @@ use Rattle.curve_law.specs.declared.verdict.Verdict.TheVariants.{Accepted, Wrong
 use Rattle.curve_law.specs.Meaning.{Meaning}
 use Rattle.curve_law.specs.Verdicts.{verdict}
 use Rattle.event_list.specs.declared.span.Span.{Span}
-use Rattle.event_list.specs.Events.{Followed, minutes_in}
+use Rattle.event_list.specs.Events.{Followed, span_minutes}
 use Rattle.station_cells.specs.declared.rejection.Rejection.{Rejection}
 use Rattle.station_cells.specs.declared.rejection.Rejection.TheVariants.{SlackWanted, SlackNotWanted, Track}
 
@@ -54,7 +54,7 @@ fault_from track finding = Some (Track track finding)
 
 -- the fault of a track's cells by its curve, over the minutes of the reference that are evaluated
 abbrev pub track_fault : Span → TrackName → Option Meaning → Option (List Cell) → Option Rejection
-track_fault span track (Some curve) (Some cells) = fault_from track (verdict curve span.begin (minutes_in span) cells)
+track_fault span track (Some curve) (Some cells) = fault_from track (verdict curve span.begin (span_minutes span) cells)
 track_fault span track _ _ = None
 
 -- the first fault: whether the slack track is required, and then the tracks one after the other

@@ -1,5 +1,26 @@
 -- The bytes of a text that are written, piece by piece.
-use Rattle.std.specs.Prelude.{◌≡◌, ℕ, ◌+◌, ◌-◌, ◌<◌, ◌≤◌, Bool, if◌then◌else◌, nat_le, List, [], ◌++◌, length, take, Option, Some, None, Result, Ok, Err}
+use Rattle.std.specs.Prelude.{
+  ◌≡◌,
+  ℕ,
+  ◌+◌,
+  ◌-◌,
+  ◌<◌,
+  ◌≤◌,
+  Bool,
+  if◌then◌else◌,
+  nat_le,
+  List,
+  [],
+  ◌++◌,
+  length,
+  take,
+  Option,
+  Some,
+  None,
+  Result,
+  Ok,
+  Err,
+}
 use Rattle.interval_search.specs.Looking.{Looking}
 use Rattle.tide_edge.specs.declared.writing.WriteFailed.{WriteFailed}
 use Rattle.tide_edge.specs.SinkStates.{SinkState, put, sink_failed}

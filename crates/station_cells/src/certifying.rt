@@ -7,7 +7,7 @@ ghost use Rattle.cert_text.specs.Lines.{cell_line_of, track_lines_of, lines_if_t
 ghost use Rattle.event_list.specs.Merging.{cells_left};
 ghost use Rattle.station_cells.specs.Sending.{Sends, gone_for, held_after, left_count};
 
-use crate::page::Page;
+use crate::line_buffer::LineBuffer;
 use crate::sending::{Sent, send};
 use arrayvec::ArrayString;
 use cert_text::{TrackName, cell_line, heading_line};
@@ -27,10 +27,11 @@ pub fn send_if_followed<C: Curve + Drop, S: Sink>(
     search: Option<Search<C>>,
 ) -> Result<Sent, WriteFailed>
     requires cells { ForSome search (λ search. All IsCell search.left) }
-    requires few { sent.bytes + 24 + 24 * left_count search < 2 ^ 64 }
+    requires count_bound { sent.bytes + 24 + 24 * left_count search < 2 ^ 64 }
     requires count { sent.cells + left_count search < 2 ^ 64 }
-    ensures sends { Sends (S.state out.old) (S.state out.new) sent (joined (lines_if_there track (cells_left search))) (left_count search) result }
-    ensures short { IfOk result (λ done. done.bytes ≤ sent.bytes + 24 + 24 * left_count search) }
+    ensures sends { Sends (S.state out.old) (S.state out.new) sent (joined (lines_if_there track (cells_left search)))
+        (left_count search) result }
+    ensures length_bound { IfOk result (λ done. done.bytes ≤ sent.bytes + 24 + 24 * left_count search) }
 {
     match search {
         Some(search) => send_track(out, sent, track, search),
@@ -49,10 +50,10 @@ pub fn send_track<C: Curve + Drop, S: Sink>(
     search: Search<C>,
 ) -> Result<Sent, WriteFailed>
     requires cells { All IsCell search.left }
-    requires few { sent.bytes + 24 + 24 * length search.left < 2 ^ 64 }
+    requires count_bound { sent.bytes + 24 + 24 * length search.left < 2 ^ 64 }
     requires count { sent.cells + length search.left < 2 ^ 64 }
     ensures sends { Sends (S.state out.old) (S.state out.new) sent (joined (track_lines_of track search.left)) (length search.left) result }
-    ensures short { IfOk result (λ done. done.bytes ≤ sent.bytes + 24 + 24 * length search.left) }
+    ensures length_bound { IfOk result (λ done. done.bytes ≤ sent.bytes + 24 + 24 * length search.left) }
 {
     let mut line = ArrayString::new();
     heading_line(track, &mut line);
@@ -67,37 +68,38 @@ fn send_cells<C: Curve + Drop, S: Sink>(
     search: Search<C>,
 ) -> Result<Sent, WriteFailed>
     requires cells { All IsCell search.left }
-    requires few { sent.bytes + 24 * length search.left < 2 ^ 64 }
+    requires count_bound { sent.bytes + 24 * length search.left < 2 ^ 64 }
     requires count { sent.cells + length search.left < 2 ^ 64 }
     ensures sends { Sends (S.state out.old) (S.state out.new) sent (joined (map cell_line_of search.left)) (length search.left) result }
-    ensures short { IfOk result (λ done. done.bytes ≤ sent.bytes + 24 * length search.left) }
+    ensures length_bound { IfOk result (λ done. done.bytes ≤ sent.bytes + 24 * length search.left) }
 {
     let mut search = search;
-    let mut page = Page::new();
+    let mut buffer = LineBuffer::new();
     let mut so_far = sent;
     while let Some(found) = search.next() {
-        so_far = put_cell(&mut page, out, so_far, &found.cell)?;
+        so_far = put_cell(&mut buffer, out, so_far, &found.cell)?;
     }
-    page.end(out, so_far)
+    buffer.end(out, so_far)
 }
 
-// Puts the line of `cell` on `page`, and counts the cell.
+// Puts the line of `cell` on `buffer`, and counts the cell.
 fn put_cell<S: Sink>(
-    page: &mut Page,
+    buffer: &mut LineBuffer,
     out: &mut S,
     sent: Sent,
     cell: &Cell,
 ) -> Result<Sent, WriteFailed>
     requires cell { IsCell cell.now }
-    requires few { sent.bytes + length page.old.text.bytes < 2 ^ 64 }
+    requires count_bound { sent.bytes + length buffer.old.text.bytes < 2 ^ 64 }
     requires count { sent.cells + 1 < 2 ^ 64 }
-    ensures sends { Sends (S.state out.old) (S.state out.new) sent (gone_for page.old.text.bytes (ended (cell_line_of cell.now))) 1 result }
-    ensures holds { OnOk result (page.new.text.bytes ≡ held_after page.old.text.bytes (ended (cell_line_of cell.now))) }
-    ensures short { length (ended (cell_line_of cell.now)) ≤ 24 }
+    ensures sends { Sends (S.state out.old) (S.state out.new) sent
+        (gone_for buffer.old.text.bytes (ended (cell_line_of cell.now))) 1 result }
+    ensures holds { OnOk result (buffer.new.text.bytes ≡ held_after buffer.old.text.bytes (ended (cell_line_of cell.now))) }
+    ensures length_bound { length (ended (cell_line_of cell.now)) ≤ 24 }
 {
     let mut line = ArrayString::<24>::new();
     cell_line(cell, &mut line);
-    let sent = page.put(out, sent, line.as_str())?;
+    let sent = buffer.put(out, sent, line.as_str())?;
     Ok(Sent {
         bytes: sent.bytes,
         cells: sent.cells + 1,

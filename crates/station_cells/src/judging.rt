@@ -3,8 +3,8 @@
 ghost use Rattle.std.specs.Prelude.{◌≡◌, ◌<◌, ◌^◌, length, option_map};
 ghost use Rattle.std.specs.Option.{ForSome};
 ghost use Rattle.curve_law.specs.Verdicts.{verdict};
-ghost use Rattle.event_list.specs.Events.{minutes_in};
-ghost use Rattle.event_list.specs.Telling.{Tells};
+ghost use Rattle.event_list.specs.Events.{span_minutes};
+ghost use Rattle.event_list.specs.FreshCurves.{IsFreshOver};
 ghost use Rattle.station_cells.specs.Rejections.{slack_fault, fault_from, track_fault, rejection_of, HasFewCells};
 
 use crate::rejection::Rejection;
@@ -24,11 +24,15 @@ pub fn rejection_over<A: Curve + Drop, B: Curve + Drop>(
     span: &Span,
     tracks: &Tracks,
 ) -> Option<Rejection>
-    requires turn { Tells span.now (A.state turn) }
-    requires slack { ForSome slack (λ c. Tells span.now (B.state c)) }
-    requires mark { ForSome mark (λ c. Tells span.now (B.state c)) }
-    requires few { HasFewCells tracks.now }
-    ensures { result ≡ rejection_of (record { turn = (A.state turn).facts.meaning; slack = option_map (λ c. (B.state c).facts.meaning) slack; mark = option_map (λ c. (B.state c).facts.meaning) mark }) span.now tracks.now }
+    requires turn { IsFreshOver span.now (A.state turn) }
+    requires slack { ForSome slack (λ c. IsFreshOver span.now (B.state c)) }
+    requires mark { ForSome mark (λ c. IsFreshOver span.now (B.state c)) }
+    requires count_bound { HasFewCells tracks.now }
+    ensures { result ≡ rejection_of (record {
+      turn = (A.state turn).facts.meaning;
+      slack = option_map (λ c. (B.state c).facts.meaning) slack;
+      mark = option_map (λ c. (B.state c).facts.meaning) mark;
+    }) span.now tracks.now }
 {
     if let Some(fault) = slack_fault(slack.is_some(), tracks.slack.is_some()) {
         return Some(fault);
@@ -61,8 +65,8 @@ fn fault_if_followed<C: Curve + Drop>(
     cells: &Option<Cells>,
     span: &Span,
 ) -> Option<Rejection>
-    requires tells { ForSome curve (λ c. Tells span.now (C.state c)) }
-    requires few { ForSome cells.now (λ cells. length cells < 2 ^ 32) }
+    requires fresh { ForSome curve (λ c. IsFreshOver span.now (C.state c)) }
+    requires count_bound { ForSome cells.now (λ cells. length cells < 2 ^ 32) }
     ensures { result ≡ track_fault span.now track (option_map (λ c. (C.state c).facts.meaning) curve) cells.now }
 {
     match (curve, cells) {
@@ -78,9 +82,9 @@ fn track_fault<C: Curve + Drop>(
     cells: &Cells,
     span: &Span,
 ) -> Option<Rejection>
-    requires tells { Tells span.now (C.state curve) }
-    requires few { length cells.now < 2 ^ 32 }
-    ensures { result ≡ fault_from track (verdict (C.state curve).facts.meaning span.now.begin (minutes_in span.now) cells.now) }
+    requires fresh { IsFreshOver span.now (C.state curve) }
+    requires count_bound { length cells.now < 2 ^ 32 }
+    ensures { result ≡ fault_from track (verdict (C.state curve).facts.meaning span.now.begin (span_minutes span.now) cells.now) }
 {
     let mut curve = curve;
     fault_from(track, check_track(&mut curve, cells, span.begin, span.end))

@@ -89,7 +89,8 @@ fn cell_text(alloc: Global, cell: u32, said: &str) -> Result<String, AllocError>
 /// millionths.
 fn level_text(alloc: Global, cell: u32, written: i64, computed: i64) -> Result<String, AllocError>
     ensures { IfOk result (λ text. string_bytes text
-        ≡ cell_text cell ++ (codes " has level " ++ signed_decimal written) ++ (codes ", computed " ++ signed_decimal computed ++ codes "\n")) }
+        ≡ cell_text cell ++ (codes " has level " ++ signed_decimal written)
+        ++ (codes ", computed " ++ signed_decimal computed ++ codes "\n")) }
 {
     let level = format!(in alloc; " has level {written}")?;
     let end = format!(in alloc; ", computed {computed}\n")?;

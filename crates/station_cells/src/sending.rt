@@ -34,17 +34,17 @@ pub fn send<S: Sink>(out: &mut S, sent: Sent, piece: &str) -> Result<Sent, Write
     }
 }
 
-/// Writes the line of `front` and `name`.
+/// Writes the line of `prefix` and `name`.
 pub fn send_name<S: Sink>(
     out: &mut S,
     sent: Sent,
-    front: &str,
+    prefix: &str,
     name: &Text,
 ) -> Result<Sent, WriteFailed>
-    requires { sent.bytes + length front.now + length name.now + 1 < 2 ^ 64 }
-    ensures { Sends (S.state out.old) (S.state out.new) sent (front.now ++ name.now ++ codes "\n") 0 result }
+    requires { sent.bytes + length prefix.now + length name.now + 1 < 2 ^ 64 }
+    ensures { Sends (S.state out.old) (S.state out.new) sent (prefix.now ++ name.now ++ codes "\n") 0 result }
 {
-    let sent = send(out, sent, front)?;
+    let sent = send(out, sent, prefix)?;
     let sent = send(out, sent, name.as_str())?;
     send(out, sent, "\n")
 }

@@ -3,7 +3,7 @@
 ghost use Rattle.std.specs.Prelude.{◌≡◌, ◌<◌, ◌^◌, length, option_map, option_to_list, sum_by, IfOk};
 ghost use Rattle.std.specs.Option.{ForSome};
 ghost use Rattle.event_list.specs.Events.{cover_over, covers_of, cells_in};
-ghost use Rattle.event_list.specs.Telling.{Tells};
+ghost use Rattle.event_list.specs.FreshCurves.{IsFreshOver};
 
 use curve_law::{Cells, Curve, Tracks};
 use event_list::Span;
@@ -19,10 +19,14 @@ pub fn tracks_over<A: Curve + Drop, B: Curve + Drop>(
     mark: Option<B>,
     span: &Span,
 ) -> Result<Tracks, AllocError>
-    requires turn { Tells span.now (A.state turn) }
-    requires slack { ForSome slack (λ c. Tells span.now (B.state c)) }
-    requires mark { ForSome mark (λ c. Tells span.now (B.state c)) }
-    ensures { IfOk result (λ tracks. tracks ≡ covers_of (record { turn = (A.state turn).facts.meaning; slack = option_map (λ c. (B.state c).facts.meaning) slack; mark = option_map (λ c. (B.state c).facts.meaning) mark }) span.now) }
+    requires turn { IsFreshOver span.now (A.state turn) }
+    requires slack { ForSome slack (λ c. IsFreshOver span.now (B.state c)) }
+    requires mark { ForSome mark (λ c. IsFreshOver span.now (B.state c)) }
+    ensures { IfOk result (λ tracks. tracks ≡ covers_of (record {
+      turn = (A.state turn).facts.meaning;
+      slack = option_map (λ c. (B.state c).facts.meaning) slack;
+      mark = option_map (λ c. (B.state c).facts.meaning) mark;
+    }) span.now) }
 {
     let turn = cells_over(alloc, turn, span)?;
     let slack = cells_if_followed(alloc, slack, span)?;
@@ -32,7 +36,7 @@ pub fn tracks_over<A: Curve + Drop, B: Curve + Drop>(
 
 /// Returns the cells of `curve` over `span`.
 fn cells_over<C: Curve + Drop>(alloc: Global, curve: C, span: &Span) -> Result<Cells, AllocError>
-    requires { Tells span.now (C.state curve) }
+    requires { IsFreshOver span.now (C.state curve) }
     ensures { IfOk result (λ cells. cells ≡ cover_over span.now (C.state curve).facts.meaning) }
 {
     let mut curve = curve;
@@ -45,7 +49,7 @@ fn cells_if_followed<C: Curve + Drop>(
     curve: Option<C>,
     span: &Span,
 ) -> Result<Option<Cells>, AllocError>
-    requires { ForSome curve (λ c. Tells span.now (C.state c)) }
+    requires { ForSome curve (λ c. IsFreshOver span.now (C.state c)) }
     ensures { IfOk result (λ cells. cells ≡ option_map (λ c. cover_over span.now (C.state c).facts.meaning) curve) }
 {
     match curve {

@@ -6,22 +6,26 @@ use Rattle.harmonics_text.specs.declared.book.Station.{Station}
 use Rattle.harmonics_text.specs.declared.book.Book.{Book}
 use Rattle.station_curve.specs.declared.fault.CurveFault.{CurveFault}
 use Rattle.station_curve.specs.declared.fault.CurveFault.TheVariants.{Hydraulic, TooLarge, TooSteep, NoMemory}
-use Rattle.decimal_text.specs.Expected.{Gives}
-use Rattle.station_curve.specs.Curves.{first_fault, tide_over, is_hydraulic, curve_over, wants_memory}
+use Rattle.decimal_text.specs.Expected.{ReturnsUnless}
+use Rattle.station_curve.specs.Curves.{first_fault, tide_over, is_hydraulic, curve_over, is_out_of_memory}
 
 pub hydraulic_answer : (b : Book) (s : Station) (first last : ℤ) → is_hydraulic s.units ≡ true → curve_over b s first last ≡ Err Hydraulic
 unfolding curve_over
 hydraulic_answer b s first last h = simp h
 
-pub ok_answer : (b : Book) (s : Station) (first last : ℤ) → is_hydraulic s.units ≡ false → first_fault b s b.years ≡ None → curve_over b s first last ≡ Ok (tide_over b s first last)
+pub ok_answer : (b : Book) (s : Station) (first last : ℤ) → is_hydraulic s.units ≡ false
+    → first_fault b s b.years ≡ None → curve_over b s first last ≡ Ok (tide_over b s first last)
 unfolding curve_over
 ok_answer b s first last h none = simp (h, none)
 
-fault_found : (b : Book) (s : Station) (first last : ℤ) (fault : CurveFault) → is_hydraulic s.units ≡ false → first_fault b s b.years ≡ Some fault → curve_over b s first last ≡ Err fault
+fault_found : (b : Book) (s : Station) (first last : ℤ) (fault : CurveFault) → is_hydraulic s.units ≡ false
+    → first_fault b s b.years ≡ Some fault → curve_over b s first last ≡ Err fault
 unfolding curve_over
 fault_found b s first last fault h found = simp (h, found)
 
-pub fault_answer : (b : Book) (s : Station) (first last : ℤ) (fault : CurveFault) → is_hydraulic s.units ≡ false → (fault ≡ NoMemory) ⊎ (first_fault b s b.years ≡ Some fault) → Gives wants_memory (curve_over b s first last) (Err fault)
+pub fault_answer : (b : Book) (s : Station) (first last : ℤ) (fault : CurveFault) → is_hydraulic s.units ≡ false
+    → (fault ≡ NoMemory) ⊎ (first_fault b s b.years ≡ Some fault)
+    → ReturnsUnless is_out_of_memory (curve_over b s first last) (Err fault)
 fault_answer b s first last NoMemory h why = tt
 fault_answer b s first last Hydraulic h (inl e) = cc
 fault_answer b s first last Hydraulic h (inr found) = fault_found b s first last Hydraulic h found
@@ -36,5 +40,6 @@ ok_too P Q (Ok x) follows holds = follows x holds
 ok_too P Q (Err fault) follows holds = tt
 
 -- the station with an index of the book's list
-pub at_station : (P : Station → Type 0) (xs : List Station) (i : ℕ) (s : Station) → i < length xs → s ≡ get_or xs i s → P s → IfSome (slice_get xs i) P
+pub at_station : (P : Station → Type 0) (xs : List Station) (i : ℕ) (s : Station) → i < length xs → s ≡ get_or xs i s
+    → P s → IfSome (slice_get xs i) P
 at_station P xs i s in_list is holds = rw (slice_get-get_or xs i s in_list) (subst P is holds)

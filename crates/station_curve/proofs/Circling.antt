@@ -10,7 +10,7 @@ use Rattle.fixed_sine.specs.Circle.{circle}
 use Rattle.harmonics_text.specs.declared.book.Station.{Station}
 use Rattle.harmonics_text.specs.declared.book.Book.{Book}
 use Rattle.year_blend.specs.Places.{start_of}
-use Rattle.station_curve.specs.Workings.Nearness.{IsNear}
+use Rattle.station_curve.specs.Workings.NumberRanges.{IsWithinHourOfYear}
 use Rattle.station_curve.specs.Levels.{minutes_into}
 use Rattle.station_curve.specs.Schureman.{speed_of, angle_of, phase_of}
 use Rattle.station_curve.proofs.Products.{pos_abs}
@@ -45,7 +45,8 @@ lifted z n some =
     let most = mul-le (unsigned_abs z) 1 (unsigned_abs z) n (omega arith) some in
     omega (arith, ints, most)
 
-pub rem_onward : (z : ℤ) (n j : ℕ) → 0 < n → (unsigned_abs (int_rem_euclid z (pos n)) + j) % n ≡ unsigned_abs (int_rem_euclid (z +ℤ pos j) (pos n))
+pub rem_onward : (z : ℤ) (n j : ℕ) → 0 < n
+    → (unsigned_abs (int_rem_euclid z (pos n)) + j) % n ≡ unsigned_abs (int_rem_euclid (z +ℤ pos j) (pos n))
 rem_onward z n j some =
     let k = unsigned_abs z in
     let m = unsigned_abs (z +ℤ pos (k * n)) in
@@ -59,10 +60,13 @@ rem_onward z n j some =
     carried m j n = add-mod (m % n) j n ∙ ap (λ r. (r + j % n) % n) (mod-mod m n) ∙ sym (add-mod m j n)
 
 -- the angle of a wave t minutes later
-hours : (start m meridian : ℤ) (t : ℕ) → pos t ≡ (m -ℤ start) +ℤ pos 60 → (m -ℤ start) +ℤ meridian ≡ (((start -ℤ pos 60) -ℤ start) +ℤ meridian) +ℤ pos t
+hours : (start m meridian : ℤ) (t : ℕ) → pos t ≡ (m -ℤ start) +ℤ pos 60
+    → (m -ℤ start) +ℤ meridian ≡ (((start -ℤ pos 60) -ℤ start) +ℤ meridian) +ℤ pos t
 hours start m meridian t h = omega (arith, ints, h)
 
-pub angle_onward : (b : Book) (s : Station) (year : ℕ) (m : ℤ) (k speed t : ℕ) → pos speed ≡ speed_of b k → pos t ≡ (m -ℤ start_of b.first_year year) +ℤ pos 60 → angle_of b s year m k ≡ angle_of b s year (start_of b.first_year year -ℤ pos 60) k +ℤ pos (speed * t)
+pub angle_onward : (b : Book) (s : Station) (year : ℕ) (m : ℤ) (k speed t : ℕ) → pos speed ≡ speed_of b k
+    → pos t ≡ (m -ℤ start_of b.first_year year) +ℤ pos 60
+    → angle_of b s year m k ≡ angle_of b s year (start_of b.first_year year -ℤ pos 60) k +ℤ pos (speed * t)
 angle_onward b s year m k speed t is_speed is_t =
     let start = start_of b.first_year year in
     let turn = pos 60 *ℤ (get_or b.angles (k * b.years + year) (pos 0) -ℤ get_or s.epoch k (pos 0)) in
@@ -75,9 +79,13 @@ angle_onward b s year m k speed t is_speed is_t =
     moved : (x y z : ℤ) → (x +ℤ y) +ℤ z ≡ (x +ℤ z) +ℤ y
     moved x y z = omega (arith, ints)
 
-pub phase_onward : (b : Book) (s : Station) (year : ℕ) (m : ℤ) (k speed : ℕ) → pos speed ≡ speed_of b k → IsNear b.first_year year m → (phase_of b s year (start_of b.first_year year -ℤ pos 60) k + speed * minutes_into b.first_year year m) % circle ≡ phase_of b s year m k
-phase_onward b s year m k speed is_speed near =
+pub phase_onward : (b : Book) (s : Station) (year : ℕ) (m : ℤ) (k speed : ℕ) → pos speed ≡ speed_of b k
+    → IsWithinHourOfYear b.first_year year m
+    → (phase_of b s year (start_of b.first_year year -ℤ pos 60) k + speed * minutes_into b.first_year year m) % circle
+    ≡ phase_of b s year m k
+phase_onward b s year m k speed is_speed in_range =
     let t = minutes_into b.first_year year m in
-    let is_t : pos t ≡ (m -ℤ start_of b.first_year year) +ℤ pos 60 = pos_abs ((m -ℤ start_of b.first_year year) +ℤ pos 60) near.least in
+    let is_t : pos t ≡ (m -ℤ start_of b.first_year year) +ℤ pos 60 = pos_abs ((m -ℤ start_of b.first_year year) +ℤ pos 60) in_range.least in
     let angle = angle_of b s year (start_of b.first_year year -ℤ pos 60) k in
-    rem_onward angle circle (speed * t) (lit< tt) ∙ ap (λ z. unsigned_abs (int_rem_euclid z (pos circle))) (sym (angle_onward b s year m k speed t is_speed is_t))
+    rem_onward angle circle (speed * t) (lit< tt)
+    ∙ ap (λ z. unsigned_abs (int_rem_euclid z (pos circle))) (sym (angle_onward b s year m k speed t is_speed is_t))

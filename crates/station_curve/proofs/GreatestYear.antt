@@ -65,7 +65,8 @@ greatest-more value years i y most here more inside at is_most is_here is_more =
     omega (arith, ints, clamps, step, last, is_most, is_here, is_more)
 
 -- an error by the stored greatest value
-pub greatest-kept_size : (value : List Harmonic → ℕ) (years : List (List Harmonic)) (greatest : ℤ) (most : ℕ) → All (λ hs. value hs ≤ most) years
+pub greatest-kept_size : (value : List Harmonic → ℕ) (years : List (List Harmonic)) (greatest : ℤ) (most : ℕ)
+    → All (λ hs. value hs ≤ most) years
     → most ≤ 10 ^ 17 → greatest ≡ pos (greatest_of value years) → unsigned_abs (to_z w128 (of_z w128 greatest)) ≤ most
 greatest-kept_size value years greatest most all few is =
     let small = greatest-most value years most all in
@@ -75,16 +76,19 @@ greatest-kept_size value years greatest most all few is =
 whole_error : (n : ℕ) → pos (total_weight * chord_error) *ℤ pos n ≡ pos (total_weight * (chord_error * n))
 whole_error n = omega (arith, ints)
 
-pub error_by_greatest : (value : List Harmonic → ℕ) (inside tide : Tide) (greatest error : ℤ) (most : ℕ) → inside ≡ tide → All (λ hs. value hs ≤ most) inside.years
+pub error_by_greatest : (value : List Harmonic → ℕ) (inside tide : Tide) (greatest error : ℤ) (most : ℕ) → inside ≡ tide
+    → All (λ hs. value hs ≤ most) inside.years
     → most ≤ 10 ^ 17 → greatest ≡ pos (greatest_of value inside.years)
     → error ≡ pos (total_weight * chord_error) *ℤ to_z w128 (of_z w128 greatest)
-    → (to_z w128 (of_z w128 error) ≡ pos (total_weight * (chord_error * greatest_of value tide.years))) × (total_weight * (chord_error * greatest_of value tide.years) ≤ total_weight * (chord_error * most))
+    → (to_z w128 (of_z w128 error) ≡ pos (total_weight * (chord_error * greatest_of value tide.years)))
+    × (total_weight * (chord_error * greatest_of value tide.years) ≤ total_weight * (chord_error * most))
 error_by_greatest value inside tide greatest error most same all few is is_error =
     let n = greatest_of value inside.years in
     let small : n ≤ most = greatest-most value inside.years most all in
     let size : unsigned_abs greatest ≤ 10 ^ 17 = rw is (omega (arith, small, few)) in
-    let told : error ≡ pos (total_weight * (chord_error * n)) =
+    let stated : error ≡ pos (total_weight * (chord_error * n)) =
     rw (cast_small w128 greatest (10 ^ 17) size (lit< tt), is) at is_error ∙ whole_error n in
     let years : n ≡ greatest_of value tide.years = ap (λ (t : Tide). greatest_of value t.years) same in
-    let kept = cast_small w128 (pos (total_weight * (chord_error * n))) (total_weight * (chord_error * 10 ^ 17)) (omega (arith, small, few)) (lit< tt) in
-    (rw (told, kept) (ap (λ k. pos (total_weight * (chord_error * k))) years), omega (arith, small, years))
+    let kept = cast_small w128 (pos (total_weight * (chord_error * n))) (total_weight * (chord_error * 10 ^ 17))
+    (omega (arith, small, few)) (lit< tt) in
+    (rw (stated, kept) (ap (λ k. pos (total_weight * (chord_error * k))) years), omega (arith, small, years))

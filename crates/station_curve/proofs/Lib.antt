@@ -1,12 +1,12 @@
 pub mod Blending
 mod BookValues
-pub mod Near
+pub mod InRange
 pub mod Products
 mod Ready
 mod WavesOf
 mod ReadyYears
 mod Circling
-pub mod Gentle
+pub mod WithinLimits
 pub mod Touched
 pub mod Predicting
 pub mod Whole
@@ -14,11 +14,11 @@ mod Around
 mod Answering
 pub mod Gaps
 pub mod GreatestYear
-pub mod Nearly
+pub mod Approximating
 pub mod YearChanges
 pub mod Steps
 pub mod Turning
-pub mod NearNewYear
+pub mod HourOfNewYear
 pub mod CellSteps
 pub mod PlainSteps
 pub mod Ranges

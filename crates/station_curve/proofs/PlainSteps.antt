@@ -21,13 +21,15 @@ begun_since m start begun = omega (arith, ints, begun)
 next_minute : (a : ℤ) (k : ℕ) → a +ℤ pos (suc k) ≡ (a +ℤ pos k) +ℤ pos 1
 next_minute a k = omega (arith, ints)
 
-pub plain_step : (tide : Tide) (a : ℤ) (n year k : ℕ) → IsSpan tide a n → IsPlainStretch tide.first_year (length tide.years) a n year → k < n → IsPlainStep tide (a +ℤ pos k) year
+pub plain_step : (tide : Tide) (a : ℤ) (n year k : ℕ) → IsSpan tide a n
+    → IsPlainStretch tide.first_year (length tide.years) a n year → k < n → IsPlainStep tide (a +ℤ pos k) year
 plain_step tide a n year k span found below =
     let first = tide.first_year in
     let years = length tide.years in
     let plain = plain_stretch first years a n year span.are span.first found in
     let here = plain k (omega arith) in
-    let rule = rw here at (place_of-rule first years (a +ℤ pos k) span.are (domain_between first years a n k span.first span.last (omega arith))) in
+    let rule = rw here
+    at (place_of-rule first years (a +ℤ pos k) span.are (domain_between first years a n k span.first span.last (omega arith))) in
     record {
       here = here;
       there = rw (next_minute a k) at (plain (suc k) (omega arith));

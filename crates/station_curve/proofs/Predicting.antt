@@ -19,18 +19,19 @@ use Rattle.year_blend.specs.Weights.{total_weight, weight_of, weight_slope_of}
 use Rattle.year_blend.proofs.PlaceLemmas.{place_of-rule}
 use Rattle.station_curve.specs.Waves.{Harmonic, phase_at, height_at, fall_at, heights_of, falls_of}
 use Rattle.station_curve.specs.Sums.{sums_of}
-use Rattle.station_curve.specs.Workings.Nearness.{IsNear, IsNearPlace}
+use Rattle.station_curve.specs.Workings.NumberRanges.{IsWithinHourOfYear, IsPlaceInRange}
 use Rattle.station_curve.specs.Levels.{minutes_into, blended, drift, waves_in, place_in_tide, year_level, year_slope, level_of, slope_of, millionths_of}
 use Rattle.station_curve.specs.Schureman.{constituents_of, amplitude_of, speed_of, phase_of, predicted_year_level, predicted_year_slope, predicted_level, predicted_slope, predicted_millionths}
 use Rattle.station_curve.specs.Curves.{wave_of, waves_of, is_present, is_touched, tide_over, PredictsOver}
 use Rattle.station_curve.proofs.BookValues.{speed_pos}
 use Rattle.station_curve.proofs.Circling.{phase_onward}
-use Rattle.station_curve.proofs.Gentle.{fold-present, sums-present, first-tide_over, length-tide_over, waves_in-tide_over, over-touched}
-use Rattle.station_curve.proofs.Near.{near_place}
+use Rattle.station_curve.proofs.WithinLimits.{fold-present, sums-present, first-tide_over, length-tide_over, waves_in-tide_over, over-touched}
+use Rattle.station_curve.proofs.InRange.{in_range_place}
 use Rattle.station_curve.proofs.Touched.{AreTouched, book_years, touched_place}
 
 -- sums of equal terms
-sums_same : (u v : ℕ → ℤ) (ks : List ℕ) → All (λ k. u k ≡ v k) ks → (a : ℤ) → fold (λ sum k. sum +ℤ u k) a ks ≡ fold (λ sum k. sum +ℤ v k) a ks
+sums_same : (u v : ℕ → ℤ) (ks : List ℕ) → All (λ k. u k ≡ v k) ks → (a : ℤ)
+    → fold (λ sum k. sum +ℤ u k) a ks ≡ fold (λ sum k. sum +ℤ v k) a ks
 sums_same u v [] all a = refl
 sums_same u v (k ∷ ks) all a =
     ap (λ x. fold (λ sum k. sum +ℤ u k) (a +ℤ x) ks) (All-head (λ k. u k ≡ v k) k ks all)
@@ -42,13 +43,19 @@ each_below u v n same k d h =
     rw (get_or-range_with_len 0 n k d below, zero-add k) (same k below)
 
 -- a constituent's part is that of its wave
-part_of_level : (b : Book) (s : Station) (year k : ℕ) (m : ℤ) → IsBook b → k < length b.constituents → IsNear b.first_year year m → height_at (minutes_into b.first_year year m) (wave_of b s year k) ≡ amplitude_of b s year k *ℤ icos_of (phase_of b s year m k)
-part_of_level b s year k m book in_list near =
-    ap (λ p. amplitude_of b s year k *ℤ icos_of p) (phase_onward b s year m k (unsigned_abs (speed_of b k)) (speed_pos b k book in_list) near)
+part_of_level : (b : Book) (s : Station) (year k : ℕ) (m : ℤ) → IsBook b → k < length b.constituents
+    → IsWithinHourOfYear b.first_year year m → height_at (minutes_into b.first_year year m) (wave_of b s year k)
+    ≡ amplitude_of b s year k *ℤ icos_of (phase_of b s year m k)
+part_of_level b s year k m book in_list in_range =
+    ap (λ p. amplitude_of b s year k *ℤ icos_of p)
+    (phase_onward b s year m k (unsigned_abs (speed_of b k)) (speed_pos b k book in_list) in_range)
 
-part_of_slope : (b : Book) (s : Station) (year k : ℕ) (m : ℤ) → IsBook b → k < length b.constituents → IsNear b.first_year year m → fall_at (minutes_into b.first_year year m) (wave_of b s year k) ≡ (amplitude_of b s year k *ℤ speed_of b k) *ℤ isin_of (phase_of b s year m k)
-part_of_slope b s year k m book in_list near =
-    ap (λ p. (amplitude_of b s year k *ℤ pos (unsigned_abs (speed_of b k))) *ℤ isin_of p) (phase_onward b s year m k (unsigned_abs (speed_of b k)) (speed_pos b k book in_list) near)
+part_of_slope : (b : Book) (s : Station) (year k : ℕ) (m : ℤ) → IsBook b → k < length b.constituents
+    → IsWithinHourOfYear b.first_year year m → fall_at (minutes_into b.first_year year m) (wave_of b s year k)
+    ≡ (amplitude_of b s year k *ℤ speed_of b k) *ℤ isin_of (phase_of b s year m k)
+part_of_slope b s year k m book in_list in_range =
+    ap (λ p. (amplitude_of b s year k *ℤ pos (unsigned_abs (speed_of b k))) *ℤ isin_of p)
+    (phase_onward b s year m k (unsigned_abs (speed_of b k)) (speed_pos b k book in_list) in_range)
     ∙ ap (λ w. (amplitude_of b s year k *ℤ w) *ℤ isin_of (phase_of b s year m k)) (speed_pos b k book in_list)
 
 -- absent waves add nothing
@@ -57,57 +64,75 @@ zero_times (pos n) = ap pos (omega arith)
 zero_times (negsuc n) = omega (arith, ints)
 
 no_height : (t : ℕ) (a : ℤ) (h : Harmonic) → h.amplitude ≡ pos 0 → a +ℤ height_at t h ≡ a
-no_height t a h e = ap (λ z. a +ℤ (z *ℤ icos_of (phase_at h t))) e ∙ ap (λ z. a +ℤ z) (zero_times (icos_of (phase_at h t))) ∙ omega (arith, ints)
+no_height t a h e = ap (λ z. a +ℤ (z *ℤ icos_of (phase_at h t))) e
+    ∙ ap (λ z. a +ℤ z) (zero_times (icos_of (phase_at h t))) ∙ omega (arith, ints)
 
 no_fall : (t : ℕ) (a : ℤ) (h : Harmonic) → h.amplitude ≡ pos 0 → a +ℤ fall_at t h ≡ a
 no_fall t a h e =
-    ap (λ z. a +ℤ ((z *ℤ pos h.speed) *ℤ isin_of (phase_at h t))) e ∙ ap (λ z. a +ℤ (z *ℤ isin_of (phase_at h t))) (zero_times (pos h.speed))
+    ap (λ z. a +ℤ ((z *ℤ pos h.speed) *ℤ isin_of (phase_at h t))) e
+    ∙ ap (λ z. a +ℤ (z *ℤ isin_of (phase_at h t))) (zero_times (pos h.speed))
     ∙ ap (λ z. a +ℤ z) (zero_times (isin_of (phase_at h t))) ∙ omega (arith, ints)
 
 -- the sums over the waves of a year are those over all constituents
-heights_same : (b : Book) (s : Station) (year : ℕ) (m : ℤ) → IsBook b → IsNear b.first_year year m → heights_of (minutes_into b.first_year year m) (filter is_present (waves_of b s year)) ≡ fold (λ sum k. sum +ℤ (amplitude_of b s year k *ℤ icos_of (phase_of b s year m k))) (pos 0) (constituents_of b)
+heights_same : (b : Book) (s : Station) (year : ℕ) (m : ℤ) → IsBook b → IsWithinHourOfYear b.first_year year m
+    → heights_of (minutes_into b.first_year year m) (filter is_present (waves_of b s year))
+    ≡ fold (λ sum k. sum +ℤ (amplitude_of b s year k *ℤ icos_of (phase_of b s year m k))) (pos 0) (constituents_of b)
 unfolding waves_of
-heights_same b s year m book near =
+heights_same b s year m book in_range =
     let t = minutes_into b.first_year year m in
     fold-present (λ sum h. sum +ℤ height_at t h) (no_height t) (pos 0) (waves_of b s year)
     ∙ fold-map (λ sum h. sum +ℤ height_at t h) (wave_of b s year) (pos 0) (constituents_of b)
-    ∙ sums_same (λ k. height_at t (wave_of b s year k)) (λ k. amplitude_of b s year k *ℤ icos_of (phase_of b s year m k)) (constituents_of b)
-    (each_below (λ k. height_at t (wave_of b s year k)) (λ k. amplitude_of b s year k *ℤ icos_of (phase_of b s year m k)) (length b.constituents) (λ k h. part_of_level b s year k m book h near)) (pos 0)
+    ∙ sums_same (λ k. height_at t (wave_of b s year k))
+    (λ k. amplitude_of b s year k *ℤ icos_of (phase_of b s year m k)) (constituents_of b)
+    (each_below (λ k. height_at t (wave_of b s year k)) (λ k. amplitude_of b s year k *ℤ icos_of (phase_of b s year m k))
+    (length b.constituents) (λ k h. part_of_level b s year k m book h in_range)) (pos 0)
 
-falls_same : (b : Book) (s : Station) (year : ℕ) (m : ℤ) → IsBook b → IsNear b.first_year year m → falls_of (minutes_into b.first_year year m) (filter is_present (waves_of b s year)) ≡ fold (λ sum k. sum +ℤ ((amplitude_of b s year k *ℤ speed_of b k) *ℤ isin_of (phase_of b s year m k))) (pos 0) (constituents_of b)
+falls_same : (b : Book) (s : Station) (year : ℕ) (m : ℤ) → IsBook b → IsWithinHourOfYear b.first_year year m
+    → falls_of (minutes_into b.first_year year m) (filter is_present (waves_of b s year)) ≡ fold (λ sum k.
+    sum +ℤ ((amplitude_of b s year k *ℤ speed_of b k) *ℤ isin_of (phase_of b s year m k))) (pos 0) (constituents_of b)
 unfolding waves_of
-falls_same b s year m book near =
+falls_same b s year m book in_range =
     let t = minutes_into b.first_year year m in
     fold-present (λ sum h. sum +ℤ fall_at t h) (no_fall t) (pos 0) (waves_of b s year)
     ∙ fold-map (λ sum h. sum +ℤ fall_at t h) (wave_of b s year) (pos 0) (constituents_of b)
-    ∙ sums_same (λ k. fall_at t (wave_of b s year k)) (λ k. (amplitude_of b s year k *ℤ speed_of b k) *ℤ isin_of (phase_of b s year m k)) (constituents_of b)
-    (each_below (λ k. fall_at t (wave_of b s year k)) (λ k. (amplitude_of b s year k *ℤ speed_of b k) *ℤ isin_of (phase_of b s year m k)) (length b.constituents) (λ k h. part_of_slope b s year k m book h near)) (pos 0)
+    ∙ sums_same (λ k. fall_at t (wave_of b s year k))
+    (λ k. (amplitude_of b s year k *ℤ speed_of b k) *ℤ isin_of (phase_of b s year m k)) (constituents_of b)
+    (each_below (λ k. fall_at t (wave_of b s year k)) (λ k. (amplitude_of b s year k *ℤ speed_of b k) *ℤ isin_of (phase_of b s year m k))
+    (length b.constituents) (λ k h. part_of_slope b s year k m book h in_range)) (pos 0)
 
-waves_touched : (b : Book) (s : Station) (first last : ℤ) (year : ℕ) → year < b.years → is_touched b first last year ≡ true → waves_in (tide_over b s first last) year ≡ filter is_present (waves_of b s year)
+waves_touched : (b : Book) (s : Station) (first last : ℤ) (year : ℕ) → year < b.years → is_touched b first last year
+    ≡ true → waves_in (tide_over b s first last) year ≡ filter is_present (waves_of b s year)
 waves_touched b s first last year below touched = waves_in-tide_over b s first last year [] below ∙ over-touched b s first last year touched
 
-year_level_same : (b : Book) (s : Station) (first last m : ℤ) (year : ℕ) → IsBook b → year < b.years → is_touched b first last year ≡ true → IsNear b.first_year year m → year_level (tide_over b s first last) m year ≡ predicted_year_level b s m year
+year_level_same : (b : Book) (s : Station) (first last m : ℤ) (year : ℕ) → IsBook b → year < b.years
+    → is_touched b first last year ≡ true → IsWithinHourOfYear b.first_year year m
+    → year_level (tide_over b s first last) m year ≡ predicted_year_level b s m year
 unfolding year_level predicted_year_level tide_over
-year_level_same b s first last m year book below touched near =
-    ap (λ hs. (pos (10 ^ 9) *ℤ s.datum) +ℤ heights_of (minutes_into b.first_year year m) hs) (waves_touched b s first last year below touched)
-    ∙ ap (λ h. (pos (10 ^ 9) *ℤ s.datum) +ℤ h) (heights_same b s year m book near)
+year_level_same b s first last m year book below touched in_range =
+    ap (λ hs. (pos (10 ^ 9) *ℤ s.datum) +ℤ heights_of (minutes_into b.first_year year m) hs)
+    (waves_touched b s first last year below touched)
+    ∙ ap (λ h. (pos (10 ^ 9) *ℤ s.datum) +ℤ h) (heights_same b s year m book in_range)
 
-year_slope_same : (b : Book) (s : Station) (first last m : ℤ) (year : ℕ) → IsBook b → year < b.years → is_touched b first last year ≡ true → IsNear b.first_year year m → year_slope (tide_over b s first last) m year ≡ predicted_year_slope b s m year
+year_slope_same : (b : Book) (s : Station) (first last m : ℤ) (year : ℕ) → IsBook b → year < b.years
+    → is_touched b first last year ≡ true → IsWithinHourOfYear b.first_year year m
+    → year_slope (tide_over b s first last) m year ≡ predicted_year_slope b s m year
 unfolding year_slope predicted_year_slope tide_over
-year_slope_same b s first last m year book below touched near =
+year_slope_same b s first last m year book below touched in_range =
     ap (λ hs. neg_ℤ (falls_of (minutes_into b.first_year year m) hs)) (waves_touched b s first last year below touched)
-    ∙ ap neg_ℤ (falls_same b s year m book near)
+    ∙ ap neg_ℤ (falls_same b s year m book in_range)
 
 -- values that agree in the years of a position have the same blend
 AgreeAt : (ℕ → ℤ) → (ℕ → ℤ) → Place → Type 0
 AgreeAt f g (Plain year) = f year ≡ g year
 AgreeAt f g (Blend year x) = (f year ≡ g year) × (f (year - 1) ≡ g (year - 1))
 
-agree : (f g : ℕ → ℤ) (b : Book) (first last m : ℤ) (p : Place) → IsNearPlace b.first_year b.years m p → AreTouched b first last p → ((year : ℕ) → year < b.years → is_touched b first last year ≡ true → IsNear b.first_year year m → f year ≡ g year) → AgreeAt f g p
+agree : (f g : ℕ → ℤ) (b : Book) (first last m : ℤ) (p : Place) → IsPlaceInRange b.first_year b.years m p
+    → AreTouched b first last p → ((year : ℕ) → year < b.years → is_touched b first last year ≡ true
+    → IsWithinHourOfYear b.first_year year m → f year ≡ g year) → AgreeAt f g p
 unfolding AgreeAt
-agree f g b first last m (Plain year) near touched same = same year near.0 touched near.1
-agree f g b first last m (Blend year x) near touched same =
-    (same year near.1 touched.0 near.2, same (year - 1) (omega (arith, near.0, near.1)) touched.1 near.3)
+agree f g b first last m (Plain year) in_range touched same = same year in_range.0 touched in_range.1
+agree f g b first last m (Blend year x) in_range touched same =
+    (same year in_range.1 touched.0 in_range.2, same (year - 1) (omega (arith, in_range.0, in_range.1)) touched.1 in_range.3)
 
 blended_same : (f g : ℕ → ℤ) (p : Place) → AgreeAt f g p → blended f p ≡ blended g p
 unfolding AgreeAt
@@ -129,42 +154,53 @@ record IsAsked (b : Book) (first last m : ℤ) : Type 0 where
   from : first ≤ℤ m
   until : m ≤ℤ last
 
-agree_there : (f g : ℕ → ℤ) (b : Book) (first last m : ℤ) → IsBook b → IsAsked b first last m → ((year : ℕ) → year < b.years → is_touched b first last year ≡ true → IsNear b.first_year year m → f year ≡ g year) → AgreeAt f g (place_of b.first_year b.years m)
+agree_there : (f g : ℕ → ℤ) (b : Book) (first last m : ℤ) → IsBook b → IsAsked b first last m → ((year : ℕ)
+    → year < b.years → is_touched b first last year ≡ true → IsWithinHourOfYear b.first_year year m → f year ≡ g year)
+    → AgreeAt f g (place_of b.first_year b.years m)
 agree_there f g b first last m book asked same =
     agree f g b first last m (place_of b.first_year b.years m)
-    (near_place b.first_year b.years m (place_of b.first_year b.years m) book.first_year.least (place_of-rule b.first_year b.years m (book_years b book) asked.within))
+    (in_range_place b.first_year b.years m (place_of b.first_year b.years m) book.first_year.least
+    (place_of-rule b.first_year b.years m (book_years b book) asked.within))
     (touched_place b first last m book asked.within asked.from asked.until) same
 
-levels_agree : (b : Book) (s : Station) (first last m : ℤ) → IsBook b → IsAsked b first last m → AgreeAt (year_level (tide_over b s first last) m) (predicted_year_level b s m) (place_of b.first_year b.years m)
+levels_agree : (b : Book) (s : Station) (first last m : ℤ) → IsBook b → IsAsked b first last m
+    → AgreeAt (year_level (tide_over b s first last) m) (predicted_year_level b s m) (place_of b.first_year b.years m)
 levels_agree b s first last m book asked =
     agree_there (year_level (tide_over b s first last) m) (predicted_year_level b s m) b first last m book asked
-    (λ year below touched near. year_level_same b s first last m year book below touched near)
+    (λ year below touched in_range. year_level_same b s first last m year book below touched in_range)
 
-slopes_agree : (b : Book) (s : Station) (first last m : ℤ) → IsBook b → IsAsked b first last m → AgreeAt (year_slope (tide_over b s first last) m) (predicted_year_slope b s m) (place_of b.first_year b.years m)
+slopes_agree : (b : Book) (s : Station) (first last m : ℤ) → IsBook b → IsAsked b first last m
+    → AgreeAt (year_slope (tide_over b s first last) m) (predicted_year_slope b s m) (place_of b.first_year b.years m)
 slopes_agree b s first last m book asked =
     agree_there (year_slope (tide_over b s first last) m) (predicted_year_slope b s m) b first last m book asked
-    (λ year below touched near. year_slope_same b s first last m year book below touched near)
+    (λ year below touched in_range. year_slope_same b s first last m year book below touched in_range)
 
 place_same : (b : Book) (s : Station) (first last m : ℤ) → place_in_tide (tide_over b s first last) m ≡ place_of b.first_year b.years m
 place_same b s first last m = rw (first-tide_over b s first last, length-tide_over b s first last) refl
 
-level_same : (b : Book) (s : Station) (first last m : ℤ) → IsBook b → IsAsked b first last m → level_of (tide_over b s first last) m ≡ predicted_level b s m
+level_same : (b : Book) (s : Station) (first last m : ℤ) → IsBook b → IsAsked b first last m
+    → level_of (tide_over b s first last) m ≡ predicted_level b s m
 unfolding level_of predicted_level
 level_same b s first last m book asked =
     let tide = tide_over b s first last in
     ap (blended (year_level tide m)) (place_same b s first last m)
-    ∙ blended_same (year_level tide m) (predicted_year_level b s m) (place_of b.first_year b.years m) (levels_agree b s first last m book asked)
+    ∙ blended_same (year_level tide m) (predicted_year_level b s m) (place_of b.first_year b.years m)
+    (levels_agree b s first last m book asked)
 
-slope_same : (b : Book) (s : Station) (first last m : ℤ) → IsBook b → IsAsked b first last m → slope_of (tide_over b s first last) m ≡ predicted_slope b s m
+slope_same : (b : Book) (s : Station) (first last m : ℤ) → IsBook b → IsAsked b first last m
+    → slope_of (tide_over b s first last) m ≡ predicted_slope b s m
 unfolding slope_of predicted_slope
 slope_same b s first last m book asked =
     let tide = tide_over b s first last in
     let p = place_of b.first_year b.years m in
     ap (λ p. blended (year_slope tide m) p +ℤ drift (year_level tide m) p) (place_same b s first last m)
-    ∙ ap (λ v. v +ℤ drift (year_level tide m) p) (blended_same (year_slope tide m) (predicted_year_slope b s m) p (slopes_agree b s first last m book asked))
-    ∙ ap (λ v. blended (predicted_year_slope b s m) p +ℤ v) (drift_same (year_level tide m) (predicted_year_level b s m) p (levels_agree b s first last m book asked))
+    ∙ ap (λ v. v +ℤ drift (year_level tide m) p)
+    (blended_same (year_slope tide m) (predicted_year_slope b s m) p (slopes_agree b s first last m book asked))
+    ∙ ap (λ v. blended (predicted_year_slope b s m) p +ℤ v)
+    (drift_same (year_level tide m) (predicted_year_level b s m) p (levels_agree b s first last m book asked))
 
-millionths_same : (b : Book) (s : Station) (first last m : ℤ) → IsBook b → IsAsked b first last m → millionths_of (tide_over b s first last) m ≡ predicted_millionths b s m
+millionths_same : (b : Book) (s : Station) (first last m : ℤ) → IsBook b → IsAsked b first last m
+    → millionths_of (tide_over b s first last) m ≡ predicted_millionths b s m
 unfolding millionths_of predicted_millionths
 millionths_same b s first last m book asked = ap (λ l. rounded_of l (total_weight * 10 ^ 9)) (level_same b s first last m book asked)
 

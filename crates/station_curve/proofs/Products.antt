@@ -13,7 +13,8 @@ cast_small w a m h fits = to_z-of_z w a (fits_signed_from_abs w a (omega arith))
 pub abs_times : (a b : ℤ) (m n : ℕ) → unsigned_abs a ≤ m → unsigned_abs b ≤ n → unsigned_abs (a *ℤ b) ≤ m * n
 abs_times a b m n h k = rw (unsigned_abs-mul a b) (mul-le (unsigned_abs a) (unsigned_abs b) m n h k)
 
-pub times : (w : Width) (a b : ℤ) (m n : ℕ) → unsigned_abs a ≤ m → unsigned_abs b ≤ n → m < 2 ^ hbits w → n < 2 ^ hbits w → m * n < 2 ^ hbits w → to_z w (of_z w (to_z w (of_z w a) *ℤ to_z w (of_z w b))) ≡ a *ℤ b
+pub times : (w : Width) (a b : ℤ) (m n : ℕ) → unsigned_abs a ≤ m → unsigned_abs b ≤ n → m < 2 ^ hbits w
+    → n < 2 ^ hbits w → m * n < 2 ^ hbits w → to_z w (of_z w (to_z w (of_z w a) *ℤ to_z w (of_z w b))) ≡ a *ℤ b
 times w a b m n h k fits_m fits_n fits =
     rw (cast_small w a m h fits_m, cast_small w b n k fits_n) (to_z-of_z w (a *ℤ b) (fits_signed_mul w a b m n h k fits))
 

@@ -5,7 +5,7 @@ use Rattle.year_blend.specs.Places.{start_of}
 use Rattle.station_curve.specs.declared.years.Year.{Year}
 use Rattle.station_curve.specs.declared.curve.StationCurve.TheInside.{Inside}
 use Rattle.station_curve.specs.Waves.{Tide, amount_of, steepness_of}
-use Rattle.station_curve.specs.Limits.{IsGentle, most_amount, most_steepness}
+use Rattle.station_curve.specs.Limits.{IsWithinLimits, most_amount, most_steepness}
 use Rattle.station_curve.specs.Workings.Inside.{tide_in, IsReady}
 use Rattle.station_curve.specs.Levels.{waves_in}
 use Rattle.station_curve.specs.Sums.{sums_of}
@@ -19,7 +19,8 @@ pub record IsYearOf (tide : Tide) (year : ℕ) (y : Year) : Type 0 where
   pub steepness : steepness_of y.waves.items ≤ most_steepness
   pub sums : y.sums ≡ sums_of (waves_in tide year)
 
-inside_year : (s : Inside) (year : ℕ) (y : Year) → IsReady s → year < length (tide_in s).years → y ≡ get_or s.years.items year y → IsYearOf (tide_in s) year y
+inside_year : (s : Inside) (year : ℕ) (y : Year) → IsReady s → year < length (tide_in s).years
+    → y ≡ get_or s.years.items year y → IsYearOf (tide_in s) year y
 inside_year s year y ready in_list is =
     let in_years : year < length s.years.items = omega (arith, length-map s.years.items (λ y. y.waves.items)) in
     let waves : y.waves.items ≡ waves_in (tide_in s) year =
@@ -28,14 +29,15 @@ inside_year s year y ready in_list is =
       start = ap (λ y. y.start) is ∙ ready.starts year y in_years;
       end = ap (λ y. y.end) is ∙ ready.ends year y in_years;
       waves = waves;
-      amount = rw waves (ready.gentle.amounts year [] in_list);
-      steepness = rw waves (ready.gentle.steepnesses year [] in_list);
+      amount = rw waves (ready.within_limits.amounts year [] in_list);
+      steepness = rw waves (ready.within_limits.steepnesses year [] in_list);
       sums = ap (λ y. y.sums) is ∙ ready.sums year y in_years ∙ ap sums_of (ap (λ y. y.waves.items) (sym is) ∙ waves);
     }
 
-pub year_of : (s : Inside) (tide : Tide) (year : ℕ) (y : Year) → IsReady s → tide_in s ≡ tide → year < length tide.years → y ≡ get_or s.years.items year y → IsYearOf tide year y
+pub year_of : (s : Inside) (tide : Tide) (year : ℕ) (y : Year) → IsReady s → tide_in s ≡ tide → year < length tide.years
+    → y ≡ get_or s.years.items year y → IsYearOf tide year y
 year_of s tide year y ready is in_list at =
     subst (λ (t : Tide). year < length t.years → IsYearOf t year y) is (λ h. inside_year s year y ready h at) in_list
 
-pub gentle_of : (s : Inside) (tide : Tide) → IsReady s → tide_in s ≡ tide → IsGentle tide
-gentle_of s tide ready is = subst IsGentle is ready.gentle
+pub within_limits_of : (s : Inside) (tide : Tide) → IsReady s → tide_in s ≡ tide → IsWithinLimits tide
+within_limits_of s tide ready is = subst IsWithinLimits is ready.within_limits

@@ -13,18 +13,23 @@ use Rattle.station_curve.specs.Curves.{is_touched}
 pub book_years : (b : Book) → IsBook b → AreYears b.first_year b.years
 book_years b book = record { least = book.first_year.least; most = book.first_year.most; some = book.some_years; few = book.few_years }
 
-pub touched : (b : Book) (first last : ℤ) (year : ℕ) → start_of b.first_year year ≤ℤ (last +ℤ pos 60) → first ≤ℤ (start_of b.first_year (suc year) +ℤ pos 60) → is_touched b first last year ≡ true
+pub touched : (b : Book) (first last : ℤ) (year : ℕ) → start_of b.first_year year ≤ℤ (last +ℤ pos 60)
+    → first ≤ℤ (start_of b.first_year (suc year) +ℤ pos 60) → is_touched b first last year ≡ true
 unfolding is_touched
 touched b first last year begun ongoing =
-    and_from _ _ (le_test (start_of b.first_year year) (last +ℤ pos 60) begun) (le_test first (start_of b.first_year (suc year) +ℤ pos 60) ongoing)
+    and_from _ _ (le_test (start_of b.first_year year) (last +ℤ pos 60) begun)
+    (le_test first (start_of b.first_year (suc year) +ℤ pos 60) ongoing)
 
 -- the code's test of a year's start and end
-pub touched_by_ends : (b : Book) (first last start end : ℤ) (year : ℕ) (told : Bool) → start ≡ start_of b.first_year year → end ≡ start_of b.first_year (suc year) → told ≡ (int_le start (last +ℤ pos 60) && int_le first (end +ℤ pos 60)) → is_touched b first last year ≡ told
+pub touched_by_ends : (b : Book) (first last start end : ℤ) (year : ℕ) (stated : Bool)
+    → start ≡ start_of b.first_year year → end ≡ start_of b.first_year (suc year)
+    → stated ≡ (int_le start (last +ℤ pos 60) && int_le first (end +ℤ pos 60)) → is_touched b first last year ≡ stated
 unfolding is_touched
-touched_by_ends b first last start end year told begun ended is = sym (rw (begun, ended) at is)
+touched_by_ends b first last start end year stated begun ended is = sym (rw (begun, ended) at is)
 
 -- the year that contains a minute
-pub touched_in : (b : Book) (first last m : ℤ) (year : ℕ) → first ≤ℤ m → m ≤ℤ last → IsInYear b.first_year b.years m year → is_touched b first last year ≡ true
+pub touched_in : (b : Book) (first last m : ℤ) (year : ℕ) → first ≤ℤ m → m ≤ℤ last
+    → IsInYear b.first_year b.years m year → is_touched b first last year ≡ true
 touched_in b first last m year from until in_year =
     let begun = in_year.begun in
     let before : m ≤ℤ start_of b.first_year (suc year) = elim in_year.ongoing [
@@ -34,7 +39,8 @@ touched_in b first last m year from until in_year =
     touched b first last year (omega (arith, ints)) (omega (arith, ints))
 
 -- both years beside a new year are needed for a minute at most an hour from it
-pub touched_after : (b : Book) (first last m : ℤ) (year : ℕ) (x : ℤ) → pos 2 ≤ℤ b.first_year → first ≤ℤ m → m ≤ℤ last → IsInBlend b.first_year b.years m year x → is_touched b first last year ≡ true
+pub touched_after : (b : Book) (first last m : ℤ) (year : ℕ) (x : ℤ) → pos 2 ≤ℤ b.first_year → first ≤ℤ m → m ≤ℤ last
+    → IsInBlend b.first_year b.years m year x → is_touched b first last year ≡ true
 touched_after b first last m year x low from until blend =
     let above = blend.above in
     let below = blend.below in
@@ -42,7 +48,8 @@ touched_after b first last m year x low from until blend =
     let steps = start_of-later b.first_year year (suc year) low (omega arith) in
     touched b first last year (omega (arith, ints)) (omega (arith, ints))
 
-pub touched_before : (b : Book) (first last m : ℤ) (year : ℕ) (x : ℤ) → pos 2 ≤ℤ b.first_year → first ≤ℤ m → m ≤ℤ last → IsInBlend b.first_year b.years m (suc year) x → is_touched b first last year ≡ true
+pub touched_before : (b : Book) (first last m : ℤ) (year : ℕ) (x : ℤ) → pos 2 ≤ℤ b.first_year → first ≤ℤ m → m ≤ℤ last
+    → IsInBlend b.first_year b.years m (suc year) x → is_touched b first last year ≡ true
 touched_before b first last m year x low from until blend =
     let above = blend.above in
     let below = blend.below in
@@ -55,13 +62,15 @@ abbrev pub AreTouched : Book → ℤ → ℤ → Place → Type 0
 AreTouched b first last (Plain year) = is_touched b first last year ≡ true
 AreTouched b first last (Blend year x) = (is_touched b first last year ≡ true) × (is_touched b first last (year - 1) ≡ true)
 
-touched_by_rule : (b : Book) (first last m : ℤ) (p : Place) → pos 2 ≤ℤ b.first_year → first ≤ℤ m → m ≤ℤ last → IsPlaceOf b.first_year b.years m p → AreTouched b first last p
+touched_by_rule : (b : Book) (first last m : ℤ) (p : Place) → pos 2 ≤ℤ b.first_year → first ≤ℤ m → m ≤ℤ last
+    → IsPlaceOf b.first_year b.years m p → AreTouched b first last p
 touched_by_rule b first last m (Plain year) low from until rule = touched_in b first last m year from until rule.0
 touched_by_rule b first last m (Blend zero x) low from until rule = absurd (omega (arith, rule.later))
 touched_by_rule b first last m (Blend (suc year) x) low from until rule =
     let before : suc year - 1 ≡ year = omega arith in
     (touched_after b first last m (suc year) x low from until rule, rw before (touched_before b first last m year x low from until rule))
 
-pub touched_place : (b : Book) (first last m : ℤ) → IsBook b → InDomain b.first_year b.years m → first ≤ℤ m → m ≤ℤ last → AreTouched b first last (place_of b.first_year b.years m)
+pub touched_place : (b : Book) (first last m : ℤ) → IsBook b → InDomain b.first_year b.years m → first ≤ℤ m → m ≤ℤ last
+    → AreTouched b first last (place_of b.first_year b.years m)
 touched_place b first last m book within from until =
     touched_by_rule b first last m _ book.first_year.least from until (place_of-rule b.first_year b.years m (book_years b book) within)

@@ -9,9 +9,9 @@ use Rattle.harmonics_text.specs.Books.{IsBook, IsStation}
 use Rattle.year_blend.specs.Years.{year_start_of}
 use Rattle.year_blend.proofs.PlaceLemmas.{start_of-later}
 use Rattle.station_curve.specs.Curves.{waves_of, is_present, is_touched, tide_of, tide_over, curve_of, curve_over, first_fault, Predicts, PredictsOver}
-use Rattle.station_curve.specs.Limits.{IsGentle}
+use Rattle.station_curve.specs.Limits.{IsWithinLimits}
 use Rattle.station_curve.specs.Waves.{Tide, Harmonic}
-use Rattle.station_curve.proofs.Gentle.{same_list, length-tide_over, waves_in-tide_over, over-touched, gentle_over}
+use Rattle.station_curve.proofs.WithinLimits.{same_list, length-tide_over, waves_in-tide_over, over-touched, within_limits_over}
 use Rattle.station_curve.proofs.Predicting.{predicts_over}
 use Rattle.station_curve.proofs.Touched.{touched}
 
@@ -34,16 +34,20 @@ length-tide_of : (b : Book) (s : Station) → length (tide_of b s).years ≡ b.y
 unfolding tide_of
 length-tide_of b s = length-map-range_with_len (λ year. filter is_present (waves_of b s year)) 0 b.years
 
-waves_in-tide_of : (b : Book) (s : Station) (k : ℕ) (d : List Harmonic) → k < b.years → get_or (tide_of b s).years k d ≡ filter is_present (waves_of b s k)
+waves_in-tide_of : (b : Book) (s : Station) (k : ℕ) (d : List Harmonic) → k < b.years
+    → get_or (tide_of b s).years k d ≡ filter is_present (waves_of b s k)
 unfolding tide_of
-waves_in-tide_of b s k d below = get_or-map-range_with_len (λ year. filter is_present (waves_of b s year)) 0 b.years k k d below (omega arith)
+waves_in-tide_of b s k d below =
+    get_or-map-range_with_len (λ year. filter is_present (waves_of b s year)) 0 b.years k k d below (omega arith)
 
 whole_years : (b : Book) (s : Station) → IsBook b → (tide_over b s (first_of b) (last_of b)).years ≡ (tide_of b s).years
 whole_years b s book =
     let over = length-tide_over b s (first_of b) (last_of b) in
     same_list (tide_over b s (first_of b) (last_of b)).years (tide_of b s).years (over ∙ sym (length-tide_of b s))
     (λ k d h. let below : k < b.years = omega (arith, h, over) in
-    waves_in-tide_over b s (first_of b) (last_of b) k d below ∙ over-touched b s (first_of b) (last_of b) k (touched_all b k book below) ∙ sym (waves_in-tide_of b s k d below))
+    waves_in-tide_over b s (first_of b) (last_of b) k d below
+    ∙ over-touched b s (first_of b) (last_of b) k (touched_all b k book below)
+    ∙ sym (waves_in-tide_of b s k d below))
 
 pub whole_tide : (b : Book) (s : Station) → IsBook b → tide_over b s (first_of b) (last_of b) ≡ tide_of b s
 unfolding tide_of tide_over
@@ -64,10 +68,13 @@ whole_predicts b s tide book over = record {
 }
 
 pub predicts_tide : (b : Book) (s : Station) → IsBook b → Predicts b s (tide_of b s)
-predicts_tide b s book = subst (Predicts b s) (whole_tide b s book) (whole_predicts b s _ book (predicts_over b s (first_of b) (last_of b) book))
+predicts_tide b s book = subst (Predicts b s) (whole_tide b s book)
+    (whole_predicts b s _ book (predicts_over b s (first_of b) (last_of b) book))
 
-pub gentle_tide : (b : Book) (s : Station) → IsBook b → IsStation (length b.constituents) s → first_fault b s b.years ≡ None → IsGentle (tide_of b s)
-gentle_tide b s book station none = subst IsGentle (whole_tide b s book) (gentle_over b s (first_of b) (last_of b) book station none)
+pub tide_within_limits : (b : Book) (s : Station) → IsBook b → IsStation (length b.constituents) s
+    → first_fault b s b.years ≡ None → IsWithinLimits (tide_of b s)
+tide_within_limits b s book station none =
+    subst IsWithinLimits (whole_tide b s book) (within_limits_over b s (first_of b) (last_of b) book station none)
 
 -- a prediction of all minutes is one of some
 pub predicts_within : (b : Book) (s : Station) (first last : ℤ) (tide : Tide) → Predicts b s tide → PredictsOver b s first last tide

@@ -30,9 +30,10 @@ fall_gap : (t : ℕ) (h : Harmonic) → unsigned_abs (fall_at (t + 1) h -ℤ fal
 fall_gap t h =
     let sine : unsigned_abs (isin_of (phase_at h (t + 1)) -ℤ isin_of (phase_at h t)) ≤ step_of h.speed =
     rw (phase_onward h t) (rate_law h.speed (phase_at h t) (mod_below (h.phase + h.speed * t) circle (lit< tt))) in
-    rw (unsigned_abs-mul h.amplitude (pos h.speed)) at (scaled_gap (h.amplitude *ℤ pos h.speed) (isin_of (phase_at h (t + 1))) (isin_of (phase_at h t)) (step_of h.speed) sine)
+    rw (unsigned_abs-mul h.amplitude (pos h.speed))
+    at (scaled_gap (h.amplitude *ℤ pos h.speed) (isin_of (phase_at h (t + 1))) (isin_of (phase_at h t)) (step_of h.speed) sine)
 
--- the cosine is the sine of the angle plus a quarter of a turn
+-- the cosine is the sine of the angle plus a quarter of a circle
 a_quarter_on : (n w : ℕ) → ((n % circle + w) % circle + circle / 4) % circle ≡ ((n % circle + circle / 4) % circle + w) % circle
 a_quarter_on n w = omega arith
 
@@ -54,29 +55,36 @@ falls_gap t hs = sums_gap (fall_at (t + 1)) (fall_at t) fall_rate_of (fall_gap t
 heights_gap : (t : ℕ) (hs : List Harmonic) → unsigned_abs (heights_of (t + 1) hs -ℤ heights_of t hs) ≤ near_of hs
 heights_gap t hs = sums_gap (height_at (t + 1)) (height_at t) height_rate_of (height_gap t) hs (pos 0) (pos 0) 0 (omega arith)
 
-minutes_onward : (start m : ℤ) → pos 0 ≤ℤ ((m -ℤ start) +ℤ pos 60) → unsigned_abs (((m +ℤ pos 1) -ℤ start) +ℤ pos 60) ≡ unsigned_abs ((m -ℤ start) +ℤ pos 60) + 1
+minutes_onward : (start m : ℤ) → pos 0 ≤ℤ ((m -ℤ start) +ℤ pos 60)
+    → unsigned_abs (((m +ℤ pos 1) -ℤ start) +ℤ pos 60) ≡ unsigned_abs ((m -ℤ start) +ℤ pos 60) + 1
 minutes_onward start m least = omega (arith, ints)
 
 -- a minute of the year, or of the hour before it
 abbrev pub IsSince : ℤ → ℕ → ℤ → Type 0
 IsSince first_year year m = pos 0 ≤ℤ ((m -ℤ start_of first_year year) +ℤ pos 60)
 
-pub year_slope_gap : (tide : Tide) (m : ℤ) (year : ℕ) → IsSince tide.first_year year m → unsigned_abs (year_slope tide (m +ℤ pos 1) year -ℤ year_slope tide m year) ≤ far_of (waves_in tide year)
+pub year_slope_gap : (tide : Tide) (m : ℤ) (year : ℕ) → IsSince tide.first_year year m
+    → unsigned_abs (year_slope tide (m +ℤ pos 1) year -ℤ year_slope tide m year) ≤ far_of (waves_in tide year)
 unfolding year_slope
 year_slope_gap tide m year since =
     let t = minutes_into tide.first_year year m in
     let hs = waves_in tide year in
-    rw (minutes_onward (start_of tide.first_year year) m since) (turned_gap (falls_of (t + 1) hs) (falls_of t hs) (far_of hs) (falls_gap t hs))
+    rw (minutes_onward (start_of tide.first_year year) m since)
+    (turned_gap (falls_of (t + 1) hs) (falls_of t hs) (far_of hs) (falls_gap t hs))
 
 pub same_mean : (d a b : ℤ) → (d +ℤ a) -ℤ (d +ℤ b) ≡ a -ℤ b
 same_mean d a b = omega (arith, ints)
 
-pub year_level_gap : (tide : Tide) (m : ℤ) (year : ℕ) → IsSince tide.first_year year m → unsigned_abs (year_level tide (m +ℤ pos 1) year -ℤ year_level tide m year) ≤ near_of (waves_in tide year)
+pub year_level_gap : (tide : Tide) (m : ℤ) (year : ℕ) → IsSince tide.first_year year m
+    → unsigned_abs (year_level tide (m +ℤ pos 1) year -ℤ year_level tide m year) ≤ near_of (waves_in tide year)
 unfolding year_level
 year_level_gap tide m year since =
     let t = minutes_into tide.first_year year m in
     let hs = waves_in tide year in
-    rw (minutes_onward (start_of tide.first_year year) m since, same_mean (pos (10 ^ 9) *ℤ tide.datum) (heights_of (t + 1) hs) (heights_of t hs)) (heights_gap t hs)
+    rw (
+      minutes_onward (start_of tide.first_year year) m since,
+      same_mean (pos (10 ^ 9) *ℤ tide.datum) (heights_of (t + 1) hs) (heights_of t hs),
+    ) (heights_gap t hs)
 
 -- bounds on the size of heights and falls
 height_size : (t : ℕ) (h : Harmonic) → unsigned_abs (height_at t h) ≤ 10 ^ 9 * unsigned_abs h.amplitude
@@ -88,7 +96,8 @@ height_size t h =
 fall_size : (t : ℕ) (h : Harmonic) → unsigned_abs (fall_at t h) ≤ 10 ^ 9 * (unsigned_abs h.amplitude * h.speed)
 fall_size t h =
     let sine = isin_of_size (phase_at h t) (mod_below (h.phase + h.speed * t) circle (lit< tt)) in
-    let steep : unsigned_abs (h.amplitude *ℤ pos h.speed) ≤ unsigned_abs h.amplitude * h.speed = omega (arith, unsigned_abs-mul h.amplitude (pos h.speed)) in
+    let steep : unsigned_abs (h.amplitude *ℤ pos h.speed) ≤ unsigned_abs h.amplitude * h.speed =
+    omega (arith, unsigned_abs-mul h.amplitude (pos h.speed)) in
     let most = abs_times (h.amplitude *ℤ pos h.speed) (isin_of (phase_at h t)) (unsigned_abs h.amplitude * h.speed) (10 ^ 9) steep sine in
     omega (arith, most)
 
@@ -107,21 +116,28 @@ year_slope_size tide m year =
     let t = minutes_into tide.first_year year m in
     rw (same_size (falls_of t (waves_in tide year))) (falls_size t (waves_in tide year))
 
-pub year_level_size : (tide : Tide) (m : ℤ) (year : ℕ) → unsigned_abs (year_level tide m year) ≤ 10 ^ 9 * (unsigned_abs tide.datum + amount_of (waves_in tide year))
+pub year_level_size : (tide : Tide) (m : ℤ) (year : ℕ)
+    → unsigned_abs (year_level tide m year) ≤ 10 ^ 9 * (unsigned_abs tide.datum + amount_of (waves_in tide year))
 unfolding year_level
 year_level_size tide m year =
     let t = minutes_into tide.first_year year m in
     let mean = abs_times (pos (10 ^ 9)) tide.datum (10 ^ 9) (unsigned_abs tide.datum) (omega arith) (omega arith) in
-    let parts = abs_plus (pos (10 ^ 9) *ℤ tide.datum) (heights_of t (waves_in tide year)) (10 ^ 9 * unsigned_abs tide.datum) (10 ^ 9 * amount_of (waves_in tide year)) mean (heights_size t (waves_in tide year)) in
+    let parts =
+    abs_plus (pos (10 ^ 9) *ℤ tide.datum) (heights_of t (waves_in tide year)) (10 ^ 9 * unsigned_abs tide.datum)
+    (10 ^ 9 * amount_of (waves_in tide year)) mean (heights_size t (waves_in tide year)) in
     omega (arith, parts)
 
 -- the difference of two years' levels at one minute: the mean level cancels
-pub level_difference : (tide : Tide) (m : ℤ) (year other : ℕ) → unsigned_abs (year_level tide m year -ℤ year_level tide m other) ≤ 10 ^ 9 * (amount_of (waves_in tide year) + amount_of (waves_in tide other))
+pub level_difference : (tide : Tide) (m : ℤ) (year other : ℕ)
+    → unsigned_abs (year_level tide m year -ℤ year_level tide m other)
+    ≤ 10 ^ 9 * (amount_of (waves_in tide year) + amount_of (waves_in tide other))
 unfolding year_level
 level_difference tide m year other =
     let high = heights_of (minutes_into tide.first_year year m) (waves_in tide year) in
     let low = heights_of (minutes_into tide.first_year other m) (waves_in tide other) in
-    let apart = abs_minus high low (10 ^ 9 * amount_of (waves_in tide year)) (10 ^ 9 * amount_of (waves_in tide other)) (heights_size (minutes_into tide.first_year year m) (waves_in tide year)) (heights_size (minutes_into tide.first_year other m) (waves_in tide other)) in
+    let apart = abs_minus high low (10 ^ 9 * amount_of (waves_in tide year)) (10 ^ 9 * amount_of (waves_in tide other))
+    (heights_size (minutes_into tide.first_year year m) (waves_in tide year))
+    (heights_size (minutes_into tide.first_year other m) (waves_in tide other)) in
     rw (same_mean (pos (10 ^ 9) *ℤ tide.datum) high low) (omega (arith, apart))
 
 -- a wave's rates by its amplitude and its speed
@@ -135,7 +151,10 @@ near_part a w =
     let right : 17454000 * (a * w) ≡ a * (17454000 * w) = omega arith in
     rw (left, right) (omega (arith, most))
 
-near_parts : (hs : List Harmonic) (a b c : ℕ) → degree * a ≤ 17454000 * b + degree * c → degree * fold (λ sum h. sum + height_rate_of h) a hs ≤ 17454000 * fold (λ sum h. sum + unsigned_abs h.amplitude * h.speed) b hs + degree * fold (λ sum h. sum + unsigned_abs h.amplitude) c hs
+near_parts : (hs : List Harmonic) (a b c : ℕ) → degree * a ≤ 17454000 * b + degree * c
+    → degree * fold (λ sum h. sum + height_rate_of h) a hs
+    ≤ 17454000 * fold (λ sum h. sum + unsigned_abs h.amplitude * h.speed) b hs
+    + degree * fold (λ sum h. sum + unsigned_abs h.amplitude) c hs
 near_parts [] a b c small = small
 near_parts (h ∷ hs) a b c small =
     let part = near_part (unsigned_abs h.amplitude) h.speed in
@@ -153,7 +172,9 @@ pub height_rate_size : (a w : ℕ) → w ≤ 3600000000 → a * step_of w ≤ 10
 height_rate_size a w quick =
     let most = mul-le a (step_of w) a 104724001 (omega arith) (most_step w quick) in omega (arith, most)
 
-far_parts : (hs : List Harmonic) (a b : ℕ) → All (λ h. h.speed ≤ 3600000000) hs → a ≤ 104724001 * b → fold (λ sum h. sum + fall_rate_of h) a hs ≤ 104724001 * fold (λ sum h. sum + unsigned_abs h.amplitude * h.speed) b hs
+far_parts : (hs : List Harmonic) (a b : ℕ) → All (λ h. h.speed ≤ 3600000000) hs → a ≤ 104724001 * b
+    → fold (λ sum h. sum + fall_rate_of h) a hs
+    ≤ 104724001 * fold (λ sum h. sum + unsigned_abs h.amplitude * h.speed) b hs
 far_parts [] a b quick small = small
 far_parts (h ∷ hs) a b quick small =
     let part = height_rate_size (unsigned_abs h.amplitude * h.speed) h.speed (All-head (λ h. h.speed ≤ 3600000000) h hs quick) in

@@ -1,5 +1,37 @@
 -- The curve of a station, and the reasons why it may have none (this project).
-use Rattle.std.specs.Prelude.{◌≡◌, ℕ, zero, suc, ◌<◌, ◌==◌, nat_lt, not, Bool, true, false, ◌&&◌, if◌then◌else◌, List, [], length, map, filter, Option, Some, None, Result, Ok, Err, ℤ, pos, ◌+ℤ◌, ◌-ℤ◌, ◌≤ℤ◌, int_le, unsigned_abs}
+use Rattle.std.specs.Prelude.{
+  ◌≡◌,
+  ℕ,
+  zero,
+  suc,
+  ◌<◌,
+  ◌==◌,
+  nat_lt,
+  not,
+  Bool,
+  true,
+  false,
+  ◌&&◌,
+  if◌then◌else◌,
+  List,
+  [],
+  length,
+  map,
+  filter,
+  Option,
+  Some,
+  None,
+  Result,
+  Ok,
+  Err,
+  ℤ,
+  pos,
+  ◌+ℤ◌,
+  ◌-ℤ◌,
+  ◌≤ℤ◌,
+  int_le,
+  unsigned_abs,
+}
 use Rattle.std.specs.List.{range_with_len}
 use Rattle.std.specs.Option.{option_or}
 use Rattle.harmonics_text.specs.declared.book.Units.{Units}
@@ -13,7 +45,15 @@ use Rattle.station_curve.specs.Waves.{Harmonic, Tide, amount_of, steepness_of}
 use Rattle.station_curve.specs.Levels.{waves_in, level_of, slope_of, millionths_of}
 use Rattle.station_curve.specs.Sums.{sums_of}
 use Rattle.station_curve.specs.Limits.{most_amount, most_steepness}
-use Rattle.station_curve.specs.Schureman.{constituents_of, speed_of, amplitude_of, phase_of, predicted_level, predicted_slope, predicted_millionths}
+use Rattle.station_curve.specs.Schureman.{
+  constituents_of,
+  speed_of,
+  amplitude_of,
+  phase_of,
+  predicted_level,
+  predicted_slope,
+  predicted_millionths,
+}
 
 -- the wave of constituent k in a year
 abbrev pub wave_of : Book → Station → ℕ → ℕ → Harmonic
@@ -91,9 +131,9 @@ curve_over b s first last =
     if is_hydraulic s.units then Err Hydraulic else tide_or (tide_over b s first last) (first_fault b s b.years)
 
 -- a fault is out of memory
-abbrev pub wants_memory : CurveFault → Bool
-wants_memory NoMemory = true
-wants_memory _ = false
+abbrev pub is_out_of_memory : CurveFault → Bool
+is_out_of_memory NoMemory = true
+is_out_of_memory _ = false
 
 -- The tide predicts a station: it has the book's years, and at each minute the station's level and slope
 -- by every constituent of the book, and the sums of each year over every constituent.

@@ -1,6 +1,6 @@
 pub mod Waves
 pub mod Levels
-pub mod Near
+pub mod Approximate
 pub mod Errors
 pub mod Schureman
 pub mod Sums

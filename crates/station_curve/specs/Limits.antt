@@ -13,7 +13,7 @@ abbrev pub most_steepness : ℕ
 most_steepness = 10 ^ 17
 
 -- a tide within the limits
-pub record IsGentle (tide : Tide) : Type 0 where
+pub record IsWithinLimits (tide : Tide) : Type 0 where
   pub years : AreYears tide.first_year (length tide.years)
   pub datum : unsigned_abs tide.datum ≤ 10 ^ 10
   pub amounts : All (λ hs. amount_of hs ≤ most_amount) tide.years
@@ -21,7 +21,7 @@ pub record IsGentle (tide : Tide) : Type 0 where
   pub speeds : All (All (λ h. h.speed ≤ 3600000000)) tide.years
 
 -- the sums of a year of a tide within the limits
-pub record AreGentle (s : Sums) : Type 0 where
+pub record AreWithinLimits (s : Sums) : Type 0 where
   pub amount : unsigned_abs s.amount ≤ most_amount
   pub steep : unsigned_abs s.steep ≤ most_steepness
   pub near : unsigned_abs s.near ≤ 3 * 10 ^ 15

@@ -46,7 +46,8 @@ predicted_year_level b s m year =
 -- the slope at minute m by the constants of one year
 unfoldable pub predicted_year_slope : Book → Station → ℤ → ℕ → ℤ
 predicted_year_slope b s m year =
-    neg_ℤ (fold (λ sum k. sum +ℤ ((amplitude_of b s year k *ℤ speed_of b k) *ℤ isin_of (phase_of b s year m k))) (pos 0) (constituents_of b))
+    neg_ℤ (fold (λ sum k. sum +ℤ ((amplitude_of b s year k *ℤ speed_of b k) *ℤ isin_of (phase_of b s year m k))) (pos 0)
+    (constituents_of b))
 
 -- the level at minute m, in billionths of a millionth times the total weight
 unfoldable pub predicted_level : Book → Station → ℤ → ℤ

@@ -1,3 +1,3 @@
 pub mod Inside
-pub mod Nearness
+pub mod NumberRanges
 pub mod Prepared

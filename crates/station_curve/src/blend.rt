@@ -3,7 +3,7 @@
 ghost use Rattle.std.specs.Prelude.{◌≡◌, ◌*◌, ◌^◌, ◌≤◌, pos, ◌+ℤ◌, ◌-ℤ◌, ◌*ℤ◌, ◌≤ℤ◌, unsigned_abs};
 ghost use Rattle.fixed_sine.specs.Circle.{radian};
 ghost use Rattle.fixed_sine.specs.Chords.{chord_error};
-ghost use Rattle.year_blend.specs.Weights.{total_weight, weight_slope_of, IsNearNewYear};
+ghost use Rattle.year_blend.specs.Weights.{total_weight, weight_slope_of, IsWithinHourOfNewYear};
 
 use fixed_sine::{CHORD_ERROR, RADIAN};
 use year_blend::{TOTAL_WEIGHT, weight_slope};
@@ -35,7 +35,7 @@ pub fn mixed(earlier: i128, later: i128, weight: i64) -> i128
 /// `change` is the later year's level less the earlier year's.
 pub fn drift(change: i64, x: i64) -> i128
     requires change { unsigned_abs change ≤ 2 * 10 ^ 18 }
-    requires near { IsNearNewYear x }
+    requires in_range { IsWithinHourOfNewYear x }
     ensures value { result ≡ (weight_slope_of x *ℤ pos radian) *ℤ change }
     ensures size { unsigned_abs result ≤ (64800000 * radian) * (2 * 10 ^ 18) }
 {
@@ -44,7 +44,7 @@ pub fn drift(change: i64, x: i64) -> i128
 
 /// Returns the change of the weight a minute, times the units of a radian.
 fn weight_rise(x: i64) -> i64
-    requires { IsNearNewYear x }
+    requires { IsWithinHourOfNewYear x }
     ensures value { result ≡ weight_slope_of x *ℤ pos radian }
     ensures size { unsigned_abs result ≤ 64800000 * radian }
 {

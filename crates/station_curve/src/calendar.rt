@@ -1,7 +1,7 @@
 //! The year of a minute by the calendar, for the minutes near the end of a year.
 
 ghost use Rattle.year_blend.specs.Places.{AreYears, InDomain};
-ghost use Rattle.station_curve.specs.Workings.Nearness.{IsPlainYear};
+ghost use Rattle.station_curve.specs.Workings.NumberRanges.{IsPlainYear};
 
 use year_blend::{Place, place};
 

@@ -4,10 +4,10 @@ ghost use Rattle.std.specs.Prelude.{ℕ, ◌+◌, ◌*◌, ◌^◌, ◌≤◌, �
 ghost use Rattle.year_blend.specs.Places.{start_of};
 ghost use Rattle.station_curve.specs.Waves.{Tide, amount_of, steepness_of};
 ghost use Rattle.station_curve.specs.Sums.{near_of, far_of, sums_of};
-ghost use Rattle.station_curve.specs.Limits.{IsGentle, AreGentle};
+ghost use Rattle.station_curve.specs.Limits.{IsWithinLimits, AreWithinLimits};
 ghost use Rattle.station_curve.specs.Levels.{waves_in, year_level, year_slope};
 
-/// Proves that from an hour before the year on the level changes by at most the sum `near` of the year in
+/// Proves that from an hour before the year on the level changes by at most the sum `approximate` of the year in
 /// a minute, and the slope by at most `far`.
 pub fn year_changes()
     ensures level { (tide : Tide) (m : ℤ) (year : ℕ) → pos 0 ≤ℤ ((m -ℤ start_of tide.first_year year) +ℤ pos 60)
@@ -26,5 +26,5 @@ pub fn year_sizes()
     ensures difference { (tide : Tide) (m : ℤ) (year other : ℕ) →
         unsigned_abs (year_level tide m year -ℤ year_level tide m other)
         ≤ 10 ^ 9 * (amount_of (waves_in tide year) + amount_of (waves_in tide other)) }
-    ensures sums { (tide : Tide) (year : ℕ) → IsGentle tide → AreGentle (sums_of (waves_in tide year)) }
+    ensures sums { (tide : Tide) (year : ℕ) → IsWithinLimits tide → AreWithinLimits (sums_of (waves_in tide year)) }
 {}

@@ -1,6 +1,26 @@
 //! A station's constants in one year of a book.
 
-ghost use Rattle.std.specs.Prelude.{◌≡◌, ◌+◌, ◌*◌, ◌^◌, ◌<◌, ◌≤◌, if◌then◌else◌, [], length, filter, Some, None, MatchResult, IfOk, unsigned_abs, pos, ◌+ℤ◌, ◌-ℤ◌, ◌*ℤ◌};
+ghost use Rattle.std.specs.Prelude.{
+  ◌≡◌,
+  ◌+◌,
+  ◌*◌,
+  ◌^◌,
+  ◌<◌,
+  ◌≤◌,
+  if◌then◌else◌,
+  [],
+  length,
+  filter,
+  Some,
+  None,
+  MatchResult,
+  IfOk,
+  unsigned_abs,
+  pos,
+  ◌+ℤ◌,
+  ◌-ℤ◌,
+  ◌*ℤ◌,
+};
 ghost use Rattle.decimal_text.specs.Rounding.{rounded_of};
 ghost use Rattle.fixed_sine.specs.Circle.{circle};
 ghost use Rattle.harmonics_text.specs.Books.{IsStation};
@@ -16,7 +36,7 @@ use crate::fault::CurveFault;
 use crate::wave::Wave;
 use decimal_text::rounded_short;
 use fixed_sine::reduce;
-use harmonics_text::{SoundBook, Station};
+use harmonics_text::{Station, ValidBook};
 use std::alloc::{AllocError, Global};
 
 /// The greatest sum of the amplitudes of a year, in millionths of the unit.
@@ -31,12 +51,12 @@ const MOST_STEEPNESS: u128 = 100_000_000_000_000_000;
 /// [`AllocError`] if memory runs out.
 pub fn present_places(
     alloc: Global,
-    book: &SoundBook<'_>,
+    book: &ValidBook<'_>,
     station: &Station,
 ) -> Result<Vec<usize>, AllocError>
     requires station { IsStation (length book.now.constituents) station.now }
     ensures places { IfOk result (λ places. places.items ≡ present_in book.now station.now) }
-    ensures few { IfOk result (λ places. length places.items ≤ 500) }
+    ensures count_bound { IfOk result (λ places. length places.items ≤ 500) }
 {
     let mut places = Vec::new(alloc);
     for k in 0..count(book) {
@@ -54,14 +74,14 @@ pub fn present_places(
 /// [`CurveFault::TooLarge`] if the sizes of the amplitudes sum to more than 1,000,000,000 millionths; else
 /// [`CurveFault::TooSteep`] if the sizes times the speeds sum to more than 10^17.
 pub fn check_year(
-    book: &SoundBook<'_>,
+    book: &ValidBook<'_>,
     station: &Station,
     present: &[usize],
     year: u32,
 ) -> Result<(), CurveFault>
     requires station { IsStation (length book.now.constituents) station.now }
     requires present { present.now ≡ present_in book.now station.now }
-    requires few { length present.now ≤ 500 }
+    requires count_bound { length present.now ≤ 500 }
     requires year { year < book.now.years }
     ensures { MatchResult result
         (λ _. year_fault book.now station.now year ≡ None)
@@ -79,7 +99,7 @@ pub fn check_year(
 }
 
 /// Returns the calendar year of year `year`, counted from 0; also of the year after the last.
-pub fn calendar_year(book: &SoundBook<'_>, year: u32) -> i32
+pub fn calendar_year(book: &ValidBook<'_>, year: u32) -> i32
     requires { year ≤ book.now.years }
     ensures value { result ≡ book.now.first_year +ℤ pos year }
     ensures reach { IsYearInReach result }
@@ -88,18 +108,18 @@ pub fn calendar_year(book: &SoundBook<'_>, year: u32) -> i32
 }
 
 /// Returns the number of constituents of the book.
-fn count(book: &SoundBook<'_>) -> usize
+fn count(book: &ValidBook<'_>) -> usize
     ensures value { result ≡ length book.now.constituents }
-    ensures few { result ≤ 500 }
+    ensures count_bound { result ≤ 500 }
 {
     book.get().constituents.as_slice().len()
 }
 
 /// Returns the sum of the sizes of the amplitudes in a year, and the sum of each size times the speed.
-fn sums(book: &SoundBook<'_>, station: &Station, present: &[usize], year: u32) -> (u64, u128)
+fn sums(book: &ValidBook<'_>, station: &Station, present: &[usize], year: u32) -> (u64, u128)
     requires station { IsStation (length book.now.constituents) station.now }
     requires present { present.now ≡ present_in book.now station.now }
-    requires few { length present.now ≤ 500 }
+    requires count_bound { length present.now ≤ 500 }
     requires year { year < book.now.years }
     ensures amount { result.0 ≡ amount_of (waves_of book.now station.now year) }
     ensures steepness { result.1 ≡ steepness_of (waves_of book.now station.now year) }
@@ -121,7 +141,7 @@ fn sums(book: &SoundBook<'_>, station: &Station, present: &[usize], year: u32) -
 /// [`AllocError`] if memory runs out.
 pub fn waves_if_asked(
     alloc: Global,
-    book: &SoundBook<'_>,
+    book: &ValidBook<'_>,
     station: &Station,
     present: &[usize],
     year: u32,
@@ -143,7 +163,7 @@ pub fn waves_if_asked(
 /// Returns the waves of a year within the limits, without those of no amplitude.
 fn year_waves(
     alloc: Global,
-    book: &SoundBook<'_>,
+    book: &ValidBook<'_>,
     station: &Station,
     present: &[usize],
     year: u32,
@@ -166,7 +186,7 @@ fn year_waves(
 }
 
 /// Returns the amplitude of constituent `k` in a year, with its node factor, in millionths.
-fn amplitude(book: &SoundBook<'_>, station: &Station, year: u32, k: usize) -> i64
+fn amplitude(book: &ValidBook<'_>, station: &Station, year: u32, k: usize) -> i64
     requires station { IsStation (length book.now.constituents) station.now }
     requires year { year < book.now.years }
     requires place { k < length book.now.constituents }
@@ -192,7 +212,7 @@ fn effective(amplitude: i64, factor: i64) -> i64
 }
 
 /// Returns the index of the value of constituent `k` in year `year` in a table of all years.
-fn place_in_table(book: &SoundBook<'_>, year: u32, k: usize) -> usize
+fn place_in_table(book: &ValidBook<'_>, year: u32, k: usize) -> usize
     requires year { year < book.now.years }
     requires place { k < length book.now.constituents }
     ensures value { result ≡ k * book.now.years + year }
@@ -202,7 +222,7 @@ fn place_in_table(book: &SoundBook<'_>, year: u32, k: usize) -> usize
 }
 
 /// Returns the speed of constituent `k`, in units of the circle a minute.
-fn speed(book: &SoundBook<'_>, k: usize) -> u64
+fn speed(book: &ValidBook<'_>, k: usize) -> u64
     requires place { k < length book.now.constituents }
     ensures value { pos result ≡ speed_of book.now k }
     ensures size { result ≤ 3600000000 }
@@ -212,7 +232,7 @@ fn speed(book: &SoundBook<'_>, k: usize) -> u64
 }
 
 /// Returns the phase of constituent `k` an hour before a year, in units of the circle.
-fn phase(book: &SoundBook<'_>, station: &Station, year: u32, k: usize) -> u64
+fn phase(book: &ValidBook<'_>, station: &Station, year: u32, k: usize) -> u64
     requires station { IsStation (length book.now.constituents) station.now }
     requires year { year < book.now.years }
     requires place { k < length book.now.constituents }

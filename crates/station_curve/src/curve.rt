@@ -1,6 +1,24 @@
 //! The level and the slope of a station at each minute of a book's years.
 
-ghost use Rattle.std.specs.Prelude.{◌≡◌, ℕ, ◌+◌, ◌*◌, ◌^◌, ◌<◌, ◌≤◌, length, pos, ◌+ℤ◌, ◌-ℤ◌, ◌*ℤ◌, int_lt, unsigned_abs, IfOk, IfSome, slice_get};
+ghost use Rattle.std.specs.Prelude.{
+  ◌≡◌,
+  ℕ,
+  ◌+◌,
+  ◌*◌,
+  ◌^◌,
+  ◌<◌,
+  ◌≤◌,
+  length,
+  pos,
+  ◌+ℤ◌,
+  ◌-ℤ◌,
+  ◌*ℤ◌,
+  int_lt,
+  unsigned_abs,
+  IfOk,
+  IfSome,
+  slice_get,
+};
 ghost use Rattle.harmonics_text.specs.Books.{IsBook, IsStation};
 ghost use Rattle.year_blend.specs.Years.{year_start_of};
 ghost use Rattle.year_blend.specs.declared.parts.Place.TheVariants.{Plain};
@@ -13,12 +31,12 @@ use crate::blend::{by_full_weight, drift, error_of, mixed, weighted};
 use crate::calendar::calendar_year_of;
 use crate::fault::{CurveFault, is_hydraulic};
 use crate::greatest::{Greatest, greatest_of_years};
-use crate::reach::{Reach, all_minutes};
-use crate::summing::{falls, heights, mean_level, near_falls, near_heights};
+use crate::minute_range::{MinuteRange, all_minutes};
+use crate::summing::{approximate_falls, approximate_heights, falls, heights, mean_level};
 use crate::year_sums::Sums;
 use crate::years::{Year, years_of};
 use decimal_text::rounded;
-use harmonics_text::{Book, SoundBook, Station};
+use harmonics_text::{Book, Station, ValidBook};
 use std::alloc::{AllocError, Global};
 use std::marker::Model;
 use year_blend::{Place, Stretch, TOTAL_WEIGHT, place, stretch, weight, year_start};
@@ -52,16 +70,30 @@ impl Model for StationCurve {
 }
 
 impl StationCurve {
-    ghost use Rattle.decimal_text.specs.Expected.{Gives};
-    ghost use Rattle.station_curve.specs.Curves.{tide_over, curve_of, curve_over, wants_memory, Predicts, PredictsOver};
+    ghost use Rattle.decimal_text.specs.Expected.{ReturnsUnless};
+    ghost use Rattle.station_curve.specs.Curves.{tide_over, curve_of, curve_over, is_out_of_memory, Predicts, PredictsOver};
     ghost use Rattle.station_curve.specs.Workings.Prepared.{AreReady};
     ghost use Rattle.station_curve.specs.Waves.{heights_of};
-    ghost use Rattle.station_curve.specs.Near.{near_year_level, near_year_slope, near_level_of, near_slope_of};
+    ghost use Rattle.station_curve.specs.Approximate.{
+      approximate_year_level,
+      approximate_year_slope,
+      approximate_level_of,
+      approximate_slope_of,
+    };
     ghost use Rattle.station_curve.specs.Errors.{level_error_of, slope_error_of};
-    ghost use Rattle.station_curve.specs.Limits.{IsGentle, AreGentle};
-    ghost use Rattle.station_curve.specs.Workings.Nearness.{IsNear, IsNearPlace, IsPlainYear, IsAround};
+    ghost use Rattle.station_curve.specs.Limits.{IsWithinLimits, AreWithinLimits};
+    ghost use Rattle.station_curve.specs.Workings.NumberRanges.{IsWithinHourOfYear, IsPlaceInRange, IsPlainYear, IsAround};
     ghost use Rattle.station_curve.specs.Sums.{sums_of};
-    ghost use Rattle.station_curve.specs.Levels.{minutes_into, waves_in, place_in_tide, year_level, year_slope, level_of, slope_of, millionths_of};
+    ghost use Rattle.station_curve.specs.Levels.{
+      minutes_into,
+      waves_in,
+      place_in_tide,
+      year_level,
+      year_slope,
+      level_of,
+      slope_of,
+      millionths_of,
+    };
 
     /// Returns the curve of the station with index `station` in the book's list.
     ///
@@ -84,12 +116,12 @@ impl StationCurve {
     pub fn new(alloc: Global, book: &Book, station: u32) -> Result<StationCurve, CurveFault>
         requires book { IsBook book.now }
         requires station { station < length book.now.stations }
-        ensures exact { IfSome (slice_get book.now.stations station) (λ s. Gives wants_memory (curve_of book.now s) result) }
+        ensures exact { IfSome (slice_get book.now.stations station) (λ s. ReturnsUnless is_out_of_memory (curve_of book.now s) result) }
         ensures predicts { IfSome (slice_get book.now.stations station) (λ s.
             IfOk result (λ tide. Predicts book.now s tide)) }
     {
         let station = &book.stations.as_slice()[station as usize];
-        let book = SoundBook::new(book);
+        let book = ValidBook::new(book);
         StationCurve::of_station(alloc, &book, station, all_minutes(&book))
     }
 
@@ -112,47 +144,53 @@ impl StationCurve {
         requires station { station < length book.now.stations }
         requires first { unsigned_abs first ≤ 10 ^ 12 }
         requires last { unsigned_abs last ≤ 10 ^ 12 }
-        ensures exact { IfSome (slice_get book.now.stations station) (λ s. Gives wants_memory (curve_over book.now s first last) result) }
+        ensures exact { IfSome (slice_get book.now.stations station)
+            (λ s. ReturnsUnless is_out_of_memory (curve_over book.now s first last) result) }
         ensures predicts { IfSome (slice_get book.now.stations station) (λ s.
             IfOk result (λ tide. PredictsOver book.now s first last tide)) }
     {
         let station = &book.stations.as_slice()[station as usize];
-        StationCurve::of_station(alloc, &SoundBook::new(book), station, Reach { first, last })
+        StationCurve::of_station(
+            alloc,
+            &ValidBook::new(book),
+            station,
+            MinuteRange { first, last },
+        )
     }
 
-    /// Returns the curve of `station` for the minutes of `reach`.
+    /// Returns the curve of `station` for the minutes of `minute_range`.
     fn of_station(
         alloc: Global,
-        book: &SoundBook<'_>,
+        book: &ValidBook<'_>,
         station: &Station,
-        reach: Reach,
+        minute_range: MinuteRange,
     ) -> Result<StationCurve, CurveFault>
         requires station { IsStation (length book.now.constituents) station.now }
-        requires first { unsigned_abs reach.first ≤ 10 ^ 12 }
-        requires last { unsigned_abs reach.last ≤ 10 ^ 12 }
-        ensures exact { Gives wants_memory (curve_over book.now station.now reach.first reach.last) result }
-        ensures predicts { IfOk result (λ tide. PredictsOver book.now station.now reach.first reach.last tide) }
+        requires first { unsigned_abs minute_range.first ≤ 10 ^ 12 }
+        requires last { unsigned_abs minute_range.last ≤ 10 ^ 12 }
+        ensures exact { ReturnsUnless is_out_of_memory (curve_over book.now station.now minute_range.first minute_range.last) result }
+        ensures predicts { IfOk result (λ tide. PredictsOver book.now station.now minute_range.first minute_range.last tide) }
     {
         if is_hydraulic(station.units) {
             return Err(CurveFault::Hydraulic);
         }
-        match years_of(alloc, book, station, reach) {
-            Ok(years) => Ok(StationCurve::of_years(book, station, reach, years)),
+        match years_of(alloc, book, station, minute_range) {
+            Ok(years) => Ok(StationCurve::of_years(book, station, minute_range, years)),
             Err(fault) => Err(fault),
         }
     }
 
     /// Returns the curve of `station` with the waves of `years`.
     fn of_years(
-        book: &SoundBook<'_>,
+        book: &ValidBook<'_>,
         station: &Station,
-        reach: Reach,
+        minute_range: MinuteRange,
         years: Vec<Year>,
     ) -> StationCurve
         requires station { IsStation (length book.now.constituents) station.now }
-        requires years { AreReady book.now station.now reach.first reach.last book.now.years years.items }
-        ensures exact { result ≡ tide_over book.now station.now reach.first reach.last }
-        ensures predicts { PredictsOver book.now station.now reach.first reach.last result }
+        requires years { AreReady book.now station.now minute_range.first minute_range.last book.now.years years.items }
+        ensures exact { result ≡ tide_over book.now station.now minute_range.first minute_range.last }
+        ensures predicts { PredictsOver book.now station.now minute_range.first minute_range.last result }
     {
         let greatest = greatest_of_years(years.as_slice());
         StationCurve {
@@ -195,14 +233,14 @@ impl StationCurve {
     pub fn sums(&self, year: u32) -> Sums
         requires { year < length self.now.years }
         ensures value { result ≡ sums_of (waves_in self.now year) }
-        ensures size { AreGentle result }
+        ensures size { AreWithinLimits result }
     {
         self.years[year as usize].sums
     }
 
     /// Does nothing; its contract shows a proof that the curve is within the limits.
-    pub fn known(&self)
-        ensures { IsGentle self.now }
+    pub fn limits_hold(&self)
+        ensures { IsWithinLimits self.now }
     {
         let _first_year = self.first_year;
     }
@@ -245,14 +283,14 @@ impl StationCurve {
     /// Returns an approximation of [`level`](StationCurve::level) at minute `m`, within
     /// [`level_error`](StationCurve::level_error) of it. It is faster than the level: by chords of the
     /// sine outside blends, and exact in a blend.
-    pub fn near_level(&self, m: i64) -> i128
+    pub fn approximate_level(&self, m: i64) -> i128
         requires { InDomain self.now.first_year (length self.now.years) m }
-        ensures value { result ≡ near_level_of self.now m }
-        ensures near { unsigned_abs (result -ℤ level_of self.now m) ≤ level_error_of self.now }
+        ensures value { result ≡ approximate_level_of self.now m }
+        ensures approximate { unsigned_abs (result -ℤ level_of self.now m) ≤ level_error_of self.now }
         ensures size { unsigned_abs result ≤ total_weight * (12 * 10 ^ 18) }
     {
         match self.plain_year(m) {
-            Some(year) => by_full_weight(self.near_year_level(year, m)),
+            Some(year) => by_full_weight(self.approximate_year_level(year, m)),
             None => self.level(m),
         }
     }
@@ -260,14 +298,14 @@ impl StationCurve {
     /// Returns an approximation of [`slope`](StationCurve::slope) at minute `m`, within
     /// [`slope_error`](StationCurve::slope_error) of it. It is faster than the slope: by chords of the
     /// sine outside blends, and exact in a blend.
-    pub fn near_slope(&self, m: i64) -> i128
+    pub fn approximate_slope(&self, m: i64) -> i128
         requires { InDomain self.now.first_year (length self.now.years) m }
-        ensures value { result ≡ near_slope_of self.now m }
-        ensures near { unsigned_abs (result -ℤ slope_of self.now m) ≤ slope_error_of self.now }
+        ensures value { result ≡ approximate_slope_of self.now m }
+        ensures approximate { unsigned_abs (result -ℤ slope_of self.now m) ≤ slope_error_of self.now }
         ensures size { unsigned_abs result < 2 * 10 ^ 37 }
     {
         match self.plain_year(m) {
-            Some(year) => by_full_weight(self.near_year_slope(year, m)),
+            Some(year) => by_full_weight(self.approximate_year_slope(year, m)),
             None => self.slope(m),
         }
     }
@@ -304,10 +342,10 @@ impl StationCurve {
     pub fn stretch(&self, m: i64, n: u32) -> Stretch
         requires first { InDomain self.now.first_year (length self.now.years) m }
         requires last { InDomain self.now.first_year (length self.now.years) (m +ℤ pos n) }
-        requires short { n ≤ LONGEST_SPAN }
+        requires length_bound { n ≤ LONGEST_SPAN }
         ensures { result ≡ stretch_of self.now.first_year (length self.now.years) m n }
     {
-        self.known();
+        self.limits_hold();
         match self.year_around(m, m + i64::from(n)) {
             Some(year) => Stretch::Within { year },
             None => stretch(self.first_year, self.years(), m, n),
@@ -318,7 +356,7 @@ impl StationCurve {
     fn place(&self, m: i64) -> Place
         requires { InDomain self.now.first_year (length self.now.years) m }
         ensures value { result ≡ place_in_tide self.now m }
-        ensures near { IsNearPlace self.now.first_year (length self.now.years) m result }
+        ensures in_range { IsPlaceInRange self.now.first_year (length self.now.years) m result }
     {
         match self.year_around(m, m) {
             Some(year) => Place::Plain { year },
@@ -363,7 +401,7 @@ impl StationCurve {
     /// Returns the level by the constants of year `year`.
     fn year_level(&self, year: u32, m: i64) -> i128
         requires year { year < length self.now.years }
-        requires near { IsNear self.now.first_year year m }
+        requires in_range { IsWithinHourOfYear self.now.first_year year m }
         ensures value { result ≡ year_level self.now m year }
         ensures size { unsigned_abs result ≤ 11 * 10 ^ 18 }
     {
@@ -371,31 +409,32 @@ impl StationCurve {
     }
 
     /// Returns the approximate level by the constants of year `year`, by chords.
-    fn near_year_level(&self, year: u32, m: i64) -> i128
+    fn approximate_year_level(&self, year: u32, m: i64) -> i128
         requires year { year < length self.now.years }
-        requires near { IsNear self.now.first_year year m }
-        ensures value { result ≡ near_year_level self.now m year }
+        requires in_range { IsWithinHourOfYear self.now.first_year year m }
+        ensures value { result ≡ approximate_year_level self.now m year }
         ensures size { unsigned_abs result ≤ 12 * 10 ^ 18 }
     {
         let year = &self.years[year as usize];
-        mean_level(self.datum) + i128::from(near_heights(year.waves.as_slice(), year.minutes_to(m)))
+        mean_level(self.datum)
+            + i128::from(approximate_heights(year.waves.as_slice(), year.minutes_to(m)))
     }
 
     /// Returns the approximate slope by the constants of year `year`, by chords.
-    fn near_year_slope(&self, year: u32, m: i64) -> i128
+    fn approximate_year_slope(&self, year: u32, m: i64) -> i128
         requires year { year < length self.now.years }
-        requires near { IsNear self.now.first_year year m }
-        ensures value { result ≡ near_year_slope self.now m year }
+        requires in_range { IsWithinHourOfYear self.now.first_year year m }
+        ensures value { result ≡ approximate_year_slope self.now m year }
         ensures size { unsigned_abs result ≤ 2 * 10 ^ 26 }
     {
         let year = &self.years[year as usize];
-        -near_falls(year.waves.as_slice(), year.minutes_to(m))
+        -approximate_falls(year.waves.as_slice(), year.minutes_to(m))
     }
 
     /// Returns the slope by the constants of year `year`.
     fn year_slope(&self, year: u32, m: i64) -> i128
         requires year { year < length self.now.years }
-        requires near { IsNear self.now.first_year year m }
+        requires in_range { IsWithinHourOfYear self.now.first_year year m }
         ensures value { result ≡ year_slope self.now m year }
         ensures size { unsigned_abs result ≤ 10 ^ 26 }
     {
@@ -406,7 +445,7 @@ impl StationCurve {
     /// Returns the sum of the heights of the waves of year `year`.
     fn year_heights(&self, year: u32, m: i64) -> i64
         requires year { year < length self.now.years }
-        requires near { IsNear self.now.first_year year m }
+        requires in_range { IsWithinHourOfYear self.now.first_year year m }
         ensures value { result ≡ heights_of (minutes_into self.now.first_year year m) (waves_in self.now year) }
         ensures size { unsigned_abs result ≤ 10 ^ 18 }
     {

@@ -6,7 +6,7 @@ ghost use Rattle.station_curve.specs.declared.fault.CurveFault.TheVariants.{Hydr
 ghost use Rattle.station_curve.specs.Curves.{waves_of, is_touched, waves_over, tide_of, curve_of};
 ghost use Rattle.station_curve.specs.Schureman.{amplitude_of, phase_of, predicted_level, predicted_slope, predicted_millionths};
 ghost use Rattle.station_curve.specs.Waves.{heights_of, falls_of};
-ghost use Rattle.station_curve.specs.Near.{near_level_of, near_slope_of};
+ghost use Rattle.station_curve.specs.Approximate.{approximate_level_of, approximate_slope_of};
 ghost use Rattle.station_curve.specs.Errors.{level_error_of, slope_error_of};
 ghost use Rattle.station_curve.specs.Sums.{sums_of};
 ghost use Rattle.station_curve.specs.Worked.{small_book, small_station, small_wave, pier_book, shifted_book, pier, harbour_book, harbour};
@@ -94,22 +94,23 @@ pub fn worked_sums()
 
 /// Proves approximate levels: a minute before noon and at noon, one in a blend, which is exact, and
 /// levels of two waves, below and above the exact ones.
-pub fn worked_near_levels()
-    ensures before_noon { near_level_of (tide_of pier_book pier) (pos 15791759) ≡ pos 4146884178278400000000000 }
-    ensures noon { near_level_of (tide_of pier_book pier) (pos 15791760) ≡ pos 4147200000000000000000000 }
-    ensures first_blended { near_level_of (tide_of shifted_book pier) (pos 15778021) ≡ pos 3609538927329170264000000 }
-    ensures harbour_2000 { near_level_of (tide_of harbour_book harbour) (pos 15778380) ≡ pos 12459527526861020160000000 }
-    ensures harbour_2001 { near_level_of (tide_of harbour_book harbour) (pos 16390080) ≡ pos 5407345547725158604800000 }
+pub fn worked_approximate_levels()
+    ensures before_noon { approximate_level_of (tide_of pier_book pier) (pos 15791759) ≡ pos 4146884178278400000000000 }
+    ensures noon { approximate_level_of (tide_of pier_book pier) (pos 15791760) ≡ pos 4147200000000000000000000 }
+    ensures first_blended { approximate_level_of (tide_of shifted_book pier) (pos 15778021) ≡ pos 3609538927329170264000000 }
+    ensures harbour_2000 { approximate_level_of (tide_of harbour_book harbour) (pos 15778380) ≡ pos 12459527526861020160000000 }
+    ensures harbour_2001 { approximate_level_of (tide_of harbour_book harbour) (pos 16390080) ≡ pos 5407345547725158604800000 }
 {}
 
 /// Proves approximate slopes: a minute before noon and at noon, one in a blend, which is exact, and
 /// slopes of two waves.
-pub fn worked_near_slopes()
-    ensures before_noon { near_slope_of (tide_of pier_book pier) (pos 15791759) ≡ pos 10856792724480000000000000000000 }
-    ensures noon { near_slope_of (tide_of pier_book pier) (pos 15791760) ≡ pos 0 }
-    ensures harbour_new_year { near_slope_of (tide_of harbour_book harbour) (pos 16305140) ≡ negsuc 3274988533158132834799953510399999 }
-    ensures harbour_2000 { near_slope_of (tide_of harbour_book harbour) (pos 15778380) ≡ negsuc 1845451738900420719211339775999999 }
-    ensures harbour_2001 { near_slope_of (tide_of harbour_book harbour) (pos 16390080) ≡ pos 802806795183784473007950643200000 }
+pub fn worked_approximate_slopes()
+    ensures before_noon { approximate_slope_of (tide_of pier_book pier) (pos 15791759) ≡ pos 10856792724480000000000000000000 }
+    ensures noon { approximate_slope_of (tide_of pier_book pier) (pos 15791760) ≡ pos 0 }
+    ensures harbour_new_year { approximate_slope_of (tide_of harbour_book harbour) (pos 16305140)
+        ≡ negsuc 3274988533158132834799953510399999 }
+    ensures harbour_2000 { approximate_slope_of (tide_of harbour_book harbour) (pos 15778380) ≡ negsuc 1845451738900420719211339775999999 }
+    ensures harbour_2001 { approximate_slope_of (tide_of harbour_book harbour) (pos 16390080) ≡ pos 802806795183784473007950643200000 }
 {}
 
 /// Proves the errors of approximate levels and slopes: for one wave, and for two waves by the year with

@@ -6,6 +6,7 @@
 //! an approximate one is faster, with a known bound on its error.
 #![tactic(auto)]
 
+mod approximate_law;
 mod blend;
 mod calendar;
 mod changes;
@@ -14,19 +15,18 @@ mod curve;
 mod fault;
 mod greatest;
 mod laws;
-mod reach;
-mod sooner;
+mod minute_range;
 mod summing;
 mod wave;
 mod year_sums;
 mod years;
 
+pub use approximate_law::approximate_values;
 pub use changes::{year_changes, year_sizes};
 pub use curve::StationCurve;
 pub use fault::CurveFault;
 pub use laws::{
-    worked_constants, worked_errors, worked_levels, worked_limits, worked_near_levels,
-    worked_near_slopes, worked_reach, worked_slopes, worked_sums, worked_waves,
+    worked_approximate_levels, worked_approximate_slopes, worked_constants, worked_errors,
+    worked_levels, worked_limits, worked_reach, worked_slopes, worked_sums, worked_waves,
 };
-pub use sooner::near_values;
 pub use year_sums::Sums;

@@ -2,7 +2,7 @@
 
 ghost use Rattle.std.specs.Prelude.{◌≡◌, ◌*◌, ◌^◌, ◌≤◌, pos, ◌*ℤ◌, unsigned_abs};
 ghost use Rattle.station_curve.specs.Waves.{heights_of, falls_of, amount_of, steepness_of};
-ghost use Rattle.station_curve.specs.Near.{near_heights_of, near_falls_of};
+ghost use Rattle.station_curve.specs.Approximate.{approximate_heights_of, approximate_falls_of};
 
 use crate::wave::Wave;
 
@@ -38,29 +38,29 @@ pub fn falls(waves: &[Wave], minutes: u64) -> i128
 }
 
 /// Returns the sum of the waves' approximate heights, by chords, `minutes` after an hour before the year.
-pub fn near_heights(waves: &[Wave], minutes: u64) -> i64
+pub fn approximate_heights(waves: &[Wave], minutes: u64) -> i64
     requires time { minutes ≤ 600000 }
     requires amount { amount_of waves.now ≤ 10 ^ 9 }
-    ensures value { result ≡ near_heights_of minutes waves.now }
+    ensures value { result ≡ approximate_heights_of minutes waves.now }
     ensures size { unsigned_abs result ≤ 2 * 10 ^ 18 }
 {
     let mut sum = 0;
     for wave in waves {
-        sum += wave.near_height(minutes);
+        sum += wave.approximate_height(minutes);
     }
     sum
 }
 
 /// Returns the sum of the waves' approximate falls, by chords, `minutes` after an hour before the year.
-pub fn near_falls(waves: &[Wave], minutes: u64) -> i128
+pub fn approximate_falls(waves: &[Wave], minutes: u64) -> i128
     requires time { minutes ≤ 600000 }
     requires steepness { steepness_of waves.now ≤ 10 ^ 17 }
-    ensures value { result ≡ near_falls_of minutes waves.now }
+    ensures value { result ≡ approximate_falls_of minutes waves.now }
     ensures size { unsigned_abs result ≤ 2 * 10 ^ 26 }
 {
     let mut sum = 0;
     for wave in waves {
-        sum += wave.near_fall(minutes);
+        sum += wave.approximate_fall(minutes);
     }
     sum
 }

@@ -3,11 +3,11 @@
 ghost use Rattle.std.specs.Prelude.{◌≡◌, ℕ, ◌*◌, ◌^◌, ◌<◌, ◌≤◌, pos, ◌*ℤ◌, unsigned_abs};
 ghost use Rattle.fixed_sine.specs.Circle.{circle};
 ghost use Rattle.station_curve.specs.Waves.{Harmonic, height_at, fall_at};
-ghost use Rattle.station_curve.specs.Near.{turn_after, turn_ahead, near_height_at, near_fall_at};
+ghost use Rattle.station_curve.specs.Approximate.{binary_angle_after, binary_angle_ahead, approximate_height_at, approximate_fall_at};
 ghost use Rattle.station_curve.specs.Sums.{height_rate_of, fall_rate_of};
 
 use crate::year_sums::Sums;
-use fixed_sine::{QUARTER_TURN, chord_sine, step, turn_of, turn_sine};
+use fixed_sine::{QUARTER_CIRCLE, binary_angle_of, binary_angle_sine, chord_sine, step};
 use std::marker::Model;
 
 /// A constituent in one year at one station: a wave.
@@ -28,9 +28,9 @@ pub struct Wave {
 }
 
 impl Model for Wave {
-    ghost use Rattle.fixed_sine.specs.Turn.{units_of};
+    ghost use Rattle.fixed_sine.specs.BinaryAngle.{units_of};
     ghost use Rattle.station_curve.specs.Waves.{Harmonic};
-    ghost use Rattle.station_curve.specs.Workings.Nearness.{IsWave};
+    ghost use Rattle.station_curve.specs.Workings.NumberRanges.{IsWave};
 
     ghost Value = { Harmonic };
 
@@ -48,14 +48,14 @@ impl Wave {
         requires phase { phase < circle }
         ensures { result ≡ record { amplitude = amplitude; speed = speed; phase = phase } }
     {
-        let start = turn_of(phase);
+        let start = binary_angle_of(phase);
         Wave {
             amplitude,
             speed,
             steepness: amplitude * speed as i64,
-            pace: turn_of(speed),
+            pace: binary_angle_of(speed),
             start,
-            ahead: start.wrapping_add(QUARTER_TURN),
+            ahead: start.wrapping_add(QUARTER_CIRCLE),
         }
     }
 
@@ -66,7 +66,7 @@ impl Wave {
         ensures value { result ≡ height_at minutes self.now }
         ensures size { unsigned_abs result ≤ 10 ^ 9 * unsigned_abs self.now.amplitude }
     {
-        self.by_amplitude(turn_sine(self.turn_ahead(minutes)))
+        self.by_amplitude(binary_angle_sine(self.binary_angle_ahead(minutes)))
     }
 
     /// Returns the wave's fall, `minutes` after an hour before the year: its part of the slope with the
@@ -77,26 +77,26 @@ impl Wave {
         ensures size { unsigned_abs result
             ≤ 10 ^ 9 * (unsigned_abs self.now.amplitude * self.now.speed) }
     {
-        self.by_steepness(turn_sine(self.turn_after(minutes)))
+        self.by_steepness(binary_angle_sine(self.binary_angle_after(minutes)))
     }
 
     /// Returns the approximate height of the wave by a chord of the sine.
-    pub fn near_height(&self, minutes: u64) -> i64
+    pub fn approximate_height(&self, minutes: u64) -> i64
         requires { minutes ≤ 600000 }
-        ensures value { result ≡ near_height_at minutes self.now }
+        ensures value { result ≡ approximate_height_at minutes self.now }
         ensures size { unsigned_abs result ≤ 1000038100 * unsigned_abs self.now.amplitude }
     {
-        self.by_amplitude(chord_sine(self.turn_ahead(minutes)))
+        self.by_amplitude(chord_sine(self.binary_angle_ahead(minutes)))
     }
 
     /// Returns the approximate fall of the wave by a chord of the sine.
-    pub fn near_fall(&self, minutes: u64) -> i128
+    pub fn approximate_fall(&self, minutes: u64) -> i128
         requires { minutes ≤ 600000 }
-        ensures value { result ≡ near_fall_at minutes self.now }
+        ensures value { result ≡ approximate_fall_at minutes self.now }
         ensures size { unsigned_abs result
             ≤ 1000038100 * (unsigned_abs self.now.amplitude * self.now.speed) }
     {
-        self.by_steepness(chord_sine(self.turn_after(minutes)))
+        self.by_steepness(chord_sine(self.binary_angle_after(minutes)))
     }
 
     /// Returns the wave's part of each sum of its year.
@@ -141,18 +141,18 @@ impl Wave {
     }
 
     /// Returns the phase `minutes` after an hour before the year, as a fraction of a turn.
-    fn turn_after(&self, minutes: u64) -> u64
+    fn binary_angle_after(&self, minutes: u64) -> u64
         requires { minutes ≤ 600000 }
-        ensures { result ≡ turn_after self.now minutes }
+        ensures { result ≡ binary_angle_after self.now minutes }
     {
         self.start.wrapping_add(self.pace.wrapping_mul(minutes))
     }
 
-    /// Returns the phase `minutes` after an hour before the year plus a quarter of a turn, as a fraction
+    /// Returns the phase `minutes` after an hour before the year plus a quarter of a circle, as a fraction
     /// of a turn.
-    fn turn_ahead(&self, minutes: u64) -> u64
+    fn binary_angle_ahead(&self, minutes: u64) -> u64
         requires { minutes ≤ 600000 }
-        ensures { result ≡ turn_ahead self.now minutes }
+        ensures { result ≡ binary_angle_ahead self.now minutes }
     {
         self.ahead.wrapping_add(self.pace.wrapping_mul(minutes))
     }

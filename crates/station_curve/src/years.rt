@@ -8,10 +8,10 @@ ghost use Rattle.station_curve.specs.declared.fault.CurveFault.TheVariants.{NoMe
 
 use crate::constants::{calendar_year, check_year, present_places, waves_if_asked};
 use crate::fault::CurveFault;
-use crate::reach::Reach;
+use crate::minute_range::MinuteRange;
 use crate::wave::Wave;
 use crate::year_sums::{Sums, sums_of_waves};
-use harmonics_text::{SoundBook, Station};
+use harmonics_text::{Station, ValidBook};
 use std::alloc::Global;
 use year_blend::year_start;
 
@@ -54,22 +54,22 @@ impl Year {
 }
 
 /// Returns each year with its waves, if all years are within the limits. A year that isn't needed for the
-/// minutes of `reach` has no waves.
+/// minutes of `minute_range` has no waves.
 ///
 /// # Errors
 /// The fault of the first year beyond a limit, in which [`CurveFault::TooLarge`] precedes
 /// [`CurveFault::TooSteep`]; [`CurveFault::NoMemory`] if memory runs out.
 pub fn years_of(
     alloc: Global,
-    book: &SoundBook<'_>,
+    book: &ValidBook<'_>,
     station: &Station,
-    reach: Reach,
+    minute_range: MinuteRange,
 ) -> Result<Vec<Year>, CurveFault>
     requires station { IsStation (length book.now.constituents) station.now }
-    requires first { unsigned_abs reach.first ≤ 10 ^ 12 }
-    requires last { unsigned_abs reach.last ≤ 10 ^ 12 }
+    requires first { unsigned_abs minute_range.first ≤ 10 ^ 12 }
+    requires last { unsigned_abs minute_range.last ≤ 10 ^ 12 }
     ensures { MatchResult result
-        (λ years. AreReady book.now station.now reach.first reach.last book.now.years years.items)
+        (λ years. AreReady book.now station.now minute_range.first minute_range.last book.now.years years.items)
         (λ fault. (fault ≡ NoMemory) ⊎ (first_fault book.now station.now book.now.years ≡ Some fault)) }
 {
     let places = present_places(alloc, book, station)?;
@@ -81,7 +81,7 @@ pub fn years_of(
         }
         let start = year_start(calendar_year(book, year));
         let end = year_start(calendar_year(book, year + 1));
-        let is_asked = reach.touches(start, end);
+        let is_asked = minute_range.touches(start, end);
         let waves = waves_if_asked(alloc, book, station, present, year, is_asked)?;
         let sums = sums_of_waves(waves.as_slice());
         years.push(Year {

@@ -9,7 +9,7 @@ use Rattle.curve_law.specs.declared.kind.Kind.TheVariants.{High, Low, MarkRising
 use Rattle.curve_law.specs.Meaning.{Meaning, IsLawful, AgreeOver}
 use Rattle.curve_law.proofs.AgreeLemmas.{cover-agrees}
 use Rattle.event_list.specs.declared.span.Span.{Span}
-use Rattle.event_list.specs.Events.{Followed, station_events, cell_count, cells_in, cover_over, AreAccepted, covers_of, merged_of, AllAgree, AgreeIfFollowed, AreKnown, IsKnown, AreNamed, IsNamed, minutes_in}
+use Rattle.event_list.specs.Events.{Followed, station_events, cell_count, cells_in, cover_over, AreAccepted, covers_of, merged_of, AllAgree, AgreeIfFollowed, AreValidOver, IsValidOver, AreNamed, IsNamed, span_minutes}
 use Rattle.event_list.specs.Shifts.{HasOffsets, IsMovable, shifted_of, widened_of}
 use Rattle.event_list.proofs.EventLemmas.{count-agrees, count-few, covers-accepted, events-agree, shifted-events}
 use Rattle.event_list.proofs.NameLemmas.{events-lie, events-named}
@@ -28,7 +28,7 @@ use Rattle.rate_bound.specs.Workings.MarkLaw.{mark_lawful}
 use Rattle.rate_bound.proofs.Predicted.{turn_agrees, mark_agrees}
 use Rattle.station_curve.specs.Curves.{PredictsOver}
 use Rattle.station_curve.specs.Levels.{millionths_of}
-use Rattle.station_curve.specs.Limits.{IsGentle}
+use Rattle.station_curve.specs.Limits.{IsWithinLimits}
 use Rattle.station_curve.specs.Waves.{Tide}
 use Rattle.station_table.specs.declared.basis.Basis.{Basis}
 use Rattle.station_table.specs.declared.offset.Slack.{Slack}
@@ -53,28 +53,32 @@ for_some P v holds x e = let same : v ≡ x = cc in subst P same holds
 
 -- ---- a station that was found can be followed
 
-pub ready_of_found : (book : Book) (asked : Asked) (site : Site) (found : SiteTide) → IsFound Events book asked site found → IsReady asked found
+pub ready_of_found : (book : Book) (asked : Asked) (site : Site) (found : SiteTide)
+    → IsFound Events book asked site found → IsReady asked found
 ready_of_found book asked site found is = record {
-  offsets = has_offsets _ found.basis is.sound;
+  offsets = has_offsets _ found.basis is.valid;
   levels = is.levels;
-  gentle = is.gentle;
+  within_limits = is.within_limits;
   years = rw (is.predicts.first_year, is.predicts.years) is.years;
   forward = is.span.forward;
   few = is.few;
   begins = rw (is.predicts.first_year, is.predicts.years) is.span.begins;
   ends = rw (is.predicts.first_year, is.predicts.years) is.span.ends;
-  near = is.span.near;
+  in_range = is.span.in_range;
   beside = is.span.beside;
-  mark = is.near.mark;
+  mark = is.in_range.mark;
 }
 
 -- ---- the curves by the tide and by every constituent agree
 
-alike_if_asked : (s : Span) (asks : Bool) (c d : Meaning) → AgreeOver c d s.begin (minutes_in s) → AgreeIfFollowed s (if_asked asks c) (if_asked asks d)
+alike_if_asked : (s : Span) (asks : Bool) (c d : Meaning) → AgreeOver c d s.begin (span_minutes s)
+    → AgreeIfFollowed s (if_asked asks c) (if_asked asks d)
 alike_if_asked s true c d agree = agree
 alike_if_asked s false c d agree = tt
 
-alike_if_marked : (s : Span) (mark : Option ℤ) (f g : ℤ → Meaning) → ((level : ℤ) → AgreeOver (f level) (g level) s.begin (minutes_in s)) → AgreeIfFollowed s (option_map f mark) (option_map g mark)
+alike_if_marked : (s : Span) (mark : Option ℤ) (f g : ℤ → Meaning)
+    → ((level : ℤ) → AgreeOver (f level) (g level) s.begin (span_minutes s))
+    → AgreeIfFollowed s (option_map f mark) (option_map g mark)
 alike_if_marked s (Some level) f g agree = agree level
 alike_if_marked s None f g agree = tt
 
@@ -91,29 +95,35 @@ pub record IsOf (book : Book) (s : Span) : Type 0 where
   pub begins : InDomain book.first_year book.years s.begin
   pub ends : InDomain book.first_year book.years s.end
 
-last_minute : (s : Span) → s.begin ≤ℤ s.end → s.begin +ℤ pos (minutes_in s) ≡ s.end
+last_minute : (s : Span) → s.begin ≤ℤ s.end → s.begin +ℤ pos (span_minutes s) ≡ s.end
 last_minute s forward = omega (arith, ints)
 
-pub followed_alike : (version : Version) (book : Book) (site : Site) (found : SiteTide) (mark : Option ℤ) (s : Span) → IsSame book site found s → IsOf book s → AllAgree (followed_tide version found mark) (followed_by version book site mark) s
+pub followed_alike : (version : Version) (book : Book) (site : Site) (found : SiteTide) (mark : Option ℤ) (s : Span)
+    → IsSame book site found s → IsOf book s
+    → AllAgree (followed_tide version found mark) (followed_by version book site mark) s
 unfolding followed_tide followed_by
 followed_alike version book site found mark s same of =
     let end = last_minute s of.forward in
-    let ends : InDomain book.first_year book.years (s.begin +ℤ pos (minutes_in s)) = rw end of.ends in
+    let ends : InDomain book.first_year book.years (s.begin +ℤ pos (span_minutes s)) = rw end of.ends in
     let from : s.begin ≤ℤ s.begin = omega (arith, ints) in
-    let until : (s.begin +ℤ pos (minutes_in s)) ≤ℤ s.end = rw end (omega (arith, ints)) in
+    let until : (s.begin +ℤ pos (span_minutes s)) ≤ℤ s.end = rw end (omega (arith, ints)) in
     rw (same.basis, same.units) (record {
-      turn = turn_agrees version book site.station s.begin s.end found.curve s.begin (minutes_in s) same.predicts same.years of.begins ends from until;
+      turn = turn_agrees version book site.station s.begin s.end found.curve s.begin
+          (span_minutes s) same.predicts same.years of.begins ends from until;
       slack = alike_if_asked s (asks_slack site.station.units site.basis) _ _
-          (mark_agrees version book site.station s.begin s.end found.curve (slack_times site.basis) (slack_plus site.basis) (pos 0) true s.begin (minutes_in s) same.predicts same.years of.begins ends from until);
+          (mark_agrees version book site.station s.begin s.end found.curve (slack_times site.basis) (slack_plus site.basis)
+          (pos 0) true s.begin (span_minutes s) same.predicts same.years of.begins ends from until);
       mark = alike_if_marked s mark
           (λ level. mark_meaning version found.curve site.basis.high.times site.basis.high.plus level false)
           (λ level. predicted_mark version book site.station site.basis.high.times site.basis.high.plus level false)
-          (λ level. mark_agrees version book site.station s.begin s.end found.curve site.basis.high.times site.basis.high.plus level false s.begin (minutes_in s) same.predicts same.years of.begins ends from until);
+          (λ level. mark_agrees version book site.station s.begin s.end found.curve site.basis.high.times
+          site.basis.high.plus level false s.begin (span_minutes s) same.predicts same.years of.begins ends from until);
     })
 
 -- ---- the curves are valid over the span
 
-pub mark_scale : (basis : Basis) (level : ℤ) → HasOffsets basis → unsigned_abs level ≤ 10000000000 → IsScale basis.high.times basis.high.plus level
+pub mark_scale : (basis : Basis) (level : ℤ) → HasOffsets basis → unsigned_abs level ≤ 10000000000
+    → IsScale basis.high.times basis.high.plus level
 mark_scale basis level has small =
     let times = has.high.times in
     let plus = has.high.plus in
@@ -136,7 +146,8 @@ usual_scale = record {
   mark_most = omega (arith, ints);
 }
 
-pub slack_scale : (slack : Option Slack) (basis : Basis) → basis.slack ≡ slack → HasOffsets basis → IsScale (slack_times basis) (slack_plus basis) (pos 0)
+pub slack_scale : (slack : Option Slack) (basis : Basis) → basis.slack ≡ slack → HasOffsets basis
+    → IsScale (slack_times basis) (slack_plus basis) (pos 0)
 slack_scale (Some slack) basis is has = rw is usual_scale
 slack_scale None basis is has = rw is (mark_scale basis (pos 0) has (omega arith))
 
@@ -145,46 +156,58 @@ pub for_asked : (P : Meaning → Type 0) (asks : Bool) (c : Meaning) → P c →
 for_asked P true c has = for_some P c has
 for_asked P false c has = for_none P
 
-pub for_marked : (P : Meaning → Type 0) (mark : Option ℤ) (f : ℤ → Meaning) → ForSome mark (λ level. P (f level)) → ForSome (option_map f mark) P
+pub for_marked : (P : Meaning → Type 0) (mark : Option ℤ) (f : ℤ → Meaning) → ForSome mark (λ level. P (f level))
+    → ForSome (option_map f mark) P
 for_marked P (Some level) f has = for_some P (f level) (has level refl)
 for_marked P None f has = for_none P
 
-marks_known : (s : Span) (version : Version) (tide : Tide) (basis : Basis) (mark : Option ℤ) → HasOffsets basis → IsGentle tide → ForSome mark (λ level. unsigned_abs level ≤ 10000000000) → ((c : Meaning) → IsLawful c → c.first ≡ (turn_meaning version tide).first → c.last ≡ (turn_meaning version tide).last → IsKnown s c) → ForSome mark (λ level. IsKnown s (mark_meaning version tide basis.high.times basis.high.plus level false))
-marks_known s version tide basis mark has gentle small known level is =
-    known _ (mark_lawful version tide basis.high.times basis.high.plus level false gentle (mark_scale basis level has (small level is))) refl refl
+marks_valid_over : (s : Span) (version : Version) (tide : Tide) (basis : Basis) (mark : Option ℤ) → HasOffsets basis
+    → IsWithinLimits tide → ForSome mark (λ level. unsigned_abs level ≤ 10000000000) → ((c : Meaning) → IsLawful c
+    → c.first ≡ (turn_meaning version tide).first → c.last ≡ (turn_meaning version tide).last → IsValidOver s c)
+    → ForSome mark (λ level. IsValidOver s (mark_meaning version tide basis.high.times basis.high.plus level false))
+marks_valid_over s version tide basis mark has within_limits small valid_over level is =
+    valid_over _ (mark_lawful version tide basis.high.times basis.high.plus level false within_limits
+    (mark_scale basis level has (small level is))) refl refl
 
-in_known : (version : Version) (tide : Tide) (s : Span) → HasMinutes tide s → (c : Meaning) → IsLawful c → c.first ≡ (turn_meaning version tide).first → c.last ≡ (turn_meaning version tide).last → IsKnown s c
-in_known version tide s has c lawful first last =
-    let end : s.begin +ℤ pos (minutes_in s) ≡ s.end = last_minute s has.forward in
+in_valid_over : (version : Version) (tide : Tide) (s : Span) → HasMinutes tide s → (c : Meaning) → IsLawful c
+    → c.first ≡ (turn_meaning version tide).first → c.last ≡ (turn_meaning version tide).last → IsValidOver s c
+in_valid_over version tide s has c lawful first last =
+    let end : s.begin +ℤ pos (span_minutes s) ≡ s.end = last_minute s has.forward in
     record { lawful = lawful; span = record { first = rw first has.begins.least; last = rw (end, last) has.ends.most } }
 
-pub followed_known : (version : Version) (found : SiteTide) (mark : Option ℤ) (s : Span) → IsGentle found.curve → HasOffsets found.basis → ForSome mark (λ level. unsigned_abs level ≤ 10000000000) → HasMinutes found.curve s → AreKnown (followed_tide version found mark) s
+pub followed_valid_over : (version : Version) (found : SiteTide) (mark : Option ℤ) (s : Span)
+    → IsWithinLimits found.curve → HasOffsets found.basis → ForSome mark (λ level. unsigned_abs level ≤ 10000000000)
+    → HasMinutes found.curve s → AreValidOver (followed_tide version found mark) s
 unfolding followed_tide
-followed_known version found mark s gentle has small minutes =
-    let known = in_known version found.curve s minutes in
+followed_valid_over version found mark s within_limits has small minutes =
+    let valid_over = in_valid_over version found.curve s minutes in
     record {
-      turn = known (turn_meaning version found.curve) (turn_lawful version found.curve gentle) refl refl;
-      slack = for_asked (IsKnown s) (asks_slack found.units found.basis) _
-          (known _ (mark_lawful version found.curve (slack_times found.basis) (slack_plus found.basis) (pos 0) true gentle (slack_scale found.basis.slack found.basis refl has)) refl refl);
-      mark = for_marked (IsKnown s) mark _ (marks_known s version found.curve found.basis mark has gentle small known);
+      turn = valid_over (turn_meaning version found.curve) (turn_lawful version found.curve within_limits) refl refl;
+      slack = for_asked (IsValidOver s) (asks_slack found.units found.basis) _
+          (valid_over _ (mark_lawful version found.curve (slack_times found.basis) (slack_plus found.basis)
+          (pos 0) true within_limits (slack_scale found.basis.slack found.basis refl has)) refl refl);
+      mark = for_marked (IsValidOver s) mark _ (marks_valid_over s version found.curve found.basis mark has within_limits small valid_over);
     }
 
 -- ---- the events have words
 
-slack_named : (units : Units) (basis : Basis) (c : Meaning) → IsNamed Knots c → ForSome (if_asked (asks_slack units basis) c) (IsNamed units)
+slack_named : (units : Units) (basis : Basis) (c : Meaning) → IsNamed Knots c
+    → ForSome (if_asked (asks_slack units basis) c) (IsNamed units)
 slack_named Feet basis c named = for_none (IsNamed Feet)
 slack_named Meters basis c named = for_none (IsNamed Meters)
 slack_named Knots basis c named = for_asked (IsNamed Knots) (asks_slack Knots basis) c named
 slack_named KnotsSquared basis c named = for_none (IsNamed KnotsSquared)
 
 -- the kinds of turns and marks have words in each unit of levels
-plain_word : (units : Units) → HasLevels units → (has_word units High ≡ true) × (has_word units Low ≡ true) × (has_word units MarkRising ≡ true) × (has_word units MarkFalling ≡ true)
+plain_word : (units : Units) → HasLevels units → (has_word units High ≡ true) × (has_word units Low ≡ true)
+    × (has_word units MarkRising ≡ true) × (has_word units MarkFalling ≡ true)
 plain_word Feet levels = (refl, refl, refl, refl)
 plain_word Meters levels = (refl, refl, refl, refl)
 plain_word Knots levels = (refl, refl, refl, refl)
 plain_word KnotsSquared levels = absurd cc
 
-pub followed_named : (version : Version) (found : SiteTide) (mark : Option ℤ) → HasLevels found.units → AreNamed found.units (followed_tide version found mark)
+pub followed_named : (version : Version) (found : SiteTide) (mark : Option ℤ) → HasLevels found.units
+    → AreNamed found.units (followed_tide version found mark)
 unfolding followed_tide
 followed_named version found mark levels =
     let words = plain_word found.units levels in
@@ -196,69 +219,96 @@ followed_named version found mark levels =
 
 -- ---- the events over the minutes that are evaluated
 
-pub ready_minutes : (asked : Asked) (found : SiteTide) → IsReady asked found → HasMinutes found.curve (widened_of found.basis asked.begin asked.end)
-ready_minutes asked found ready = record { years = ready.years; forward = ready.near.forward; begins = ready.begins; ends = ready.ends }
+pub ready_minutes : (asked : Asked) (found : SiteTide) → IsReady asked found
+    → HasMinutes found.curve (widened_of found.basis asked.begin asked.end)
+ready_minutes asked found ready = record { years = ready.years; forward = ready.in_range.forward; begins = ready.begins; ends = ready.ends }
 
-pub ready_known : (version : Version) (asked : Asked) (found : SiteTide) → IsReady asked found → AreKnown (followed_tide version found asked.mark) (widened_of found.basis asked.begin asked.end)
-ready_known version asked found ready =
-    followed_known version found asked.mark (widened_of found.basis asked.begin asked.end) ready.gentle ready.offsets ready.mark (ready_minutes asked found ready)
+pub ready_valid_over : (version : Version) (asked : Asked) (found : SiteTide) → IsReady asked found
+    → AreValidOver (followed_tide version found asked.mark) (widened_of found.basis asked.begin asked.end)
+ready_valid_over version asked found ready =
+    followed_valid_over version found asked.mark (widened_of found.basis asked.begin asked.end) ready.within_limits
+    ready.offsets ready.mark (ready_minutes asked found ready)
 
 -- the levels of the tide's curves
-small_notes : (tide : Tide) (c : Meaning) → IsGentle tide → c.first ≡ (turn_meaning Second tide).first → c.last ≡ (turn_meaning Second tide).last → c.track.note ≡ millionths_of tide → HasSmallNotes c
-small_notes tide c gentle first last note m minute =
-    rw note (millionths_small tide m gentle (record { least = rw first at minute.first; most = rw last at minute.last }))
+small_notes : (tide : Tide) (c : Meaning) → IsWithinLimits tide → c.first ≡ (turn_meaning Second tide).first
+    → c.last ≡ (turn_meaning Second tide).last → c.track.note ≡ millionths_of tide → HasSmallNotes c
+small_notes tide c within_limits first last note m minute =
+    rw note (millionths_small tide m within_limits (record { least = rw first at minute.first; most = rw last at minute.last }))
 
-pub followed_small : (version : Version) (found : SiteTide) (mark : Option ℤ) → IsGentle found.curve → AreSmall (followed_tide version found mark)
+pub followed_small : (version : Version) (found : SiteTide) (mark : Option ℤ) → IsWithinLimits found.curve
+    → AreSmall (followed_tide version found mark)
 unfolding followed_tide
-followed_small version found mark gentle = record {
-  turn = small_notes found.curve _ gentle refl refl refl;
-  slack = for_asked HasSmallNotes _ _ (small_notes found.curve _ gentle refl refl refl);
-  mark = for_marked HasSmallNotes mark _ (λ level is. small_notes found.curve _ gentle refl refl refl);
+followed_small version found mark within_limits = record {
+  turn = small_notes found.curve _ within_limits refl refl refl;
+  slack = for_asked HasSmallNotes _ _ (small_notes found.curve _ within_limits refl refl refl);
+  mark = for_marked HasSmallNotes mark _ (λ level is. small_notes found.curve _ within_limits refl refl refl);
 }
 
 -- the events of accepted tracks can be moved
-pub ready_movable : (version : Version) (asked : Asked) (found : SiteTide) (tracks : Tracks) → IsReady asked found → AreAccepted (followed_tide version found asked.mark) (widened_of found.basis asked.begin asked.end) tracks → All IsMovable (merged_of (widened_of found.basis asked.begin asked.end).begin tracks)
+pub ready_movable : (version : Version) (asked : Asked) (found : SiteTide) (tracks : Tracks) → IsReady asked found
+    → AreAccepted (followed_tide version found asked.mark) (widened_of found.basis asked.begin asked.end) tracks
+    → All IsMovable (merged_of (widened_of found.basis asked.begin asked.end).begin tracks)
 ready_movable version asked found tracks ready accepted =
-    merged_movable (followed_tide version found asked.mark) (widened_of found.basis asked.begin asked.end) tracks ready.near
-    (followed_small version found asked.mark ready.gentle) (ready_known version asked found ready) accepted
+    merged_movable (followed_tide version found asked.mark) (widened_of found.basis asked.begin asked.end) tracks ready.in_range
+    (followed_small version found asked.mark ready.within_limits) (ready_valid_over version asked found ready) accepted
 
-covers_accept : (asked : Asked) (found : SiteTide) → AreAccepted (followed_tide Second found asked.mark) (widened_of found.basis asked.begin asked.end) (covers_of (followed_tide Second found asked.mark) (widened_of found.basis asked.begin asked.end))
+covers_accept : (asked : Asked) (found : SiteTide)
+    → AreAccepted (followed_tide Second found asked.mark) (widened_of found.basis asked.begin asked.end)
+    (covers_of (followed_tide Second found asked.mark) (widened_of found.basis asked.begin asked.end))
 covers_accept asked found = covers-accepted (followed_tide Second found asked.mark) (widened_of found.basis asked.begin asked.end)
 
-pub merged_can_move : (asked : Asked) (found : SiteTide) (events : List Event) → IsReady asked found → AreMerged asked found events → All IsMovable events
+pub merged_can_move : (asked : Asked) (found : SiteTide) (events : List Event) → IsReady asked found
+    → AreMerged asked found events → All IsMovable events
 merged_can_move asked found events ready merged = rw merged (ready_movable Second asked found _ ready (covers_accept asked found))
 
-pub shifted_is_whole : (asked : Asked) (found : SiteTide) (events : List Event) → IsReady asked found → AreMerged asked found events → shifted_of found.basis asked.begin asked.end events ≡ tide_events found asked
+pub shifted_is_whole : (asked : Asked) (found : SiteTide) (events : List Event) → IsReady asked found
+    → AreMerged asked found events → shifted_of found.basis asked.begin asked.end events ≡ tide_events found asked
 shifted_is_whole asked found events ready merged =
-    rw merged (shifted-events (followed_tide Second found asked.mark) found.basis asked.begin asked.end _ (ready_known Second asked found ready) (covers_accept asked found))
+    rw merged (shifted-events (followed_tide Second found asked.mark) found.basis asked.begin asked.end _
+    (ready_valid_over Second asked found ready) (covers_accept asked found))
 
-plain_over : (f : Followed) (b : Basis) (begin end : ℤ) (s : Span) → record { begin = begin; end = end } ≡ s → IsTrue (is_plain b) → begin ≤ℤ end → AreKnown f s → AreAccepted f s (covers_of f s) → merged_of s.begin (covers_of f s) ≡ station_events f b begin end
+plain_over : (f : Followed) (b : Basis) (begin end : ℤ) (s : Span) → record { begin = begin; end = end } ≡ s
+    → IsTrue (is_plain b) → begin ≤ℤ end → AreValidOver f s → AreAccepted f s (covers_of f s)
+    → merged_of s.begin (covers_of f s) ≡ station_events f b begin end
 plain_over f b begin end s same plain forward =
-    subst (λ (x : Span). AreKnown f x → AreAccepted f x (covers_of f x) → merged_of x.begin (covers_of f x) ≡ station_events f b begin end) same
-    (λ known accepted. plain-merged f b begin end (covers_of f (record { begin = begin; end = end })) plain forward known accepted)
+    subst (λ (x : Span). AreValidOver f x → AreAccepted f x (covers_of f x)
+    → merged_of x.begin (covers_of f x) ≡ station_events f b begin end) same
+    (λ valid_over accepted. plain-merged f b begin end
+    (covers_of f (record { begin = begin; end = end })) plain forward valid_over accepted)
 
-pub plain_is_whole : (asked : Asked) (found : SiteTide) (events : List Event) → IsReady asked found → AreMerged asked found events → IsTrue (is_plain found.basis) → events ≡ tide_events found asked
+pub plain_is_whole : (asked : Asked) (found : SiteTide) (events : List Event) → IsReady asked found
+    → AreMerged asked found events → IsTrue (is_plain found.basis) → events ≡ tide_events found asked
 plain_is_whole asked found events ready merged plain =
     rw merged
     (plain_over (followed_tide Second found asked.mark) found.basis asked.begin asked.end (widened_of found.basis asked.begin asked.end)
-    (sym (plain-span found.basis asked.begin asked.end plain)) plain ready.forward (ready_known Second asked found ready) (covers_accept asked found))
+    (sym (plain-span found.basis asked.begin asked.end plain)) plain ready.forward
+    (ready_valid_over Second asked found ready) (covers_accept asked found))
 
 -- ---- the searches of all curves
 
 -- the cells that the searches have left are those of the curves
-pub tracks_are : (asked : Asked) (found : SiteTide) (turn : List Cell) (slack mark : Option (List Cell)) → turn ≡ (covers_of (followed_tide Second found asked.mark) (widened_of found.basis asked.begin asked.end)).turn → slack ≡ (covers_of (followed_tide Second found asked.mark) (widened_of found.basis asked.begin asked.end)).slack → mark ≡ (covers_of (followed_tide Second found asked.mark) (widened_of found.basis asked.begin asked.end)).mark → record { turn = turn; slack = slack; mark = mark } ≡ covers_of (followed_tide Second found asked.mark) (widened_of found.basis asked.begin asked.end)
+pub tracks_are : (asked : Asked) (found : SiteTide) (turn : List Cell) (slack mark : Option (List Cell))
+    → turn ≡ (covers_of (followed_tide Second found asked.mark) (widened_of found.basis asked.begin asked.end)).turn
+    → slack ≡ (covers_of (followed_tide Second found asked.mark) (widened_of found.basis asked.begin asked.end)).slack
+    → mark ≡ (covers_of (followed_tide Second found asked.mark) (widened_of found.basis asked.begin asked.end)).mark
+    → record { turn = turn; slack = slack; mark = mark }
+    ≡ covers_of (followed_tide Second found asked.mark) (widened_of found.basis asked.begin asked.end)
 tracks_are asked found turn slack mark t s m = rw (t, s, m) refl
 
-pub few_cells : (asked : Asked) (found : SiteTide) → IsReady asked found → cells_in (covers_of (followed_tide Second found asked.mark) (widened_of found.basis asked.begin asked.end)) < 2 ^ 64
+pub few_cells : (asked : Asked) (found : SiteTide) → IsReady asked found
+    → cells_in (covers_of (followed_tide Second found asked.mark) (widened_of found.basis asked.begin asked.end))
+    < 2 ^ 64
 unfolding cell_count
 few_cells asked found ready =
     let few = count-few (followed_tide Second found asked.mark) (widened_of found.basis asked.begin asked.end) in
-    let forward = ready.near.forward in
-    let begin = ready.near.begin in
-    let end = ready.near.end in
+    let forward = ready.in_range.forward in
+    let begin = ready.in_range.begin in
+    let end = ready.in_range.end in
     omega (arith, ints, few)
 
-pub counted_cells : (asked : Asked) (found : SiteTide) → cells_in (covers_of (followed_tide Second found asked.mark) (widened_of found.basis asked.begin asked.end)) ≡ tide_cells found asked
+pub counted_cells : (asked : Asked) (found : SiteTide)
+    → cells_in (covers_of (followed_tide Second found asked.mark) (widened_of found.basis asked.begin asked.end))
+    ≡ tide_cells found asked
 unfolding cell_count
 counted_cells asked found = refl
 
@@ -276,7 +326,9 @@ asked_minute asked found m ready from until =
     let after = ready.beside.ends in
     record { first = omega (arith, ints); last = omega (arith, ints) }
 
-listed_each : (asked : Asked) (found : SiteTide) (units : Units) (events : List Event) → IsReady asked found → All (λ e. (asked.begin ≤ℤ e.minute) × (e.minute <ℤ asked.end)) events → All (λ e. IsTrue (has_word units e.kind)) events → All (IsListed units) events
+listed_each : (asked : Asked) (found : SiteTide) (units : Units) (events : List Event) → IsReady asked found
+    → All (λ e. (asked.begin ≤ℤ e.minute) × (e.minute <ℤ asked.end)) events
+    → All (λ e. IsTrue (has_word units e.kind)) events → All (IsListed units) events
 listed_each asked found units events ready lie named k d h =
     let within = lie k d h in
     let from = within.0 in
@@ -287,29 +339,45 @@ pub tide_lines : (asked : Asked) (found : SiteTide) → IsReady asked found → 
 tide_lines asked found ready =
     listed_each asked found found.units (tide_events found asked) ready
     (events-lie (followed_tide Second found asked.mark) found.basis asked.begin asked.end)
-    (events-named found.units (followed_tide Second found asked.mark) found.basis asked.begin asked.end (followed_named Second found asked.mark ready.levels))
+    (events-named found.units (followed_tide Second found asked.mark) found.basis asked.begin asked.end
+    (followed_named Second found asked.mark ready.levels))
 
 -- ---- the events are those of the station
 
-same_site : (book : Book) (asked : Asked) (site : Site) (found : SiteTide) → IsFound Events book asked site found → IsSame book site found (widened_of found.basis asked.begin asked.end)
+same_site : (book : Book) (asked : Asked) (site : Site) (found : SiteTide) → IsFound Events book asked site found
+    → IsSame book site found (widened_of found.basis asked.begin asked.end)
 same_site book asked site found is = record { basis = is.basis; units = is.units; predicts = is.predicts; years = is.years }
 
-of_book : (book : Book) (asked : Asked) (site : Site) (found : SiteTide) → IsFound Events book asked site found → IsOf book (widened_of found.basis asked.begin asked.end)
-of_book book asked site found is = record { forward = is.span.near.forward; begins = is.span.begins; ends = is.span.ends }
+of_book : (book : Book) (asked : Asked) (site : Site) (found : SiteTide) → IsFound Events book asked site found
+    → IsOf book (widened_of found.basis asked.begin asked.end)
+of_book book asked site found is = record { forward = is.span.in_range.forward; begins = is.span.begins; ends = is.span.ends }
 
-pub found_alike : (version : Version) (book : Book) (asked : Asked) (site : Site) (found : SiteTide) (mark : Option ℤ) → IsFound Events book asked site found → AllAgree (followed_tide version found mark) (followed_by version book site mark) (widened_of found.basis asked.begin asked.end)
+pub found_alike : (version : Version) (book : Book) (asked : Asked) (site : Site) (found : SiteTide) (mark : Option ℤ)
+    → IsFound Events book asked site found → AllAgree (followed_tide version found mark)
+    (followed_by version book site mark) (widened_of found.basis asked.begin asked.end)
 found_alike version book asked site found mark is =
-    followed_alike version book site found mark (widened_of found.basis asked.begin asked.end) (same_site book asked site found is) (of_book book asked site found is)
+    followed_alike version book site found mark (widened_of found.basis asked.begin asked.end)
+    (same_site book asked site found is) (of_book book asked site found is)
 
-pub found_events : (book : Book) (asked : Asked) (site : Site) (found : SiteTide) → IsFound Events book asked site found → tide_events found asked ≡ events_of book site asked
+pub found_events : (book : Book) (asked : Asked) (site : Site) (found : SiteTide) → IsFound Events book asked site found
+    → tide_events found asked ≡ events_of book site asked
 unfolding events_of
 found_events book asked site found is =
-    rw (events-agree (followed_tide Second found asked.mark) (followed_by Second book site asked.mark) found.basis asked.begin asked.end (found_alike Second book asked site found asked.mark is), is.basis) refl
+    rw (
+      events-agree (followed_tide Second found asked.mark) (followed_by Second book site asked.mark) found.basis
+          asked.begin asked.end (found_alike Second book asked site found asked.mark is),
+      is.basis,
+    ) refl
 
-pub found_cells : (book : Book) (asked : Asked) (site : Site) (found : SiteTide) → IsFound Events book asked site found → tide_cells found asked ≡ cells_of book site asked
+pub found_cells : (book : Book) (asked : Asked) (site : Site) (found : SiteTide) → IsFound Events book asked site found
+    → tide_cells found asked ≡ cells_of book site asked
 unfolding cells_of
 found_cells book asked site found is =
-    rw (count-agrees (followed_tide Second found asked.mark) (followed_by Second book site asked.mark) (widened_of found.basis asked.begin asked.end) (found_alike Second book asked site found asked.mark is), is.basis) refl
+    rw (
+      count-agrees (followed_tide Second found asked.mark) (followed_by Second book site asked.mark)
+          (widened_of found.basis asked.begin asked.end) (found_alike Second book asked site found asked.mark is),
+      is.basis,
+    ) refl
 
 -- ---- the cells are those of the station's curves
 
@@ -317,16 +385,19 @@ cover_if_alike : (s : Span) (c d : Option Meaning) → AgreeIfFollowed s c d →
 cover_if_alike s None None agree = refl
 cover_if_alike s None (Some d) agree = absurd agree
 cover_if_alike s (Some c) None agree = absurd agree
-cover_if_alike s (Some c) (Some d) agree = ap (λ (cells : List Cell). Some cells) (cover-agrees c d s.begin (minutes_in s) agree)
+cover_if_alike s (Some c) (Some d) agree = ap (λ (cells : List Cell). Some cells) (cover-agrees c d s.begin (span_minutes s) agree)
 
 covers_alike : (f g : Followed) (s : Span) → AllAgree f g s → covers_of f s ≡ covers_of g s
 covers_alike f g s agree =
-    let turn = cover-agrees f.turn g.turn s.begin (minutes_in s) agree.turn in
+    let turn = cover-agrees f.turn g.turn s.begin (span_minutes s) agree.turn in
     let slack = cover_if_alike s f.slack g.slack agree.slack in
     let mark = cover_if_alike s f.mark g.mark agree.mark in
     rw (turn, slack, mark) refl
 
-pub tracks_alike : (book : Book) (asked : Asked) (site : Site) (found : SiteTide) (tracks : Tracks) → IsFound Events book asked site found → tracks ≡ covers_of (followed_tide Second found asked.mark) (widened_of found.basis asked.begin asked.end) → tracks ≡ tracks_of book site asked
+pub tracks_alike : (book : Book) (asked : Asked) (site : Site) (found : SiteTide) (tracks : Tracks)
+    → IsFound Events book asked site found
+    → tracks ≡ covers_of (followed_tide Second found asked.mark) (widened_of found.basis asked.begin asked.end)
+    → tracks ≡ tracks_of book site asked
 unfolding tracks_of
 tracks_alike book asked site found tracks is same =
     same ∙ covers_alike _ _ _ (found_alike Second book asked site found asked.mark is)

@@ -14,51 +14,66 @@ use Rattle.station_span.specs.declared.asked.Asked.{Asked}
 use Rattle.station_span.specs.declared.reach.Reach.{Reach}
 use Rattle.tide_fault.specs.declared.refusal.Refusal.{Refusal}
 use Rattle.tide_fault.specs.declared.refusal.Refusal.TheVariants.{NoReference, OutOfYears}
-use Rattle.tide_fault.specs.Faults.{IsToldRefusal}
+use Rattle.tide_fault.specs.Faults.{IsPrintableRefusal}
 use Rattle.station_span.specs.Sites.{Site, basis_from, level_unit, span_in, tide_from, length_in, mark_in, site_at, site_in, station_in}
-use Rattle.station_span.specs.declared.found.Found.{Found}
+use Rattle.station_span.specs.declared.found_station.FoundStation.{FoundStation}
 use Rattle.station_span.specs.Workings.Finds.{FindsIn}
 
-pub excused_then : {A B : Type 0} (memory : Bool) (step : Result A Refusal) (next : A → Result B Refusal) (refusal : Refusal) → Excused memory step refusal → Excused memory (step >>= next) refusal
+pub excused_then : {A B : Type 0} (memory : Bool) (step : Result A Refusal) (next : A → Result B Refusal)
+    (refusal : Refusal) → Excused memory step refusal → Excused memory (step >>= next) refusal
 excused_then true step next refusal excused = tt
 excused_then false step next refusal excused = rw excused refl
 
 -- ---- the curve for some minutes is refused if that for all is
 
-both_ok : (over whole same : Tide) (fault : Option CurveFault) → tide_from (tide_or over fault) ≡ Ok same → tide_from (tide_or whole fault) ≡ Ok whole
+both_ok : (over whole same : Tide) (fault : Option CurveFault) → tide_from (tide_or over fault) ≡ Ok same
+    → tide_from (tide_or whole fault) ≡ Ok whole
 both_ok over whole same None ok = refl
 both_ok over whole same (Some fault) ok = absurd cc
 
-over_ok : (hydraulic : Bool) (book : Book) (station : Station) (first last : ℤ) (tide : Tide) → is_hydraulic station.units ≡ hydraulic → tide_from (curve_over book station first last) ≡ Ok tide → tide_from (curve_of book station) ≡ Ok (tide_of book station)
+over_ok : (hydraulic : Bool) (book : Book) (station : Station) (first last : ℤ) (tide : Tide)
+    → is_hydraulic station.units ≡ hydraulic → tide_from (curve_over book station first last) ≡ Ok tide
+    → tide_from (curve_of book station) ≡ Ok (tide_of book station)
 unfolding curve_of curve_over
 over_ok true book station first last tide is ok = absurd (let none = rw is at ok in cc)
 over_ok false book station first last tide is ok =
     rw is (both_ok (tide_over book station first last) (tide_of book station) tide (first_fault book station book.years) (rw is at ok))
 
-pub curve_allowed : (book : Book) (station : Station) (first last : ℤ) (tide : Tide) → tide_from (curve_over book station first last) ≡ Ok tide → tide_from (curve_of book station) ≡ Ok (tide_of book station)
+pub curve_allowed : (book : Book) (station : Station) (first last : ℤ) (tide : Tide)
+    → tide_from (curve_over book station first last) ≡ Ok tide
+    → tide_from (curve_of book station) ≡ Ok (tide_of book station)
 curve_allowed book station first last tide ok = over_ok _ book station first last tide refl ok
 
 -- the curve for some minutes predicts these alone
-over_only : (hydraulic : Bool) (fault : Option CurveFault) (book : Book) (station : Station) (first last : ℤ) (tide : Tide) → is_hydraulic station.units ≡ hydraulic → first_fault book station book.years ≡ fault → tide_from (curve_over book station first last) ≡ Ok tide → tide ≡ tide_over book station first last
+over_only : (hydraulic : Bool) (fault : Option CurveFault) (book : Book) (station : Station) (first last : ℤ)
+    (tide : Tide) → is_hydraulic station.units ≡ hydraulic → first_fault book station book.years ≡ fault
+    → tide_from (curve_over book station first last) ≡ Ok tide → tide ≡ tide_over book station first last
 unfolding curve_over
 over_only true fault book station first last tide is found ok = absurd (let none = rw is at ok in cc)
 over_only false (Some fault) book station first last tide is found ok = absurd (let none = rw (is, found) at ok in cc)
 over_only false None book station first last tide is found ok = let same = rw (is, found) at ok in cc
 
-pub curve_alone : (book : Book) (station : Station) (first last : ℤ) (tide : Tide) → tide_from (curve_over book station first last) ≡ Ok tide → tide ≡ tide_over book station first last
+pub curve_alone : (book : Book) (station : Station) (first last : ℤ) (tide : Tide)
+    → tide_from (curve_over book station first last) ≡ Ok tide → tide ≡ tide_over book station first last
 curve_alone book station first last tide ok = over_only _ _ book station first last tide refl refl ok
 
-both_refused : (over whole : Tide) (fault : Option CurveFault) (refusal : Refusal) → tide_from (tide_or over fault) ≡ Err refusal → tide_from (tide_or whole fault) ≡ Err refusal
+both_refused : (over whole : Tide) (fault : Option CurveFault) (refusal : Refusal)
+    → tide_from (tide_or over fault) ≡ Err refusal → tide_from (tide_or whole fault) ≡ Err refusal
 both_refused over whole None refusal refused = absurd cc
 both_refused over whole (Some fault) refusal refused = refused
 
-over_refused : (hydraulic : Bool) (book : Book) (station : Station) (first last : ℤ) (refusal : Refusal) → is_hydraulic station.units ≡ hydraulic → tide_from (curve_over book station first last) ≡ Err refusal → tide_from (curve_of book station) ≡ Err refusal
+over_refused : (hydraulic : Bool) (book : Book) (station : Station) (first last : ℤ) (refusal : Refusal)
+    → is_hydraulic station.units ≡ hydraulic → tide_from (curve_over book station first last) ≡ Err refusal
+    → tide_from (curve_of book station) ≡ Err refusal
 unfolding curve_of curve_over
 over_refused true book station first last refusal is refused = rw is (rw is at refused)
 over_refused false book station first last refusal is refused =
-    rw is (both_refused (tide_over book station first last) (tide_of book station) (first_fault book station book.years) refusal (rw is at refused))
+    rw is (both_refused (tide_over book station first last) (tide_of book station)
+    (first_fault book station book.years) refusal (rw is at refused))
 
-pub curve_excused : (memory : Bool) (book : Book) (station : Station) (first last : ℤ) (refusal : Refusal) → Excused memory (tide_from (curve_over book station first last)) refusal → Excused memory (tide_from (curve_of book station)) refusal
+pub curve_excused : (memory : Bool) (book : Book) (station : Station) (first last : ℤ) (refusal : Refusal)
+    → Excused memory (tide_from (curve_over book station first last)) refusal
+    → Excused memory (tide_from (curve_of book station)) refusal
 curve_excused true book station first last refusal excused = tt
 curve_excused false book station first last refusal excused = over_refused _ book station first last refusal refl excused
 
@@ -71,58 +86,86 @@ pub record HasCurve (reach : Reach) (book : Book) (site : Site) (asked : Asked) 
   pub curve : tide_from (curve_of book site.station) ≡ Ok tide
 
 -- the span is refused
-pub refused_span : (memory : Bool) (reach : Reach) (book : Book) (site : Site) (asked : Asked) (units : Units) (refusal : Refusal) → level_unit site.station.units ≡ Ok units → Excused memory (span_in reach book site.basis asked.begin asked.end) refusal → Excused memory (site_at reach book site asked) refusal
+pub refused_span : (memory : Bool) (reach : Reach) (book : Book) (site : Site) (asked : Asked) (units : Units)
+    (refusal : Refusal) → level_unit site.station.units ≡ Ok units
+    → Excused memory (span_in reach book site.basis asked.begin asked.end) refusal
+    → Excused memory (site_at reach book site asked) refusal
 unfolding site_at
 refused_span memory reach book site asked units refusal unit excused =
     rw unit (excused_then memory (span_in reach book site.basis asked.begin asked.end) _ refusal excused)
 
 -- the tide is refused
-pub refused_curve : (memory : Bool) (reach : Reach) (book : Book) (site : Site) (asked : Asked) (units : Units) (refusal : Refusal) → level_unit site.station.units ≡ Ok units → span_in reach book site.basis asked.begin asked.end ≡ Ok tt → Excused memory (tide_from (curve_of book site.station)) refusal → Excused memory (site_at reach book site asked) refusal
+pub refused_curve :
+    (memory : Bool) (reach : Reach) (book : Book) (site : Site) (asked : Asked) (units : Units) (refusal : Refusal)
+    → level_unit site.station.units ≡ Ok units → span_in reach book site.basis asked.begin asked.end ≡ Ok tt
+    → Excused memory (tide_from (curve_of book site.station)) refusal
+    → Excused memory (site_at reach book site asked) refusal
 unfolding site_at
 refused_curve memory reach book site asked units refusal unit span excused =
     rw (unit, span) (excused_then memory (tide_from (curve_of book site.station)) _ refusal excused)
 
 -- the span's length is refused
-pub refused_length : (memory : Bool) (reach : Reach) (book : Book) (site : Site) (asked : Asked) (units : Units) (tide : Tide) (refusal : Refusal) → HasCurve reach book site asked units tide → Excused memory (length_in asked.begin asked.end) refusal → Excused memory (site_at reach book site asked) refusal
+pub refused_length : (memory : Bool) (reach : Reach) (book : Book) (site : Site) (asked : Asked) (units : Units)
+    (tide : Tide) (refusal : Refusal) → HasCurve reach book site asked units tide
+    → Excused memory (length_in asked.begin asked.end) refusal → Excused memory (site_at reach book site asked) refusal
 unfolding site_at
 refused_length memory reach book site asked units tide refusal has excused =
     rw (has.unit, has.span, has.curve) (excused_then memory (length_in asked.begin asked.end) _ refusal excused)
 
 -- the mark is refused
-pub refused_mark : (memory : Bool) (reach : Reach) (book : Book) (site : Site) (asked : Asked) (units : Units) (tide : Tide) (refusal : Refusal) → HasCurve reach book site asked units tide → length_in asked.begin asked.end ≡ Ok tt → Excused memory (mark_in site.basis asked.mark) refusal → Excused memory (site_at reach book site asked) refusal
+pub refused_mark : (memory : Bool) (reach : Reach) (book : Book) (site : Site) (asked : Asked) (units : Units)
+    (tide : Tide) (refusal : Refusal) → HasCurve reach book site asked units tide
+    → length_in asked.begin asked.end ≡ Ok tt → Excused memory (mark_in site.basis asked.mark) refusal
+    → Excused memory (site_at reach book site asked) refusal
 unfolding site_at
 refused_mark memory reach book site asked units tide refusal has few excused =
     rw (has.unit, has.span, has.curve, few) (excused_then memory (mark_in site.basis asked.mark) _ refusal excused)
 
 -- nothing is refused
-pub found_whole : (reach : Reach) (book : Book) (site : Site) (asked : Asked) (units : Units) (tide : Tide) → HasCurve reach book site asked units tide → length_in asked.begin asked.end ≡ Ok tt → mark_in site.basis asked.mark ≡ Ok tt → site_at reach book site asked ≡ Ok site
+pub found_whole : (reach : Reach) (book : Book) (site : Site) (asked : Asked) (units : Units) (tide : Tide)
+    → HasCurve reach book site asked units tide → length_in asked.begin asked.end ≡ Ok tt
+    → mark_in site.basis asked.mark ≡ Ok tt → site_at reach book site asked ≡ Ok site
 unfolding site_at
 found_whole reach book site asked units tide has few mark = rw (has.unit, has.span, has.curve, few, mark) refl
 
 -- ---- a station by its name
 
-pub known_whole : (book : Book) (table : List Offsets) (name : List ℕ) (site : Site) (units : Units) (tide : Tide) → basis_from (basis_of book table name) ≡ Ok site.basis → slice_get book.stations site.basis.station ≡ Some site.station → level_unit site.station.units ≡ Ok units → tide_from (curve_of book site.station) ≡ Ok tide → station_in book table name ≡ Ok site
+pub reference_whole : (book : Book) (table : List Offsets) (name : List ℕ) (site : Site) (units : Units) (tide : Tide)
+    → basis_from (basis_of book table name) ≡ Ok site.basis
+    → slice_get book.stations site.basis.station ≡ Some site.station → level_unit site.station.units ≡ Ok units
+    → tide_from (curve_of book site.station) ≡ Ok tide → station_in book table name ≡ Ok site
 unfolding station_in
-known_whole book table name site units tide from is unit curve = rw (from, is, unit, curve) refl
+reference_whole book table name site units tide from is unit curve = rw (from, is, unit, curve) refl
 
-pub found_by : (reach : Reach) (book : Book) (table : List Offsets) (name : List ℕ) (asked : Asked) (basis : Basis) (station : Station) → basis_from (basis_of book table name) ≡ Ok basis → slice_get book.stations basis.station ≡ Some station → site_in reach book table name asked ≡ site_at reach book (record { basis = basis; station = station }) asked
+pub found_by : (reach : Reach) (book : Book) (table : List Offsets) (name : List ℕ) (asked : Asked) (basis : Basis)
+    (station : Station) → basis_from (basis_of book table name) ≡ Ok basis
+    → slice_get book.stations basis.station ≡ Some station
+    → site_in reach book table name asked ≡ site_at reach book (record { basis = basis; station = station }) asked
 unfolding site_in
 found_by reach book table name asked basis station from is = rw (from, is) refl
 
-pub finds_by : (reach : Reach) (book : Book) (table : List Offsets) (name : List ℕ) (asked : Asked) (basis : Basis) (station : Station) (result : Result Found Refusal) → basis_from (basis_of book table name) ≡ Ok basis → slice_get book.stations basis.station ≡ Some station → FindsIn reach book asked (site_at reach book (record { basis = basis; station = station }) asked) result → FindsIn reach book asked (site_in reach book table name asked) result
-finds_by reach book table name asked basis station result from is finds = rw (found_by reach book table name asked basis station from is) finds
+pub finds_by : (reach : Reach) (book : Book) (table : List Offsets) (name : List ℕ) (asked : Asked) (basis : Basis)
+    (station : Station) (result : Result FoundStation Refusal) → basis_from (basis_of book table name) ≡ Ok basis
+    → slice_get book.stations basis.station ≡ Some station
+    → FindsIn reach book asked (site_at reach book (record { basis = basis; station = station }) asked) result
+    → FindsIn reach book asked (site_in reach book table name asked) result
+finds_by reach book table name asked basis station result from is finds =
+    rw (found_by reach book table name asked basis station from is) finds
 
 -- the name is refused
-pub excused_by : {A : Type 0} (memory : Bool) (expected : Result A Refusal) (refusal : Refusal) → expected ≡ Err refusal → Excused memory expected refusal
+pub excused_by : {A : Type 0} (memory : Bool) (expected : Result A Refusal) (refusal : Refusal) → expected ≡ Err refusal
+    → Excused memory expected refusal
 excused_by true expected refusal e = tt
 excused_by false expected refusal e = e
 
-pub refused_name : (memory : Bool) (reach : Reach) (book : Book) (table : List Offsets) (name : List ℕ) (asked : Asked) (refusal : Refusal) → basis_from (basis_of book table name) ≡ Err refusal → Excused memory (site_in reach book table name asked) refusal
+pub refused_name : (memory : Bool) (reach : Reach) (book : Book) (table : List Offsets) (name : List ℕ) (asked : Asked)
+    (refusal : Refusal) → basis_from (basis_of book table name) ≡ Err refusal
+    → Excused memory (site_in reach book table name asked) refusal
 unfolding site_in
 refused_name memory reach book table name asked refusal from = excused_by memory _ refusal (rw from refl)
 
 -- a refusal whose line can be printed without a table can be printed with any
-pub told_any : (rows : List Offsets) (refusal : Refusal) → IsToldRefusal [] refusal → IsToldRefusal rows refusal
-told_any rows (NoReference place) told = absurd (omega (arith, told))
-told_any rows (OutOfYears first last) told = told
-told_any rows _ told = tt
+pub printable_any : (rows : List Offsets) (refusal : Refusal) → IsPrintableRefusal [] refusal → IsPrintableRefusal rows refusal
+printable_any rows (NoReference place) printable = absurd (omega (arith, printable))
+printable_any rows (OutOfYears first last) printable = printable
+printable_any rows _ printable = tt

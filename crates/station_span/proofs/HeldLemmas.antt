@@ -11,7 +11,7 @@ use Rattle.event_list.specs.Shifts.{IsMovable, shifted_of, widened_of}
 use Rattle.rate_bound.specs.declared.version.Version.TheVariants.{Second}
 use Rattle.station_table.specs.Bases.{is_equal, is_plain}
 use Rattle.year_blend.specs.Places.{InDomain}
-use Rattle.station_span.specs.declared.found.Found.{Found}
+use Rattle.station_span.specs.declared.found_station.FoundStation.{FoundStation}
 use Rattle.station_span.specs.declared.reach.Reach.{Reach}
 use Rattle.station_span.specs.declared.reach.Reach.TheVariants.{Events, Levels, Highest}
 use Rattle.station_span.specs.Following.{cells_of, events_of, tracks_of}
@@ -34,68 +34,81 @@ use Rattle.station_span.specs.Workings.Peaks.{HasHighest, IsSourceIn, tide_level
 -- ---- events
 
 -- a station that was found for a purpose
-pub found_for : (f : Found) (reach : Reach) → f.reach ≡ reach → IsFound reach f.origin.book f.asked (site_of f) (tide_of_found f)
-found_for f reach is = subst (λ r. IsFound r f.origin.book f.asked (site_of f) (tide_of_found f)) is f.sound
+pub found_for : (f : FoundStation) (reach : Reach) → f.reach ≡ reach → IsFound reach f.origin.book f.asked (site_of f) (tide_of_found f)
+found_for f reach is = subst (λ r. IsFound r f.origin.book f.asked (site_of f) (tide_of_found f)) is f.valid
 
-pub span_for : (f : Found) (reach : Reach) → f.reach ≡ reach → f.span ≡ reached reach f.basis f.asked.begin f.asked.end
+pub span_for : (f : FoundStation) (reach : Reach) → f.reach ≡ reach → f.span ≡ reached reach f.basis f.asked.begin f.asked.end
 span_for f reach is = f.looked ∙ ap (λ r. reached r f.basis f.asked.begin f.asked.end) is
 
-pub ready_for : (f : Found) → f.reach ≡ Events → IsReady f.asked (tide_of_found f)
+pub ready_for : (f : FoundStation) → f.reach ≡ Events → IsReady f.asked (tide_of_found f)
 ready_for f is = ready_of_found f.origin.book f.asked (site_of f) (tide_of_found f) (found_for f Events is)
 
-pub minutes_for : (f : Found) → f.reach ≡ Events → HasMinutes f.curve f.span
+pub minutes_for : (f : FoundStation) → f.reach ≡ Events → HasMinutes f.curve f.span
 minutes_for f is = rw (span_for f Events is) (ready_minutes f.asked (tide_of_found f) (ready_for f is))
 
 -- the tracks of the station are the cells of its curves
-pub tracks_tide : (f : Found) → f.reach ≡ Events → tracks_of f.origin.book (site_of f) f.asked ≡ covers_of (followed_tide Second (tide_of_found f) f.asked.mark) (widened_of f.basis f.asked.begin f.asked.end)
+pub tracks_tide : (f : FoundStation) → f.reach ≡ Events → tracks_of f.origin.book (site_of f) f.asked
+    ≡ covers_of (followed_tide Second (tide_of_found f) f.asked.mark) (widened_of f.basis f.asked.begin f.asked.end)
 tracks_tide f is = sym (tracks_alike f.origin.book f.asked (site_of f) (tide_of_found f) _ (found_for f Events is) refl)
 
-pub tracks_for : (f : Found) → f.reach ≡ Events → covers_of (followed_tide Second (tide_of_found f) f.asked.mark) f.span ≡ tracks_of f.origin.book (site_of f) f.asked
+pub tracks_for : (f : FoundStation) → f.reach ≡ Events
+    → covers_of (followed_tide Second (tide_of_found f) f.asked.mark) f.span
+    ≡ tracks_of f.origin.book (site_of f) f.asked
 tracks_for f is =
     ap (λ s. covers_of (followed_tide Second (tide_of_found f) f.asked.mark) s) (span_for f Events is)
     ∙ tracks_alike f.origin.book f.asked (site_of f) (tide_of_found f) _ (found_for f Events is) refl
 
-pub few_for : (f : Found) → f.reach ≡ Events → cells_in (tracks_of f.origin.book (site_of f) f.asked) < 2 ^ 64
+pub few_for : (f : FoundStation) → f.reach ≡ Events → cells_in (tracks_of f.origin.book (site_of f) f.asked) < 2 ^ 64
 few_for f is =
     rw (tracks_tide f is) (few_cells f.asked (tide_of_found f) (ready_for f is))
 
-pub cells_for : (f : Found) → f.reach ≡ Events → cells_in (tracks_of f.origin.book (site_of f) f.asked) ≡ cells_of f.origin.book (site_of f) f.asked
+pub cells_for : (f : FoundStation) → f.reach ≡ Events
+    → cells_in (tracks_of f.origin.book (site_of f) f.asked) ≡ cells_of f.origin.book (site_of f) f.asked
 cells_for f is =
     ap cells_in (tracks_tide f is)
     ∙ counted_cells f.asked (tide_of_found f)
     ∙ found_cells f.origin.book f.asked (site_of f) (tide_of_found f) (found_for f Events is)
 
-merged_for : (f : Found) (events : List Event) → f.reach ≡ Events → AreReferences f events → AreMerged f.asked (tide_of_found f) events
+merged_for : (f : FoundStation) (events : List Event) → f.reach ≡ Events → AreReferences f events
+    → AreMerged f.asked (tide_of_found f) events
 merged_for f events is references =
     references
     ∙ ap (λ t. merged_of f.span.begin t) (tracks_tide f is)
-    ∙ ap (λ (s : Span). merged_of s.begin (covers_of (followed_tide Second (tide_of_found f) f.asked.mark) (widened_of f.basis f.asked.begin f.asked.end))) (span_for f Events is)
+    ∙ ap (λ (s : Span). merged_of s.begin (covers_of (followed_tide Second (tide_of_found f) f.asked.mark)
+    (widened_of f.basis f.asked.begin f.asked.end))) (span_for f Events is)
 
-pub can_move : (f : Found) (events : List Event) → f.reach ≡ Events → AreReferences f events → All IsMovable events
+pub can_move : (f : FoundStation) (events : List Event) → f.reach ≡ Events → AreReferences f events → All IsMovable events
 can_move f events is references =
     merged_can_move f.asked (tide_of_found f) events (ready_for f is) (merged_for f events is references)
 
-pub shifted_for : (f : Found) (events : List Event) → f.reach ≡ Events → AreReferences f events → shifted_of f.basis f.asked.begin f.asked.end events ≡ events_of f.origin.book (site_of f) f.asked
+pub shifted_for : (f : FoundStation) (events : List Event) → f.reach ≡ Events → AreReferences f events
+    → shifted_of f.basis f.asked.begin f.asked.end events ≡ events_of f.origin.book (site_of f) f.asked
 shifted_for f events is references =
     shifted_is_whole f.asked (tide_of_found f) events (ready_for f is) (merged_for f events is references)
     ∙ found_events f.origin.book f.asked (site_of f) (tide_of_found f) (found_for f Events is)
 
-pub plain_for : (f : Found) (events : List Event) → f.reach ≡ Events → AreReferences f events → IsTrue (is_plain f.basis) → events ≡ events_of f.origin.book (site_of f) f.asked
+pub plain_for : (f : FoundStation) (events : List Event) → f.reach ≡ Events → AreReferences f events
+    → IsTrue (is_plain f.basis) → events ≡ events_of f.origin.book (site_of f) f.asked
 plain_for f events is references plain =
     plain_is_whole f.asked (tide_of_found f) events (ready_for f is) (merged_for f events is references) plain
     ∙ found_events f.origin.book f.asked (site_of f) (tide_of_found f) (found_for f Events is)
 
 -- the cells of its searches are the station's tracks
-pub tracks_are : (f : Found) (turn : List Cell) (slack mark : Option (List Cell)) → turn ≡ (tracks_of f.origin.book (site_of f) f.asked).turn → slack ≡ (tracks_of f.origin.book (site_of f) f.asked).slack → mark ≡ (tracks_of f.origin.book (site_of f) f.asked).mark → record { turn = turn; slack = slack; mark = mark } ≡ tracks_of f.origin.book (site_of f) f.asked
+pub tracks_are : (f : FoundStation) (turn : List Cell) (slack mark : Option (List Cell)) → turn
+    ≡ (tracks_of f.origin.book (site_of f) f.asked).turn → slack ≡ (tracks_of f.origin.book (site_of f) f.asked).slack
+    → mark ≡ (tracks_of f.origin.book (site_of f) f.asked).mark
+    → record { turn = turn; slack = slack; mark = mark } ≡ tracks_of f.origin.book (site_of f) f.asked
 tracks_are f turn slack mark t s m = rw (t, s, m) refl
 
-pub site_list : (f : Found) (listed : FoundEvents) → f.reach ≡ Events → listed.units ≡ f.origin.station.units → listed.events ≡ events_of f.origin.book (site_of f) f.asked → listed.cells ≡ cells_of f.origin.book (site_of f) f.asked → IsSiteList f.origin.book f.asked (site_of f) listed
+pub site_list : (f : FoundStation) (listed : FoundEvents) → f.reach ≡ Events → listed.units ≡ f.origin.station.units
+    → listed.events ≡ events_of f.origin.book (site_of f) f.asked
+    → listed.cells ≡ cells_of f.origin.book (site_of f) f.asked → IsSiteList f.origin.book f.asked (site_of f) listed
 site_list f listed is units events cells =
     let ready = ready_for f is in
     let same = found_events f.origin.book f.asked (site_of f) (tide_of_found f) (found_for f Events is) in
     record {
       units = units;
-      levels = rw units f.sound.levels;
+      levels = rw units f.valid.levels;
       events = events;
       cells = cells;
       lines = rw (units, events, ← same) (tide_lines f.asked (tide_of_found f) ready);
@@ -104,15 +117,17 @@ site_list f listed is units events cells =
       ends = asked_minute f.asked (tide_of_found f) f.asked.end ready ready.forward (omega (arith, ints));
     }
 
-pub event_lines : (f : Found) → f.reach ≡ Events → All (IsListed f.origin.station.units) (events_of f.origin.book (site_of f) f.asked)
+pub event_lines : (f : FoundStation) → f.reach ≡ Events
+    → All (IsListed f.origin.station.units) (events_of f.origin.book (site_of f) f.asked)
 event_lines f is =
-    rw (← found_events f.origin.book f.asked (site_of f) (tide_of_found f) (found_for f Events is)) (tide_lines f.asked (tide_of_found f) (ready_for f is))
+    rw (← found_events f.origin.book f.asked (site_of f) (tide_of_found f) (found_for f Events is))
+    (tide_lines f.asked (tide_of_found f) (ready_for f is))
 
 -- ---- levels
 
-pub looked_level : (f : Found) (minute : ℤ) → IsLooked f minute → HasLevel (tide_of_found f) minute
+pub looked_level : (f : FoundStation) (minute : ℤ) → IsLooked f minute → HasLevel (tide_of_found f) minute
 looked_level f minute looked =
-    let is = f.sound in
+    let is = f.valid in
     let begins : InDomain f.origin.book.first_year f.origin.book.years f.span.begin = rw f.looked is.span.begins in
     let ends : InDomain f.origin.book.first_year f.origin.book.years f.span.end = rw f.looked is.span.ends in
     let from = looked.from in
@@ -122,91 +137,100 @@ looked_level f minute looked =
     let inside : InDomain f.origin.book.first_year f.origin.book.years (source_of (tide_of_found f) minute) =
     record { least = omega (arith, ints); most = omega (arith, ints) } in
     record {
-      offset = is.sound.high;
+      offset = is.valid.high;
       years = tide_years f.origin.book (tide_of_found f) is.predicts.first_year is.predicts.years is.years;
       inside = in_tide f.origin.book (tide_of_found f) _ is.predicts.first_year is.predicts.years inside;
     }
 
-predicted_for : (f : Found) (minute : ℤ) → IsLooked f minute → IsPredicted f.origin.book (site_of f) (tide_of_found f) f.span.begin f.span.end minute
+predicted_for : (f : FoundStation) (minute : ℤ) → IsLooked f minute
+    → IsPredicted f.origin.book (site_of f) (tide_of_found f) f.span.begin f.span.end minute
 predicted_for f minute looked =
-    let is = f.sound in
+    let is = f.valid in
     record { predicts = rw f.looked is.predicts; from = looked.from; until = looked.until }
 
-pub level_for : (f : Found) (minute : ℤ) → IsLooked f minute → tide_level (tide_of_found f) minute ≡ level_at f.origin.book (site_of f) minute
+pub level_for : (f : FoundStation) (minute : ℤ) → IsLooked f minute
+    → tide_level (tide_of_found f) minute ≡ level_at f.origin.book (site_of f) minute
 level_for f minute looked =
-    site_level f.origin.book (site_of f) (tide_of_found f) f.span.begin f.span.end minute refl (predicted_for f minute looked) (looked_level f minute looked)
+    site_level f.origin.book (site_of f) (tide_of_found f) f.span.begin f.span.end minute refl
+    (predicted_for f minute looked) (looked_level f minute looked)
 
-pub rising_for : (f : Found) (minute : ℤ) → IsLooked f minute → is_tide_rising (tide_of_found f) minute ≡ is_rising_at f.origin.book (site_of f) minute
+pub rising_for : (f : FoundStation) (minute : ℤ) → IsLooked f minute
+    → is_tide_rising (tide_of_found f) minute ≡ is_rising_at f.origin.book (site_of f) minute
 rising_for f minute looked =
-    site_rising f.origin.book (site_of f) (tide_of_found f) f.span.begin f.span.end minute refl (predicted_for f minute looked) (looked_level f minute looked)
+    site_rising f.origin.book (site_of f) (tide_of_found f) f.span.begin f.span.end minute refl
+    (predicted_for f minute looked) (looked_level f minute looked)
 
 -- the first minute has a level, if the station was found for events
-pub first_looked : (f : Found) → f.reach ≡ Events → IsLooked f f.asked.begin
+pub first_looked : (f : FoundStation) → f.reach ≡ Events → IsLooked f f.asked.begin
 first_looked f is =
     let adds = within_adds f.basis in
     let least_first = adds.0 in
     let greatest_last = adds.1 in
-    let forward = f.sound.span.forward in
+    let forward = f.valid.span.forward in
     let begins : f.span.begin ≡ (widened_of f.basis f.asked.begin f.asked.end).begin = ap (λ (s : Span). s.begin) (span_for f Events is) in
     let ends : f.span.end ≡ (widened_of f.basis f.asked.begin f.asked.end).end = ap (λ (s : Span). s.end) (span_for f Events is) in
     record { from = omega (arith, ints); until = omega (arith, ints) }
 
 -- all minutes of the span have a level, if the station was found for levels
-moved_looked : (f : Found) → f.span ≡ moved f.basis f.asked.begin f.asked.end → IsTrue (is_equal f.basis) → AreLooked f
+moved_looked : (f : FoundStation) → f.span ≡ moved f.basis f.asked.begin f.asked.end → IsTrue (is_equal f.basis) → AreLooked f
 moved_looked f is equal minute from until =
     let begins : f.span.begin ≡ f.asked.begin -ℤ f.basis.high.add = ap (λ (s : Span). s.begin) (rw equal at is) in
     let ends : f.span.end ≡ f.asked.end -ℤ f.basis.high.add = ap (λ (s : Span). s.end) (rw equal at is) in
     record { from = omega (arith, ints); until = omega (arith, ints) }
 
-pub all_looked : (f : Found) → f.reach ≡ Levels → IsTrue (is_equal f.basis) → AreLooked f
+pub all_looked : (f : FoundStation) → f.reach ≡ Levels → IsTrue (is_equal f.basis) → AreLooked f
 all_looked f is equal = moved_looked f (span_for f Levels is) equal
 
-pub peak_looked : (f : Found) → HasPeak f → AreLooked f
+pub peak_looked : (f : FoundStation) → HasPeak f → AreLooked f
 peak_looked f has = moved_looked f (span_for f Highest has.reach) has.equal
 
 -- ---- the highest water
 
-pub highest_for : (f : Found) → HasPeak f → HasHighest (tide_of_found f) f.asked
+pub highest_for : (f : FoundStation) → HasPeak f → HasHighest (tide_of_found f) f.asked
 highest_for f has = has_highest f.origin.book f.asked (site_of f) (tide_of_found f) (found_for f Highest has.reach) has.equal
 
-pub peak_for : (f : Found) → HasPeak f → tide_peak (tide_of_found f) f.asked ≡ highest_of f.origin.book (site_of f) f.asked
+pub peak_for : (f : FoundStation) → HasPeak f → tide_peak (tide_of_found f) f.asked ≡ highest_of f.origin.book (site_of f) f.asked
 peak_for f has =
     peak_alike f.origin.book f.asked (site_of f) (tide_of_found f) (found_for f Highest has.reach) has.equal (highest_for f has)
 
-pub verdict_for : (f : Found) (peak : Peak) → HasPeak f → tide_verdict (tide_of_found f) f.asked peak ≡ highest_verdict f.origin.book (site_of f) f.asked peak
+pub verdict_for : (f : FoundStation) (peak : Peak) → HasPeak f
+    → tide_verdict (tide_of_found f) f.asked peak ≡ highest_verdict f.origin.book (site_of f) f.asked peak
 verdict_for f peak has =
     verdict_alike f.origin.book f.asked (site_of f) (tide_of_found f) peak (found_for f Highest has.reach) has.equal (highest_for f has)
 
 -- the minutes of the reference that are evaluated
-pub peak_begins : (f : Found) → HasPeak f → f.span.begin ≡ source_of (tide_of_found f) f.asked.begin
+pub peak_begins : (f : FoundStation) → HasPeak f → f.span.begin ≡ source_of (tide_of_found f) f.asked.begin
 peak_begins f has = ap (λ (s : Span). s.begin) (rw has.equal at (span_for f Highest has.reach))
 
-pub peak_ends : (f : Found) → HasPeak f → f.span.end ≡ source_of (tide_of_found f) f.asked.end
+pub peak_ends : (f : FoundStation) → HasPeak f → f.span.end ≡ source_of (tide_of_found f) f.asked.end
 peak_ends f has = ap (λ (s : Span). s.end) (rw has.equal at (span_for f Highest has.reach))
 
-pub peak_some : (f : Found) → HasPeak f → f.span.begin <ℤ f.span.end
+pub peak_some : (f : FoundStation) → HasPeak f → f.span.begin <ℤ f.span.end
 peak_some f has =
     let some = (highest_for f has).some in
     let begins = peak_begins f has in
     let ends = peak_ends f has in
     omega (arith, ints)
 
-pub peak_short : (f : Found) → HasPeak f → (f.span.end -ℤ f.span.begin) ≤ℤ pos 5270400
+pub peak_short : (f : FoundStation) → HasPeak f → (f.span.end -ℤ f.span.begin) ≤ℤ pos 5270400
 peak_short f has =
-    let few = f.sound.few in
+    let few = f.valid.few in
     let begins = peak_begins f has in
     let ends = peak_ends f has in
     omega (arith, ints)
 
-pub peak_is : (f : Found) (c : Meaning) → HasPeak f → c ≡ tide_levels (tide_of_found f) → peak_of c f.span.begin (unsigned_abs (f.span.end -ℤ f.span.begin)) ≡ highest_of f.origin.book (site_of f) f.asked
+pub peak_is : (f : FoundStation) (c : Meaning) → HasPeak f → c ≡ tide_levels (tide_of_found f)
+    → peak_of c f.span.begin (unsigned_abs (f.span.end -ℤ f.span.begin)) ≡ highest_of f.origin.book (site_of f) f.asked
 peak_is f c has levels =
     tide_peak-is (tide_of_found f) f.asked c f.span.begin f.span.end levels (peak_begins f has) (peak_ends f has) ∙ peak_for f has
 
-pub verdict_is : (f : Found) (c : Meaning) (peak : Peak) → HasPeak f → c ≡ tide_levels (tide_of_found f) → peak_verdict c f.span.begin (unsigned_abs (f.span.end -ℤ f.span.begin)) peak ≡ highest_verdict f.origin.book (site_of f) f.asked peak
+pub verdict_is : (f : FoundStation) (c : Meaning) (peak : Peak) → HasPeak f → c ≡ tide_levels (tide_of_found f)
+    → peak_verdict c f.span.begin (unsigned_abs (f.span.end -ℤ f.span.begin)) peak
+    ≡ highest_verdict f.origin.book (site_of f) f.asked peak
 unfolding tide_verdict
 verdict_is f c peak has levels = rw (levels, peak_begins f has, peak_ends f has) (verdict_for f peak has)
 
-pub peak_inside : (f : Found) (at : ℤ) → HasPeak f → f.span.begin ≤ℤ at → at <ℤ f.span.end → IsSourceIn (tide_of_found f) f.asked at
+pub peak_inside : (f : FoundStation) (at : ℤ) → HasPeak f → f.span.begin ≤ℤ at → at <ℤ f.span.end → IsSourceIn (tide_of_found f) f.asked at
 peak_inside f at has from before =
     let begins = peak_begins f has in
     let ends = peak_ends f has in

@@ -38,11 +38,12 @@ zone_minute found minute has =
     let least = has.offset.add in
     record { first = omega (arith, ints); last = omega (arith, ints) }
 
-pub near_minute : (found : SiteTide) (minute : ℤ) → HasLevel found minute → unsigned_abs minute ≤ 20000000000
-near_minute found minute has = let in_years = zone_minute found minute has in omega (arith, ints)
+pub minute_in_range : (found : SiteTide) (minute : ℤ) → HasLevel found minute → unsigned_abs minute ≤ 20000000000
+minute_in_range found minute has = let in_years = zone_minute found minute has in omega (arith, ints)
 
 -- a minute between two minutes with a level has one
-pub between : (found : SiteTide) (asked : Asked) (minute : ℤ) → HasLevelsIn found asked → asked.begin ≤ℤ minute → minute ≤ℤ asked.end → HasLevel found minute
+pub between : (found : SiteTide) (asked : Asked) (minute : ℤ) → HasLevelsIn found asked → asked.begin ≤ℤ minute
+    → minute ≤ℤ asked.end → HasLevel found minute
 between found asked minute has after before =
     let least = has.first.inside.least in
     let most = has.last.inside.most in
@@ -54,25 +55,30 @@ between found asked minute has after before =
 
 -- ---- a station that was found
 
-pub tide_years : (book : Book) (found : SiteTide) → found.curve.first_year ≡ book.first_year → length found.curve.years ≡ book.years → AreYears book.first_year book.years → AreYears found.curve.first_year (length found.curve.years)
+pub tide_years : (book : Book) (found : SiteTide) → found.curve.first_year ≡ book.first_year → length found.curve.years
+    ≡ book.years → AreYears book.first_year book.years → AreYears found.curve.first_year (length found.curve.years)
 tide_years book found first count are = rw (first, count) are
 
-pub in_tide : (book : Book) (found : SiteTide) (minute : ℤ) → found.curve.first_year ≡ book.first_year → length found.curve.years ≡ book.years → InDomain book.first_year book.years minute → InTide found.curve minute
+pub in_tide : (book : Book) (found : SiteTide) (minute : ℤ) → found.curve.first_year ≡ book.first_year
+    → length found.curve.years ≡ book.years → InDomain book.first_year book.years minute → InTide found.curve minute
 in_tide book found minute first count inside = rw (first, count) inside
 
-pub in_book : (book : Book) (found : SiteTide) (minute : ℤ) → found.curve.first_year ≡ book.first_year → length found.curve.years ≡ book.years → InTide found.curve minute → InDomain book.first_year book.years minute
+pub in_book : (book : Book) (found : SiteTide) (minute : ℤ) → found.curve.first_year ≡ book.first_year
+    → length found.curve.years ≡ book.years → InTide found.curve minute → InDomain book.first_year book.years minute
 in_book book found minute first count inside = rw (sym first, sym count) inside
 
 -- the span has levels, if the station was found for levels
-pub found_levels : (book : Book) (asked : Asked) (site : Site) (found : SiteTide) → IsFound Levels book asked site found → IsTrue (is_equal found.basis) → HasLevelsIn found asked
+pub found_levels : (book : Book) (asked : Asked) (site : Site) (found : SiteTide) → IsFound Levels book asked site found
+    → IsTrue (is_equal found.basis) → HasLevelsIn found asked
 found_levels book asked site found is equal =
     let begins = rw equal at is.span.begins in
     let ends = rw equal at is.span.ends in
     let years = tide_years book found is.predicts.first_year is.predicts.years is.years in
     record {
       forward = is.span.forward;
-      first = record { offset = is.sound.high; years = years; inside = in_tide book found _ is.predicts.first_year is.predicts.years begins };
-      last = record { offset = is.sound.high; years = years; inside = in_tide book found _ is.predicts.first_year is.predicts.years ends };
+      first =
+          record { offset = is.valid.high; years = years; inside = in_tide book found _ is.predicts.first_year is.predicts.years begins };
+      last = record { offset = is.valid.high; years = years; inside = in_tide book found _ is.predicts.first_year is.predicts.years ends };
     }
 
 -- the span's first minute has a level, if the station was found for events
@@ -96,18 +102,25 @@ pub record IsPredicted (book : Book) (site : Site) (found : SiteTide) (first las
   pub from : first ≤ℤ source_of found minute
   pub until : source_of found minute ≤ℤ last
 
-pub site_level : (book : Book) (site : Site) (found : SiteTide) (first last minute : ℤ) → found.basis ≡ site.basis → IsPredicted book site found first last minute → HasLevel found minute → tide_level found minute ≡ level_at book site minute
+pub site_level : (book : Book) (site : Site) (found : SiteTide) (first last minute : ℤ) → found.basis ≡ site.basis
+    → IsPredicted book site found first last minute → HasLevel found minute
+    → tide_level found minute ≡ level_at book site minute
 site_level book site found first last minute basis is has =
     let inside = in_book book found _ is.predicts.first_year is.predicts.years has.inside in
     rw (is.predicts.millionths (source_of found minute) inside is.from is.until, basis) refl
 
-pub site_rising : (book : Book) (site : Site) (found : SiteTide) (first last minute : ℤ) → found.basis ≡ site.basis → IsPredicted book site found first last minute → HasLevel found minute → is_tide_rising found minute ≡ is_rising_at book site minute
+pub site_rising : (book : Book) (site : Site) (found : SiteTide) (first last minute : ℤ) → found.basis ≡ site.basis
+    → IsPredicted book site found first last minute → HasLevel found minute
+    → is_tide_rising found minute ≡ is_rising_at book site minute
 site_rising book site found first last minute basis is has =
     let inside = in_book book found _ is.predicts.first_year is.predicts.years has.inside in
     rw (is.predicts.slope (source_of found minute) inside is.from is.until, basis) refl
 
 -- each minute of the span is one, if the station was found for levels
-pub predicts_sources : (reach : Reach) (book : Book) (asked : Asked) (site : Site) (found : SiteTide) → reached reach found.basis asked.begin asked.end ≡ moved found.basis asked.begin asked.end → IsTrue (is_equal found.basis) → PredictsReached reach book asked site found → PredictsOver book site.station (source_of found asked.begin) (source_of found asked.end) found.curve
+pub predicts_sources : (reach : Reach) (book : Book) (asked : Asked) (site : Site) (found : SiteTide)
+    → reached reach found.basis asked.begin asked.end ≡ moved found.basis asked.begin asked.end
+    → IsTrue (is_equal found.basis) → PredictsReached reach book asked site found
+    → PredictsOver book site.station (source_of found asked.begin) (source_of found asked.end) found.curve
 predicts_sources reach book asked site found is equal predicts = rw (is, equal) at predicts
 
 -- ---- the order of the reference's levels is kept by the offset
@@ -140,7 +153,9 @@ scaled_order offset k l is less =
     let most = rounded_order (k *ℤ offset.times) (l *ℤ offset.times) 1000000 (lit< tt) (times_order k l offset.times is.times.least less) in
     omega (arith, ints, most)
 
-pub level_order : (book : Book) (site : Site) (k l : ℤ) → IsOffset site.basis.high → predicted_level book site.station (k -ℤ site.basis.high.add) ≤ℤ predicted_level book site.station (l -ℤ site.basis.high.add) → level_at book site k ≤ℤ level_at book site l
+pub level_order : (book : Book) (site : Site) (k l : ℤ) → IsOffset site.basis.high
+    → predicted_level book site.station (k -ℤ site.basis.high.add)
+    ≤ℤ predicted_level book site.station (l -ℤ site.basis.high.add) → level_at book site k ≤ℤ level_at book site l
 unfolding predicted_millionths
 level_order book site k l is less =
     scaled_order site.basis.high _ _ is (rounded_order _ _ (total_weight * 10 ^ 9) (lit< tt) less)

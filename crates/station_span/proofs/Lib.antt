@@ -7,4 +7,4 @@ pub mod NameLemmas
 pub mod PeakLemmas
 pub mod SiteLemmas
 pub mod SpanLemmas
-pub mod TellLemmas
+pub mod FreshLemmas

@@ -60,7 +60,8 @@ printed_byte c (inr wide) =
       utf8 = rw (two_bytes c wide.0 wide.1) at (scalar_text c (omega (arith, wide.1)));
       least = omega arith;
       most = omega arith;
-      printed = All-cons IsPrinted (192 + c / 64) ((128 + c % 64) ∷ []) (omega arith, λ e. omega (arith, e)) (All-cons IsPrinted (128 + c % 64) [] (omega arith, λ e. omega (arith, wide.0, wide.1, e)) (All-nil IsPrinted));
+      printed = All-cons IsPrinted (192 + c / 64) ((128 + c % 64) ∷ []) (omega arith, λ e. omega (arith, e))
+          (All-cons IsPrinted (128 + c % 64) [] (omega arith, λ e. omega (arith, wide.0, wide.1, e)) (All-nil IsPrinted));
     })
 
 printed_all : (latin : List ℕ) → All IsLatinNameByte latin → IsPrintedText latin (encode_utf8_all latin)
@@ -94,7 +95,9 @@ row_name name is = record { text = is.text; some = is.some; short = is.short; pr
 
 -- ---- a name that an entry has
 
-named_within : (T : Type 0) (name_of : T → List ℕ) (name : List ℕ) (xs : List T) → All (λ x. IsStationName (name_of x)) xs → position_or_len (λ x. bytes_eq (name_of x) name) xs < length xs → IsStationName name
+named_within : (T : Type 0) (name_of : T → List ℕ) (name : List ℕ) (xs : List T)
+    → All (λ x. IsStationName (name_of x)) xs → position_or_len (λ x. bytes_eq (name_of x) name) xs < length xs
+    → IsStationName name
 named_within T name_of name [] all within = absurd (omega arith)
 named_within T name_of name (x ∷ xs) all within = by_test (bytes_eq (name_of x) name)
     (λ same.
@@ -107,14 +110,17 @@ named_within T name_of name (x ∷ xs) all within = by_test (bytes_eq (name_of x
 none_some : (k : ℕ) → (let o : Option ℕ = None in o) ≡ Some k → ⊥
 none_some k e = cc
 
-named_at : (T : Type 0) (name_of : T → List ℕ) (name : List ℕ) (xs : List T) (place : ℕ) → All (λ x. IsStationName (name_of x)) xs → position (λ x. bytes_eq (name_of x) name) xs ≡ Some place → IsStationName name
+named_at : (T : Type 0) (name_of : T → List ℕ) (name : List ℕ) (xs : List T) (place : ℕ)
+    → All (λ x. IsStationName (name_of x)) xs → position (λ x. bytes_eq (name_of x) name) xs ≡ Some place
+    → IsStationName name
 named_at T name_of name xs place all is =
     let test : T → Bool = λ x. bytes_eq (name_of x) name in
     by_test (nat_lt (position_or_len test xs) (length xs))
     (λ within. named_within T name_of name xs all (grind (arith, nat_tests)))
     (λ beyond. absurd (none_some place (rw beyond at is)))
 
-stations_named : (count : ℕ) (stations : List Station) → All (IsStation count) stations → All (λ (s : Station). IsStationName s.name) stations
+stations_named : (count : ℕ) (stations : List Station) → All (IsStation count) stations
+    → All (λ (s : Station). IsStationName s.name) stations
 stations_named count [] all = All-nil (λ (s : Station). IsStationName s.name)
 stations_named count (s ∷ stations) all =
     All-cons (λ (t : Station). IsStationName t.name) s stations
@@ -130,24 +136,32 @@ rows_named (o ∷ rows) all =
 
 -- ---- the name of a station that was found
 
-of_row : (book : Book) (table : List Offsets) (name : List ℕ) (basis : Basis) (place : Option ℕ) → IsTable table → row_at table name ≡ place → basis_in book table name ≡ Ok basis → IsStationName name
+of_row : (book : Book) (table : List Offsets) (name : List ℕ) (basis : Basis) (place : Option ℕ) → IsTable table
+    → row_at table name ≡ place → basis_in book table name ≡ Ok basis → IsStationName name
 unfolding basis_in
-of_row book table name basis (Some place) is found ok = named_at Offsets (λ (o : Offsets). o.name) name table place (rows_named table is.each) found
+of_row book table name basis (Some place) is found ok =
+    named_at Offsets (λ (o : Offsets). o.name) name table place (rows_named table is.each) found
 of_row book table name basis None is found ok = absurd (let none = rw found at ok in cc)
 
-of_station : (book : Book) (table : List Offsets) (name : List ℕ) (basis : Basis) (place : Option ℕ) → IsBook book → IsTable table → station_at book name ≡ place → reference_or (basis_in book table name) place ≡ Ok basis → IsStationName name
+of_station : (book : Book) (table : List Offsets) (name : List ℕ) (basis : Basis) (place : Option ℕ) → IsBook book
+    → IsTable table → station_at book name ≡ place → reference_or (basis_in book table name) place ≡ Ok basis
+    → IsStationName name
 of_station book table name basis (Some place) is rows found ok =
     named_at Station (λ (s : Station). s.name) name book.stations place (stations_named _ book.stations is.stations) found
 of_station book table name basis None is rows found ok = of_row book table name basis (row_at table name) rows refl ok
 
-pub of_basis : (book : Book) (table : List Offsets) (name : List ℕ) (basis : Basis) → IsBook book → IsTable table → basis_of book table name ≡ Ok basis → IsStationName name
+pub of_basis : (book : Book) (table : List Offsets) (name : List ℕ) (basis : Basis) → IsBook book → IsTable table
+    → basis_of book table name ≡ Ok basis → IsStationName name
 unfolding basis_of
 of_basis book table name basis is rows ok = of_station book table name basis (station_at book name) is rows refl ok
 
-named_by : (book : Book) (table : List Offsets) (name : List ℕ) (next : Basis → Result Site Refusal) (site : Site) (found : Result Basis FindFault) → IsBook book → IsTable table → basis_of book table name ≡ found → (basis_from found >>= next) ≡ Ok site → IsStationName name
+named_by : (book : Book) (table : List Offsets) (name : List ℕ) (next : Basis → Result Site Refusal) (site : Site)
+    (found : Result Basis FindFault) → IsBook book → IsTable table → basis_of book table name ≡ found
+    → (basis_from found >>= next) ≡ Ok site → IsStationName name
 named_by book table name next site (Ok basis) is rows found ok = of_basis book table name basis is rows found
 named_by book table name next site (Err fault) is rows found ok = absurd cc
 
-pub site_name : (reach : Reach) (book : Book) (table : List Offsets) (name : List ℕ) (asked : Asked) (site : Site) → IsBook book → IsTable table → site_in reach book table name asked ≡ Ok site → IsStationName name
+pub site_name : (reach : Reach) (book : Book) (table : List Offsets) (name : List ℕ) (asked : Asked) (site : Site)
+    → IsBook book → IsTable table → site_in reach book table name asked ≡ Ok site → IsStationName name
 unfolding site_in
 site_name reach book table name asked site is rows ok = named_by book table name _ site (basis_of book table name) is rows refl ok

@@ -20,7 +20,7 @@ use Rattle.highest_water.proofs.VerdictLemmas.{verdict-highest, verdict-cells}
 use Rattle.rate_bound.specs.declared.version.Version.TheVariants.{Second}
 use Rattle.rate_bound.specs.Workings.MarkLaw.{mark_lawful}
 use Rattle.rate_bound.proofs.Predicted.{mark_agrees}
-use Rattle.station_curve.specs.Limits.{IsGentle}
+use Rattle.station_curve.specs.Limits.{IsWithinLimits}
 use Rattle.station_table.specs.declared.basis.Basis.{Basis}
 use Rattle.station_table.specs.Bases.{is_equal}
 use Rattle.station_table.specs.declared.offsets.Offsets.{Offsets}
@@ -36,7 +36,7 @@ use Rattle.station_span.specs.Workings.Peaks.{HasHighest, IsSourceIn, source_cou
 use Rattle.station_span.specs.Workings.Spans.{AreMoments, IsFound}
 use Rattle.station_span.proofs.FollowLemmas.{usual_scale}
 use Rattle.station_span.proofs.FoundLemmas.{excused_by, excused_then}
-use Rattle.station_span.proofs.LevelLemmas.{between, found_levels, in_book, level_equal, near_minute, predicts_sources}
+use Rattle.station_span.proofs.LevelLemmas.{between, found_levels, in_book, level_equal, minute_in_range, predicts_sources}
 use Rattle.station_span.proofs.SiteLemmas.{found_at, site_minutes, site_unmarked, then_ok}
 use Rattle.station_span.proofs.SpanLemmas.{moment}
 
@@ -50,29 +50,31 @@ some_minute : (begin end : ℤ) → lacks_minute Highest begin end ≡ false →
 unfolding lacks_minute
 some_minute begin end some = grind (arith, ints)
 
-as_levels : (book : Book) (asked : Asked) (site : Site) (found : SiteTide) → IsFound Highest book asked site found → IsFound Levels book asked site found
+as_levels : (book : Book) (asked : Asked) (site : Site) (found : SiteTide) → IsFound Highest book asked site found
+    → IsFound Levels book asked site found
 as_levels book asked site found is = record {
   basis = is.basis;
-  sound = is.sound;
+  valid = is.valid;
   units = is.units;
   levels = is.levels;
   predicts = is.predicts;
-  gentle = is.gentle;
+  within_limits = is.within_limits;
   years = is.years;
   span = record {
     forward = is.span.forward;
     begins = is.span.begins;
     ends = is.span.ends;
-    near = is.span.near;
+    in_range = is.span.in_range;
     beside = is.span.beside;
     some = never_lacking asked.begin asked.end;
   };
   few = is.few;
   mark = is.mark;
-  near = is.near;
+  in_range = is.in_range;
 }
 
-pub has_highest : (book : Book) (asked : Asked) (site : Site) (found : SiteTide) → IsFound Highest book asked site found → IsTrue (is_equal found.basis) → HasHighest found asked
+pub has_highest : (book : Book) (asked : Asked) (site : Site) (found : SiteTide) → IsFound Highest book asked site found
+    → IsTrue (is_equal found.basis) → HasHighest found asked
 has_highest book asked site found is equal = record {
   levels = found_levels book asked site found (as_levels book asked site found is) equal;
   some = some_minute asked.begin asked.end is.span.some;
@@ -87,18 +89,23 @@ last_source begin end add forward = omega (arith, ints)
 values_alike : (c d : Meaning) (a : ℤ) (n : ℕ) → AgreeOver c d a n → AgreeOnValues c d a n
 values_alike c d a n agree = record { values = agree.values; rates = agree.rates }
 
-pub levels_alike : (book : Book) (asked : Asked) (site : Site) (found : SiteTide) → IsFound Highest book asked site found → IsTrue (is_equal found.basis) → HasHighest found asked → AgreeOnValues (tide_levels found) (level_curve book site) (source_of found asked.begin) (minute_count asked)
+pub levels_alike : (book : Book) (asked : Asked) (site : Site) (found : SiteTide)
+    → IsFound Highest book asked site found → IsTrue (is_equal found.basis) → HasHighest found asked
+    → AgreeOnValues (tide_levels found) (level_curve book site) (source_of found asked.begin) (minute_count asked)
 levels_alike book asked site found is equal has =
     let end = last_source asked.begin asked.end found.basis.high.add has.levels.forward in
     let first = in_book book found (source_of found asked.begin) is.predicts.first_year is.predicts.years has.levels.first.inside in
     let last = in_book book found (source_of found asked.end) is.predicts.first_year is.predicts.years has.levels.last.inside in
     values_alike _ _ _ _
-    (mark_agrees Second book site.station (source_of found asked.begin) (source_of found asked.end) found.curve (pos 1000000) (pos 0) (pos 0) true (source_of found asked.begin) (minute_count asked)
-    (predicts_sources Highest book asked site found refl equal is.predicts) is.years first (rw end last) (omega (arith, ints)) (rw end (omega (arith, ints))))
+    (mark_agrees Second book site.station (source_of found asked.begin) (source_of found asked.end) found.curve
+    (pos 1000000) (pos 0) (pos 0) true (source_of found asked.begin) (minute_count asked)
+    (predicts_sources Highest book asked site found refl equal is.predicts) is.years first (rw end last)
+    (omega (arith, ints)) (rw end (omega (arith, ints))))
 
 -- ---- its minutes
 
-pub source_minute : (found : SiteTide) (asked : Asked) (at : ℤ) → HasHighest found asked → IsSourceIn found asked at → HasLevel found (at +ℤ found.basis.high.add)
+pub source_minute : (found : SiteTide) (asked : Asked) (at : ℤ) → HasHighest found asked
+    → IsSourceIn found asked at → HasLevel found (at +ℤ found.basis.high.add)
 source_minute found asked at has inside = between found asked _ has.levels inside.from (let before = inside.before in omega (arith, ints))
 
 -- ---- the reference's minutes
@@ -106,71 +113,90 @@ source_minute found asked at has inside = between found asked _ has.levels insid
 pub count_moved : (begin end add : ℤ) → unsigned_abs ((end -ℤ add) -ℤ (begin -ℤ add)) ≡ unsigned_abs (end -ℤ begin)
 count_moved begin end add = let same : (end -ℤ add) -ℤ (begin -ℤ add) ≡ end -ℤ begin = omega (arith, ints) in ap unsigned_abs same
 
-pub near_source : (found : SiteTide) (asked : Asked) (at : ℤ) → HasHighest found asked → IsSourceIn found asked at → unsigned_abs at ≤ 30000000000
-near_source found asked at has inside =
+pub source_in_range : (found : SiteTide) (asked : Asked) (at : ℤ) → HasHighest found asked
+    → IsSourceIn found asked at → unsigned_abs at ≤ 30000000000
+source_in_range found asked at has inside =
     let level = source_minute found asked at has inside in
-    let near = near_minute found _ level in
+    let in_range = minute_in_range found _ level in
     let add = level.offset.add in omega (arith, ints)
 
-pub source_inside : (found : SiteTide) (asked : Asked) (at : ℤ) → source_of found asked.begin ≤ℤ at → at <ℤ source_of found asked.end → IsSourceIn found asked at
+pub source_inside : (found : SiteTide) (asked : Asked) (at : ℤ)
+    → source_of found asked.begin ≤ℤ at → at <ℤ source_of found asked.end → IsSourceIn found asked at
 source_inside found asked at from before = record { from = omega (arith, ints); before = omega (arith, ints) }
 
 -- ---- the highest water that is found is the expected one
 
-pub peak_alike : (book : Book) (asked : Asked) (site : Site) (found : SiteTide) → IsFound Highest book asked site found → IsTrue (is_equal found.basis) → HasHighest found asked → tide_peak found asked ≡ highest_of book site asked
+pub peak_alike : (book : Book) (asked : Asked) (site : Site) (found : SiteTide) → IsFound Highest book asked site found
+    → IsTrue (is_equal found.basis) → HasHighest found asked → tide_peak found asked ≡ highest_of book site asked
 unfolding tide_peak highest_of
 peak_alike book asked site found is equal has =
     ap (λ n. peak_of (tide_levels found) (source_of found asked.begin) n) (count_moved asked.begin asked.end found.basis.high.add)
     ∙ peak_of-agrees _ _ (source_of found asked.begin) (minute_count asked) (levels_alike book asked site found is equal has)
     ∙ ap (λ b. peak_of (level_curve book site) (asked.begin -ℤ b.high.add) (minute_count asked)) is.basis
 
-pub verdict_alike : (book : Book) (asked : Asked) (site : Site) (found : SiteTide) (peak : Peak) → IsFound Highest book asked site found → IsTrue (is_equal found.basis) → HasHighest found asked → tide_verdict found asked peak ≡ highest_verdict book site asked peak
+pub verdict_alike : (book : Book) (asked : Asked) (site : Site) (found : SiteTide) (peak : Peak)
+    → IsFound Highest book asked site found → IsTrue (is_equal found.basis) → HasHighest found asked
+    → tide_verdict found asked peak ≡ highest_verdict book site asked peak
 unfolding tide_verdict highest_verdict
 verdict_alike book asked site found peak is equal has =
     ap (λ n. peak_verdict (tide_levels found) (source_of found asked.begin) n peak) (count_moved asked.begin asked.end found.basis.high.add)
     ∙ verdict-agrees _ _ (source_of found asked.begin) (minute_count asked) peak (levels_alike book asked site found is equal has)
     ∙ ap (λ b. peak_verdict (level_curve book site) (asked.begin -ℤ b.high.add) (minute_count asked) peak) is.basis
 
-pub whole_site : (book : Book) (table : List Offsets) (name : List ℕ) (asked : Asked) (site : Site) (found : SiteTide) → site_in Highest book table name asked ≡ Ok site → found.basis ≡ site.basis → level_in found.basis ≡ Ok tt → highest_site book table name asked ≡ Ok site
+pub whole_site : (book : Book) (table : List Offsets) (name : List ℕ) (asked : Asked) (site : Site) (found : SiteTide)
+    → site_in Highest book table name asked ≡ Ok site → found.basis ≡ site.basis → level_in found.basis ≡ Ok tt
+    → highest_site book table name asked ≡ Ok site
 unfolding highest_site
 whole_site book table name asked site found is basis level =
     let here : level_in site.basis ≡ Ok tt = subst (λ b. level_in b ≡ Ok tt) basis level in rw (is, here) refl
 
-pub refused_site : (memory : Bool) (book : Book) (table : List Offsets) (name : List ℕ) (asked : Asked) (refusal : Refusal) → Excused memory (site_in Highest book table name asked) refusal → Excused memory (highest_site book table name asked) refusal
+pub refused_site : (memory : Bool) (book : Book) (table : List Offsets) (name : List ℕ) (asked : Asked)
+    (refusal : Refusal) → Excused memory (site_in Highest book table name asked) refusal
+    → Excused memory (highest_site book table name asked) refusal
 unfolding highest_site
 refused_site memory book table name asked refusal excused = excused_then memory (site_in Highest book table name asked) _ refusal excused
 
-pub refused_level : (memory : Bool) (book : Book) (table : List Offsets) (name : List ℕ) (asked : Asked) (site : Site) (found : SiteTide) (refusal : Refusal) → site_in Highest book table name asked ≡ Ok site → found.basis ≡ site.basis → level_in found.basis ≡ Err refusal → Excused memory (highest_site book table name asked) refusal
+pub refused_level : (memory : Bool) (book : Book) (table : List Offsets) (name : List ℕ) (asked : Asked) (site : Site)
+    (found : SiteTide) (refusal : Refusal) → site_in Highest book table name asked ≡ Ok site → found.basis ≡ site.basis
+    → level_in found.basis ≡ Err refusal → Excused memory (highest_site book table name asked) refusal
 unfolding highest_site
 refused_level memory book table name asked site found refusal is basis level =
-    let here : level_in site.basis ≡ Err refusal = subst (λ b. level_in b ≡ Err refusal) basis level in excused_by memory _ refusal (rw (is, here) refl)
+    let here : level_in site.basis ≡ Err refusal = subst (λ b. level_in b ≡ Err refusal) basis level in
+    excused_by memory _ refusal (rw (is, here) refl)
 
-pub tide_peak-is : (found : SiteTide) (asked : Asked) (c : Meaning) (b e : ℤ) → c ≡ tide_levels found → b ≡ source_of found asked.begin → e ≡ source_of found asked.end → peak_of c b (unsigned_abs (e -ℤ b)) ≡ tide_peak found asked
+pub tide_peak-is : (found : SiteTide) (asked : Asked) (c : Meaning) (b e : ℤ) → c ≡ tide_levels found
+    → b ≡ source_of found asked.begin → e ≡ source_of found asked.end
+    → peak_of c b (unsigned_abs (e -ℤ b)) ≡ tide_peak found asked
 unfolding tide_peak
 tide_peak-is found asked c b e levels first last = rw (levels, first, last) refl
 
 -- ---- a highest water that the tide accepts
 
-levels_lawful : (found : SiteTide) → IsGentle found.curve → IsLawful (tide_levels found)
-levels_lawful found gentle = mark_lawful Second found.curve (pos 1000000) (pos 0) (pos 0) true gentle usual_scale
+levels_lawful : (found : SiteTide) → IsWithinLimits found.curve → IsLawful (tide_levels found)
+levels_lawful found within_limits = mark_lawful Second found.curve (pos 1000000) (pos 0) (pos 0) true within_limits usual_scale
 
 source_end : (begin end add : ℤ) → begin ≤ℤ end → (begin -ℤ add) +ℤ pos (unsigned_abs ((end -ℤ add) -ℤ (begin -ℤ add))) ≡ end -ℤ add
 source_end begin end add forward = omega (arith, ints)
 
 -- an accepted highest water is the highest water
-pub tide_highest : (found : SiteTide) (asked : Asked) (peak : Peak) → IsGentle found.curve → HasHighest found asked → tide_verdict found asked peak ≡ Accepted → IsHighest (tide_levels found) (source_of found asked.begin) (source_of found asked.end) peak.at peak.value
+pub tide_highest : (found : SiteTide) (asked : Asked) (peak : Peak) → IsWithinLimits found.curve
+    → HasHighest found asked → tide_verdict found asked peak ≡ Accepted
+    → IsHighest (tide_levels found) (source_of found asked.begin) (source_of found asked.end) peak.at peak.value
 unfolding tide_verdict
-tide_highest found asked peak gentle has ok =
+tide_highest found asked peak within_limits has ok =
     let all = source_end asked.begin asked.end found.basis.high.add has.levels.forward in
     let span : IsSpan (tide_levels found) (source_of found asked.begin) (source_count found asked) =
     record { first = has.levels.first.inside.least; last = rw all has.levels.last.inside.most } in
-    rw all at (verdict-highest (tide_levels found) (source_of found asked.begin) (source_count found asked) peak (levels_lawful found gentle) span ok)
+    rw all at (verdict-highest (tide_levels found) (source_of found asked.begin) (source_count found asked) peak
+    (levels_lawful found within_limits) span ok)
 
 -- a certificate of an accepted highest water has a text
-pub accepted_certificate : (name : List ℕ) (asked : Asked) (found : SiteTide) (peak : Peak) → IsStationName name → AreMoments asked → IsGentle found.curve → HasHighest found asked → tide_verdict found asked peak ≡ Accepted → IsPeakCertificate (record { station = name; begin = asked.begin; end = asked.end; peak = peak })
+pub accepted_certificate : (name : List ℕ) (asked : Asked) (found : SiteTide) (peak : Peak) → IsStationName name
+    → AreMoments asked → IsWithinLimits found.curve → HasHighest found asked → tide_verdict found asked peak ≡ Accepted
+    → IsPeakCertificate (record { station = name; begin = asked.begin; end = asked.end; peak = peak })
 unfolding tide_verdict
-accepted_certificate name asked found peak named moments gentle has ok =
-    let highest = tide_highest found asked peak gentle has ok in
+accepted_certificate name asked found peak named moments within_limits has ok =
+    let highest = tide_highest found asked peak within_limits has ok in
     let from = highest.from in
     let before = highest.before in
     let least = has.levels.first.inside.least in
@@ -181,12 +207,14 @@ accepted_certificate name asked found peak named moments gentle has ok =
       end = moments.end;
       at = moment found.curve.first_year (length found.curve.years) peak.at has.levels.first.years
           (record { least = omega (arith, ints); most = omega (arith, ints) });
-      value = highest-small (tide_levels found) (source_of found asked.begin) (source_of found asked.end) peak.at peak.value (levels_lawful found gentle) least most highest;
+      value = highest-small (tide_levels found) (source_of found asked.begin)
+          (source_of found asked.end) peak.at peak.value (levels_lawful found within_limits) least most highest;
       cells = (verdict-cells (tide_levels found) (source_of found asked.begin) (source_count found asked) peak ok).1;
     }
 
 -- the highest water that is found is accepted
-pub tide_peak_accepted : (found : SiteTide) (asked : Asked) → HasHighest found asked → tide_verdict found asked (tide_peak found asked) ≡ Accepted
+pub tide_peak_accepted : (found : SiteTide) (asked : Asked) → HasHighest found asked
+    → tide_verdict found asked (tide_peak found asked) ≡ Accepted
 unfolding tide_verdict tide_peak
 tide_peak_accepted found asked has =
     let some = has.some in
@@ -194,25 +222,31 @@ tide_peak_accepted found asked has =
 
 -- ---- a station with a highest water
 
-pub highest_parts : (book : Book) (table : List Offsets) (name : List ℕ) (asked : Asked) (site : Site) → highest_site book table name asked ≡ Ok site → (site_in Highest book table name asked ≡ Ok site) × IsTrue (is_equal site.basis)
+pub highest_parts : (book : Book) (table : List Offsets) (name : List ℕ) (asked : Asked) (site : Site)
+    → highest_site book table name asked ≡ Ok site
+    → (site_in Highest book table name asked ≡ Ok site) × IsTrue (is_equal site.basis)
 unfolding highest_site
 highest_parts book table name asked site ok =
     let found = then_ok (site_in Highest book table name asked) _ site ok in
     let level = then_ok (level_in found.0.basis) _ site found.2 in
     let same : found.0 ≡ site = (let last = level.2 in cc) in
-    subst (λ s. (site_in Highest book table name asked ≡ Ok s) × IsTrue (is_equal s.basis)) same (found.1, level_equal found.0.basis level.1)
+    subst (λ s. (site_in Highest book table name asked ≡ Ok s) × IsTrue (is_equal s.basis)) same
+    (found.1, level_equal found.0.basis level.1)
 
 equal_level : (basis : Basis) → IsTrue (is_equal basis) → level_in basis ≡ Ok tt
 equal_level basis equal = rw equal refl
 
 -- the station is found also without a mark
-pub highest_unmarked : (book : Book) (table : List Offsets) (name : List ℕ) (asked : Asked) (site : Site) → highest_site book table name asked ≡ Ok site → highest_site book table name (record asked { mark = None }) ≡ Ok site
+pub highest_unmarked : (book : Book) (table : List Offsets) (name : List ℕ) (asked : Asked) (site : Site)
+    → highest_site book table name asked ≡ Ok site
+    → highest_site book table name (record asked { mark = None }) ≡ Ok site
 unfolding highest_site
 highest_unmarked book table name asked site ok =
     let parts = highest_parts book table name asked site ok in
     rw (site_unmarked Highest book table name asked site parts.0, equal_level site.basis parts.1) refl
 
-pub highest_minutes : (book : Book) (table : List Offsets) (name : List ℕ) (asked : Asked) (site : Site) → highest_site book table name asked ≡ Ok site → asked.begin <ℤ asked.end
+pub highest_minutes : (book : Book) (table : List Offsets) (name : List ℕ) (asked : Asked) (site : Site)
+    → highest_site book table name asked ≡ Ok site → asked.begin <ℤ asked.end
 highest_minutes book table name asked site ok =
     some_minute asked.begin asked.end (site_minutes Highest book table name asked site (highest_parts book table name asked site ok).0)
 
@@ -222,21 +256,25 @@ abbrev pub IsHighestAt : Book → Site → Asked → ℤ → ℤ → Type 0
 IsHighestAt book site asked at value =
     IsHighest (level_curve book site) (first_source site asked) (first_source site asked +ℤ pos (minute_count asked)) at value
 
-pub highest_found : (book : Book) (site : Site) (asked : Asked) → asked.begin <ℤ asked.end → IsHighestAt book site asked (highest_of book site asked).at (highest_of book site asked).value
+pub highest_found : (book : Book) (site : Site) (asked : Asked) → asked.begin <ℤ asked.end
+    → IsHighestAt book site asked (highest_of book site asked).at (highest_of book site asked).value
 unfolding highest_of peak_of
 highest_found book site asked some =
     minute-highest (level_curve book site) (first_source site asked) (minute_count asked) (omega (arith, ints))
 
-pub highest_of_accepted : (book : Book) (site : Site) (asked : Asked) → asked.begin <ℤ asked.end → highest_verdict book site asked (highest_of book site asked) ≡ Accepted
+pub highest_of_accepted : (book : Book) (site : Site) (asked : Asked) → asked.begin <ℤ asked.end
+    → highest_verdict book site asked (highest_of book site asked) ≡ Accepted
 unfolding highest_verdict highest_of
 highest_of_accepted book site asked some =
     peak_of-accepted (level_curve book site) (first_source site asked) (minute_count asked) (omega (arith, ints))
 
-pub accepted_highest : (book : Book) (asked : Asked) (site : Site) (peak : Peak) → IsFound Highest book asked site (found_at book site) → IsTrue (is_equal site.basis) → highest_verdict book site asked peak ≡ Accepted → IsHighestAt book site asked peak.at peak.value
+pub accepted_highest : (book : Book) (asked : Asked) (site : Site) (peak : Peak)
+    → IsFound Highest book asked site (found_at book site) → IsTrue (is_equal site.basis)
+    → highest_verdict book site asked peak ≡ Accepted → IsHighestAt book site asked peak.at peak.value
 accepted_highest book asked site peak is equal ok =
     let found = found_at book site in
     let has = has_highest book asked site found is equal in
-    let tide = tide_highest found asked peak is.gentle has (verdict_alike book asked site found peak is equal has ∙ ok) in
+    let tide = tide_highest found asked peak is.within_limits has (verdict_alike book asked site found peak is equal has ∙ ok) in
     highest-agrees (tide_levels found) (level_curve book site) (source_of found asked.begin) (minute_count asked) peak.at peak.value
     (levels_alike book asked site found is equal has)
     (rw (last_source asked.begin asked.end site.basis.high.add has.levels.forward) tide)

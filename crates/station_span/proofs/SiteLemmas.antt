@@ -18,7 +18,7 @@ use Rattle.harmonics_text.specs.Books.{IsBook, IsStation}
 use Rattle.station_curve.specs.declared.fault.CurveFault.{CurveFault}
 use Rattle.station_curve.specs.Curves.{is_hydraulic, first_fault, tide_or, tide_of, curve_of}
 use Rattle.station_curve.specs.Waves.{Tide}
-use Rattle.station_curve.proofs.Whole.{gentle_tide, predicts_tide, predicts_within}
+use Rattle.station_curve.proofs.Whole.{tide_within_limits, predicts_tide, predicts_within}
 use Rattle.station_table.specs.declared.basis.Basis.{Basis}
 use Rattle.station_table.specs.declared.finding.FindFault.{FindFault}
 use Rattle.station_table.specs.declared.finding.FindFault.TheVariants as find
@@ -32,13 +32,14 @@ use Rattle.station_span.specs.declared.reach.Reach.TheVariants.{Events, Levels, 
 use Rattle.tide_fault.specs.declared.refusal.Refusal.TheVariants.{NoStation}
 use Rattle.station_span.specs.Workings.Tides.{SiteTide}
 use Rattle.station_span.specs.Sites.{Site, basis_from, lacks_minute, level_unit, moved, reached, has_span, span_in, tide_from, length_in, mark_in, span_limit, site_at, site_in}
-use Rattle.station_span.specs.Workings.Spans.{HasLevels, IsBeside, IsFound, IsNear, IsNearSpan, IsReached}
+use Rattle.station_span.specs.Workings.Spans.{HasLevels, IsBeside, IsFound, IsInRange, IsSpanInRange, IsReached}
 use Rattle.station_span.proofs.FoundLemmas.{HasCurve, found_by, found_whole}
 use Rattle.station_span.proofs.SpanLemmas.{book_years, has_offsets, reached_span}
 
 -- ---- the results of a station's steps
 
-pub then_ok : {A B E : Type 0} (step : Result A E) (next : A → Result B E) (b : B) → (step >>= next) ≡ Ok b → (a : A) × (step ≡ Ok a) × (next a ≡ Ok b)
+pub then_ok : {A B E : Type 0} (step : Result A E) (next : A → Result B E) (b : B) → (step >>= next) ≡ Ok b
+    → (a : A) × (step ≡ Ok a) × (next a ≡ Ok b)
 then_ok (Ok a) next b ok = (a, refl, ok)
 then_ok (Err fault) next b ok = absurd cc
 
@@ -49,7 +50,8 @@ record WentThrough (reach : Reach) (book : Book) (site : Site) (asked : Asked) :
   pub few : length_in asked.begin asked.end ≡ Ok tt
   pub mark : mark_in site.basis asked.mark ≡ Ok tt
 
-site_steps : (reach : Reach) (book : Book) (site result : Site) (asked : Asked) → site_at reach book site asked ≡ Ok result → WentThrough reach book site asked × (site ≡ result)
+site_steps : (reach : Reach) (book : Book) (site result : Site) (asked : Asked)
+    → site_at reach book site asked ≡ Ok result → WentThrough reach book site asked × (site ≡ result)
 unfolding site_at
 site_steps reach book site result asked ok =
     let unit = then_ok (level_unit site.station.units) _ result ok in
@@ -77,7 +79,8 @@ got_ok : {T E : Type 0} (o : Option T) (fault : E) (x : T) → ok_or o fault ≡
 got_ok (Some y) fault x ok = cc
 got_ok None fault x ok = absurd cc
 
-was_found : (reach : Reach) (book : Book) (table : List Offsets) (name : List ℕ) (asked : Asked) (site : Site) → site_in reach book table name asked ≡ Ok site → WasFound reach book table name asked site
+was_found : (reach : Reach) (book : Book) (table : List Offsets) (name : List ℕ) (asked : Asked) (site : Site)
+    → site_in reach book table name asked ≡ Ok site → WasFound reach book table name asked site
 unfolding site_in
 was_found reach book table name asked site ok =
     let basis = then_ok (basis_from (basis_of book table name)) _ site ok in
@@ -98,7 +101,8 @@ no_fault : (tide : Tide) (fault : Option CurveFault) (same : Tide) → tide_from
 no_fault tide None same ok = refl
 no_fault tide (Some fault) same ok = absurd cc
 
-curve_none : (book : Book) (station : Station) (hydraulic : Bool) (tide : Tide) → is_hydraulic station.units ≡ hydraulic → tide_from (curve_of book station) ≡ Ok tide → first_fault book station book.years ≡ None
+curve_none : (book : Book) (station : Station) (hydraulic : Bool) (tide : Tide) → is_hydraulic station.units ≡ hydraulic
+    → tide_from (curve_of book station) ≡ Ok tide → first_fault book station book.years ≡ None
 unfolding curve_of
 curve_none book station true tide is ok = absurd (let none = rw is at ok in cc)
 curve_none book station false tide is ok = no_fault (tide_of book station) _ tide (rw is at ok)
@@ -115,7 +119,9 @@ mark_here basis (Some mark) ok level is = by_test (is_equal basis)
     (λ equal. rw equal refl)
     (λ other. absurd (let none = rw other at ok in cc))
 
-span_tests : (reach : Reach) (book : Book) (basis : Basis) (begin end : ℤ) → span_in reach book basis begin end ≡ Ok tt → (int_lt end begin ≡ false) × (lacks_minute reach begin end ≡ false) × (has_span book (reached reach basis begin end) ≡ true)
+span_tests : (reach : Reach) (book : Book) (basis : Basis) (begin end : ℤ) → span_in reach book basis begin end ≡ Ok tt
+    → (int_lt end begin ≡ false) × (lacks_minute reach begin end ≡ false)
+    × (has_span book (reached reach basis begin end) ≡ true)
 unfolding span_in
 span_tests reach book basis begin end ok = by_test (int_lt end begin)
     (λ backward. absurd (let none = rw backward at ok in cc))
@@ -149,28 +155,35 @@ usual_offset = record {
 no_slack : ForSome None IsSlack
 no_slack slack is = absurd cc
 
-over_sound : (book : Book) (row : ℕ) (offsets : Offsets) (basis : Basis) (place : Option ℕ) → IsOffsets offsets → station_at book offsets.reference ≡ place → basis_over book row offsets ≡ Ok basis → IsBasis (length book.stations) basis
+over_valid : (book : Book) (row : ℕ) (offsets : Offsets) (basis : Basis) (place : Option ℕ) → IsOffsets offsets
+    → station_at book offsets.reference ≡ place → basis_over book row offsets ≡ Ok basis
+    → IsBasis (length book.stations) basis
 unfolding basis_over
-over_sound book row offsets basis (Some station) sound found ok =
-    let same : record { station = station; row = Some row; high = offsets.high; low = offsets.low; slack = offsets.slack } ≡ basis = (let some = rw found at ok in cc) in
+over_valid book row offsets basis (Some station) valid found ok =
+    let same :
+    record { station = station; row = Some row; high = offsets.high; low = offsets.low; slack = offsets.slack }
+    ≡ basis = (let some = rw found at ok in cc) in
     subst (IsBasis (length book.stations)) same (record {
       station = placed (λ (s : Station). bytes_eq s.name offsets.reference) book.stations station found;
-      high = sound.high;
-      low = sound.low;
-      slack = sound.slack;
+      high = valid.high;
+      low = valid.low;
+      slack = valid.slack;
     })
-over_sound book row offsets basis None sound found ok = absurd (let none = rw found at ok in cc)
+over_valid book row offsets basis None valid found ok = absurd (let none = rw found at ok in cc)
 
-in_sound : (book : Book) (table : List Offsets) (name : List ℕ) (basis : Basis) → IsTable table → basis_in book table name ≡ Ok basis → IsBasis (length book.stations) basis
+in_valid : (book : Book) (table : List Offsets) (name : List ℕ) (basis : Basis) → IsTable table
+    → basis_in book table name ≡ Ok basis → IsBasis (length book.stations) basis
 unfolding basis_in
-in_sound book table name basis is ok =
+in_valid book table name basis is ok =
     let row = then_ok (ok_or (row_at table name) find.NoStation) _ basis ok in
     let offsets = then_ok (ok_or (slice_get table row.0) find.NoStation) _ basis row.2 in
-    over_sound book row.0 offsets.0 basis (station_at book offsets.0.reference)
+    over_valid book row.0 offsets.0 basis (station_at book offsets.0.reference)
     (each_got IsOffsets table row.0 offsets.0 is.each (got_ok _ find.NoStation offsets.0 offsets.1)) refl offsets.2
 
-of_sound : (book : Book) (table : List Offsets) (name : List ℕ) (basis : Basis) (place : Option ℕ) → IsTable table → station_at book name ≡ place → reference_or (basis_in book table name) place ≡ Ok basis → IsBasis (length book.stations) basis
-of_sound book table name basis (Some station) is found ok =
+of_valid : (book : Book) (table : List Offsets) (name : List ℕ) (basis : Basis) (place : Option ℕ) → IsTable table
+    → station_at book name ≡ place → reference_or (basis_in book table name) place ≡ Ok basis
+    → IsBasis (length book.stations) basis
+of_valid book table name basis (Some station) is found ok =
     let same : record { station = station; row = None; high = usual; low = usual; slack = None } ≡ basis = cc in
     subst (IsBasis (length book.stations)) same (record {
       station = placed (λ (s : Station). bytes_eq s.name name) book.stations station found;
@@ -178,16 +191,17 @@ of_sound book table name basis (Some station) is found ok =
       low = usual_offset;
       slack = no_slack;
     })
-of_sound book table name basis None is found ok = in_sound book table name basis is ok
+of_valid book table name basis None is found ok = in_valid book table name basis is ok
 
 basis_ok : (result : Result Basis FindFault) (basis : Basis) → basis_from result ≡ Ok basis → result ≡ Ok basis
 basis_ok (Ok found) basis ok = cc
 basis_ok (Err fault) basis ok = absurd cc
 
-basis_sound : (book : Book) (table : List Offsets) (name : List ℕ) (basis : Basis) → IsTable table → basis_from (basis_of book table name) ≡ Ok basis → IsBasis (length book.stations) basis
+basis_valid : (book : Book) (table : List Offsets) (name : List ℕ) (basis : Basis) → IsTable table
+    → basis_from (basis_of book table name) ≡ Ok basis → IsBasis (length book.stations) basis
 unfolding basis_of
-basis_sound book table name basis is ok =
-    of_sound book table name basis (station_at book name) is refl (basis_ok _ basis ok)
+basis_valid book table name basis is ok =
+    of_valid book table name basis (station_at book name) is refl (basis_ok _ basis ok)
 
 -- ---- the minutes that are evaluated
 
@@ -196,9 +210,12 @@ record AreAdds (low high : ℤ) : Type 0 where
   pub ordered : low ≤ℤ high
   pub most : high ≤ℤ pos 1440
 
-adds_near : (high low : ℤ) (slack : Option Slack) → unsigned_abs high ≤ 1440 → unsigned_abs low ≤ 1440 → ForSome slack IsSlack → AreAdds (fold int_min high (low ∷ slack_adds slack)) (fold int_max high (low ∷ slack_adds slack))
-adds_near high low None h l s = record { least = omega (arith, ints, clamps); ordered = omega (arith, ints, clamps); most = omega (arith, ints, clamps) }
-adds_near high low (Some slack) h l s =
+adds_in_range : (high low : ℤ) (slack : Option Slack) → unsigned_abs high ≤ 1440 → unsigned_abs low ≤ 1440
+    → ForSome slack IsSlack
+    → AreAdds (fold int_min high (low ∷ slack_adds slack)) (fold int_max high (low ∷ slack_adds slack))
+adds_in_range high low None h l s =
+    record { least = omega (arith, ints, clamps); ordered = omega (arith, ints, clamps); most = omega (arith, ints, clamps) }
+adds_in_range high low (Some slack) h l s =
     let both = s slack refl in
     let flood = both.flood_add in
     let ebb = both.ebb_add in
@@ -208,10 +225,12 @@ basis_adds : (basis : Basis) → HasOffsets basis → AreAdds (least_add basis) 
 basis_adds basis has =
     let high = has.high.add in
     let low = has.low.add in
-    adds_near basis.high.add basis.low.add basis.slack (omega (arith, ints)) (omega (arith, ints)) has.slack
+    adds_in_range basis.high.add basis.low.add basis.slack (omega (arith, ints)) (omega (arith, ints)) has.slack
 
-span_near : (begin end least greatest : ℤ) → begin ≤ℤ end → unsigned_abs begin ≤ 20000000000 → unsigned_abs end ≤ 20000000000 → AreAdds least greatest → IsNearSpan (record { begin = begin -ℤ greatest; end = end -ℤ least }) × IsBeside begin end (record { begin = begin -ℤ greatest; end = end -ℤ least })
-span_near begin end least greatest forward b e adds =
+span_in_range : (begin end least greatest : ℤ) → begin ≤ℤ end → unsigned_abs begin ≤ 20000000000 → unsigned_abs end
+    ≤ 20000000000 → AreAdds least greatest → IsSpanInRange (record { begin = begin -ℤ greatest; end = end -ℤ least })
+    × IsBeside begin end (record { begin = begin -ℤ greatest; end = end -ℤ least })
+span_in_range begin end least greatest forward b e adds =
     let low = adds.least in
     let mid = adds.ordered in
     let high = adds.most in (
@@ -223,21 +242,27 @@ high_add : (basis : Basis) → HasOffsets basis → AreAdds basis.high.add basis
 high_add basis has =
     let add = has.high.add in record { least = add.least; ordered = omega (arith, ints); most = add.most }
 
-moved_near : (basis : Basis) (begin end : ℤ) → begin ≤ℤ end → unsigned_abs begin ≤ 20000000000 → unsigned_abs end ≤ 20000000000 → HasOffsets basis → IsNearSpan (moved basis begin end) × IsBeside begin end (moved basis begin end)
-moved_near basis begin end forward b e has = by_test (is_equal basis)
-    (λ equal. rw equal (span_near begin end basis.high.add basis.high.add forward b e (high_add basis has)))
-    (λ other. rw other (span_near begin end (least_add basis) (greatest_add basis) forward b e (basis_adds basis has)))
+moved_in_range : (basis : Basis) (begin end : ℤ) → begin ≤ℤ end → unsigned_abs begin ≤ 20000000000
+    → unsigned_abs end ≤ 20000000000 → HasOffsets basis
+    → IsSpanInRange (moved basis begin end) × IsBeside begin end (moved basis begin end)
+moved_in_range basis begin end forward b e has = by_test (is_equal basis)
+    (λ equal. rw equal (span_in_range begin end basis.high.add basis.high.add forward b e (high_add basis has)))
+    (λ other. rw other (span_in_range begin end (least_add basis) (greatest_add basis) forward b e (basis_adds basis has)))
 
-reached_near : (reach : Reach) (basis : Basis) (begin end : ℤ) → begin ≤ℤ end → unsigned_abs begin ≤ 20000000000 → unsigned_abs end ≤ 20000000000 → HasOffsets basis → IsNearSpan (reached reach basis begin end) × IsBeside begin end (reached reach basis begin end)
-reached_near Events basis begin end forward b e has = span_near begin end (least_add basis) (greatest_add basis) forward b e (basis_adds basis has)
-reached_near Levels basis begin end forward b e has = moved_near basis begin end forward b e has
-reached_near Highest basis begin end forward b e has = moved_near basis begin end forward b e has
+reached_in_range : (reach : Reach) (basis : Basis) (begin end : ℤ) → begin ≤ℤ end → unsigned_abs begin ≤ 20000000000
+    → unsigned_abs end ≤ 20000000000 → HasOffsets basis
+    → IsSpanInRange (reached reach basis begin end) × IsBeside begin end (reached reach basis begin end)
+reached_in_range Events basis begin end forward b e has =
+    span_in_range begin end (least_add basis) (greatest_add basis) forward b e (basis_adds basis has)
+reached_in_range Levels basis begin end forward b e has = moved_in_range basis begin end forward b e has
+reached_in_range Highest basis begin end forward b e has = moved_in_range basis begin end forward b e has
 
-span_reached : (reach : Reach) (book : Book) (basis : Basis) (asked : Asked) → HasOffsets basis → IsNear asked → span_in reach book basis asked.begin asked.end ≡ Ok tt → IsReached reach book basis asked.begin asked.end
-span_reached reach book basis asked has near ok =
+span_reached : (reach : Reach) (book : Book) (basis : Basis) (asked : Asked) → HasOffsets basis → IsInRange asked
+    → span_in reach book basis asked.begin asked.end ≡ Ok tt → IsReached reach book basis asked.begin asked.end
+span_reached reach book basis asked has in_range ok =
     let tests = span_tests reach book basis asked.begin asked.end ok in
     let forward : asked.begin ≤ℤ asked.end = (let test = tests.0 in grind (arith, ints)) in
-    let both = reached_near reach basis asked.begin asked.end forward near.begin near.end has in
+    let both = reached_in_range reach basis asked.begin asked.end forward in_range.begin in_range.end has in
     reached_span reach book basis asked.begin asked.end tests.0 tests.1 tests.2 both.0 both.1
 
 -- ---- a station that was found has a tide that predicts it
@@ -245,45 +270,52 @@ span_reached reach book basis asked has near ok =
 abbrev pub found_at : Book → Site → SiteTide
 found_at book site = record { basis = site.basis; units = site.station.units; curve = tide_of book site.station }
 
-pub found_of_site : (reach : Reach) (book : Book) (table : List Offsets) (name : List ℕ) (asked : Asked) (site : Site) → IsBook book → IsTable table → IsNear asked → site_in reach book table name asked ≡ Ok site → IsFound reach book asked site (found_at book site)
-found_of_site reach book table name asked site is rows near ok =
+pub found_of_site : (reach : Reach) (book : Book) (table : List Offsets) (name : List ℕ) (asked : Asked) (site : Site)
+    → IsBook book → IsTable table → IsInRange asked → site_in reach book table name asked ≡ Ok site
+    → IsFound reach book asked site (found_at book site)
+found_of_site reach book table name asked site is rows in_range ok =
     let was = was_found reach book table name asked site ok in
     let steps = was.steps in
-    let sound = basis_sound book table name site.basis rows was.basis in
+    let valid = basis_valid book table name site.basis rows was.basis in
     let station = each_got (IsStation (length book.constituents)) book.stations site.basis.station site.station is.stations was.station in
     record {
       basis = refl;
-      sound = sound;
+      valid = valid;
       units = refl;
       levels = unit_levels site.station.units steps.units steps.curve.unit;
       predicts = predicts_within book site.station _ _ (tide_of book site.station) (predicts_tide book site.station is);
-      gentle = gentle_tide book site.station is station (curve_none book site.station _ steps.tide refl steps.curve.curve);
+      within_limits = tide_within_limits book site.station is station (curve_none book site.station _ steps.tide refl steps.curve.curve);
       years = book_years book is;
-      span = span_reached reach book site.basis asked (has_offsets _ site.basis sound) near steps.curve.span;
+      span = span_reached reach book site.basis asked (has_offsets _ site.basis valid) in_range steps.curve.span;
       few = few_minutes asked.begin asked.end steps.few;
       mark = mark_here site.basis asked.mark steps.mark;
-      near = near;
+      in_range = in_range;
     }
 
 -- ---- the facts of any station that was found
 
 -- the span of a station that was found has the minutes that are needed
-pub site_minutes : (reach : Reach) (book : Book) (table : List Offsets) (name : List ℕ) (asked : Asked) (site : Site) → site_in reach book table name asked ≡ Ok site → lacks_minute reach asked.begin asked.end ≡ false
+pub site_minutes : (reach : Reach) (book : Book) (table : List Offsets) (name : List ℕ) (asked : Asked) (site : Site)
+    → site_in reach book table name asked ≡ Ok site → lacks_minute reach asked.begin asked.end ≡ false
 site_minutes reach book table name asked site ok =
     let was = was_found reach book table name asked site ok in
     (span_tests reach book site.basis asked.begin asked.end was.steps.curve.span).1
 
 -- the offsets of a station that was found are in the ranges of a table
-pub site_basis : (reach : Reach) (book : Book) (table : List Offsets) (name : List ℕ) (asked : Asked) (site : Site) → IsTable table → site_in reach book table name asked ≡ Ok site → IsBasis (length book.stations) site.basis
+pub site_basis : (reach : Reach) (book : Book) (table : List Offsets) (name : List ℕ) (asked : Asked) (site : Site)
+    → IsTable table → site_in reach book table name asked ≡ Ok site → IsBasis (length book.stations) site.basis
 site_basis reach book table name asked site rows ok =
-    basis_sound book table name site.basis rows (was_found reach book table name asked site ok).basis
+    basis_valid book table name site.basis rows (was_found reach book table name asked site ok).basis
 
 -- a station that was found is found also without a mark
-pub site_unmarked : (reach : Reach) (book : Book) (table : List Offsets) (name : List ℕ) (asked : Asked) (site : Site) → site_in reach book table name asked ≡ Ok site → site_in reach book table name (record asked { mark = None }) ≡ Ok site
+pub site_unmarked : (reach : Reach) (book : Book) (table : List Offsets) (name : List ℕ) (asked : Asked) (site : Site)
+    → site_in reach book table name asked ≡ Ok site
+    → site_in reach book table name (record asked { mark = None }) ≡ Ok site
 site_unmarked reach book table name asked site ok =
     let was = was_found reach book table name asked site ok in
     let steps = was.steps in
     let bare : Asked = record asked { mark = None } in
     let curve = steps.curve in
     found_by reach book table name bare site.basis site.station was.basis was.station
-    ∙ found_whole reach book site bare steps.units steps.tide (record { unit = curve.unit; span = curve.span; curve = curve.curve }) steps.few refl
+    ∙ found_whole reach book site bare steps.units steps.tide
+    (record { unit = curve.unit; span = curve.span; curve = curve.curve }) steps.few refl

@@ -13,7 +13,7 @@ use Rattle.year_blend.proofs.YearLemmas.{year_start_of_low, year_start_of_high, 
 use Rattle.zone_time.specs.Moments.{IsMoment}
 use Rattle.station_span.specs.declared.reach.Reach.{Reach}
 use Rattle.station_span.specs.Sites.{lacks_minute, reached, has_minute, has_span}
-use Rattle.station_span.specs.Workings.Spans.{IsBeside, IsFileMinute, IsNearSpan, IsReached}
+use Rattle.station_span.specs.Workings.Spans.{IsBeside, IsFileMinute, IsSpanInRange, IsReached}
 
 -- the minutes of a file's years have dates
 pub file_minute : (first_year : ℤ) (years : ℕ) (m : ℤ) → AreYears first_year years → InDomain first_year years m → IsFileMinute m
@@ -33,10 +33,20 @@ both_true true true h = (refl, refl)
 both_true true false h = (refl, h)
 both_true false b h = (h, absurd (cc))
 
-pub reached_span : (reach : Reach) (book : Book) (basis : Basis) (begin end : ℤ) → int_lt end begin ≡ false → lacks_minute reach begin end ≡ false → has_span book (reached reach basis begin end) ≡ true → IsNearSpan (reached reach basis begin end) → IsBeside begin end (reached reach basis begin end) → IsReached reach book basis begin end
-reached_span reach book basis begin end forward some inside near beside =
+pub reached_span : (reach : Reach) (book : Book) (basis : Basis) (begin end : ℤ) → int_lt end begin ≡ false
+    → lacks_minute reach begin end ≡ false → has_span book (reached reach basis begin end) ≡ true
+    → IsSpanInRange (reached reach basis begin end) → IsBeside begin end (reached reach basis begin end)
+    → IsReached reach book basis begin end
+reached_span reach book basis begin end forward some inside in_range beside =
     let both = both_true _ _ inside in
-    record { forward = grind (arith, ints); begins = in_domain book _ both.0; ends = in_domain book _ both.1; near = near; beside = beside; some = some }
+    record {
+      forward = grind (arith, ints);
+      begins = in_domain book _ both.0;
+      ends = in_domain book _ both.1;
+      in_range = in_range;
+      beside = beside;
+      some = some;
+    }
 
 pub has_offsets : (stations : ℕ) (basis : Basis) → IsBasis stations basis → HasOffsets basis
 has_offsets stations basis is = record { high = is.high; low = is.low; slack = is.slack }
@@ -60,12 +70,14 @@ pub first_moment : (book : Book) → IsBook book → IsMoment (year_start_of boo
 first_moment book is =
     let are = book_years book is in
     let low = are.least in
-    let later = year_start_of_mono book.first_year (book.first_year +ℤ pos book.years) (omega (arith, signed_arith)) (omega (arith, ints)) in
+    let later = year_start_of_mono book.first_year (book.first_year +ℤ pos book.years) (omega (arith, signed_arith))
+    (omega (arith, ints)) in
     moment book.first_year book.years _ are (record { least = omega (arith, ints); most = later })
 
 pub last_moment : (book : Book) → IsBook book → IsMoment (year_start_of (book.first_year +ℤ pos book.years))
 last_moment book is =
     let are = book_years book is in
     let low = are.least in
-    let later = year_start_of_mono book.first_year (book.first_year +ℤ pos book.years) (omega (arith, signed_arith)) (omega (arith, ints)) in
+    let later = year_start_of_mono book.first_year (book.first_year +ℤ pos book.years) (omega (arith, signed_arith))
+    (omega (arith, ints)) in
     moment book.first_year book.years _ are (record { least = later; most = omega (arith, ints) })

@@ -1,5 +1,26 @@
 -- The steps of every request about a station's span, in the order of refusals (this project).
-use Rattle.std.specs.Prelude.{ℕ, ℤ, pos, ◌+ℤ◌, ◌-ℤ◌, int_lt, int_le, Bool, true, false, ◌&&◌, if◌then◌else◌, List, Option, Some, None, Result, Ok, Err, slice_get}
+use Rattle.std.specs.Prelude.{
+  ℕ,
+  ℤ,
+  pos,
+  ◌+ℤ◌,
+  ◌-ℤ◌,
+  int_lt,
+  int_le,
+  Bool,
+  true,
+  false,
+  ◌&&◌,
+  if◌then◌else◌,
+  List,
+  Option,
+  Some,
+  None,
+  Result,
+  Ok,
+  Err,
+  slice_get,
+}
 use Rattle.std.specs.Option.{ok_or}
 use Rattle.decimal_text.specs.Expected.{◌>>=◌}
 use Rattle.event_list.specs.declared.span.Span.{Span}
@@ -20,7 +41,15 @@ use Rattle.station_span.specs.declared.asked.Asked.{Asked}
 use Rattle.station_span.specs.declared.reach.Reach.{Reach}
 use Rattle.station_span.specs.declared.reach.Reach.TheVariants.{Events, Levels, Highest}
 use Rattle.tide_fault.specs.declared.refusal.Refusal.{Refusal}
-use Rattle.tide_fault.specs.declared.refusal.Refusal.TheVariants.{NoStation, Hydraulic, BackwardSpan, EmptySpan, OutOfYears, SpanTooLong, MarkNotHere}
+use Rattle.tide_fault.specs.declared.refusal.Refusal.TheVariants.{
+  NoStation,
+  Hydraulic,
+  BackwardSpan,
+  EmptySpan,
+  OutOfYears,
+  SpanTooLong,
+  MarkNotHere,
+}
 use Rattle.tide_fault.specs.Faults.{refusal_of_curve, refusal_of_find}
 
 -- a station of a harmonics file, and the offsets from it

@@ -4,5 +4,5 @@ pub mod Levels
 pub mod Looked
 pub mod Peaks
 pub mod Spans
-pub mod Telling
+pub mod TrackMeanings
 pub mod Tides

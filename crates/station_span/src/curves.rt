@@ -5,16 +5,16 @@ ghost use Rattle.std.specs.Option.{ForSome};
 ghost use Rattle.rate_bound.specs.Meanings.{turn_meaning};
 ghost use Rattle.station_span.specs.Following.{asks_slack, slack_times, slack_plus};
 ghost use Rattle.station_span.specs.Workings.Finds.{tide_of_found};
-ghost use Rattle.station_span.specs.Workings.Telling.{tide_slack, tide_mark};
+ghost use Rattle.station_span.specs.Workings.TrackMeanings.{tide_slack, tide_mark};
 
-use crate::found::Found;
+use crate::found_station::FoundStation;
 use curve_law::Curve;
 use harmonics_text::Units;
 use rate_bound::{MarkCurve, TurnCurve, Version};
 use station_table::Basis;
 
 /// Returns the curve of high and low waters, or of maximum floods and ebbs.
-pub fn turn_curve<'a>(found: &'a Found, version: Version) -> TurnCurve<'a>
+pub fn turn_curve<'a>(found: &'a FoundStation, version: Version) -> TurnCurve<'a>
     ensures meaning { (⟦<TurnCurve<'a> as Curve>⟧.state result).facts.meaning ≡ turn_meaning version found.now.curve }
     ensures fresh { (⟦<TurnCurve<'a> as Curve>⟧.state result).count ≡ 0 }
 {
@@ -22,8 +22,9 @@ pub fn turn_curve<'a>(found: &'a Found, version: Version) -> TurnCurve<'a>
 }
 
 /// Returns the curve of a current's slacks, if they are listed.
-pub fn slack_curve<'a>(found: &'a Found, version: Version) -> Option<MarkCurve<'a>>
-    ensures meaning { option_map (λ curve. (⟦<MarkCurve<'a> as Curve>⟧.state curve).facts.meaning) result ≡ tide_slack version (tide_of_found found.now) }
+pub fn slack_curve<'a>(found: &'a FoundStation, version: Version) -> Option<MarkCurve<'a>>
+    ensures meaning { option_map (λ curve. (⟦<MarkCurve<'a> as Curve>⟧.state curve).facts.meaning) result
+        ≡ tide_slack version (tide_of_found found.now) }
     ensures fresh { ForSome result (λ curve. (⟦<MarkCurve<'a> as Curve>⟧.state curve).count ≡ 0) }
 {
     let basis = &found.basis;
@@ -36,8 +37,9 @@ pub fn slack_curve<'a>(found: &'a Found, version: Version) -> Option<MarkCurve<'
 }
 
 /// Returns the curve of the crossings of the mark, if there is one.
-pub fn mark_curve<'a>(found: &'a Found, version: Version) -> Option<MarkCurve<'a>>
-    ensures meaning { option_map (λ curve. (⟦<MarkCurve<'a> as Curve>⟧.state curve).facts.meaning) result ≡ tide_mark version (tide_of_found found.now) found.now.asked.mark }
+pub fn mark_curve<'a>(found: &'a FoundStation, version: Version) -> Option<MarkCurve<'a>>
+    ensures meaning { option_map (λ curve. (⟦<MarkCurve<'a> as Curve>⟧.state curve).facts.meaning) result
+        ≡ tide_mark version (tide_of_found found.now) found.now.asked.mark }
     ensures fresh { ForSome result (λ curve. (⟦<MarkCurve<'a> as Curve>⟧.state curve).count ≡ 0) }
 {
     match found.asked.mark {

@@ -5,23 +5,23 @@ ghost use Rattle.std.specs.Option.{ForSome};
 ghost use Rattle.cert_text.specs.Certificates.{IsStationName};
 ghost use Rattle.event_list.specs.Events.{cover_over};
 ghost use Rattle.event_list.specs.Merging.{cells_left};
-ghost use Rattle.event_list.specs.Telling.{Tells};
+ghost use Rattle.event_list.specs.FreshCurves.{IsFreshOver};
 ghost use Rattle.station_table.specs.Bases.{is_plain};
-ghost use Rattle.tide_fault.specs.Faults.{IsToldRefusal};
+ghost use Rattle.tide_fault.specs.Faults.{IsPrintableRefusal};
 ghost use Rattle.station_span.specs.Following.{cells_of, events_of, tracks_of};
 ghost use Rattle.station_span.specs.Sites.{site_in};
 ghost use Rattle.station_span.specs.Workings.Finds.{AreReferences, IsSiteList, Lists, site_of};
-ghost use Rattle.station_span.specs.Workings.Spans.{IsNear};
+ghost use Rattle.station_span.specs.Workings.Spans.{IsInRange};
 
 use crate::asked::Asked;
 use crate::curves::{mark_curve, slack_curve, turn_curve};
-use crate::found::Found;
+use crate::found_station::FoundStation;
 use crate::reach::Reach;
 use crate::station::find_station;
 use curve_law::{Curve, Events};
 use decimal_text::Text;
 use event_list::{Merge, Span, shifted};
-use harmonics_text::{SoundBook, Units};
+use harmonics_text::{Units, ValidBook};
 use interval_search::Search;
 use rate_bound::{MarkCurve, TurnCurve, Version};
 use station_table::OffsetTable;
@@ -45,15 +45,15 @@ pub struct FoundEvents {
 /// The first [`Refusal`] in the order of [`find_station`](crate::find_station).
 pub fn list_station(
     alloc: Global,
-    book: &SoundBook<'_>,
+    book: &ValidBook<'_>,
     table: &OffsetTable,
     name: &Text,
     asked: &Asked,
 ) -> Result<FoundEvents, Refusal>
-    requires near { IsNear asked.now }
+    requires in_range { IsInRange asked.now }
     ensures exact { Lists book.now asked.now (site_in Reach.Events book.now table.now name.now asked.now) result }
     ensures named { OnOk result (IsStationName name.now) }
-    ensures told { IfErr result (IsToldRefusal table.now) }
+    ensures printable { IfErr result (IsPrintableRefusal table.now) }
 {
     let found = find_station(alloc, book, table, Reach::Events, name, asked)?;
     Ok(find_events(alloc, &found)?)
@@ -68,7 +68,7 @@ pub fn list_station(
 /// let listed = find_events(alloc, &found)?;
 /// assert_eq!(rt; listed.events.as_slice().len(), 4);
 /// ```
-pub fn find_events(alloc: Global, found: &Found) -> Result<FoundEvents, AllocError>
+pub fn find_events(alloc: Global, found: &FoundStation) -> Result<FoundEvents, AllocError>
     requires { found.now.reach ≡ Reach.Events }
     ensures { IfOk result (λ listed. IsSiteList found.now.origin.book found.now.asked (site_of found.now) listed) }
 {
@@ -98,7 +98,7 @@ fn merged_events<'a>(
 }
 
 // Returns the station's events, from the events `merged` of its reference.
-fn shifted_events(alloc: Global, merged: Events, found: &Found) -> Result<Events, AllocError>
+fn shifted_events(alloc: Global, merged: Events, found: &FoundStation) -> Result<Events, AllocError>
     requires reach { found.now.reach ≡ Reach.Events }
     requires merged { AreReferences found.now merged }
     ensures { IfOk result (λ events. events ≡ events_of found.now.origin.book (site_of found.now) found.now.asked) }
@@ -120,7 +120,7 @@ fn shifted_events(alloc: Global, merged: Events, found: &Found) -> Result<Events
 /// doesn't allocate. The station was found for [`Reach::Events`].
 ///
 /// If the station has no offsets, these are its own events.
-pub fn merge_of<'a>(found: &'a Found) -> Merge<TurnCurve<'a>, MarkCurve<'a>>
+pub fn merge_of<'a>(found: &'a FoundStation) -> Merge<TurnCurve<'a>, MarkCurve<'a>>
     requires { found.now.reach ≡ Reach.Events }
     ensures left { AreReferences found.now result.left }
     ensures plain { IsTrue (is_plain found.now.basis) → result.left ≡ events_of found.now.origin.book (site_of found.now) found.now.asked }
@@ -132,7 +132,7 @@ pub fn merge_of<'a>(found: &'a Found) -> Merge<TurnCurve<'a>, MarkCurve<'a>>
 
 /// Returns the search for the reference's high and low waters, or maximum floods and ebbs. It
 /// evaluates the curve at most once a cell and once more.
-pub fn turn_search<'a>(found: &'a Found) -> Search<TurnCurve<'a>>
+pub fn turn_search<'a>(found: &'a FoundStation) -> Search<TurnCurve<'a>>
     requires { found.now.reach ≡ Reach.Events }
     ensures at { result.at ≡ found.now.span.begin }
     ensures left { result.left ≡ (tracks_of found.now.origin.book (site_of found.now) found.now.asked).turn }
@@ -147,7 +147,7 @@ pub fn turn_search<'a>(found: &'a Found) -> Search<TurnCurve<'a>>
 
 /// Returns the search for a current's slacks, if they are listed. It evaluates the curve at most
 /// once a cell and once more.
-pub fn slack_search<'a>(found: &'a Found) -> Option<Search<MarkCurve<'a>>>
+pub fn slack_search<'a>(found: &'a FoundStation) -> Option<Search<MarkCurve<'a>>>
     requires { found.now.reach ≡ Reach.Events }
     ensures at { ForSome result (λ search. search.at ≡ found.now.span.begin) }
     ensures left { cells_left result ≡ (tracks_of found.now.origin.book (site_of found.now) found.now.asked).slack }
@@ -158,7 +158,7 @@ pub fn slack_search<'a>(found: &'a Found) -> Option<Search<MarkCurve<'a>>>
 
 /// Returns the search for the crossings of the mark, if there is one. It evaluates the curve at
 /// most once a cell and once more.
-pub fn mark_search<'a>(found: &'a Found) -> Option<Search<MarkCurve<'a>>>
+pub fn mark_search<'a>(found: &'a FoundStation) -> Option<Search<MarkCurve<'a>>>
     requires { found.now.reach ≡ Reach.Events }
     ensures at { ForSome result (λ search. search.at ≡ found.now.span.begin) }
     ensures left { cells_left result ≡ (tracks_of found.now.origin.book (site_of found.now) found.now.asked).mark }
@@ -169,7 +169,7 @@ pub fn mark_search<'a>(found: &'a Found) -> Option<Search<MarkCurve<'a>>>
 
 // Returns the search of `curve`, if there is one.
 fn search_if<C: Curve>(curve: Option<C>, span: &Span) -> Option<Search<C>>
-    requires { ForSome curve (λ c. Tells span.now (C.state c)) }
+    requires { ForSome curve (λ c. IsFreshOver span.now (C.state c)) }
     ensures at { ForSome result (λ search. search.at ≡ span.now.begin) }
     ensures left { cells_left result ≡ option_map (λ c. cover_over span.now (C.state c).facts.meaning) curve }
     ensures most { ForSome result (λ search. search.most ≡ length search.left + 1) }

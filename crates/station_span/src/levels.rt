@@ -6,11 +6,11 @@ ghost use Rattle.event_list.specs.Worked.{dock};
 ghost use Rattle.station_table.specs.Bases.{is_equal};
 ghost use Rattle.station_span.specs.declared.reach.Reach.{Reach};
 ghost use Rattle.station_span.specs.Levels.{is_rising_at, level_at, level_in};
-ghost use Rattle.tide_fault.specs.Faults.{IsToldRefusal};
+ghost use Rattle.tide_fault.specs.Faults.{IsPrintableRefusal};
 ghost use Rattle.station_span.specs.Workings.Finds.{AreLooked, IsLooked, site_of, tide_of_found};
 ghost use Rattle.station_span.specs.Workings.Levels.{HasLevel, source_of};
 
-use crate::found::Found;
+use crate::found_station::FoundStation;
 use crate::station::earlier;
 use event_list::scaled;
 use tide_fault::Refusal;
@@ -21,12 +21,12 @@ use tide_fault::Refusal;
 /// # Errors
 /// [`Refusal::LevelNotHere`] if its highs and lows have different offsets.
 #[tactic(auto, unfolding(crate::specs::Levels::level_in))]
-pub fn check_level(found: &Found) -> Result<(), Refusal>
+pub fn check_level(found: &FoundStation) -> Result<(), Refusal>
     ensures exact { result ≡ level_in found.now.basis }
     ensures equal { OnOk result (IsTrue (is_equal found.now.basis)) }
     ensures first { found.now.reach ≡ Reach.Events → IsLooked found.now found.now.asked.begin }
     ensures all { OnOk result (found.now.reach ≡ Reach.Levels → AreLooked found.now) }
-    ensures told { IfErr result (IsToldRefusal []) }
+    ensures printable { IfErr result (IsPrintableRefusal []) }
 {
     if found.basis.equal() {
         Ok(())
@@ -37,7 +37,7 @@ pub fn check_level(found: &Found) -> Result<(), Refusal>
 
 /// Returns the station's level at `minute`, in millionths of its unit: the reference's level at the
 /// minute that the offset moves to `minute`, scaled. Doesn't allocate.
-pub fn level_at(found: &Found, minute: i64) -> i64
+pub fn level_at(found: &FoundStation, minute: i64) -> i64
     requires { IsLooked found.now minute }
     ensures { result ≡ level_at found.now.origin.book (site_of found.now) minute }
 {
@@ -46,7 +46,7 @@ pub fn level_at(found: &Found, minute: i64) -> i64
 }
 
 /// Returns true if the station's level at `minute` rises: its slope is above 0. Doesn't allocate.
-pub fn is_rising(found: &Found, minute: i64) -> bool
+pub fn is_rising(found: &FoundStation, minute: i64) -> bool
     requires { IsLooked found.now minute }
     ensures { result ≡ is_rising_at found.now.origin.book (site_of found.now) minute }
 {
@@ -54,7 +54,7 @@ pub fn is_rising(found: &Found, minute: i64) -> bool
 }
 
 /// Returns the reference's minute that the offset moves to the station's `minute`.
-pub fn source(found: &Found, minute: i64) -> i64
+pub fn source(found: &FoundStation, minute: i64) -> i64
     requires { IsLooked found.now minute }
     ensures exact { result ≡ source_of (tide_of_found found.now) minute }
     ensures level { HasLevel (tide_of_found found.now) minute }

@@ -2,7 +2,7 @@
 //!
 //! [`find_station`] goes the way of every request about a span of a station: its name, its unit,
 //! the span, the bounds on its constants and the mark, and returns the first refusal.
-//! [`find_level`] requires levels too, and [`find_known`] takes no span. A station that was found
+//! [`find_level`] requires levels too, and [`find_reference`] takes no span. A station that was found
 //! has curves ([`turn_curve`], [`slack_curve`], [`mark_curve`]), events ([`find_events`], or one at
 //! a time by [`merge_of`]), levels ([`level_at`], [`is_rising`]) and a highest water
 //! ([`find_highest`], [`judge_highest`]). `specs/Sites.antt` has the order of the refusals, and
@@ -12,12 +12,12 @@
 mod asked;
 mod curves;
 mod following;
-mod found;
-mod knowing;
+mod found_station;
 mod levels;
 mod origin;
 mod peaks;
 mod reach;
+mod reference_station;
 mod station;
 mod worked;
 
@@ -26,11 +26,11 @@ pub use curves::{mark_curve, slack_curve, turn_curve};
 pub use following::{
     FoundEvents, find_events, list_station, mark_search, merge_of, slack_search, turn_search,
 };
-pub use found::Found;
-pub use knowing::{Known, find_known};
+pub use found_station::FoundStation;
 pub use levels::{check_level, is_rising, level_at, worked_levels};
 pub use origin::Origin;
 pub use peaks::{find_highest, find_level, highest_minute, judge_highest, moved_minute};
 pub use reach::Reach;
+pub use reference_station::{ReferenceStation, find_reference};
 pub use station::find_station;
 pub use worked::worked_spans;

@@ -3,20 +3,20 @@
 ghost use Rattle.std.specs.Prelude.{◌≡◌, ◌<◌, ◌≤◌, ◌^◌, ◌+ℤ◌, length, unsigned_abs, IfErr, IfOk, OnOk};
 ghost use Rattle.cert_text.specs.Certificates.{IsStationName};
 ghost use Rattle.highest_water.specs.declared.verdict.PeakVerdict.{PeakVerdict};
-ghost use Rattle.tide_fault.specs.Faults.{IsToldRefusal};
+ghost use Rattle.tide_fault.specs.Faults.{IsPrintableRefusal};
 ghost use Rattle.station_span.specs.Peaks.{highest_of, highest_site, highest_verdict};
 ghost use Rattle.station_span.specs.Workings.Finds.{FindsIn, HasPeak, IsLooked, site_of, tide_of_found};
 ghost use Rattle.station_span.specs.Workings.Peaks.{IsSourceIn, tide_levels};
-ghost use Rattle.station_span.specs.Workings.Spans.{IsNear};
+ghost use Rattle.station_span.specs.Workings.Spans.{IsInRange};
 
 use crate::asked::Asked;
-use crate::found::Found;
+use crate::found_station::FoundStation;
 use crate::levels::check_level;
 use crate::reach::Reach;
 use crate::station::find_station;
 use curve_law::Curve;
 use decimal_text::Text;
-use harmonics_text::SoundBook;
+use harmonics_text::ValidBook;
 use highest_water::{Peak, PeakVerdict, check_peak, find_peak, highest_point};
 use rate_bound::MarkCurve;
 use station_table::OffsetTable;
@@ -40,16 +40,16 @@ use tide_fault::Refusal;
 #[tactic(auto, unfolding(crate::specs::Peaks::highest_site))]
 pub fn find_level(
     alloc: Global,
-    book: &SoundBook<'_>,
+    book: &ValidBook<'_>,
     table: &OffsetTable,
     name: &Text,
     asked: &Asked,
-) -> Result<Found, Refusal>
-    requires near { IsNear asked.now }
+) -> Result<FoundStation, Refusal>
+    requires in_range { IsInRange asked.now }
     ensures exact { FindsIn Reach.Highest book.now asked.now (highest_site book.now table.now name.now asked.now) result }
     ensures peak { IfOk result HasPeak }
     ensures named { OnOk result (IsStationName name.now) }
-    ensures told { IfErr result (IsToldRefusal table.now) }
+    ensures printable { IfErr result (IsPrintableRefusal table.now) }
 {
     let found = find_station(alloc, book, table, Reach::Highest, name, asked)?;
     check_level(&found)?;
@@ -58,7 +58,7 @@ pub fn find_level(
 
 /// Returns the highest water of the reference's minutes that the offset moves into the span, with
 /// the cells that show it.
-pub fn find_highest(alloc: Global, found: &Found) -> Result<Peak, AllocError>
+pub fn find_highest(alloc: Global, found: &FoundStation) -> Result<Peak, AllocError>
     requires { HasPeak found.now }
     ensures exact { IfOk result (λ peak. peak ≡ highest_of found.now.origin.book (site_of found.now) found.now.asked) }
     ensures inside { IfOk result (λ peak. IsSourceIn (tide_of_found found.now) found.now.asked peak.at) }
@@ -73,7 +73,7 @@ pub fn find_highest(alloc: Global, found: &Found) -> Result<Peak, AllocError>
 }
 
 /// Returns the reference's minute of the highest water, without making its cells.
-pub fn highest_minute(found: &Found) -> i64
+pub fn highest_minute(found: &FoundStation) -> i64
     requires { HasPeak found.now }
     ensures exact { result ≡ (highest_of found.now.origin.book (site_of found.now) found.now.asked).at }
     ensures inside { IsSourceIn (tide_of_found found.now) found.now.asked result }
@@ -84,10 +84,10 @@ pub fn highest_minute(found: &Found) -> i64
 /// Returns the verdict on `peak` as the highest water of the reference's minutes that the offset
 /// moves into the span. Its value is below 10^37 in size, and it has fewer than 2^32 cells. Doesn't
 /// allocate.
-pub fn judge_highest(found: &Found, peak: &Peak) -> PeakVerdict
+pub fn judge_highest(found: &FoundStation, peak: &Peak) -> PeakVerdict
     requires peak { HasPeak found.now }
     requires size { unsigned_abs peak.now.value < 10 ^ 37 }
-    requires few { length peak.now.cells < 2 ^ 32 }
+    requires count_bound { length peak.now.cells < 2 ^ 32 }
     ensures exact { result ≡ highest_verdict found.now.origin.book (site_of found.now) found.now.asked peak.now }
     ensures inside { result ≡ PeakVerdict.Accepted → IsSourceIn (tide_of_found found.now) found.now.asked peak.now.at }
 {
@@ -100,7 +100,7 @@ pub fn judge_highest(found: &Found, peak: &Peak) -> PeakVerdict
 }
 
 /// Returns the station's minute to which the offset moves the reference's minute `at`.
-pub fn moved_minute(found: &Found, at: i64) -> i64
+pub fn moved_minute(found: &FoundStation, at: i64) -> i64
     requires peak { HasPeak found.now }
     requires inside { IsSourceIn (tide_of_found found.now) found.now.asked at }
     ensures exact { result ≡ at +ℤ found.now.basis.high.add }
@@ -119,7 +119,7 @@ fn later(minute: i64, add: i32) -> i64
 }
 
 // Returns the curve of the reference's level, whose greatest value is the highest water.
-fn level_curve<'a>(found: &'a Found) -> MarkCurve<'a>
+fn level_curve<'a>(found: &'a FoundStation) -> MarkCurve<'a>
     ensures meaning { (⟦<MarkCurve<'a> as Curve>⟧.state result).facts.meaning ≡ tide_levels (tide_of_found found.now) }
     ensures fresh { (⟦<MarkCurve<'a> as Curve>⟧.state result).count ≡ 0 }
 {

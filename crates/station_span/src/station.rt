@@ -1,29 +1,63 @@
 //! The steps of a request about a station's span, in the order of refusals.
 
-ghost use Rattle.std.specs.Prelude.{◌≡◌, ℕ, ◌<◌, ◌≤◌, pos, ◌+ℤ◌, ◌-ℤ◌, ◌≤ℤ◌, [], length, unsigned_abs, int_lt, IsTrue, Some, IfOk, IfErr, OnOk, slice_get};
+ghost use Rattle.std.specs.Prelude.{
+  ◌≡◌,
+  ℕ,
+  ◌<◌,
+  ◌≤◌,
+  pos,
+  ◌+ℤ◌,
+  ◌-ℤ◌,
+  ◌≤ℤ◌,
+  [],
+  length,
+  unsigned_abs,
+  int_lt,
+  IsTrue,
+  Some,
+  IfOk,
+  IfErr,
+  OnOk,
+  slice_get,
+};
 ghost use Rattle.std.specs.Option.{ForSome};
 ghost use Rattle.cert_text.specs.Certificates.{IsStationName};
-ghost use Rattle.decimal_text.specs.Expected.{Gives};
+ghost use Rattle.decimal_text.specs.Expected.{ReturnsUnless};
 ghost use Rattle.event_list.specs.Shifts.{HasOffsets};
 ghost use Rattle.station_curve.specs.Curves.{curve_of, curve_over, Predicts, PredictsOver};
-ghost use Rattle.station_curve.specs.Limits.{IsGentle};
+ghost use Rattle.station_curve.specs.Limits.{IsWithinLimits};
 ghost use Rattle.station_table.specs.Bases.{IsBasis, basis_of, is_equal};
-ghost use Rattle.tide_fault.specs.Faults.{wants_memory_of_refusal, IsToldRefusal};
-ghost use Rattle.station_span.specs.Sites.{basis_from, site_in, site_at, lacks_minute, level_unit, moved, reached, has_minute, has_span, span_in, length_in, mark_in, span_limit, tide_from};
+ghost use Rattle.tide_fault.specs.Faults.{refusal_is_out_of_memory, IsPrintableRefusal};
+ghost use Rattle.station_span.specs.Sites.{
+  basis_from,
+  site_in,
+  site_at,
+  lacks_minute,
+  level_unit,
+  moved,
+  reached,
+  has_minute,
+  has_span,
+  span_in,
+  length_in,
+  mark_in,
+  span_limit,
+  tide_from,
+};
 ghost use Rattle.station_span.specs.Workings.Finds.{FindsIn};
 ghost use Rattle.station_span.specs.Workings.Looked.{site_with};
-ghost use Rattle.station_span.specs.Workings.Spans.{IsBeside, IsNear, IsNearSpan, HasLevels, IsReached};
+ghost use Rattle.station_span.specs.Workings.Spans.{IsBeside, IsInRange, IsSpanInRange, HasLevels, IsReached};
 ghost use Rattle.year_blend.specs.Places.{AreYears, InDomain};
 ghost use Rattle.year_blend.specs.Years.{year_start_of};
 ghost use Rattle.zone_time.specs.Moments.{IsMoment};
 
 use crate::asked::Asked;
-use crate::found::Found;
+use crate::found_station::FoundStation;
 use crate::origin::Origin;
 use crate::reach::Reach;
 use decimal_text::Text;
 use event_list::{Span, widened};
-use harmonics_text::{Book, SoundBook, Station, Units};
+use harmonics_text::{Book, Station, Units, ValidBook};
 use station_curve::StationCurve;
 use station_table::{Basis, OffsetTable, find};
 use std::alloc::Global;
@@ -55,16 +89,16 @@ const SPAN_LIMIT: i64 = 5_270_400;
 #[tactic(auto, unfolding(crate::specs::Sites::site_in))]
 pub fn find_station(
     alloc: Global,
-    book: &SoundBook<'_>,
+    book: &ValidBook<'_>,
     table: &OffsetTable,
     reach: Reach,
     name: &Text,
     asked: &Asked,
-) -> Result<Found, Refusal>
-    requires near { IsNear asked.now }
+) -> Result<FoundStation, Refusal>
+    requires in_range { IsInRange asked.now }
     ensures exact { FindsIn reach book.now asked.now (site_in reach book.now table.now name.now asked.now) result }
     ensures named { OnOk result (IsStationName name.now) }
-    ensures told { IfErr result (IsToldRefusal table.now) }
+    ensures printable { IfErr result (IsPrintableRefusal table.now) }
 {
     let basis = find_basis(book, table, name)?;
     let station = station_at(book.get(), basis.station);
@@ -76,13 +110,13 @@ pub fn find_station(
 /// # Errors
 /// [`Refusal::NoStation`] if neither `book` nor `table` has the name, and [`Refusal::NoReference`]
 /// if `book` lacks the reference of its row.
-pub fn find_basis(book: &SoundBook<'_>, table: &OffsetTable, name: &Text) -> Result<Basis, Refusal>
+pub fn find_basis(book: &ValidBook<'_>, table: &OffsetTable, name: &Text) -> Result<Basis, Refusal>
     ensures exact { result ≡ basis_from (basis_of book.now table.now name.now) }
-    ensures sound { IfOk result (IsBasis (length book.now.stations)) }
+    ensures valid { IfOk result (IsBasis (length book.now.stations)) }
     ensures named { OnOk result (IsStationName name.now) }
-    ensures told { IfErr result (IsToldRefusal table.now) }
+    ensures printable { IfErr result (IsPrintableRefusal table.now) }
 {
-    table.known();
+    table.ranges_hold();
     match find(book.get(), table, name) {
         Ok(basis) => Ok(basis),
         Err(fault) => Err(Refusal::from(fault)),
@@ -94,24 +128,24 @@ pub fn find_basis(book: &SoundBook<'_>, table: &OffsetTable, name: &Text) -> Res
 #[tactic(auto, unfolding(crate::specs::Sites::site_at))]
 fn find_at(
     alloc: Global,
-    book: &SoundBook<'_>,
+    book: &ValidBook<'_>,
     reach: Reach,
     basis: Basis,
     station: &Station,
     asked: &Asked,
-) -> Result<Found, Refusal>
+) -> Result<FoundStation, Refusal>
     requires basis { IsBasis (length book.now.stations) basis }
     requires place { slice_get book.now.stations basis.station ≡ Some station.now }
-    requires near { IsNear asked.now }
+    requires in_range { IsInRange asked.now }
     ensures exact { FindsIn reach book.now asked.now (site_at reach book.now (site_with basis station.now) asked.now) result }
-    ensures told { IfErr result (IsToldRefusal []) }
+    ensures printable { IfErr result (IsPrintableRefusal []) }
 {
     level_units(station.units)?;
     let span = span_looked_at(book, reach, &basis, asked)?;
     let curve = curve_over(alloc, book, basis.station, station, &span)?;
     check_length(asked)?;
     check_mark(&basis, asked)?;
-    Ok(Found {
+    Ok(FoundStation {
         origin: Origin::of(book.get(), station),
         basis,
         units: station.units,
@@ -137,7 +171,7 @@ pub fn station_at(book: &Book, place: u32) -> &Station
 pub fn level_units(units: Units) -> Result<Units, Refusal>
     ensures exact { result ≡ level_unit units }
     ensures levels { OnOk result (HasLevels units) }
-    ensures told { IfErr result (IsToldRefusal []) }
+    ensures printable { IfErr result (IsPrintableRefusal []) }
 {
     match units {
         Units::Feet => Ok(Units::Feet),
@@ -150,18 +184,18 @@ pub fn level_units(units: Units) -> Result<Units, Refusal>
 // Returns the minutes of the reference that are evaluated, if the harmonics file has them.
 #[tactic(auto, unfolding(crate::specs::Sites::span_in))]
 fn span_looked_at(
-    book: &SoundBook<'_>,
+    book: &ValidBook<'_>,
     reach: Reach,
     basis: &Basis,
     asked: &Asked,
 ) -> Result<Span, Refusal>
     requires offsets { HasOffsets basis.now }
-    requires near { IsNear asked.now }
+    requires in_range { IsInRange asked.now }
     ensures found { OnOk result (span_in reach book.now basis.now asked.now.begin asked.now.end ≡ Ok tt) }
     ensures refused { IfErr result (λ refusal. span_in reach book.now basis.now asked.now.begin asked.now.end ≡ Err refusal) }
     ensures exact { IfOk result (λ span. span ≡ reached reach basis.now asked.now.begin asked.now.end) }
     ensures reached { OnOk result (IsReached reach book.now basis.now asked.now.begin asked.now.end) }
-    ensures told { IfErr result (IsToldRefusal []) }
+    ensures printable { IfErr result (IsPrintableRefusal []) }
 {
     if is_backward(asked) {
         return Err(Refusal::BackwardSpan);
@@ -197,11 +231,11 @@ fn lacks_minute(reach: Reach, asked: &Asked) -> bool
 // Returns the minutes of the reference that are evaluated.
 fn reached(reach: Reach, basis: &Basis, asked: &Asked) -> Span
     requires offsets { HasOffsets basis.now }
-    requires near { IsNear asked.now }
+    requires in_range { IsInRange asked.now }
     requires forward { asked.now.begin ≤ℤ asked.now.end }
     ensures exact { result ≡ reached reach basis.now asked.now.begin asked.now.end }
     ensures forward { result.begin ≤ℤ result.end }
-    ensures near { IsNearSpan result }
+    ensures in_range { IsSpanInRange result }
     ensures beside { IsBeside asked.now.begin asked.now.end result }
 {
     match reach {
@@ -213,11 +247,11 @@ fn reached(reach: Reach, basis: &Basis, asked: &Asked) -> Span
 /// Returns the minutes of the reference whose events the offsets can move into the span.
 fn moved(basis: &Basis, asked: &Asked) -> Span
     requires offsets { HasOffsets basis.now }
-    requires near { IsNear asked.now }
+    requires in_range { IsInRange asked.now }
     requires forward { asked.now.begin ≤ℤ asked.now.end }
     ensures exact { result ≡ moved basis.now asked.now.begin asked.now.end }
     ensures forward { result.begin ≤ℤ result.end }
-    ensures near { IsNearSpan result }
+    ensures in_range { IsSpanInRange result }
     ensures beside { IsBeside asked.now.begin asked.now.end result }
 {
     if basis.equal() {
@@ -230,11 +264,11 @@ fn moved(basis: &Basis, asked: &Asked) -> Span
 /// Returns the minutes of the reference that the offset of highs moves to the span's.
 fn level_span(basis: &Basis, asked: &Asked) -> Span
     requires offsets { HasOffsets basis.now }
-    requires near { IsNear asked.now }
+    requires in_range { IsInRange asked.now }
     requires forward { asked.now.begin ≤ℤ asked.now.end }
     ensures exact { result ≡ record { begin = asked.now.begin -ℤ basis.now.high.add; end = asked.now.end -ℤ basis.now.high.add } }
     ensures forward { result.begin ≤ℤ result.end }
-    ensures near { IsNearSpan result }
+    ensures in_range { IsSpanInRange result }
     ensures beside { IsBeside asked.now.begin asked.now.end result }
 {
     Span {
@@ -254,21 +288,21 @@ pub fn earlier(minute: i64, add: i32) -> i64
 
 /// Returns true if all minutes of `span`, and the one after it, are in the file's years or at their
 /// end.
-fn has_span(book: &SoundBook<'_>, span: &Span) -> bool
+fn has_span(book: &ValidBook<'_>, span: &Span) -> bool
     ensures { result ≡ has_span book.now span.now }
 {
     has_minute(book, span.begin) && has_minute(book, span.end)
 }
 
 /// Returns true if `minute` is in the file's years or at their end.
-fn has_minute(book: &SoundBook<'_>, minute: i64) -> bool
+fn has_minute(book: &ValidBook<'_>, minute: i64) -> bool
     ensures { result ≡ has_minute book.now minute }
 {
     first_minute(book) <= minute && minute <= last_minute(book)
 }
 
 /// Returns the first minute of the file's years.
-fn first_minute(book: &SoundBook<'_>) -> i64
+fn first_minute(book: &ValidBook<'_>) -> i64
     ensures value { result ≡ year_start_of book.now.first_year }
     ensures moment { IsMoment result }
 {
@@ -276,7 +310,7 @@ fn first_minute(book: &SoundBook<'_>) -> i64
 }
 
 // Returns the minute after the last of the file's years.
-fn last_minute(book: &SoundBook<'_>) -> i64
+fn last_minute(book: &ValidBook<'_>) -> i64
     ensures value { result ≡ year_start_of (book.now.first_year +ℤ pos book.now.years) }
     ensures moment { IsMoment result }
 {
@@ -287,22 +321,23 @@ fn last_minute(book: &SoundBook<'_>) -> i64
 // Returns the curve of `station`, which is at index `place` of `book`, for the minutes of `span`.
 fn curve_over(
     alloc: Global,
-    book: &SoundBook<'_>,
+    book: &ValidBook<'_>,
     place: u32,
     station: &Station,
     span: &Span,
 ) -> Result<StationCurve, Refusal>
     requires place { slice_get book.now.stations place ≡ Some station.now }
-    requires near { IsNearSpan span.now }
-    ensures exact { Gives wants_memory_of_refusal (tide_from (curve_over book.now station.now span.now.begin span.now.end)) result }
+    requires in_range { IsSpanInRange span.now }
+    ensures exact { ReturnsUnless refusal_is_out_of_memory
+        (tide_from (curve_over book.now station.now span.now.begin span.now.end)) result }
     ensures predicts { IfOk result (PredictsOver book.now station.now span.now.begin span.now.end) }
-    ensures gentle { IfOk result IsGentle }
+    ensures within_limits { IfOk result IsWithinLimits }
     ensures years { AreYears book.now.first_year book.now.years }
-    ensures told { IfErr result (IsToldRefusal []) }
+    ensures printable { IfErr result (IsPrintableRefusal []) }
 {
     match StationCurve::over(alloc, book.get(), place, span.begin, span.end) {
         Ok(curve) => {
-            curve.known();
+            curve.ranges_hold();
             Ok(curve)
         }
         Err(fault) => Err(Refusal::from(fault)),
@@ -316,20 +351,20 @@ fn curve_over(
 /// [`Refusal::NoMemory`].
 pub fn whole_curve(
     alloc: Global,
-    book: &SoundBook<'_>,
+    book: &ValidBook<'_>,
     place: u32,
     station: &Station,
 ) -> Result<StationCurve, Refusal>
     requires place { slice_get book.now.stations place ≡ Some station.now }
-    ensures exact { Gives wants_memory_of_refusal (tide_from (curve_of book.now station.now)) result }
+    ensures exact { ReturnsUnless refusal_is_out_of_memory (tide_from (curve_of book.now station.now)) result }
     ensures predicts { IfOk result (Predicts book.now station.now) }
-    ensures gentle { IfOk result IsGentle }
+    ensures within_limits { IfOk result IsWithinLimits }
     ensures years { AreYears book.now.first_year book.now.years }
-    ensures told { IfErr result (IsToldRefusal []) }
+    ensures printable { IfErr result (IsPrintableRefusal []) }
 {
     match StationCurve::new(alloc, book.get(), place) {
         Ok(curve) => {
-            curve.known();
+            curve.ranges_hold();
             Ok(curve)
         }
         Err(fault) => Err(Refusal::from(fault)),
@@ -339,12 +374,12 @@ pub fn whole_curve(
 /// Returns `Ok` if the span has at most 5,270,400 minutes.
 #[tactic(auto, unfolding(crate::specs::Sites::length_in))]
 fn check_length(asked: &Asked) -> Result<(), Refusal>
-    requires { IsNear asked.now }
+    requires { IsInRange asked.now }
     ensures exact { result ≡ length_in asked.now.begin asked.now.end }
-    ensures few { OnOk result ((asked.now.end -ℤ asked.now.begin) ≤ℤ span_limit) }
-    ensures told { IfErr result (IsToldRefusal []) }
+    ensures count_bound { OnOk result ((asked.now.end -ℤ asked.now.begin) ≤ℤ span_limit) }
+    ensures printable { IfErr result (IsPrintableRefusal []) }
 {
-    let minutes = length(asked);
+    let minutes = asked_minutes(asked);
     if minutes > SPAN_LIMIT {
         return Err(Refusal::SpanTooLong { minutes });
     }
@@ -352,8 +387,8 @@ fn check_length(asked: &Asked) -> Result<(), Refusal>
 }
 
 /// Returns the number of minutes of the span.
-fn length(asked: &Asked) -> i64
-    requires { IsNear asked.now }
+fn asked_minutes(asked: &Asked) -> i64
+    requires { IsInRange asked.now }
     ensures { result ≡ asked.now.end -ℤ asked.now.begin }
 {
     asked.end - asked.begin
@@ -363,7 +398,7 @@ fn length(asked: &Asked) -> i64
 fn check_mark(basis: &Basis, asked: &Asked) -> Result<(), Refusal>
     ensures exact { result ≡ mark_in basis.now asked.now.mark }
     ensures here { OnOk result (ForSome asked.now.mark (λ level. IsTrue (is_equal basis.now))) }
-    ensures told { IfErr result (IsToldRefusal []) }
+    ensures printable { IfErr result (IsPrintableRefusal []) }
 {
     match asked.mark {
         Some(_) if !basis.equal() => Err(Refusal::MarkNotHere),

@@ -11,8 +11,10 @@ ghost use Rattle.station_curve.specs.Worked.{pier_book};
 #[tactic(auto, unfolding(crate::specs::Sites::span_in, crate::specs::Sites::lacks_minute, crate::specs::Sites::length_in, year_blend::specs::Years::year_start_of, jiff_core::specs::Calendar::days_from_civil, jiff_core::specs::Calendar::day_count, jiff_core::specs::Calendar::days_of_years, jiff_core::specs::Calendar::days_of_months))]
 pub fn worked_spans()
     ensures whole { span_in Reach.Events pier_book (reference_basis 0) (pos 15252480) (pos 16830720) ≡ Ok tt }
-    ensures late { span_in Reach.Events pier_book (reference_basis 0) (pos 15252480) (pos 16830721) ≡ Err (Refusal.OutOfYears (pos 15252480) (pos 16830720)) }
-    ensures early { span_in Reach.Events pier_book (reference_basis 0) (pos 15252479) (pos 15252480) ≡ Err (Refusal.OutOfYears (pos 15252480) (pos 16830720)) }
+    ensures late { span_in Reach.Events pier_book (reference_basis 0) (pos 15252480) (pos 16830721)
+        ≡ Err (Refusal.OutOfYears (pos 15252480) (pos 16830720)) }
+    ensures early { span_in Reach.Events pier_book (reference_basis 0) (pos 15252479) (pos 15252480)
+        ≡ Err (Refusal.OutOfYears (pos 15252480) (pos 16830720)) }
     ensures backward { span_in Reach.Events pier_book (reference_basis 0) (pos 15252481) (pos 15252480) ≡ Err Refusal.BackwardSpan }
     ensures empty { span_in Reach.Events pier_book (reference_basis 0) (pos 15252480) (pos 15252480) ≡ Ok tt }
     ensures no_minute { span_in Reach.Highest pier_book (reference_basis 0) (pos 15252480) (pos 15252480) ≡ Err Refusal.EmptySpan }

@@ -14,11 +14,13 @@ get_or-field_at (f ∷ fs) (suc i) = get_or-field_at fs i
 
 -- the first of the remaining fields decides, or leaves it to those after it
 pub left_step : (fs ns : List (List ℕ)) (i : ℕ) → i < length fs → i < length ns
-    → pointwise bytes_eq (drop i fs) (drop i ns) ≡ bytes_eq (get_or fs i []) (get_or ns i []) && pointwise bytes_eq (drop (i + 1) fs) (drop (i + 1) ns)
+    → pointwise bytes_eq (drop i fs) (drop i ns) ≡ bytes_eq (get_or fs i []) (get_or ns i [])
+    && pointwise bytes_eq (drop (i + 1) fs) (drop (i + 1) ns)
 left_step fs ns i in_fields in_names = rw (drop_more fs i [] in_fields, drop_more ns i [] in_names) refl
 
 pub left_more : (fs ns : List (List ℕ)) (i : ℕ) (same : Bool) → i < length fs → i < length ns
-    → bytes_eq (get_or fs i []) (get_or ns i []) ≡ true → pointwise bytes_eq (drop i fs) (drop i ns) ≡ same → pointwise bytes_eq (drop (i + 1) fs) (drop (i + 1) ns) ≡ same
+    → bytes_eq (get_or fs i []) (get_or ns i []) ≡ true → pointwise bytes_eq (drop i fs) (drop i ns) ≡ same
+    → pointwise bytes_eq (drop (i + 1) fs) (drop (i + 1) ns) ≡ same
 left_more fs ns i same in_fields in_names first left = rw (left_step fs ns i in_fields in_names, first) at left
 
 pub left_differs : (fs ns : List (List ℕ)) (i : ℕ) (same : Bool) → i < length fs → i < length ns

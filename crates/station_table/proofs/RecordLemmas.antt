@@ -34,7 +34,8 @@ takes_byte cfg s fields field [] p e =
     let none = ap length (ends_with_text cfg s fields field p e).1 in omega (arith, none)
 takes_byte cfg s fields field (c ∷ rest) p e =
     let a = (step cfg s c).1 in let s' = (step cfg s c).0 in
-    elim (either (is_end a) (Some (fields_after a fields field, s', rest)) (next_record cfg s' (fields_after a fields field) (field_after a c field) rest) p e) [
+    elim (either (is_end a) (Some (fields_after a fields field, s', rest))
+    (next_record cfg s' (fields_after a fields field) (field_after a c field) rest) p e) [
       | inl here ↦ let is : rest ≡ p.2 = cc in omega (arith, ap length is)
       | inr later ↦ omega (arith, takes_byte cfg s' (fields_after a fields field) (field_after a c field) rest p later)
     ]
@@ -63,18 +64,20 @@ unfolding strip_bom
 shorter [] = omega arith
 shorter (a ∷ []) = omega arith
 shorter (a ∷ b ∷ []) = omega arith
-shorter (a ∷ b ∷ c ∷ rest) = elim (is_bom a b c) as (λ v. length (cond v rest (a ∷ b ∷ c ∷ rest)) ≤ length (a ∷ b ∷ c ∷ rest)) [ true ↦ omega arith | false ↦ omega arith ]
+shorter (a ∷ b ∷ c ∷ rest) =
+    elim (is_bom a b c) as (λ v. length (cond v rest (a ∷ b ∷ c ∷ rest)) ≤ length (a ∷ b ∷ c ∷ rest))
+    [ true ↦ omega arith | false ↦ omega arith ]
 
 -- ---- the records of the whole text
 
-reached_front : (cfg : Config) (n : ℕ) (s s2 : State) (xs ys : List ℕ) (rows : List (List (List ℕ)))
+reached_prefix : (cfg : Config) (n : ℕ) (s s2 : State) (xs ys : List ℕ) (rows : List (List (List ℕ)))
     → Reached cfg s xs rows s2 ys → length rows ≤ n → records_from cfg n s xs ≡ rows ++ records_from cfg (n - length rows) s2 ys
 unfolding Reached records_from
-reached_front cfg n s s2 xs ys [] h few = let same : n - 0 ≡ n = omega arith in rw (h.0, h.1, same) refl
-reached_front cfg zero s s2 xs ys (r ∷ rows) h few = absurd (omega (arith, few))
-reached_front cfg (suc n) s s2 xs ys (r ∷ rows) h few =
+reached_prefix cfg n s s2 xs ys [] h few = let same : n - 0 ≡ n = omega arith in rw (h.0, h.1, same) refl
+reached_prefix cfg zero s s2 xs ys (r ∷ rows) h few = absurd (omega (arith, few))
+reached_prefix cfg (suc n) s s2 xs ys (r ∷ rows) h few =
     let left : suc n - suc (length rows) ≡ n - length rows = omega arith in
-    rw (h.1, left, h.2) (ap (λ more. h.0.0 ∷ more) (reached_front cfg n h.0.1 s2 h.0.2 ys rows h.3 (omega (arith, few))))
+    rw (h.1, left, h.2) (ap (λ more. h.0.0 ∷ more) (reached_prefix cfg n h.0.1 s2 h.0.2 ys rows h.3 (omega (arith, few))))
 
 none_left : (cfg : Config) (n : ℕ) (s : State) (ys : List ℕ) → next_record cfg s [] [] ys ≡ None → records_from cfg n s ys ≡ []
 unfolding records_from
@@ -84,7 +87,7 @@ none_left cfg (suc n) s ys none = rw none refl
 pub records_begin : (cfg : Config) (s2 : State) (xs ys : List ℕ) (rows : List (List (List ℕ)))
     → Reached cfg st.StartRecord xs rows s2 ys → records cfg xs ≡ rows ++ records_from cfg (length xs + 1 - length rows) s2 ys
 records_begin cfg s2 xs ys rows h =
-    reached_front cfg (length xs + 1) st.StartRecord s2 xs ys rows h (omega (arith, few_records cfg st.StartRecord s2 xs ys rows h))
+    reached_prefix cfg (length xs + 1) st.StartRecord s2 xs ys rows h (omega (arith, few_records cfg st.StartRecord s2 xs ys rows h))
 
 pub records_all : (cfg : Config) (s2 : State) (xs ys : List ℕ) (rows : List (List (List ℕ)))
     → Reached cfg st.StartRecord xs rows s2 ys → next_record cfg s2 [] [] ys ≡ None → records cfg xs ≡ rows
@@ -96,12 +99,13 @@ records_all cfg s2 xs ys rows h none =
 -- the reader has returned one more record
 pub given_more : (text : List ℕ) (rows : List (List (List ℕ))) (a b : Records) (fields : List (List ℕ)) → HasGiven text rows a
     → ReadRecord held a.rdr b.rdr true fields → b.rdr.first ≡ true → 0 < b.left → HasGiven text (rows ++ fields ∷ []) b
-given_more text rows a b fields h read first turns =
-    let more = rows-more held a.rdr b.rdr fields default_config st.StartRecord (strip_bom text) h.rest rows h.config h.source h.reached read in
+given_more text rows a b fields h read first rows_left =
+    let more = rows-more held a.rdr b.rdr fields default_config st.StartRecord
+    (strip_bom text) h.rest rows h.config h.source h.reached read in
     record {
       trim = read.3 ∙ h.trim;
       ready = inl first;
-      turns = turns;
+      rows_left = rows_left;
       config = read.2 ∙ h.config;
       rest = more.0;
       source = more.1;
@@ -112,12 +116,13 @@ given_more text rows a b fields h read first turns =
 pub given_all : (text : List ℕ) (rows : List (List (List ℕ))) (a b : Records) → HasGiven text rows a
     → ReadRecord held a.rdr b.rdr false [] → records default_config (strip_bom text) ≡ rows
 given_all text rows a b h read =
-    records_all default_config a.rdr.state (strip_bom text) h.rest rows h.reached (rows-end held a.rdr b.rdr [] default_config h.rest h.config h.source read)
+    records_all default_config a.rdr.state (strip_bom text) h.rest rows h.reached
+    (rows-end held a.rdr b.rdr [] default_config h.rest h.config h.source read)
 
 -- the records that the reader has returned are the first of the text's
-pub given_front : (text : List ℕ) (rows : List (List (List ℕ))) (a : Records) → HasGiven text rows a
+pub given_prefix : (text : List ℕ) (rows : List (List (List ℕ))) (a : Records) → HasGiven text rows a
     → (more : List (List (List ℕ))) × (records default_config (strip_bom text) ≡ rows ++ more)
-given_front text rows a h = (_, records_begin default_config a.rdr.state (strip_bom text) h.rest rows h.reached)
+given_prefix text rows a h = (_, records_begin default_config a.rdr.state (strip_bom text) h.rest rows h.reached)
 
 pub given_few : (text : List ℕ) (rows : List (List (List ℕ))) (a : Records) → HasGiven text rows a → length rows ≤ length text + 1
 given_few text rows a h =

@@ -1,5 +1,29 @@
 -- The fields of an offset table, and their values (this project).
-use Rattle.std.specs.Prelude.{ℕ, ◌+◌, ◌*◌, ◌-◌, ◌==◌, nat_le, ℤ, pos, negsuc, int_lt, ◌&&◌, ◌||◌, if◌then◌else◌, List, [], ◌∷◌, length, Option, Some, None, Result, Ok, Err}
+use Rattle.std.specs.Prelude.{
+  ℕ,
+  ◌+◌,
+  ◌*◌,
+  ◌-◌,
+  ◌==◌,
+  nat_le,
+  ℤ,
+  pos,
+  negsuc,
+  int_lt,
+  ◌&&◌,
+  ◌||◌,
+  if◌then◌else◌,
+  List,
+  [],
+  ◌∷◌,
+  length,
+  Option,
+  Some,
+  None,
+  Result,
+  Ok,
+  Err,
+}
 use Rattle.std.specs.Char.{is_ascii_digit}
 use Rattle.std.specs.List.{list_all}
 use Rattle.std.specs.Str.{is_utf8}
@@ -59,8 +83,8 @@ or_bad_number None = Err BadNumber
 or_bad_number (Some n) = Ok n
 
 -- the minutes of a clock time with a sign, at most a day either way
-unfoldable pub minutes_in : List ℕ → Result ℤ OffsetWhy
-minutes_in text =
+unfoldable pub minutes_of_text : List ℕ → Result ℤ OffsetWhy
+minutes_of_text text =
     or_bad_number (clock_of (without_leading_sign text))
     >>= λ n. within (negsuc 1439) (pos 1440) (signed (starts_with_minus text) n)
 
@@ -79,7 +103,7 @@ millionths_in least most text = decimal_from (read_of text 6) >>= within least m
 
 -- the minutes added to a time: 0 for an empty field
 unfoldable pub add_of : List ℕ → Result ℤ OffsetWhy
-add_of field = value_of (pos 0) minutes_in field
+add_of field = value_of (pos 0) minutes_of_text field
 
 -- the factor on a level, in millionths: 1 for an empty field, and at most 100
 unfoldable pub times_of : List ℕ → Result ℤ OffsetWhy

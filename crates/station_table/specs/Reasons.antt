@@ -1,7 +1,16 @@
 -- The numbers and the texts of the faults of a row (this project).
 use Rattle.std.specs.Prelude.{ℕ, Bool, true, false, List, codes}
 use Rattle.station_table.specs.declared.fault.OffsetWhy.{OffsetWhy}
-use Rattle.station_table.specs.declared.fault.OffsetWhy.TheVariants.{BadHeader, FieldCount, BadNumber, TooFine, OutOfRange, NotUtf8, BadName, HalfSlack}
+use Rattle.station_table.specs.declared.fault.OffsetWhy.TheVariants.{
+  BadHeader,
+  FieldCount,
+  BadNumber,
+  TooFine,
+  OutOfRange,
+  NotUtf8,
+  BadName,
+  HalfSlack,
+}
 use Rattle.station_table.specs.declared.fault.OffsetFault.{OffsetFault}
 use Rattle.station_table.specs.declared.fault.OffsetFault.TheVariants.{NoMemory, At}
 
@@ -28,6 +37,6 @@ text_of BadName = codes "bad name"
 text_of HalfSlack = codes "half slack"
 
 -- a fault is out of memory
-abbrev pub wants_memory : OffsetFault → Bool
-wants_memory NoMemory = true
-wants_memory (At row why) = false
+abbrev pub is_out_of_memory : OffsetFault → Bool
+is_out_of_memory NoMemory = true
+is_out_of_memory (At row why) = false

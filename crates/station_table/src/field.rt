@@ -2,7 +2,7 @@
 
 ghost use Rattle.std.specs.Prelude.{◌≡◌, pos, negsuc, IfOk, IsUtf8};
 ghost use Rattle.harmonics_text.specs.Books.{IsWithin};
-ghost use Rattle.station_table.specs.Fields.{text_of, name_of, within, minutes_in, millionths_in, add_of, times_of, plus_of};
+ghost use Rattle.station_table.specs.Fields.{text_of, name_of, within, minutes_of_text, millionths_in, add_of, times_of, plus_of};
 ghost use Rattle.station_table.specs.Offsets.{IsAdd, IsTableName};
 ghost use Rattle.station_table.specs.Workings.Rows.{Reads};
 
@@ -32,7 +32,7 @@ fn text(field: &[u8]) -> Result<&str, OffsetWhy>
 #[tactic(auto, unfolding(crate::specs::Fields::name_of, crate::specs::Fields::name_in))]
 pub fn name(field: &[u8]) -> Result<&str, OffsetWhy>
     ensures exact { Reads (λ t. t.now) (name_of field.now) result }
-    ensures sound { IfOk result (λ t. IsTableName t.now) }
+    ensures valid { IfOk result (λ t. IsTableName t.now) }
 {
     let name = text(field)?;
     if field.is_empty() || field.len() > 400 || !are_name_bytes(field) {
@@ -44,7 +44,7 @@ pub fn name(field: &[u8]) -> Result<&str, OffsetWhy>
 #[tactic(auto, unfolding(crate::specs::Fields::within))]
 fn within(least: i64, most: i64, value: i128) -> Result<i64, OffsetWhy>
     ensures exact { result ≡ within least most value }
-    ensures sound { IfOk result (IsWithin least most) }
+    ensures valid { IfOk result (IsWithin least most) }
 {
     if value < i128::from(least) || i128::from(most) < value {
         return Err(OffsetWhy::OutOfRange);
@@ -53,10 +53,10 @@ fn within(least: i64, most: i64, value: i128) -> Result<i64, OffsetWhy>
 }
 
 /// Returns the minutes of a clock time with an optional sign, at most a day.
-#[tactic(auto, unfolding(crate::specs::Fields::minutes_in))]
+#[tactic(auto, unfolding(crate::specs::Fields::minutes_of_text))]
 fn minutes(text: &[u8]) -> Result<i32, OffsetWhy>
-    ensures exact { result ≡ minutes_in text.now }
-    ensures sound { IfOk result IsAdd }
+    ensures exact { result ≡ minutes_of_text text.now }
+    ensures valid { IfOk result IsAdd }
 {
     let (negative, body) = split_sign(text);
     match clock(body) {
@@ -73,7 +73,7 @@ fn minutes(text: &[u8]) -> Result<i32, OffsetWhy>
 #[tactic(auto, unfolding(crate::specs::Fields::millionths_in))]
 fn millionths(least: i64, most: i64, text: &[u8]) -> Result<i64, OffsetWhy>
     ensures exact { result ≡ millionths_in least most text.now }
-    ensures sound { IfOk result (IsWithin least most) }
+    ensures valid { IfOk result (IsWithin least most) }
 {
     match read(text, 6) {
         Ok(value) => within(least, most, value),
@@ -91,7 +91,7 @@ fn millionths(least: i64, most: i64, text: &[u8]) -> Result<i64, OffsetWhy>
 #[tactic(auto, unfolding(crate::specs::Fields::add_of, crate::specs::Fields::value_of))]
 pub fn add(field: &[u8]) -> Result<i32, OffsetWhy>
     ensures exact { result ≡ add_of field.now }
-    ensures sound { IfOk result IsAdd }
+    ensures valid { IfOk result IsAdd }
 {
     text(field)?;
     if field.is_empty() {
@@ -108,7 +108,7 @@ pub fn add(field: &[u8]) -> Result<i32, OffsetWhy>
 #[tactic(auto, unfolding(crate::specs::Fields::times_of, crate::specs::Fields::value_of))]
 pub fn times(field: &[u8]) -> Result<i64, OffsetWhy>
     ensures exact { result ≡ times_of field.now }
-    ensures sound { IfOk result (IsWithin (pos 1) (pos 100000000)) }
+    ensures valid { IfOk result (IsWithin (pos 1) (pos 100000000)) }
 {
     text(field)?;
     if field.is_empty() {
@@ -126,7 +126,7 @@ pub fn times(field: &[u8]) -> Result<i64, OffsetWhy>
 #[tactic(auto, unfolding(crate::specs::Fields::plus_of, crate::specs::Fields::value_of))]
 pub fn plus(field: &[u8]) -> Result<i64, OffsetWhy>
     ensures exact { result ≡ plus_of field.now }
-    ensures sound { IfOk result (IsWithin (negsuc 9999999999) (pos 10000000000)) }
+    ensures valid { IfOk result (IsWithin (negsuc 9999999999) (pos 10000000000)) }
 {
     text(field)?;
     if field.is_empty() {

@@ -10,7 +10,7 @@ use crate::offset::Offset;
 use crate::offsets::Offsets;
 use crate::table::OffsetTable;
 use decimal_text::Text;
-use harmonics_text::{Book, SoundBook};
+use harmonics_text::{Book, ValidBook};
 
 /// The reason why a name has no basis.
 #[derive(Clone, Copy, Debug, PartialEq, Eq)]
@@ -46,7 +46,7 @@ pub enum FindFault {
 pub fn find(book: &Book, table: &OffsetTable, name: &Text) -> Result<Basis, FindFault>
     requires book { IsBook book.now }
     ensures exact { result ≡ basis_of book.now table.now name.now }
-    ensures sound { IfOk result (IsBasis (length book.now.stations)) }
+    ensures valid { IfOk result (IsBasis (length book.now.stations)) }
     ensures row { IfErr result (IsFindFault (length table.now)) }
 {
     match station_place(book, name) {
@@ -57,15 +57,15 @@ pub fn find(book: &Book, table: &OffsetTable, name: &Text) -> Result<Basis, Find
             low: Offset::USUAL,
             slack: None,
         }),
-        None => find_row(&SoundBook::new(book), table, name),
+        None => find_row(&ValidBook::new(book), table, name),
     }
 }
 
 /// Returns the basis of the first row `name` of the table.
 #[tactic(auto, unfolding(crate::specs::Bases::basis_in))]
-fn find_row(book: &SoundBook<'_>, table: &OffsetTable, name: &Text) -> Result<Basis, FindFault>
+fn find_row(book: &ValidBook<'_>, table: &OffsetTable, name: &Text) -> Result<Basis, FindFault>
     ensures exact { result ≡ basis_in book.now table.now name.now }
-    ensures sound { IfOk result (IsBasis (length book.now.stations)) }
+    ensures valid { IfOk result (IsBasis (length book.now.stations)) }
     ensures row { IfErr result (IsFindFault (length table.now)) }
 {
     let rows = table.as_slice();
@@ -77,10 +77,10 @@ fn find_row(book: &SoundBook<'_>, table: &OffsetTable, name: &Text) -> Result<Ba
 
 /// Returns the basis of `offsets`, the row with index `row`.
 #[tactic(auto, unfolding(crate::specs::Bases::basis_over))]
-fn basis_over(book: &SoundBook<'_>, row: u32, offsets: &Offsets) -> Result<Basis, FindFault>
-    requires sound { IsOffsets offsets.now }
+fn basis_over(book: &ValidBook<'_>, row: u32, offsets: &Offsets) -> Result<Basis, FindFault>
+    requires valid { IsOffsets offsets.now }
     ensures exact { result ≡ basis_over book.now row offsets.now }
-    ensures sound { IfOk result (IsBasis (length book.now.stations)) }
+    ensures valid { IfOk result (IsBasis (length book.now.stations)) }
     ensures row { IfErr result (λ fault. fault ≡ FindFault.NoReference row) }
 {
     match station_place(book.get(), &offsets.reference) {

@@ -6,6 +6,7 @@
 #![tactic(auto)]
 
 mod basis;
+mod borrowed_offsets;
 mod clock;
 mod fault;
 mod field;
@@ -14,7 +15,6 @@ mod header;
 mod offset;
 mod offsets;
 mod reading;
-mod row;
 mod table;
 mod worked;
 

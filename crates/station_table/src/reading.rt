@@ -1,18 +1,18 @@
 //! Reading a table of offsets.
 
 ghost use Rattle.std.specs.Prelude.{◌≡◌, ◌≤◌, ℕ, List, [], length, IfOk};
-ghost use Rattle.decimal_text.specs.Expected.{Gives};
+ghost use Rattle.decimal_text.specs.Expected.{ReturnsUnless};
 ghost use Rattle.csv.specs.Records.{fields_of};
 ghost use Rattle.station_table.specs.Offsets.{IsOffsets};
-ghost use Rattle.station_table.specs.Reasons.{wants_memory};
+ghost use Rattle.station_table.specs.Reasons.{is_out_of_memory};
 ghost use Rattle.station_table.specs.Table.{at_row, offsets_of, table_of};
-ghost use Rattle.station_table.specs.Workings.Records.{HasGiven, HasHeader, GivesHeader};
+ghost use Rattle.station_table.specs.Workings.Records.{HasGiven, HasHeader, ReturnsHeader};
 ghost use Rattle.decimal_text.specs.declared.limits.TheConstants.{MOST_BYTES};
 
+use crate::borrowed_offsets::row_of;
 use crate::fault::OffsetFault;
 use crate::header::{Header, NO_HEADER, header_of};
 use crate::offsets::Offsets;
-use crate::row::row_of;
 use crate::table::OffsetTable;
 use csv::{ByteRecord, ByteRecordsIntoIter, ReaderBuilder};
 use std::alloc::Global;
@@ -41,7 +41,7 @@ use std::alloc::Global;
 /// ```
 pub fn read_offsets(alloc: Global, bytes: &[u8]) -> Result<OffsetTable, OffsetFault>
     requires { length bytes.now ≤ MOST_BYTES }
-    ensures { Gives wants_memory (table_of bytes.now) result }
+    ensures { ReturnsUnless is_out_of_memory (table_of bytes.now) result }
 {
     let mut records = records_of(alloc, bytes);
     let header = read_header(&mut records)?;
@@ -61,7 +61,7 @@ fn records_of(alloc: Global, bytes: &[u8]) -> ByteRecordsIntoIter<&[u8]>
 
 /// Reads the header, the first record.
 fn read_header(records: &mut ByteRecordsIntoIter<&[u8]>) -> Result<Header, OffsetFault>
-    ensures { (text : List ℕ) → HasGiven text [] records.old → GivesHeader text records.new result }
+    ensures { (text : List ℕ) → HasGiven text [] records.old → ReturnsHeader text records.new result }
 {
     match records.next() {
         Some(Ok(names)) => header_of(&names),
@@ -77,7 +77,7 @@ fn read_rows(
     header: Header,
 ) -> Result<OffsetTable, OffsetFault>
     requires { (text : List ℕ) × HasHeader text header records.old × (length text ≤ MOST_BYTES) }
-    ensures { (text : List ℕ) → HasHeader text header records.old → Gives wants_memory (table_of text) result }
+    ensures { (text : List ℕ) → HasHeader text header records.old → ReturnsUnless is_out_of_memory (table_of text) result }
 {
     let mut table = OffsetTable::new(alloc);
     let mut row = 2;
@@ -98,8 +98,8 @@ fn offsets_at(
     fields: &ByteRecord,
     header: Header,
 ) -> Result<Offsets, OffsetFault>
-    ensures exact { Gives wants_memory (at_row row (offsets_of header (fields_of fields.now))) result }
-    ensures sound { IfOk result IsOffsets }
+    ensures exact { ReturnsUnless is_out_of_memory (at_row row (offsets_of header (fields_of fields.now))) result }
+    ensures valid { IfOk result IsOffsets }
 {
     match row_of(fields, header) {
         Ok(offsets) => Ok(offsets.to_offsets(alloc)?),

@@ -38,8 +38,8 @@ impl OffsetTable {
 
     /// Appends `row`.
     pub(crate) fn push(&mut self, row: Offsets) -> Result<(), AllocError>
-        requires few { length self.old + 1 < 2 ^ 32 }
-        requires sound { IsOffsets row }
+        requires count_bound { length self.old + 1 < 2 ^ 32 }
+        requires valid { IsOffsets row }
         ensures { OnOk result (self.new ≡ self.old ++ row ∷ []) }
     {
         self.rows.push(row)?;
@@ -47,7 +47,7 @@ impl OffsetTable {
     }
 
     /// Does nothing; its contract shows a proof that the rows are fewer than 2^32 and in their ranges.
-    pub fn known(&self)
+    pub fn ranges_hold(&self)
         ensures { IsTable self.now }
     {
         let _rows = &self.rows;
@@ -56,7 +56,7 @@ impl OffsetTable {
     /// Borrows the rows.
     pub fn as_slice(&self) -> &[Offsets]
         ensures exact { result.now ≡ self.now }
-        ensures sound { IsTable self.now }
+        ensures valid { IsTable self.now }
     {
         self.rows.as_slice()
     }

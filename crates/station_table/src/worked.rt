@@ -9,7 +9,18 @@ ghost use Rattle.station_table.specs.declared.header.Header.{Header};
 ghost use Rattle.station_table.specs.Bases.{basis_of, reference_basis, usual};
 ghost use Rattle.station_table.specs.Fields.{add_of, times_of, plus_of, name_of};
 ghost use Rattle.station_table.specs.Table.{offsets_of, table_of};
-ghost use Rattle.station_table.specs.Worked.{plain_header, slack_header, dock_file, dock_rows, dock_high, dock_low, gate_fields, gate_row, gate_with, changes};
+ghost use Rattle.station_table.specs.Worked.{
+  plain_header,
+  slack_header,
+  dock_file,
+  dock_rows,
+  dock_high,
+  dock_low,
+  gate_fields,
+  gate_row,
+  gate_with,
+  changes,
+};
 
 /// Proves the values of some fields, empty ones among them.
 #[tactic(auto, unfolding(crate::proofs::OnLiterals::table_on_literals))]
@@ -45,7 +56,8 @@ pub fn worked_tables()
     ensures empty { table_of [] ≡ Err (OffsetFault.At 1 OffsetWhy.BadHeader) }
     ensures nine { table_of (plain_header ++ codes ",flood_add") ≡ Err (OffsetFault.At 1 OffsetWhy.BadHeader) }
     ensures short { table_of (plain_header ++ codes "\nDock,Pier,0:30,-0:10,1.1,0.9,0.1\n") ≡ Err (OffsetFault.At 2 OffsetWhy.FieldCount) }
-    ensures second { table_of (plain_header ++ codes "\n\nDock,Pier,,,,,,\nDock,Pier,,,,,,x\n") ≡ Err (OffsetFault.At 3 OffsetWhy.BadNumber) }
+    ensures second { table_of (plain_header ++ codes "\n\nDock,Pier,,,,,,\nDock,Pier,,,,,,x\n")
+        ≡ Err (OffsetFault.At 3 OffsetWhy.BadNumber) }
 {}
 
 /// Proves the bases of some names over a book with one station.

@@ -50,7 +50,8 @@ later : (zone : Zone) (event : Event) (events : List Event) (first : ℤ) (n : �
 unfolding days_from
 later zone event events first zero before = refl
 later zone event events first (suc n) before =
-    append_equal (on-elsewhere zone event events first (λ same. omega (arith, ints, same))) (later zone event events (first +ℤ pos 1) n (omega (arith, ints)))
+    append_equal (on-elsewhere zone event events first (λ same. omega (arith, ints, same)))
+    (later zone event events (first +ℤ pos 1) n (omega (arith, ints)))
 
 placed-none : (zone : Zone) (days : List ℤ) → placed zone [] days ≡ []
 placed-none zone [] = refl
@@ -63,7 +64,8 @@ unfolding days_from
 placed-one zone event events first zero is = absurd (omega (arith, ints, is.0, is.1))
 placed-one zone event events first (suc n) is = elim (cases_same (day_in zone event.minute) first) [
   | inl here ↦
-      let all = append_equal (on-here zone event events first here) (later zone event events (first +ℤ pos 1) n (omega (arith, ints, here))) in
+      let all = append_equal (on-here zone event events first here)
+      (later zone event events (first +ℤ pos 1) n (omega (arith, ints, here))) in
       rw all (IsPermutation-refl (event ∷ placed zone events (days_from first (suc n))))
   | inr elsewhere ↦
       let same = on-elsewhere zone event events first elsewhere in
@@ -81,12 +83,14 @@ placed-once zone (event ∷ events) first n each =
     (IsPermutation-cons event _ _ (placed-once zone events first n (All-tail (IsIn zone first n) event events each)))
 
 -- events after a day are not on it
-none-on : (zone : Zone) (events : List Event) (day : ℤ) → All (λ event. day <ℤ day_in zone event.minute) events → events_on zone events day ≡ []
+none-on : (zone : Zone) (events : List Event) (day : ℤ) → All (λ event. day <ℤ day_in zone event.minute) events
+    → events_on zone events day ≡ []
 none-on zone [] day after = refl
 none-on zone (event ∷ events) day after =
     let After : Event → Type 0 = λ (event : Event). day <ℤ day_in zone event.minute in
     let first = All-head After event events after in
-    on-elsewhere zone event events day (λ same. omega (arith, ints, first, same)) ∙ none-on zone events day (All-tail After event events after)
+    on-elsewhere zone event events day (λ same. omega (arith, ints, first, same))
+    ∙ none-on zone events day (All-tail After event events after)
 
 ascend-tail : (zone : Zone) (event : Event) (events : List Event) → DatesAscend zone (event ∷ events) → DatesAscend zone events
 ascend-tail zone event events ascend = λ i j d before within. ascend (suc i) (suc j) d (omega (arith, before)) (omega (arith, within))
@@ -97,9 +101,11 @@ ascend-head zone event events ascend = λ k d within. ascend 0 (suc k) d (omega 
 
 -- on n days the events keep their order
 abbrev Keeps : Zone → ℕ → Type 0
-Keeps zone n = (first : ℤ) (events : List Event) → DatesAscend zone events → All (IsIn zone first n) events → placed zone events (days_from first n) ≡ events
+Keeps zone n = (first : ℤ) (events : List Event) → DatesAscend zone events → All (IsIn zone first n) events
+    → placed zone events (days_from first n) ≡ events
 
-one-more : (zone : Zone) (n : ℕ) → Keeps zone n → (first : ℤ) (events : List Event) → DatesAscend zone events → All (IsIn zone first (suc n)) events
+one-more : (zone : Zone) (n : ℕ) → Keeps zone n → (first : ℤ) (events : List Event) → DatesAscend zone events
+    → All (IsIn zone first (suc n)) events
     → placed zone events (days_from first (suc n)) ≡ events
 unfolding days_from
 one-more zone n keeps first [] ascend each = placed-none zone (days_from first (suc n))
@@ -107,14 +113,16 @@ one-more zone n keeps first (event ∷ events) ascend each =
     let is = All-head (IsIn zone first (suc n)) event events each in
     elim (cases_same (day_in zone event.minute) first) [
       | inl here ↦
-          let rest = one-more zone n keeps first events (ascend-tail zone event events ascend) (All-tail (IsIn zone first (suc n)) event events each) in
+          let rest = one-more zone n keeps first events (ascend-tail zone event events ascend)
+          (All-tail (IsIn zone first (suc n)) event events each) in
           append_equal (on-here zone event events first here) (later zone event events (first +ℤ pos 1) n (omega (arith, ints, here)))
           ∙ ap (λ (es : List Event). event ∷ es) rest
       | inr elsewhere ↦
           let After : Event → Type 0 = λ (other : Event). first <ℤ day_in zone other.minute in
           let From : Event → Type 0 = λ (other : Event). day_in zone event.minute ≤ℤ day_in zone other.minute in
           let head : first <ℤ day_in zone event.minute = omega (arith, ints, is.0, elsewhere) in
-          let tail : All After events = All-weaker From After (λ other from. omega (arith, ints, head, from)) events (ascend-head zone event events ascend) in
+          let tail : All After events = All-weaker From After (λ other from. omega (arith, ints, head, from)) events
+          (ascend-head zone event events ascend) in
           let after : All After (event ∷ events) = All-cons After event events head tail in
           let both : All (IsIn zone (first +ℤ pos 1) n) (event ∷ events) = λ k d within.
           let was = each k d within in let past = after k d within in (omega (arith, ints, past), omega (arith, ints, was.1)) in
@@ -137,7 +145,8 @@ pub swapped : (zone : Zone) (early late : Event) (day : ℤ) → day_in zone ear
 swapped zone early late day after before =
     let next : ℤ = day +ℤ pos 1 in
     let first = on-elsewhere zone early (late ∷ []) day (λ same. omega (arith, ints, after, same)) ∙ on-here zone late [] day before in
-    let second = on-here zone early (late ∷ []) next after ∙ ap (λ (es : List Event). early ∷ es) (on-elsewhere zone late [] next (λ same. omega (arith, ints, before, same))) in
+    let second = on-here zone early (late ∷ []) next after ∙ ap (λ (es : List Event). early ∷ es)
+    (on-elsewhere zone late [] next (λ same. omega (arith, ints, before, same))) in
     append_equal first (append_equal second refl)
 
 pub two-days : (day : ℤ) → days_through day (day +ℤ pos 1) ≡ day ∷ (day +ℤ pos 1) ∷ []
@@ -154,5 +163,7 @@ day_of-after a b forward =
 pub ascend-utc : (events : List Event) → AllPairs (λ (event later : Event). event.minute ≤ℤ later.minute) events → DatesAscend Utc events
 ascend-utc events ascend = λ i j d before within. day_of-after _ _ (ascend i j d before within)
 
-pub ascend-fixed : (ahead : ℤ) (events : List Event) → AllPairs (λ (event later : Event). event.minute ≤ℤ later.minute) events → DatesAscend (Fixed ahead) events
-ascend-fixed ahead events ascend = λ i j d before within. let forward = ascend i j d before within in day_of-after _ _ (omega (arith, ints, forward))
+pub ascend-fixed : (ahead : ℤ) (events : List Event)
+    → AllPairs (λ (event later : Event). event.minute ≤ℤ later.minute) events → DatesAscend (Fixed ahead) events
+ascend-fixed ahead events ascend = λ i j d before within. let forward = ascend i j d before within in
+    day_of-after _ _ (omega (arith, ints, forward))

@@ -36,12 +36,15 @@ event_rest units event = level_rest units event.level ++ event_name units event
 regroup : (a b c d e f g h : List ℕ) → a ++ b ++ c ++ d ++ e ++ f ++ g ++ h ≡ a ++ (b ++ c ++ d ++ e ++ (f ++ g ++ h))
 regroup a b c d e f g h = simp append_assoc refl
 
-event_line-rest : (local : Local) (units : Units) (event : Event) → event_line_of local event units ≡ local_text local ++ event_rest units event
+event_line-rest : (local : Local) (units : Units) (event : Event)
+    → event_line_of local event units ≡ local_text local ++ event_rest units event
 unfolding event_line_of height_line_of
 event_line-rest local units event =
-    regroup (local_text local) (codes "  ") (padded 9 (level_text event.level)) (codes " ") (text_of_unit units) (codes "  ") (word_text (word_of units event.kind event.level)) (codes "\n")
+    regroup (local_text local) (codes "  ") (padded 9 (level_text event.level)) (codes " ") (text_of_unit units)
+    (codes "  ") (word_text (word_of units event.kind event.level)) (codes "\n")
 
-row_line-rest : (local : Local) (units : Units) (row : Row) → height_line_of local row.level units ++ codes "\n" ≡ local_text local ++ (level_rest units row.level ++ codes "\n")
+row_line-rest : (local : Local) (units : Units) (row : Row) → height_line_of local row.level units ++ codes "\n"
+    ≡ local_text local ++ (level_rest units row.level ++ codes "\n")
 unfolding height_line_of
 row_line-rest local units row = simp append_assoc refl
 

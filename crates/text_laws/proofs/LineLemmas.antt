@@ -18,7 +18,7 @@ use Rattle.harmonics_text.specs.declared.book.Units.TheVariants.{Feet, Meters, K
 use Rattle.listing.specs.declared.row.Row.{Row}
 use Rattle.listing.specs.Listings.{row_line_in}
 use Rattle.text_laws.specs.Lines.{IsLevel, IsLine}
-use Rattle.text_laws.specs.Pages.{line_of, Page}
+use Rattle.text_laws.specs.Pages.{line_of, CalendarLine}
 use Rattle.zone_time.specs.declared.local.Label.{Label}
 use Rattle.zone_time.specs.declared.local.Label.TheVariants.{Utc, Minutes}
 use Rattle.zone_time.specs.declared.local.Local.{Local}
@@ -76,12 +76,14 @@ date-clean day =
 clock-clean : (minutes : ℕ) → Clean (clock_text minutes)
 unfolding clock_text
 clock-clean minutes =
-    both _ (two_digits (minutes % 60)) (both (two_digits (minutes / 60)) (codes ":") (digits-two (minutes / 60)) colon) (digits-two (minutes % 60))
+    both _ (two_digits (minutes % 60)) (both (two_digits (minutes / 60)) (codes ":") (digits-two (minutes / 60)) colon)
+    (digits-two (minutes % 60))
 
 time-clean : (m : ℤ) → Clean (time_text m)
 unfolding time_text
 time-clean m =
-    both _ (clock_text (minute_of_day m)) (both (date_text (day_of m)) (codes " ") (date-clean (day_of m)) space) (clock-clean (minute_of_day m))
+    both _ (clock_text (minute_of_day m)) (both (date_text (day_of m)) (codes " ") (date-clean (day_of m)) space)
+    (clock-clean (minute_of_day m))
 
 sign-clean : (behind : Bool) → Clean (if behind then codes "-" else codes "+")
 sign-clean true = dash
@@ -91,7 +93,8 @@ label-clean : (label : Label) → Clean (label_text label)
 unfolding label_text
 label-clean Utc = one 85 (84 ∷ 67 ∷ []) (omega arith) (one 84 (67 ∷ []) (omega arith) (one 67 [] (omega arith) none))
 label-clean (Minutes z) =
-    both (if int_lt z (pos 0) then codes "-" else codes "+") (clock_text (unsigned_abs z)) (sign-clean (int_lt z (pos 0))) (clock-clean (unsigned_abs z))
+    both (if int_lt z (pos 0) then codes "-" else codes "+") (clock_text (unsigned_abs z))
+    (sign-clean (int_lt z (pos 0))) (clock-clean (unsigned_abs z))
 
 local-clean : (local : Local) → Clean (local_text local)
 unfolding local_text
@@ -153,7 +156,8 @@ and-right false b is = cc is
 tested : (text : List ℕ) → list_all (nat_le 32) text ≡ true → Clean text
 tested [] is = none
 tested (byte ∷ text) is =
-    one byte text (grind (arith, and-left (nat_le 32 byte) (list_all (nat_le 32) text) is)) (tested text (and-right (nat_le 32 byte) (list_all (nat_le 32) text) is))
+    one byte text (grind (arith, and-left (nat_le 32 byte) (list_all (nat_le 32) text) is))
+    (tested text (and-right (nat_le 32 byte) (list_all (nat_le 32) text) is))
 
 unit-clean : (units : Units) → Clean (text_of_unit units)
 unfolding text_of_unit
@@ -190,7 +194,8 @@ event-line zone units event small =
     record {
       bytes = height_line_of local event.level units ++ codes "  " ++ word;
       ends = refl;
-      no_control = both _ word (both (height_line_of local event.level units) (codes "  ") (height-clean local event.level units small) spaces) (word-clean (word_of units event.kind event.level));
+      no_control = both _ word (both (height_line_of local event.level units) (codes "  ")
+          (height-clean local event.level units small) spaces) (word-clean (word_of units event.kind event.level));
     }
 
 pub row-line : (zone : Zone) (units : Units) (row : Row) → IsLevel row.level → IsLine (row_line_in zone units row)
@@ -208,34 +213,42 @@ entry-clean zone units event small =
     let b = both (codes "  " ++ clock) (codes " ") a space in
     let e = both (codes "  " ++ clock ++ codes " ") (level_text event.level) b (level-clean event.level small) in
     let f = both (codes "  " ++ clock ++ codes " " ++ level_text event.level) (codes " ") e space in
-    both (codes "  " ++ clock ++ codes " " ++ level_text event.level ++ codes " ") word f (word-clean (word_of units event.kind event.level))
+    both (codes "  " ++ clock ++ codes " " ++ level_text event.level ++ codes " ") word f
+    (word-clean (word_of units event.kind event.level))
 
-entries-clean : (zone : Zone) (units : Units) (events : List Event) → All (λ event. IsLevel event.level) events → Clean (flat_map (entry_in zone units) events)
+entries-clean : (zone : Zone) (units : Units) (events : List Event) → All (λ event. IsLevel event.level) events
+    → Clean (flat_map (entry_in zone units) events)
 entries-clean zone units [] small = none
 entries-clean zone units (event ∷ events) small =
     let Small : Event → Type 0 = λ (event : Event). IsLevel event.level in
     both (entry_in zone units event) (flat_map (entry_in zone units) events)
     (entry-clean zone units event (All-head Small event events small)) (entries-clean zone units events (All-tail Small event events small))
 
-pub page-line : (zone : Zone) (units : Units) (page : Page) → All (λ event. IsLevel event.level) page.events → IsLine (line_of zone units page)
-page-line zone units page small = record {
-  bytes = date_text page.day ++ flat_map (entry_in zone units) page.events;
+pub calendar_line-line : (zone : Zone) (units : Units) (calendar_line : CalendarLine)
+    → All (λ event. IsLevel event.level) calendar_line.events → IsLine (line_of zone units calendar_line)
+calendar_line-line zone units calendar_line small = record {
+  bytes = date_text calendar_line.day ++ flat_map (entry_in zone units) calendar_line.events;
   ends = refl;
-  no_control = both (date_text page.day) (flat_map (entry_in zone units) page.events) (date-clean page.day) (entries-clean zone units page.events small);
+  no_control = both (date_text calendar_line.day) (flat_map (entry_in zone units) calendar_line.events)
+      (date-clean calendar_line.day) (entries-clean zone units calendar_line.events small);
 }
 
-pub event-lines : (zone : Zone) (units : Units) (events : List Event) → All (λ event. IsLevel event.level) events → All IsLine (map (event_line_in zone units) events)
+pub event-lines : (zone : Zone) (units : Units) (events : List Event) → All (λ event. IsLevel event.level) events
+    → All IsLine (map (event_line_in zone units) events)
 event-lines zone units events small =
     All-map IsLine (event_line_in zone units) events
     (All-weaker (λ event. IsLevel event.level) (λ event. IsLine (event_line_in zone units event)) (event-line zone units) events small)
 
-pub row-lines : (zone : Zone) (units : Units) (rows : List Row) → All (λ row. IsLevel row.level) rows → All IsLine (map (row_line_in zone units) rows)
+pub row-lines : (zone : Zone) (units : Units) (rows : List Row) → All (λ row. IsLevel row.level) rows
+    → All IsLine (map (row_line_in zone units) rows)
 row-lines zone units rows small =
     All-map IsLine (row_line_in zone units) rows
     (All-weaker (λ row. IsLevel row.level) (λ row. IsLine (row_line_in zone units row)) (row-line zone units) rows small)
 
-pub page-lines : (zone : Zone) (units : Units) (pages : List Page) → All (λ page. All (λ event. IsLevel event.level) page.events) pages
-    → All IsLine (map (line_of zone units) pages)
-page-lines zone units pages small =
-    All-map IsLine (line_of zone units) pages
-    (All-weaker (λ (page : Page). All (λ event. IsLevel event.level) page.events) (λ page. IsLine (line_of zone units page)) (page-line zone units) pages small)
+pub calendar_line-lines : (zone : Zone) (units : Units) (calendar_lines : List CalendarLine)
+    → All (λ calendar_line. All (λ event. IsLevel event.level) calendar_line.events) calendar_lines
+    → All IsLine (map (line_of zone units) calendar_lines)
+calendar_line-lines zone units calendar_lines small =
+    All-map IsLine (line_of zone units) calendar_lines
+    (All-weaker (λ (calendar_line : CalendarLine). All (λ event. IsLevel event.level) calendar_line.events)
+    (λ calendar_line. IsLine (line_of zone units calendar_line)) (calendar_line-line zone units) calendar_lines small)

@@ -6,7 +6,8 @@ pub flat_map-map : {X Y A : Type 0} (f : Y → List A) (g : X → Y) (xs : List 
 flat_map-map f g [] = refl
 flat_map-map f g (x ∷ xs) = ap (λ rest. f (g x) ++ rest) (flat_map-map f g xs)
 
-pub AllZip-maps : {X A B : Type 0} (R : A → B → Type 0) (f : X → A) (g : X → B) → ((x : X) → R (f x) (g x)) → (xs : List X) → AllZip R (map f xs) (map g xs)
+pub AllZip-maps : {X A B : Type 0} (R : A → B → Type 0) (f : X → A) (g : X → B) → ((x : X) → R (f x) (g x))
+    → (xs : List X) → AllZip R (map f xs) (map g xs)
 AllZip-maps R f g each [] = tt
 AllZip-maps R f g each (x ∷ xs) = (each x, AllZip-maps R f g each xs)
 

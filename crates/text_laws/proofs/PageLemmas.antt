@@ -11,9 +11,9 @@ use Rattle.calendar_sheet.specs.Calendars.{calendar_text_of, day_in, day_line, d
 use Rattle.curve_law.specs.declared.event.Event.{Event}
 use Rattle.harmonics_text.specs.declared.book.Units.{Units}
 use Rattle.text_laws.specs.Lines.{listing_of, IsLevel}
-use Rattle.text_laws.specs.Pages.{Page, IsCalendar, IsLeast, IsGreatest, RunThrough, dates_of, day_until, line_of}
+use Rattle.text_laws.specs.Pages.{CalendarLine, IsCalendar, IsLeast, IsGreatest, RunThrough, dates_of, day_until, line_of}
 use Rattle.text_laws.proofs.DateLemmas.{IsIn, placed-once, placed-ordered}
-use Rattle.text_laws.proofs.LineLemmas.{page-lines}
+use Rattle.text_laws.proofs.LineLemmas.{calendar_line-lines}
 use Rattle.text_laws.proofs.ListLemmas.{flat_map-map}
 use Rattle.zone_time.specs.declared.zone.Zone.{Zone}
 
@@ -44,12 +44,13 @@ each-day first last forward index =
           rw (at-past first n index past, test) refl
     ]
 
-abbrev page_of : Zone → List Event → ℤ → Page
-page_of zone events day = record { day = day; events = events_on zone events day }
+abbrev calendar_line_of : Zone → List Event → ℤ → CalendarLine
+calendar_line_of zone events day = record { day = day; events = events_on zone events day }
 
-days_of_pages : (zone : Zone) (events : List Event) (days : List ℤ) → map (λ (page : Page). page.day) (map (page_of zone events) days) ≡ days
-days_of_pages zone events [] = refl
-days_of_pages zone events (day ∷ days) = ap (λ (rest : List ℤ). day ∷ rest) (days_of_pages zone events days)
+days_of_lines : (zone : Zone) (events : List Event) (days : List ℤ)
+    → map (λ (calendar_line : CalendarLine). calendar_line.day) (map (calendar_line_of zone events) days) ≡ days
+days_of_lines zone events [] = refl
+days_of_lines zone events (day ∷ days) = ap (λ (rest : List ℤ). day ∷ rest) (days_of_lines zone events days)
 
 all-of-map : {X Y : Type 0} (P : Y → Type 0) (f : X → Y) (xs : List X) → All P (map f xs) → All (λ x. P (f x)) xs
 all-of-map P f [] all = λ k d within. absurd (omega (arith, within))
@@ -80,17 +81,19 @@ in_days zone events first last above below =
     let before = all-of-map (λ other. other ≤ℤ last) day events below in
     λ k d within. let low = after k d within in let high = before k d within in (low, omega (arith, ints, low, high))
 
-text_of_pages : (name : List ℕ) (units : Units) (zone : Zone) (events : List Event) (days : List ℤ)
-    → name ++ codes "\n" ++ flat_map (day_line zone units events) days ≡ listing_of name (map (line_of zone units) (map (page_of zone events) days))
-text_of_pages name units zone events days =
-    let lines = flat_map-map (λ (line : List ℕ). line) (line_of zone units) (map (page_of zone events) days) in
-    let pages = flat_map-map (line_of zone units) (page_of zone events) days in
-    ap (λ (rest : List ℕ). name ++ codes "\n" ++ rest) (sym (lines ∙ pages))
+text_of_lines : (name : List ℕ) (units : Units) (zone : Zone) (events : List Event) (days : List ℤ)
+    → name ++ codes "\n" ++ flat_map (day_line zone units events) days
+    ≡ listing_of name (map (line_of zone units) (map (calendar_line_of zone events) days))
+text_of_lines name units zone events days =
+    let lines = flat_map-map (λ (line : List ℕ). line) (line_of zone units) (map (calendar_line_of zone events) days) in
+    let calendar_lines = flat_map-map (line_of zone units) (calendar_line_of zone events) days in
+    ap (λ (rest : List ℕ). name ++ codes "\n" ++ rest) (sym (lines ∙ calendar_lines))
 
 abbrev shown_days : Zone → List Event → ℤ → ℤ → List ℤ
 shown_days zone events begin end = days_through (first_day zone events begin end) (last_day zone events begin end)
 
-run_through : (zone : Zone) (events : List Event) (begin end : ℤ) → RunThrough (dates_of zone events begin end) (shown_days zone events begin end)
+run_through : (zone : Zone) (events : List Event) (begin end : ℤ)
+    → RunThrough (dates_of zone events begin end) (shown_days zone events begin end)
 run_through zone events begin end =
     let a : ℤ = day_in zone begin in
     let rest : List ℤ = day_in zone (end -ℤ pos 1) ∷ event_days zone events in
@@ -105,7 +108,8 @@ run_through zone events begin end =
     }
 
 shown_in : (zone : Zone) (events : List Event) (begin end : ℤ)
-    → All (IsIn zone (first_day zone events begin end) (unsigned_abs (last_day zone events begin end -ℤ first_day zone events begin end) + 1)) events
+    → All (IsIn zone (first_day zone events begin end)
+    (unsigned_abs (last_day zone events begin end -ℤ first_day zone events begin end) + 1)) events
 shown_in zone events begin end =
     let a : ℤ = day_in zone begin in
     let z : ℤ = day_in zone (end -ℤ pos 1) in
@@ -117,13 +121,15 @@ shown_in zone events begin end =
     (All-tail (λ other. first ≤ℤ other) z (event_days zone events) low.1)
     (All-tail (λ other. other ≤ℤ last) z (event_days zone events) high.1)
 
-small-pages : (zone : Zone) (events : List Event) (days : List ℤ) → All (λ event. IsLevel event.level) events
-    → All (λ (page : Page). All (λ event. IsLevel event.level) page.events) (map (page_of zone events) days)
-small-pages zone events days small =
-    All-map (λ (page : Page). All (λ event. IsLevel event.level) page.events) (page_of zone events) days
+small-calendar_lines : (zone : Zone) (events : List Event) (days : List ℤ) → All (λ event. IsLevel event.level) events
+    → All (λ (calendar_line : CalendarLine). All (λ event. IsLevel event.level) calendar_line.events)
+    (map (calendar_line_of zone events) days)
+small-calendar_lines zone events days small =
+    All-map (λ (calendar_line : CalendarLine). All (λ event. IsLevel event.level) calendar_line.events) (calendar_line_of zone events) days
     (λ k d within. All-filter (λ event. int_eq (day_in zone event.minute) (get_or days k d)) (λ event. IsLevel event.level) events small)
 
-pub shown : (name : List ℕ) (units : Units) (events : List Event) (zone : Zone) (begin end : ℤ) → begin <ℤ end → All (λ event. IsLevel event.level) events
+pub shown : (name : List ℕ) (units : Units) (events : List Event) (zone : Zone) (begin end : ℤ) → begin <ℤ end
+    → All (λ event. IsLevel event.level) events
     → IsCalendar name units zone events begin end (calendar_text_of name units events zone begin end)
 unfolding calendar_text_of
 shown name units events zone begin end some small =
@@ -132,14 +138,16 @@ shown name units events zone begin end some small =
     let first : ℤ = first_day zone events begin end in
     let n : ℕ = unsigned_abs (last_day zone events begin end -ℤ first) + 1 in
     let are : days_shown zone events begin end ≡ days = rw test refl in
-    let all = flat_map-map (λ (page : Page). page.events) (page_of zone events) days in
+    let all = flat_map-map (λ (calendar_line : CalendarLine). calendar_line.events) (calendar_line_of zone events) days in
     let within = shown_in zone events begin end in
     record {
-      pages = map (page_of zone events) days;
-      text_is = ap (λ (ds : List ℤ). name ++ codes "\n" ++ flat_map (day_line zone units events) ds) are ∙ text_of_pages name units zone events days;
-      single = page-lines zone units (map (page_of zone events) days) (small-pages zone events days small);
-      dates = rw (days_of_pages zone events days) (run_through zone events begin end);
-      dated = All-map (λ (page : Page). page.events ≡ events_on zone events page.day) (page_of zone events) days (λ k d inside. refl);
+      calendar_lines = map (calendar_line_of zone events) days;
+      text_is = ap (λ (ds : List ℤ). name ++ codes "\n" ++ flat_map (day_line zone units events) ds) are
+          ∙ text_of_lines name units zone events days;
+      single = calendar_line-lines zone units (map (calendar_line_of zone events) days) (small-calendar_lines zone events days small);
+      dates = rw (days_of_lines zone events days) (run_through zone events begin end);
+      dated = All-map (λ (calendar_line : CalendarLine). calendar_line.events ≡ events_on zone events calendar_line.day)
+          (calendar_line_of zone events) days (λ k d inside. refl);
       once = rw all (placed-once zone events first n within);
       in_order = λ ascend. all ∙ placed-ordered zone n first events ascend within;
     }

@@ -28,7 +28,8 @@ long : (rows : List (List (List ℕ))) → length rows ≤ length (written rows)
 long [] = omega arith
 long (row ∷ rows) = omega (arith, long rows, some row, length-append (record_of row) (written rows))
 
-read_within : (n : ℕ) (rows : List (List (List ℕ))) → length rows < n → records_from default_config n st.StartRecord (written rows) ≡ map read_back rows
+read_within : (n : ℕ) (rows : List (List (List ℕ))) → length rows < n
+    → records_from default_config n st.StartRecord (written rows) ≡ map read_back rows
 unfolding records_from next_record
 read_within zero rows within = absurd (omega arith)
 read_within (suc n) [] within = refl
@@ -51,17 +52,22 @@ pub events-read : (name : List ℕ) (units : Units) (events : List Event) (zone 
 unfolding csv_events_of
 events-read name units events zone =
     let rows : List (List (List ℕ)) = map (event_fields name units zone) events in
-    let text : written rows ≡ flat_map (λ event. record_of (event_fields name units zone event)) events = flat_map-map record_of (event_fields name units zone) events in
+    let text : written rows ≡ flat_map (λ event. record_of (event_fields name units zone event)) events =
+    flat_map-map record_of (event_fields name units zone) events in
     let same : map read_back rows ≡ rows = map-same read_back (event_fields name units zone) (λ event. refl) events in
-    let read : records default_config (written (event_header ∷ rows)) ≡ event_header ∷ map read_back rows = read_written (event_header ∷ rows) in
-    ap (records default_config) (no_bom-events _ ∙ ap (λ (rest : List ℕ). record_of event_header ++ rest) (sym text)) ∙ read ∙ ap (λ (rest : List (List (List ℕ))). event_header ∷ rest) same
+    let read : records default_config (written (event_header ∷ rows)) ≡ event_header ∷ map read_back rows =
+    read_written (event_header ∷ rows) in
+    ap (records default_config) (no_bom-events _ ∙ ap (λ (rest : List ℕ). record_of event_header ++ rest) (sym text))
+    ∙ read ∙ ap (λ (rest : List (List (List ℕ))). event_header ∷ rest) same
 
 pub heights-read : (name : List ℕ) (units : Units) (levels : List Row) (zone : Zone)
     → records_in (csv_heights_of name units levels zone) ≡ row_header ∷ map (row_fields name units zone) levels
 unfolding csv_heights_of
 heights-read name units levels zone =
     let rows : List (List (List ℕ)) = map (row_fields name units zone) levels in
-    let text : written rows ≡ flat_map (λ row. record_of (row_fields name units zone row)) levels = flat_map-map record_of (row_fields name units zone) levels in
+    let text : written rows ≡ flat_map (λ row. record_of (row_fields name units zone row)) levels =
+    flat_map-map record_of (row_fields name units zone) levels in
     let same : map read_back rows ≡ rows = map-same read_back (row_fields name units zone) (λ row. refl) levels in
     let read : records default_config (written (row_header ∷ rows)) ≡ row_header ∷ map read_back rows = read_written (row_header ∷ rows) in
-    ap (records default_config) (no_bom-heights _ ∙ ap (λ (rest : List ℕ). record_of row_header ++ rest) (sym text)) ∙ read ∙ ap (λ (rest : List (List (List ℕ))). row_header ∷ rest) same
+    ap (records default_config) (no_bom-heights _ ∙ ap (λ (rest : List ℕ). record_of row_header ++ rest) (sym text))
+    ∙ read ∙ ap (λ (rest : List (List (List ℕ))). row_header ∷ rest) same

@@ -15,7 +15,8 @@ use Rattle.text_laws.proofs.RecordLemmas.{events-read, heights-read}
 use Rattle.zone_time.specs.declared.zone.Zone.{Zone}
 use Rattle.zone_time.specs.Locals.{local_text}
 
-one_event : (name : List ℕ) (units : Units) (zone : Zone) (event : Event) → ShowOneEvent name zone (event_fields name units zone event) (event_line_in zone units event)
+one_event : (name : List ℕ) (units : Units) (zone : Zone) (event : Event)
+    → ShowOneEvent name zone (event_fields name units zone event) (event_line_in zone units event)
 unfolding event_line_of height_line_of local_text
 one_event name units zone event = record {
   minute = event.minute;
@@ -26,7 +27,8 @@ one_event name units zone event = record {
   line_is = refl;
 }
 
-one_level : (name : List ℕ) (units : Units) (zone : Zone) (row : Row) → ShowOneLevel name zone (row_fields name units zone row) (row_line_in zone units row)
+one_level : (name : List ℕ) (units : Units) (zone : Zone) (row : Row)
+    → ShowOneLevel name zone (row_fields name units zone row) (row_line_in zone units row)
 unfolding height_line_of local_text
 one_level name units zone row = record {
   minute = row.minute;
@@ -46,7 +48,8 @@ events-shown name units events zone small = record {
   read = events-read name units events zone;
   listed = ap (λ (rest : List ℕ). name ++ codes "\n" ++ rest) (sym (flat_map-map (λ line. line) (event_line_in zone units) events));
   single = event-lines zone units events small;
-  related = AllZip-maps (ShowOneEvent name zone) (event_fields name units zone) (event_line_in zone units) (one_event name units zone) events;
+  related = AllZip-maps (ShowOneEvent name zone) (event_fields name units zone) (event_line_in zone units)
+      (one_event name units zone) events;
 }
 
 pub heights-shown : (name : List ℕ) (units : Units) (levels : List Row) (zone : Zone) → All (λ row. IsLevel row.level) levels

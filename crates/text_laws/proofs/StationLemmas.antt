@@ -21,7 +21,7 @@ use Rattle.text_laws.specs.Stations.{station_lines, FindsRow, FindsStation, Says
 use Rattle.text_laws.proofs.ListLemmas.{flat_map-map}
 
 -- the first element for which a test is true, and its index
-record Found {X : Type 0} (p : X → Bool) (xs : List X) : Type 0 where
+record FirstPassing {X : Type 0} (p : X → Bool) (xs : List X) : Type 0 where
   index : ℕ
   item : X
   at : slice_get xs index ≡ Some item
@@ -33,7 +33,7 @@ record Missing {X : Type 0} (p : X → Bool) (xs : List X) : Type 0 where
   placed : position p xs ≡ None
   found : find p xs ≡ None
 
-cases_first : {X : Type 0} (p : X → Bool) (xs : List X) → Found p xs ⊎ Missing p xs
+cases_first : {X : Type 0} (p : X → Bool) (xs : List X) → FirstPassing p xs ⊎ Missing p xs
 cases_first p xs =
     let i : ℕ = position_or_len p xs in
     elim (slice_get_cases xs i).1 [
@@ -73,7 +73,8 @@ bytes_eq-sym xs ys = elim (cases_Bool (bytes_eq xs ys)) [
 abbrev is_named : List ℕ → Station → Bool
 is_named name station = bytes_eq station.name name
 
-finds_station : (book : Book) (table : List Offsets) (name : List ℕ) → Found (is_named name) book.stations → FindsStation book table name
+finds_station : (book : Book) (table : List Offsets) (name : List ℕ) → FirstPassing (is_named name) book.stations
+    → FindsStation book table name
 unfolding basis_of
 finds_station book table name f = record {
   index = f.index;
@@ -86,7 +87,8 @@ finds_station book table name f = record {
 abbrev row_is_named : List ℕ → Offsets → Bool
 row_is_named name row = bytes_eq row.name name
 
-finds_row : (book : Book) (table : List Offsets) (name : List ℕ) → Missing (is_named name) book.stations → Found (row_is_named name) table → FindsRow book table name
+finds_row : (book : Book) (table : List Offsets) (name : List ℕ) → Missing (is_named name) book.stations
+    → FirstPassing (row_is_named name) table → FindsRow book table name
 unfolding basis_of basis_in
 finds_row book table name none f = record {
   index = f.index;
@@ -118,7 +120,8 @@ rows-found book table = λ k d within.
 pub says_unit : (book : Book) (index : ℕ) (row : Offsets) → SaysUnit book index row (basis_over book index row)
 unfolding basis_over
 says_unit book index row =
-    let same = find-agree (λ (station : Station). bytes_eq row.reference station.name) (is_named row.reference) (λ station. bytes_eq-sym row.reference station.name) book.stations in
+    let same = find-agree (λ (station : Station). bytes_eq row.reference station.name) (is_named row.reference)
+    (λ station. bytes_eq-sym row.reference station.name) book.stations in
     elim (cases_first (is_named row.reference) book.stations) [
       | inl f ↦
           rw f.placed (record {

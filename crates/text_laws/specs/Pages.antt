@@ -1,5 +1,25 @@
 -- Calendars: the dates and the events of their lines (this project).
-use Rattle.std.specs.Prelude.{◌≡◌, ℕ, ℤ, pos, ◌+ℤ◌, ◌-ℤ◌, ◌≤ℤ◌, int_le, if◌then◌else◌, List, ◌∷◌, ◌++◌, codes, map, All, Option, Some, None, slice_get}
+use Rattle.std.specs.Prelude.{
+  ◌≡◌,
+  ℕ,
+  ℤ,
+  pos,
+  ◌+ℤ◌,
+  ◌-ℤ◌,
+  ◌≤ℤ◌,
+  int_le,
+  if◌then◌else◌,
+  List,
+  ◌∷◌,
+  ◌++◌,
+  codes,
+  map,
+  All,
+  Option,
+  Some,
+  None,
+  slice_get,
+}
 use Rattle.std.specs.List.{flat_map, AllPairs, Contains}
 use Rattle.std.specs.List.Sorted.{IsPermutation}
 use Rattle.calendar_sheet.specs.Calendars.{day_in, entry_in, event_days, events_on}
@@ -10,17 +30,17 @@ use Rattle.zone_time.specs.declared.zone.Zone.{Zone}
 use Rattle.zone_time.specs.Dates.{date_text}
 
 -- a local date, by its day number, and the events of its line
-pub record Page : Type 0 where
+pub record CalendarLine : Type 0 where
   pub day : ℤ
   pub events : List Event
 
 -- the line of a date
-abbrev pub line_of : Zone → Units → Page → List ℕ
-line_of zone units page = date_text page.day ++ flat_map (entry_in zone units) page.events ++ codes "\n"
+abbrev pub line_of : Zone → Units → CalendarLine → List ℕ
+line_of zone units calendar_line = date_text calendar_line.day ++ flat_map (entry_in zone units) calendar_line.events ++ codes "\n"
 
 -- the events of the lines, line after line
-abbrev pub all_events : List Page → List Event
-all_events pages = flat_map (λ page. page.events) pages
+abbrev pub all_events : List CalendarLine → List Event
+all_events calendar_lines = flat_map (λ calendar_line. calendar_line.events) calendar_lines
 
 -- the local dates of the first and the last minute of a span and of events
 abbrev pub dates_of : Zone → List Event → ℤ → ℤ → List ℤ
@@ -55,10 +75,10 @@ DatesAscend zone events = AllPairs (λ event later. day_in zone event.minute ≤
 -- a calendar that has each event once, on the line of its local date: `dated` has the events of each line,
 -- in their order, and `once` says that all lines together have exactly the events
 pub record IsCalendar (name : List ℕ) (units : Units) (zone : Zone) (events : List Event) (begin end : ℤ) (text : List ℕ) : Type 0 where
-  pub pages : List Page
-  pub text_is : text ≡ listing_of name (map (line_of zone units) pages)
-  pub single : All IsLine (map (line_of zone units) pages)
-  pub dates : RunThrough (dates_of zone events begin end) (map (λ page. page.day) pages)
-  pub dated : All (λ page. page.events ≡ events_on zone events page.day) pages
-  pub once : IsPermutation (all_events pages) events
-  pub in_order : DatesAscend zone events → all_events pages ≡ events
+  pub calendar_lines : List CalendarLine
+  pub text_is : text ≡ listing_of name (map (line_of zone units) calendar_lines)
+  pub single : All IsLine (map (line_of zone units) calendar_lines)
+  pub dates : RunThrough (dates_of zone events begin end) (map (λ calendar_line. calendar_line.day) calendar_lines)
+  pub dated : All (λ calendar_line. calendar_line.events ≡ events_on zone events calendar_line.day) calendar_lines
+  pub once : IsPermutation (all_events calendar_lines) events
+  pub in_order : DatesAscend zone events → all_events calendar_lines ≡ events

@@ -45,7 +45,8 @@ pub record ShowOneLevel (name : List ℕ) (zone : Zone) (row : List (List ℕ)) 
 
 -- equally many records after the header of one text and lines after the name of the other, related pair by
 -- pair, in order
-pub record AreOneList (header : List (List ℕ)) (name : List ℕ) (Related : List (List ℕ) → List ℕ → Type 0) (csv plain : List ℕ) : Type 0 where
+pub record AreOneList (header : List (List ℕ)) (name : List ℕ) (Related : List (List ℕ) → List ℕ → Type 0)
+    (csv plain : List ℕ) : Type 0 where
   pub rows : List (List (List ℕ))
   pub lines : List (List ℕ)
   pub read : records_in csv ≡ header ∷ rows

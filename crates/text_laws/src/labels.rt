@@ -47,6 +47,7 @@ pub fn minute_of_local(local: Local) -> i64
 /// The same minute by universal time and by a clock five hours behind it.
 pub fn worked_labels()
     ensures universal { minute_of (local_in Zone.Utc (pos 15791759)) ≡ pos 15791759 }
-    ensures behind { local_in (Zone.Fixed (negsuc 299)) (pos 15791759) ≡ record { minute = pos 15791459; label = Label.Minutes (negsuc 299) } }
+    ensures behind { local_in (Zone.Fixed (negsuc 299)) (pos 15791759)
+        ≡ record { minute = pos 15791459; label = Label.Minutes (negsuc 299) } }
     ensures same { minute_of (local_in (Zone.Fixed (negsuc 299)) (pos 15791759)) ≡ pos 15791759 }
 {}

@@ -7,7 +7,7 @@ ghost use Rattle.harmonics_text.specs.declared.book.Units.{Units};
 ghost use Rattle.listing.specs.declared.row.Row.{Row};
 ghost use Rattle.listing.specs.Listings.{row_line_in};
 ghost use Rattle.text_laws.specs.Lines.{IsLevel, IsLine};
-ghost use Rattle.text_laws.specs.Pages.{line_of, Page};
+ghost use Rattle.text_laws.specs.Pages.{line_of, CalendarLine};
 ghost use Rattle.zone_time.specs.declared.zone.Zone.{Zone};
 
 /// The line of an event, of a level and of a date ends with its only LF, and has no other byte
@@ -15,5 +15,6 @@ ghost use Rattle.zone_time.specs.declared.zone.Zone.{Zone};
 pub fn lines_end_once()
     ensures events { (zone : Zone) (units : Units) (event : Event) → IsLevel event.level → IsLine (event_line_in zone units event) }
     ensures heights { (zone : Zone) (units : Units) (row : Row) → IsLevel row.level → IsLine (row_line_in zone units row) }
-    ensures dates { (zone : Zone) (units : Units) (page : Page) → All (λ event. IsLevel event.level) page.events → IsLine (line_of zone units page) }
+    ensures dates { (zone : Zone) (units : Units) (calendar_line : CalendarLine)
+        → All (λ event. IsLevel event.level) calendar_line.events → IsLine (line_of zone units calendar_line) }
 {}

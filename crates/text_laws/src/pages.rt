@@ -17,7 +17,8 @@ ghost use Rattle.zone_time.specs.declared.zone.Zone.{Zone};
 /// their order unless the clock goes back from one date to the one before. The calendar of no minute
 /// has no line.
 pub fn calendar_shows_each_event_once()
-    ensures shown { (name : List ℕ) (units : Units) (events : List Event) (zone : Zone) (begin end : ℤ) → begin <ℤ end → All (λ event. IsLevel event.level) events →
+    ensures shown { (name : List ℕ) (units : Units) (events : List Event) (zone : Zone) (begin end : ℤ) → begin <ℤ end
+        → All (λ event. IsLevel event.level) events →
         IsCalendar name units zone events begin end (calendar_text_of name units events zone begin end) }
     ensures no_minute { (name : List ℕ) (units : Units) (events : List Event) (zone : Zone) (begin end : ℤ) → end ≤ℤ begin →
         calendar_text_of name units events zone begin end ≡ listing_of name [] }
@@ -33,8 +34,10 @@ pub fn dates_that_go_back_change_the_order()
 /// Events in the order of their minutes have ascending dates in universal time and by a clock with
 /// a fixed offset.
 pub fn fixed_clocks_keep_the_order()
-    ensures universal { (events : List Event) → AllPairs (λ event later. event.minute ≤ℤ later.minute) events → DatesAscend Zone.Utc events }
-    ensures fixed { (ahead : ℤ) (events : List Event) → AllPairs (λ event later. event.minute ≤ℤ later.minute) events → DatesAscend (Zone.Fixed ahead) events }
+    ensures universal { (events : List Event) → AllPairs (λ event later. event.minute ≤ℤ later.minute) events
+        → DatesAscend Zone.Utc events }
+    ensures fixed { (ahead : ℤ) (events : List Event) → AllPairs (λ event later. event.minute ≤ℤ later.minute) events
+        → DatesAscend (Zone.Fixed ahead) events }
 {}
 
 /// Two events that have one date in universal time, and two dates by a clock 14 hours ahead of it.

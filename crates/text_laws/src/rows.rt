@@ -24,7 +24,8 @@ pub fn records_read_back()
 /// is the level of the record, rounded to hundredths.
 pub fn csv_and_plain_show_one_list()
     ensures events { (name : List ℕ) (units : Units) (events : List Event) (zone : Zone) → All (λ event. IsLevel event.level) events →
-        AreOneList event_header name (ShowOneEvent name zone) (csv_events_of name units events zone) (plain_events_of name units events zone) }
+        AreOneList event_header name (ShowOneEvent name zone) (csv_events_of name units events zone)
+        (plain_events_of name units events zone) }
     ensures heights { (name : List ℕ) (units : Units) (rows : List Row) (zone : Zone) → All (λ row. IsLevel row.level) rows →
         AreOneList row_header name (ShowOneLevel name zone) (csv_heights_of name units rows zone) (plain_heights_of name units rows zone) }
 {}

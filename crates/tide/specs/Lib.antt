@@ -1,3 +1,3 @@
-pub mod NoWords
+pub mod ArgumentErrors
 pub mod Pages
 pub mod Promises

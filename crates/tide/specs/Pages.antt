@@ -5,11 +5,11 @@ use Rattle.std.specs.Str.{bytes_eq}
 use Rattle.tide_answer.specs.declared.text.Answer.{Answer}
 use Rattle.named_files.specs.declared.no_answer.NoAnswer.{NoAnswer}
 use Rattle.tide.specs.declared.help.TheConstants.{HELP, VERSION}
-use Rattle.tide.specs.declared.help.Page.{Page}
-use Rattle.tide.specs.declared.help.Page.TheVariants.{Help, Version}
+use Rattle.tide.specs.declared.help.InfoPage.{InfoPage}
+use Rattle.tide.specs.declared.help.InfoPage.TheVariants.{Help, Version}
 
 -- the text of a page
-abbrev pub page_text : Page → List ℕ
+abbrev pub page_text : InfoPage → List ℕ
 page_text Help = HELP.now
 page_text Version = VERSION.now
 
@@ -31,7 +31,7 @@ first_asks_for_version [] = false
 first_asks_for_version (word ∷ words) = asks_for_version word
 
 -- the page that the arguments request: any of them can request help, and the first the version
-abbrev pub page_of : List (List ℕ) → Option Page
+abbrev pub page_of : List (List ℕ) → Option InfoPage
 page_of words =
     if list_any asks_for_help words then Some Help
     else if first_asks_for_version words then Some Version
@@ -45,7 +45,7 @@ asks_to_serve (word ∷ words) = bytes_eq word (codes "serve")
 -- ---- The three kinds of arguments
 
 -- the page as an answer
-abbrev pub page_answer : Page → Result Answer NoAnswer
+abbrev pub page_answer : InfoPage → Result Answer NoAnswer
 page_answer page = Ok (record { text = page_text page; rejected = false; cells = 0 })
 
 -- the arguments request no page, and aren't `serve`

@@ -8,15 +8,15 @@ use Rattle.report_sheets.specs.Tallies.{tally_sheet}
 use Rattle.tide_desk.specs.Outcomes.{EndsAs, outputs}
 use Rattle.tide_desk.specs.Promises.{AnswersAs, objects, states}
 use Rattle.tide_edge.specs.Clocks.{ClockState}
-use Rattle.tide_edge.specs.Doors.{DoorState, no_connections, unasked}
+use Rattle.tide_edge.specs.Doors.{DoorState, no_connections, not_listening}
 use Rattle.tide_edge.specs.FileStates.{FilesState, no_openings}
 use Rattle.tide_edge.specs.SinkStates.{SinkState, Wrote}
 use Rattle.tide_fault.specs.declared.status.Status.{Status}
 use Rattle.tide_fault.specs.declared.status.Status.TheVariants.{NoMemory}
 use Rattle.tide_server.specs.Promises.{ServesAs, services, service_states}
-use Rattle.tide.specs.NoWords.{Given, HasWords, LacksWords, line_of, status_of}
+use Rattle.tide.specs.ArgumentErrors.{Given, HasWords, LacksWords, line_of, status_of}
 use Rattle.tide.specs.Pages.{AsksAnswer, AsksService, page_answer, page_of}
-use Rattle.tide.specs.declared.arguments.NoWords.{NoWords}
+use Rattle.tide.specs.declared.arguments.ArgumentError.{ArgumentError}
 
 -- the sheets of a report, in their order, each with the greatest number of its events
 abbrev pub program_sheets : List SheetMeaning
@@ -49,7 +49,8 @@ world_states files door out err clock = record { files = files; door = door; out
 
 -- The arguments request a page or an answer, or serve. A page is written without allocating and touches
 -- nothing else, an answer doesn't touch the port, and serving doesn't touch `out`.
-pub record RespondsAs {F D O E K : Type 0} (s : WorldStates F D O E K) (sheets : List SheetMeaning) (words : List (List ℕ)) (status : Status)
+pub record RespondsAs {F D O E K : Type 0} (s : WorldStates F D O E K) (sheets : List SheetMeaning)
+    (words : List (List ℕ)) (status : Status)
     (before after : World F D O E K) : Type 0 where
   pub page : IfSome (page_of words) (λ page. EndsAs (page_answer page) status
       (outputs (s.out before.out) (s.err before.err)) (outputs (s.out after.out) (s.err after.err)))
@@ -65,7 +66,8 @@ pub record RespondsAs {F D O E K : Type 0} (s : WorldStates F D O E K) (sheets :
 -- ---- The program's arguments
 
 -- There are no arguments: one line on standard error and the status say why, and nothing else is touched.
-pub record RefusesAs {F D O E K : Type 0} (s : WorldStates F D O E K) (why : NoWords) (status : Status) (before after : World F D O E K)
+pub record RefusesAs {F D O E K : Type 0} (s : WorldStates F D O E K) (why : ArgumentError) (status : Status)
+    (before after : World F D O E K)
     : Type 0 where
   pub says : status ≡ status_of why
   pub failed : Bool
@@ -80,7 +82,7 @@ pub record RefusesAs {F D O E K : Type 0} (s : WorldStates F D O E K) (why : NoW
 abbrev pub AnswersArguments : {F D O E K A : Type 0} → WorldStates F D O E K → Given A → Status → World F D O E K → World F D O E K → Type 0
 AnswersArguments s arguments status before after =
     ((words : List (List ℕ)) × HasWords arguments words × RespondsAs s program_sheets words status before after)
-    ⊎ ((why : NoWords) × LacksWords arguments why × RefusesAs s why status before after)
+    ⊎ ((why : ArgumentError) × LacksWords arguments why × RefusesAs s why status before after)
 
 -- ---- The machine
 
@@ -89,7 +91,7 @@ pub record IsFresh {F D O E K : Type 0} (s : WorldStates F D O E K) (w : World F
   pub openings : (s.files w.files).openings ≡ no_openings
   pub reads : (s.files w.files).reads ≡ record { opens = 0; ends = 0; bytes = 0 }
   pub files_faults : (s.files w.files).faults ≡ 0
-  pub doorway : (s.door w.door).doorway ≡ unasked
+  pub doorway : (s.door w.door).doorway ≡ not_listening
   pub connections : (s.door w.door).connections ≡ no_connections
   pub door_faults : (s.door w.door).faults ≡ 0
   pub line_faults : (s.door w.door).line_faults ≡ 0

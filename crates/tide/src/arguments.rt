@@ -3,7 +3,7 @@
 ghost use Rattle.std.specs.Prelude.{◌≡◌, ◌↔◌, Bool, IfOk, IfErr, map, drop, string_bytes};
 ghost use Rattle.std.specs.Vec.Iter.{into_iter_items};
 ghost use Rattle.tide_edge.specs.SinkStates.{Wrote};
-ghost use Rattle.tide.specs.NoWords.{HasWords, LacksWords, line_of, status_of};
+ghost use Rattle.tide.specs.ArgumentErrors.{HasWords, LacksWords, line_of, status_of};
 
 use decimal_text::{Text, Words};
 use named_files::refuse;
@@ -15,7 +15,7 @@ use tide_fault::Status;
 
 /// A reason for which the program has no arguments.
 #[derive(Clone, Copy, Debug, PartialEq, Eq)]
-pub enum NoWords {
+pub enum ArgumentError {
     /// One of them isn't UTF-8.
     NotText,
     /// Memory ran out.
@@ -25,24 +25,24 @@ pub enum NoWords {
 /// Returns the arguments after the program's name, from those of the system.
 ///
 /// # Errors
-/// [`NoWords::NotText`] if one isn't UTF-8, and [`NoWords::NoMemory`] if memory runs out.
-pub fn words_from(alloc: Global, arguments: io::Result<Args>) -> Result<Words, NoWords>
+/// [`ArgumentError::NotText`] if one isn't UTF-8, and [`ArgumentError::NoMemory`] if memory runs out.
+pub fn words_from(alloc: Global, arguments: io::Result<Args>) -> Result<Words, ArgumentError>
     ensures words { IfOk result (HasWords arguments) }
     ensures refused { IfErr result (LacksWords arguments) }
 {
     match arguments {
-        Ok(arguments) => words_of(alloc, arguments).map_err(|_| NoWords::NoMemory),
+        Ok(arguments) => words_of(alloc, arguments).map_err(|_| ArgumentError::NoMemory),
         Err(fault) => Err(why_of(fault.kind())),
     }
 }
 
 // Returns the reason for which the system has no arguments.
-fn why_of(kind: ErrorKind) -> NoWords
-    ensures { (result ≡ NoWords.NoMemory) ↔ (kind ≡ ErrorKind.OutOfMemory) }
+fn why_of(kind: ErrorKind) -> ArgumentError
+    ensures { (result ≡ ArgumentError.NoMemory) ↔ (kind ≡ ErrorKind.OutOfMemory) }
 {
     match kind {
-        ErrorKind::OutOfMemory => NoWords::NoMemory,
-        _ => NoWords::NotText,
+        ErrorKind::OutOfMemory => ArgumentError::NoMemory,
+        _ => ArgumentError::NotText,
     }
 }
 
@@ -59,12 +59,12 @@ pub fn words_of(alloc: Global, mut arguments: Args) -> Result<Words, AllocError>
 }
 
 /// Writes the line of the reason `why`, and returns its exit status.
-pub fn tell_no_words<E: Sink>(why: NoWords, err: &mut E) -> Status
+pub fn report_argument_error<E: Sink>(why: ArgumentError, err: &mut E) -> Status
     ensures status { result ≡ status_of why }
     ensures line { (failed : Bool) × Wrote (E.state err.old) (E.state err.new) failed (line_of why) }
 {
     match why {
-        NoWords::NotText => refuse(err, Status::Words, b"words: refused\n"),
-        NoWords::NoMemory => refuse(err, Status::NoMemory, b"no memory\n"),
+        ArgumentError::NotText => refuse(err, Status::Words, b"words: refused\n"),
+        ArgumentError::NoMemory => refuse(err, Status::NoMemory, b"no memory\n"),
     }
 }

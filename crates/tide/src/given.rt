@@ -3,7 +3,7 @@
 ghost use Rattle.std.specs.Prelude.{◌≡◌, None};
 ghost use Rattle.tide.specs.Promises.{AnswersArguments, world, world_states};
 
-use crate::arguments::{NoWords, tell_no_words, words_from};
+use crate::arguments::{ArgumentError, report_argument_error, words_from};
 use crate::sheets::respond_with_sheets;
 use std::alloc::Global;
 use std::env::Args;
@@ -29,10 +29,10 @@ pub fn respond_to<F: Files, D: Door, O: Sink, E: Sink, K: Clock>(
 {
     let words = match words_from(alloc, arguments) {
         Ok(words) => words,
-        Err(why) => return tell_no_words(why, err),
+        Err(why) => return report_argument_error(why, err),
     };
     match respond_with_sheets(alloc, &words, files, door, out, err, clock) {
         Ok(status) => status,
-        Err(_) => tell_no_words(NoWords::NoMemory, err),
+        Err(_) => report_argument_error(ArgumentError::NoMemory, err),
     }
 }

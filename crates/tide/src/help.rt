@@ -64,19 +64,19 @@ const VERSION: &str = "tide 1.0.0\n";
 
 /// A page about the program itself.
 #[derive(Clone, Copy, Debug, PartialEq, Eq)]
-pub enum Page {
+pub enum InfoPage {
     Help,
     Version,
 }
 
-impl Page {
+impl InfoPage {
     /// Returns the text of the page.
     pub fn text(self) -> &'static str
         ensures { result.now ≡ page_text self }
     {
         match self {
-            Page::Help => HELP,
-            Page::Version => VERSION,
+            InfoPage::Help => HELP,
+            InfoPage::Version => VERSION,
         }
     }
 }
@@ -84,13 +84,13 @@ impl Page {
 /// Returns the page that the arguments `words` request: help if any of them is `-h` or `--help`,
 /// and otherwise the version if the first is `-V` or `--version`. Returns `None` for all other
 /// arguments.
-pub fn page_asked(words: &Words) -> Option<Page>
+pub fn page_asked(words: &Words) -> Option<InfoPage>
     ensures { result ≡ page_of words.now }
 {
     if any_asks_for_help(words.as_slice()) {
-        Some(Page::Help)
+        Some(InfoPage::Help)
     } else if first_asks_for_version(words) {
-        Some(Page::Version)
+        Some(InfoPage::Version)
     } else {
         None
     }

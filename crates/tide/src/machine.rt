@@ -28,14 +28,14 @@ where
     let mut door = HostDoor::new(machine);
     let mut clock = HostClock::new(machine);
     let mut written = HostSink::new(out);
-    let mut told = HostSink::new(err);
+    let mut printed = HostSink::new(err);
     respond_to(
         machine.alloc(),
         arguments,
         &mut files,
         &mut door,
         &mut written,
-        &mut told,
+        &mut printed,
         &mut clock,
     )
 }

@@ -6,7 +6,7 @@ ghost use Rattle.tide_fault.specs.declared.status.Status.{Status};
 ghost use Rattle.tide.specs.Pages.{page_answer};
 ghost use Rattle.tide.specs.Promises.{RespondsAs, world, world_states};
 
-use crate::help::{Page, asks_to_serve, page_asked};
+use crate::help::{InfoPage, asks_to_serve, page_asked};
 use decimal_text::Words;
 use named_files::refuse;
 use report_sheets::Sheet;
@@ -42,7 +42,7 @@ pub fn respond<F: Files, D: Door, O: Sink, E: Sink, K: Clock>(
 }
 
 /// Writes `page` to `out`, and returns the exit status.
-fn write_page<O: Sink, E: Sink>(page: Page, out: &mut O, err: &mut E) -> Status
+fn write_page<O: Sink, E: Sink>(page: InfoPage, out: &mut O, err: &mut E) -> Status
     ensures ends { EndsAs (page_answer page) result
         (outputs (O.state out.old) (E.state err.old)) (outputs (O.state out.new) (E.state err.new)) }
     ensures memory { ¬ (result ≡ Status.NoMemory) }

@@ -35,9 +35,11 @@ pub fn respond_with_sheets<F: Files, D: Door, O: Sink, E: Sink, K: Clock>(
     clock: &mut K,
 ) -> Result<Status, AllocError>
     requires { (D.state door.old).doorway.port ≡ None }
-    ensures responds { IfOk result (λ status. RespondsAs (world_states F.state D.state O.state E.state K.state) program_sheets words.now status
+    ensures responds { IfOk result
+        (λ status. RespondsAs (world_states F.state D.state O.state E.state K.state) program_sheets words.now status
         (world files.old door.old out.old err.old clock.old) (world files.new door.new out.new err.new clock.new)) }
-    ensures untouched { OnErr result ((files.new ≡ files.old) × (door.new ≡ door.old) × (out.new ≡ out.old) × (err.new ≡ err.old) × (clock.new ≡ clock.old)) }
+    ensures untouched { OnErr result ((files.new ≡ files.old) × (door.new ≡ door.old) × (out.new ≡ out.old)
+        × (err.new ≡ err.old) × (clock.new ≡ clock.old)) }
 {
     let mut sheets: Vec<Box<dyn Sheet>> = Vec::new(alloc);
     sheets.push(Box::new(alloc, Tally::new(alloc, MOST_COUNTED))?)?;

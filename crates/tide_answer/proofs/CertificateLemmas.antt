@@ -15,7 +15,7 @@ use Rattle.curve_law.specs.declared.verdict.Verdict.TheVariants.{Accepted}
 use Rattle.curve_law.specs.Meaning.{Meaning, IsSpan}
 use Rattle.curve_law.specs.Verdicts.{verdict}
 use Rattle.event_list.specs.declared.span.Span.{Span}
-use Rattle.event_list.specs.Events.{Followed, IsKnown, AreAccepted, IsAccepted, minutes_in, cover_over, covers_of, cell_count, cells_in}
+use Rattle.event_list.specs.Events.{Followed, IsValidOver, AreAccepted, IsAccepted, span_minutes, cover_over, covers_of, cell_count, cells_in}
 use Rattle.event_list.specs.Shifts.{widened_of}
 use Rattle.event_list.proofs.EventLemmas.{covers-accepted}
 use Rattle.harmonics_text.specs.declared.book.Book.{Book}
@@ -23,7 +23,7 @@ use Rattle.rate_bound.specs.declared.version.Version.{Version}
 use Rattle.rate_bound.specs.declared.version.Version.TheVariants.{Second}
 use Rattle.rate_bound.specs.Meanings.{turn_meaning}
 use Rattle.station_curve.specs.Levels.{millionths_of}
-use Rattle.station_curve.specs.Limits.{IsGentle}
+use Rattle.station_curve.specs.Limits.{IsWithinLimits}
 use Rattle.station_curve.specs.Waves.{Tide}
 use Rattle.station_table.specs.declared.offsets.Offsets.{Offsets}
 use Rattle.zone_time.specs.Moments.{IsMoment}
@@ -36,12 +36,14 @@ use Rattle.station_span.specs.Sites.{Site, site_in}
 use Rattle.tide_answer.specs.Workings.Certifying.{certificate_in}
 use Rattle.station_span.specs.Workings.Curves.{followed_tide, IsReady}
 use Rattle.station_cells.proofs.CellLemmas.{IsOf, accepted_track, few_track, usual_track}
-use Rattle.station_span.proofs.FollowLemmas.{ready_known, few_cells}
+use Rattle.station_span.proofs.FollowLemmas.{ready_valid_over, few_cells}
 use Rattle.station_span.proofs.MovableLemmas.{millionths_small}
 
 -- ---- the number of cells
 
-pub tracks_few : (asked : Asked) (found : SiteTide) (tracks : Tracks) → IsReady asked found → tracks ≡ covers_of (followed_tide Second found asked.mark) (widened_of found.basis asked.begin asked.end) → cells_in tracks < 2 ^ 64
+pub tracks_few : (asked : Asked) (found : SiteTide) (tracks : Tracks) → IsReady asked found
+    → tracks ≡ covers_of (followed_tide Second found asked.mark) (widened_of found.basis asked.begin asked.end)
+    → cells_in tracks < 2 ^ 64
 tracks_few asked found tracks ready same = rw same (few_cells asked found ready)
 
 -- ---- the parts are within their ranges
@@ -50,11 +52,14 @@ if_some : (P : ℤ → Type 0) (o : Option ℤ) → ForSome o P → IfSome o P
 if_some P (Some x) holds = holds x refl
 if_some P None holds = tt
 
-of_notes : (track : TrackName) (tide : Tide) (c : Meaning) → IsGentle tide → c.first ≡ (turn_meaning Second tide).first → c.last ≡ (turn_meaning Second tide).last → c.track.note ≡ millionths_of tide → track_of c.track.rising ≡ track → track_of c.track.falling ≡ track → IsOf track c
-of_notes track tide c gentle first last note rising falling = record {
+of_notes : (track : TrackName) (tide : Tide) (c : Meaning) → IsWithinLimits tide → c.first
+    ≡ (turn_meaning Second tide).first → c.last ≡ (turn_meaning Second tide).last → c.track.note ≡ millionths_of tide
+    → track_of c.track.rising ≡ track → track_of c.track.falling ≡ track → IsOf track c
+of_notes track tide c within_limits first last note rising falling = record {
   rising = rising;
   falling = falling;
-  small = λ m minute. rw note (millionths_small tide m gentle (record { least = rw first at minute.first; most = rw last at minute.last }));
+  small = λ m minute.
+      rw note (millionths_small tide m within_limits (record { least = rw first at minute.first; most = rw last at minute.last }));
 }
 
 of_if_asked : (asks : Bool) (c : Meaning) → IsOf Slack c → ForSome (if_asked asks c) (IsOf Slack)
@@ -71,48 +76,61 @@ record AreOf (f : Followed) : Type 0 where
   pub slack : ForSome f.slack (IsOf Slack)
   pub mark : ForSome f.mark (IsOf Mark)
 
-followed_of : (version : Version) (found : SiteTide) (mark : Option ℤ) → IsGentle found.curve → AreOf (followed_tide version found mark)
+followed_of : (version : Version) (found : SiteTide) (mark : Option ℤ) → IsWithinLimits found.curve
+    → AreOf (followed_tide version found mark)
 unfolding followed_tide
-followed_of version found mark gentle = record {
-  turn = of_notes Turn found.curve _ gentle refl refl refl refl refl;
-  slack = of_if_asked _ _ (of_notes Slack found.curve _ gentle refl refl refl refl refl);
-  mark = of_if_marked mark _ (λ level. of_notes Mark found.curve _ gentle refl refl refl refl refl);
+followed_of version found mark within_limits = record {
+  turn = of_notes Turn found.curve _ within_limits refl refl refl refl refl;
+  slack = of_if_asked _ _ (of_notes Slack found.curve _ within_limits refl refl refl refl refl);
+  mark = of_if_marked mark _ (λ level. of_notes Mark found.curve _ within_limits refl refl refl refl refl);
 }
 
 -- a fact of an accepted track holds of one that may be absent
-track_if : (P : List Cell → Type 0) (track : TrackName) (s : Span) (curve : Option Meaning) (cells : Option (List Cell)) → ((c : Meaning) (cells : List Cell) → IsOf track c → IsSpan c s.begin (minutes_in s) → verdict c s.begin (minutes_in s) cells ≡ Accepted → P cells) → ForSome curve (IsOf track) → ForSome curve (IsKnown s) → IsAccepted s curve cells → IfSome cells P
-track_if P track s None None each of known accepted = tt
-track_if P track s None (Some cells) each of known accepted = absurd accepted
-track_if P track s (Some c) None each of known accepted = absurd accepted
-track_if P track s (Some c) (Some cells) each of known accepted = each c cells (of c refl) (known c refl).span accepted
+track_if : (P : List Cell → Type 0) (track : TrackName) (s : Span) (curve : Option Meaning) (cells : Option (List Cell))
+    → ((c : Meaning) (cells : List Cell) → IsOf track c → IsSpan c s.begin (span_minutes s)
+    → verdict c s.begin (span_minutes s) cells ≡ Accepted → P cells) → ForSome curve (IsOf track)
+    → ForSome curve (IsValidOver s) → IsAccepted s curve cells → IfSome cells P
+track_if P track s None None each of valid_over accepted = tt
+track_if P track s None (Some cells) each of valid_over accepted = absurd accepted
+track_if P track s (Some c) None each of valid_over accepted = absurd accepted
+track_if P track s (Some c) (Some cells) each of valid_over accepted = each c cells (of c refl) (valid_over c refl).span accepted
 
-track_sound : (track : TrackName) (s : Span) (curve : Option Meaning) (cells : Option (List Cell)) → ForSome curve (IsOf track) → ForSome curve (IsKnown s) → IsAccepted s curve cells → IfSome cells (All (IsCellOf track))
-track_sound track s curve cells = track_if (All (IsCellOf track)) track s curve cells (λ c cells is span ok. accepted_track track c s cells is span ok)
+track_valid : (track : TrackName) (s : Span) (curve : Option Meaning) (cells : Option (List Cell))
+    → ForSome curve (IsOf track) → ForSome curve (IsValidOver s) → IsAccepted s curve cells
+    → IfSome cells (All (IsCellOf track))
+track_valid track s curve cells = track_if (All (IsCellOf track)) track s curve cells
+    (λ c cells is span ok. accepted_track track c s cells is span ok)
 
-track_usual : (track : TrackName) (s : Span) (curve : Option Meaning) (cells : Option (List Cell)) → ForSome curve (IsOf track) → ForSome curve (IsKnown s) → IsAccepted s curve cells → IfSome cells (All HasUsualLevel)
-track_usual track s curve cells = track_if (All HasUsualLevel) track s curve cells (λ c cells is span ok. usual_track track c s cells is span ok)
+track_usual : (track : TrackName) (s : Span) (curve : Option Meaning) (cells : Option (List Cell))
+    → ForSome curve (IsOf track) → ForSome curve (IsValidOver s) → IsAccepted s curve cells
+    → IfSome cells (All HasUsualLevel)
+track_usual track s curve cells =
+    track_if (All HasUsualLevel) track s curve cells (λ c cells is span ok. usual_track track c s cells is span ok)
 
 marked_alike : (mark : Option ℤ) (f : ℤ → Meaning) (g : Meaning → List Cell) → is_some (option_map g (option_map f mark)) ≡ is_some mark
 marked_alike (Some level) f g = refl
 marked_alike None f g = refl
 
-pub certificate_sound : (name : List ℕ) (asked : Asked) (found : SiteTide) (tracks : Tracks) → IsStationName name → IsMoment asked.begin → IsMoment asked.end → IsReady asked found → tracks ≡ covers_of (followed_tide Second found asked.mark) (widened_of found.basis asked.begin asked.end) → IsCertificate (certificate_in name asked tracks)
+pub certificate_valid : (name : List ℕ) (asked : Asked) (found : SiteTide) (tracks : Tracks) → IsStationName name
+    → IsMoment asked.begin → IsMoment asked.end → IsReady asked found
+    → tracks ≡ covers_of (followed_tide Second found asked.mark) (widened_of found.basis asked.begin asked.end)
+    → IsCertificate (certificate_in name asked tracks)
 unfolding followed_tide
-certificate_sound name asked found tracks named begin end ready same =
+certificate_valid name asked found tracks named begin end ready same =
     let s = widened_of found.basis asked.begin asked.end in
     let f = followed_tide Second found asked.mark in
-    let known = ready_known Second asked found ready in
+    let valid_over = ready_valid_over Second asked found ready in
     let accepted = covers-accepted f s in
-    let of = followed_of Second found asked.mark ready.gentle in
+    let of = followed_of Second found asked.mark ready.within_limits in
     rw same (record {
       version = inr refl;
       station = named;
       begin = begin;
       end = end;
       mark = if_some (λ level. unsigned_abs level ≤ 10000000000) asked.mark ready.mark;
-      turn = accepted_track Turn f.turn s (cover_over s f.turn) of.turn known.turn.span accepted.turn;
-      slack = track_sound Slack s f.slack (option_map (cover_over s) f.slack) of.slack known.slack accepted.slack;
-      crossings = track_sound Mark s f.mark (option_map (cover_over s) f.mark) of.mark known.mark accepted.mark;
+      turn = accepted_track Turn f.turn s (cover_over s f.turn) of.turn valid_over.turn.span accepted.turn;
+      slack = track_valid Slack s f.slack (option_map (cover_over s) f.slack) of.slack valid_over.slack accepted.slack;
+      crossings = track_valid Mark s f.mark (option_map (cover_over s) f.mark) of.mark valid_over.mark accepted.mark;
       marked = marked_alike asked.mark _ (cover_over s);
     })
 
@@ -123,16 +141,17 @@ pub accepted_usual : (version : Version) (asked : Asked) (found : SiteTide) (c :
 accepted_usual version asked found c ready accepted =
     let s = widened_of found.basis asked.begin asked.end in
     let f = followed_tide version found asked.mark in
-    let known = ready_known version asked found ready in
-    let of = followed_of version found asked.mark ready.gentle in
+    let valid_over = ready_valid_over version asked found ready in
+    let of = followed_of version found asked.mark ready.within_limits in
     record {
-      turn = usual_track Turn f.turn s c.tracks.turn of.turn known.turn.span accepted.turn;
-      slack = track_usual Slack s f.slack c.tracks.slack of.slack known.slack accepted.slack;
-      crossings = track_usual Mark s f.mark c.tracks.mark of.mark known.mark accepted.mark;
+      turn = usual_track Turn f.turn s c.tracks.turn of.turn valid_over.turn.span accepted.turn;
+      slack = track_usual Slack s f.slack c.tracks.slack of.slack valid_over.slack accepted.slack;
+      crossings = track_usual Mark s f.mark c.tracks.mark of.mark valid_over.mark accepted.mark;
     }
 
 -- the number of minutes of the longest span with a day at both ends
-pub looked_few : (asked : Asked) (found : SiteTide) → IsReady asked found → minutes_in (widened_of found.basis asked.begin asked.end) ≤ 5273280
+pub looked_few : (asked : Asked) (found : SiteTide) → IsReady asked found
+    → span_minutes (widened_of found.basis asked.begin asked.end) ≤ 5273280
 looked_few asked found ready =
     let few = ready.few in
     let forward = ready.forward in
@@ -140,14 +159,16 @@ looked_few asked found ready =
     let ends = ready.beside.ends in
     omega (arith, ints)
 
-track_few : (s : Span) (curve : Option Meaning) (cells : Option (List Cell)) → IsAccepted s curve cells → length (unwrap_or cells []) ≤ minutes_in s
+track_few : (s : Span) (curve : Option Meaning) (cells : Option (List Cell)) → IsAccepted s curve cells
+    → length (unwrap_or cells []) ≤ span_minutes s
 track_few s None None accepted = omega arith
 track_few s None (Some cells) accepted = absurd accepted
 track_few s (Some c) None accepted = absurd accepted
 track_few s (Some c) (Some cells) accepted = few_track c s cells accepted
 
 pub accepted_few : (version : Version) (asked : Asked) (found : SiteTide) (c : Certificate) → IsReady asked found
-    → AreAccepted (followed_tide version found asked.mark) (widened_of found.basis asked.begin asked.end) c.tracks → cells_of_all c ≤ 15819840
+    → AreAccepted (followed_tide version found asked.mark) (widened_of found.basis asked.begin asked.end) c.tracks
+    → cells_of_all c ≤ 15819840
 accepted_few version asked found c ready accepted =
     let s = widened_of found.basis asked.begin asked.end in
     let f = followed_tide version found asked.mark in
@@ -156,13 +177,17 @@ accepted_few version asked found c ready accepted =
     let crossings = track_few s f.mark c.tracks.mark accepted.mark in
     omega (arith, looked_few asked found ready, turn, slack, crossings)
 
-pub certificate_usual : (name : List ℕ) (asked : Asked) (found : SiteTide) (tracks : Tracks) → IsReady asked found → tracks ≡ covers_of (followed_tide Second found asked.mark) (widened_of found.basis asked.begin asked.end) → HasUsualLevels (certificate_in name asked tracks)
+pub certificate_usual : (name : List ℕ) (asked : Asked) (found : SiteTide) (tracks : Tracks) → IsReady asked found
+    → tracks ≡ covers_of (followed_tide Second found asked.mark) (widened_of found.basis asked.begin asked.end)
+    → HasUsualLevels (certificate_in name asked tracks)
 certificate_usual name asked found tracks ready same =
     let s = widened_of found.basis asked.begin asked.end in
     let f = followed_tide Second found asked.mark in
     rw same (accepted_usual Second asked found (certificate_in name asked (covers_of f s)) ready (covers-accepted f s))
 
-pub certificate_few : (name : List ℕ) (asked : Asked) (found : SiteTide) (tracks : Tracks) → IsReady asked found → tracks ≡ covers_of (followed_tide Second found asked.mark) (widened_of found.basis asked.begin asked.end) → cells_of_all (certificate_in name asked tracks) ≤ 15819840
+pub certificate_few : (name : List ℕ) (asked : Asked) (found : SiteTide) (tracks : Tracks) → IsReady asked found
+    → tracks ≡ covers_of (followed_tide Second found asked.mark) (widened_of found.basis asked.begin asked.end)
+    → cells_of_all (certificate_in name asked tracks) ≤ 15819840
 certificate_few name asked found tracks ready same =
     let s = widened_of found.basis asked.begin asked.end in
     let f = followed_tide Second found asked.mark in
@@ -170,7 +195,10 @@ certificate_few name asked found tracks ready same =
 
 -- ---- the answer
 
-pub certified_whole : (book : Book) (table : List Offsets) (name : List ℕ) (asked : Asked) (site : Site) (tracks : Tracks) (text : List ℕ) (cells : ℕ) → site_in Events book table name asked ≡ Ok site → tracks ≡ tracks_of book site asked → text ≡ certificate_text (certificate_in name asked tracks) → cells ≡ cells_in tracks → certified book table name asked ≡ Ok (record { text = text; rejected = false; cells = cells })
+pub certified_whole : (book : Book) (table : List Offsets) (name : List ℕ) (asked : Asked) (site : Site)
+    (tracks : Tracks) (text : List ℕ) (cells : ℕ) → site_in Events book table name asked ≡ Ok site → tracks
+    ≡ tracks_of book site asked → text ≡ certificate_text (certificate_in name asked tracks) → cells ≡ cells_in tracks
+    → certified book table name asked ≡ Ok (record { text = text; rejected = false; cells = cells })
 unfolding certified cells_of cell_count tracks_of
 certified_whole book table name asked site tracks text cells expected same written counted =
     rw (expected, written, counted, same) refl

@@ -11,14 +11,14 @@ use Rattle.cert_text.specs.declared.track_name.TrackName.{TrackName}
 use Rattle.cert_text.specs.declared.track_name.TrackName.TheVariants.{Turn, Slack, Mark}
 use Rattle.cert_text.specs.Certificates.{IsCertificate, IsMark}
 use Rattle.cert_text.specs.Lines.{cell_line_of, last_line, head_lines_of, track_lines_of, lines_if_there, lines_of, ended, joined, certificate_text}
-use Rattle.cert_text.specs.Readings.{certificate_of, wants_memory}
+use Rattle.cert_text.specs.Readings.{certificate_of, is_out_of_memory}
 use Rattle.curve_law.specs.declared.cell.Cell.{Cell}
 use Rattle.curve_law.specs.declared.event.Event.{Event}
 use Rattle.curve_law.specs.Meaning.{Meaning}
 use Rattle.curve_law.specs.Track.{plain_list}
 use Rattle.decimal_text.specs.Expected.{Excused}
 use Rattle.event_list.specs.declared.span.Span.{Span}
-use Rattle.event_list.specs.Events.{AreAccepted, AreShort, minutes_in, events_over, station_events, merged_of}
+use Rattle.event_list.specs.Events.{AreAccepted, AreShort, span_minutes, events_over, station_events, merged_of}
 use Rattle.event_list.specs.Order.{ordered}
 use Rattle.event_list.specs.Shifts.{IsMovable, widened_of, moved_within, shifted_of}
 use Rattle.event_list.proofs.EventLemmas.{events_of as events_in, events-parts, shifted-events}
@@ -34,20 +34,20 @@ use Rattle.tide_fault.specs.declared.refusal.Refusal.{Refusal}
 use Rattle.station_cells.specs.declared.rejection.Rejection.{Rejection}
 use Rattle.station_span.specs.Workings.Tides.{SiteTide}
 use Rattle.tide_answer.specs.Answers.{checked, judged, version_of}
-use Rattle.tide_answer.specs.Asking.{asked_in}
-use Rattle.tide_fault.specs.Faults.{refusal_of_cert, wants_memory_of_refusal}
+use Rattle.tide_answer.specs.Asking.{asked_by_certificate}
+use Rattle.tide_fault.specs.Faults.{refusal_of_cert, refusal_is_out_of_memory}
 use Rattle.station_span.specs.Following.{asks_slack, slack_times, slack_plus, if_asked, followed_by, events_of}
 use Rattle.station_cells.specs.Rejections.{rejection_of}
 use Rattle.station_span.specs.Sites.{Site, site_in}
 use Rattle.station_cells.specs.Rejections.{HasFewCells}
 use Rattle.tide_answer.specs.Workings.Certifying.{judged_in, rejection_in}
 use Rattle.station_span.specs.Workings.Curves.{followed_tide, tide_events, IsReady}
-use Rattle.station_span.specs.Workings.Spans.{IsFound, IsNear}
+use Rattle.station_span.specs.Workings.Spans.{IsFound, IsInRange}
 use Rattle.station_cells.proofs.RejectionLemmas.{all_accepted, rejection_alike, tracks_short}
 use Rattle.tide_answer.proofs.CertificateLemmas.{looked_few}
-use Rattle.station_span.specs.declared.found.Found.{Found}
+use Rattle.station_span.specs.declared.found_station.FoundStation.{FoundStation}
 use Rattle.station_span.specs.Workings.Finds.{site_of, tide_of_found}
-use Rattle.station_span.proofs.FollowLemmas.{found_alike, found_events, ready_known, ready_movable, ready_of_found, tide_lines}
+use Rattle.station_span.proofs.FollowLemmas.{found_alike, found_events, ready_valid_over, ready_movable, ready_of_found, tide_lines}
 use Rattle.station_span.proofs.HeldLemmas.{found_for, span_for}
 use Rattle.event_text.specs.Lines.{IsListed}
 use Rattle.station_span.proofs.FoundLemmas.{excused_then}
@@ -63,14 +63,16 @@ lines_long (line ∷ lines) =
     let one : length (ended line) ≡ length line + 1 = length-append line (10 ∷ []) in
     omega arith
 
-there_long : (track : TrackName) (o : Option (List Cell)) (most : ℕ) → length (lines_if_there track o) ≤ most → ForSome o (λ cells. length cells ≤ most)
+there_long : (track : TrackName) (o : Option (List Cell)) (most : ℕ) → length (lines_if_there track o) ≤ most
+    → ForSome o (λ cells. length cells ≤ most)
 there_long track (Some cells) most few x e =
     let same : cells ≡ x = cc in
     let all : length (map cell_line_of cells) ≡ length cells = length-map cells cell_line_of in
     rw (← same) (omega (arith, few))
 there_long track None most few x e = absurd cc
 
-fewer : (o : Option (List Cell)) (most : ℕ) → most < 2 ^ 32 → ForSome o (λ cells. length cells ≤ most) → ForSome o (λ cells. length cells < 2 ^ 32)
+fewer : (o : Option (List Cell)) (most : ℕ) → most < 2 ^ 32 → ForSome o (λ cells. length cells ≤ most)
+    → ForSome o (λ cells. length cells < 2 ^ 32)
 fewer o most small each x e = let one = each x e in omega arith
 
 pub few_read : (c : Certificate) (bytes : List ℕ) → certificate_text c ≡ bytes → length bytes ≤ MOST_BYTES → HasFewCells c.tracks
@@ -81,10 +83,14 @@ few_read c bytes text few =
     let long = lines_long (lines_of c) in
     let slack_on = lines_if_there Mark c.tracks.mark ++ last_line ∷ [] in
     let turn_on = lines_if_there Slack c.tracks.slack ++ slack_on in
-    let all : length (lines_of c) ≡ 5 + length (track_lines_of Turn c.tracks.turn ++ turn_on) = length-append (head_lines_of c) (track_lines_of Turn c.tracks.turn ++ turn_on) in
-    let turn : length (track_lines_of Turn c.tracks.turn ++ turn_on) ≡ length (track_lines_of Turn c.tracks.turn) + length turn_on = length-append (track_lines_of Turn c.tracks.turn) turn_on in
-    let slack : length turn_on ≡ length (lines_if_there Slack c.tracks.slack) + length slack_on = length-append (lines_if_there Slack c.tracks.slack) slack_on in
-    let mark : length slack_on ≡ length (lines_if_there Mark c.tracks.mark) + 1 = length-append (lines_if_there Mark c.tracks.mark) (last_line ∷ []) in
+    let all : length (lines_of c) ≡ 5 + length (track_lines_of Turn c.tracks.turn ++ turn_on) =
+    length-append (head_lines_of c) (track_lines_of Turn c.tracks.turn ++ turn_on) in
+    let turn : length (track_lines_of Turn c.tracks.turn ++ turn_on) ≡ length (track_lines_of Turn c.tracks.turn)
+    + length turn_on = length-append (track_lines_of Turn c.tracks.turn) turn_on in
+    let slack : length turn_on ≡ length (lines_if_there Slack c.tracks.slack) + length slack_on =
+    length-append (lines_if_there Slack c.tracks.slack) slack_on in
+    let mark : length slack_on ≡ length (lines_if_there Mark c.tracks.mark) + 1 =
+    length-append (lines_if_there Mark c.tracks.mark) (last_line ∷ []) in
     let cells : length (map cell_line_of c.tracks.turn) ≡ length c.tracks.turn = length-map c.tracks.turn cell_line_of in
     record {
       turn = omega arith;
@@ -104,17 +110,19 @@ unfolding followed_tide
 mark_followed version found (Some level) = refl
 mark_followed version found None = refl
 
-pub tide_accepted : (found : SiteTide) (cert : Certificate) → IsCertificate cert → tide_rejection found cert ≡ None → AreAccepted (followed_tide (version_of cert) found cert.mark) (widened_of found.basis cert.begin cert.end) cert.tracks
-tide_accepted found cert sound none =
+pub tide_accepted : (found : SiteTide) (cert : Certificate) → IsCertificate cert → tide_rejection found cert ≡ None
+    → AreAccepted (followed_tide (version_of cert) found cert.mark) (widened_of found.basis cert.begin cert.end) cert.tracks
+tide_accepted found cert valid none =
     all_accepted (followed_tide (version_of cert) found cert.mark) (widened_of found.basis cert.begin cert.end) cert.tracks
-    (mark_followed (version_of cert) found cert.mark ∙ sym sound.marked) none
+    (mark_followed (version_of cert) found cert.mark ∙ sym valid.marked) none
 
 -- ---- accepted tracks are short
 
-pub ready_short : (found : SiteTide) (cert : Certificate) → IsReady (asked_in cert) found → IsCertificate cert → tide_rejection found cert ≡ None → AreShort cert.tracks
-ready_short found cert ready sound none =
+pub ready_short : (found : SiteTide) (cert : Certificate) → IsReady (asked_by_certificate cert) found
+    → IsCertificate cert → tide_rejection found cert ≡ None → AreShort cert.tracks
+ready_short found cert ready valid none =
     tracks_short (followed_tide (version_of cert) found cert.mark) (widened_of found.basis cert.begin cert.end) cert.tracks
-    (omega (arith, looked_few (asked_in cert) found ready)) (tide_accepted found cert sound none)
+    (omega (arith, looked_few (asked_by_certificate cert) found ready)) (tide_accepted found cert valid none)
 
 -- the result of a step under another name
 pub ok_same : (A E : Type 0) (r : Result A E) (x y : A) → x ≡ y → IfOk r (λ v. v ≡ x) → IfOk r (λ v. v ≡ y)
@@ -127,15 +135,20 @@ ok_has A E (Err fault) x P has is = tt
 
 -- ---- the events are those of either version
 
-slack_events : (s : Span) (asks : Bool) (c d : Meaning) → c.track ≡ d.track → flat_map (events_over s) (option_to_list (if_asked asks c)) ≡ flat_map (events_over s) (option_to_list (if_asked asks d))
-slack_events s true c d same = ap (λ t. plain_list t s.begin (minutes_in s) ++ []) same
+slack_events : (s : Span) (asks : Bool) (c d : Meaning) → c.track ≡ d.track
+    → flat_map (events_over s) (option_to_list (if_asked asks c))
+    ≡ flat_map (events_over s) (option_to_list (if_asked asks d))
+slack_events s true c d same = ap (λ t. plain_list t s.begin (span_minutes s) ++ []) same
 slack_events s false c d same = refl
 
-mark_events : (s : Span) (mark : Option ℤ) (f g : ℤ → Meaning) → ((level : ℤ) → (f level).track ≡ (g level).track) → flat_map (events_over s) (option_to_list (option_map f mark)) ≡ flat_map (events_over s) (option_to_list (option_map g mark))
-mark_events s (Some level) f g same = ap (λ t. plain_list t s.begin (minutes_in s) ++ []) (same level)
+mark_events : (s : Span) (mark : Option ℤ) (f g : ℤ → Meaning) → ((level : ℤ) → (f level).track ≡ (g level).track)
+    → flat_map (events_over s) (option_to_list (option_map f mark))
+    ≡ flat_map (events_over s) (option_to_list (option_map g mark))
+mark_events s (Some level) f g same = ap (λ t. plain_list t s.begin (span_minutes s) ++ []) (same level)
 mark_events s None f g same = refl
 
-version_events : (v : Version) (found : SiteTide) (mark : Option ℤ) (s : Span) → events_in s (followed_tide v found mark) ≡ events_in s (followed_tide Second found mark)
+version_events : (v : Version) (found : SiteTide) (mark : Option ℤ) (s : Span)
+    → events_in s (followed_tide v found mark) ≡ events_in s (followed_tide Second found mark)
 unfolding followed_tide
 version_events v found mark s =
     let slack = slack_events s (asks_slack found.units found.basis)
@@ -146,87 +159,119 @@ version_events v found mark s =
     (λ level. mark_meaning Second found.curve found.basis.high.times found.basis.high.plus level false) (λ level. refl) in
     rw (slack, mark) refl
 
-one_list : (v : Version) (found : SiteTide) (mark : Option ℤ) (begin end : ℤ) → station_events (followed_tide v found mark) found.basis begin end ≡ station_events (followed_tide Second found mark) found.basis begin end
+one_list : (v : Version) (found : SiteTide) (mark : Option ℤ) (begin end : ℤ)
+    → station_events (followed_tide v found mark) found.basis begin end
+    ≡ station_events (followed_tide Second found mark) found.basis begin end
 one_list v found mark begin end =
     events-parts (followed_tide v found mark) found.basis begin end
     ∙ ap (λ es. ordered (moved_within found.basis begin end es)) (version_events v found mark (widened_of found.basis begin end))
     ∙ sym (events-parts (followed_tide Second found mark) found.basis begin end)
 
-accepted_events : (found : SiteTide) (cert : Certificate) → IsReady (asked_in cert) found → IsCertificate cert → tide_rejection found cert ≡ None → shifted_of found.basis cert.begin cert.end (merged_of (widened_of found.basis cert.begin cert.end).begin cert.tracks) ≡ tide_events found (asked_in cert)
-accepted_events found cert ready sound none =
+accepted_events : (found : SiteTide) (cert : Certificate) → IsReady (asked_by_certificate cert) found
+    → IsCertificate cert → tide_rejection found cert ≡ None → shifted_of found.basis cert.begin cert.end
+    (merged_of (widened_of found.basis cert.begin cert.end).begin cert.tracks)
+    ≡ tide_events found (asked_by_certificate cert)
+accepted_events found cert ready valid none =
     shifted-events (followed_tide (version_of cert) found cert.mark) found.basis cert.begin cert.end cert.tracks
-    (ready_known (version_of cert) (asked_in cert) found ready) (tide_accepted found cert sound none)
+    (ready_valid_over (version_of cert) (asked_by_certificate cert) found ready) (tide_accepted found cert valid none)
     ∙ one_list (version_of cert) found cert.mark cert.begin cert.end
 
 -- ---- the station, the span and the mark
 
-marks_near : (mark : Option ℤ) → IfSome mark IsMark → ForSome mark (λ level. unsigned_abs level ≤ 10000000000)
-marks_near (Some level) is x e = let same : level ≡ x = cc in rw (← same) is
-marks_near None is x e = absurd cc
+marks_in_range : (mark : Option ℤ) → IfSome mark IsMark → ForSome mark (λ level. unsigned_abs level ≤ 10000000000)
+marks_in_range (Some level) is x e = let same : level ≡ x = cc in rw (← same) is
+marks_in_range None is x e = absurd cc
 
-pub near_read : (cert : Certificate) → IsCertificate cert → IsNear (asked_in cert)
-near_read cert sound =
-    let begin = sound.begin in
-    let end = sound.end in
-    record { begin = omega (arith, ints); end = omega (arith, ints); mark = marks_near cert.mark sound.mark }
+pub read_in_range : (cert : Certificate) → IsCertificate cert → IsInRange (asked_by_certificate cert)
+read_in_range cert valid =
+    let begin = valid.begin in
+    let end = valid.end in
+    record { begin = omega (arith, ints); end = omega (arith, ints); mark = marks_in_range cert.mark valid.mark }
 
 -- ---- the answer
 
-pub site_rejection : (book : Book) (cert : Certificate) (site : Site) (found : SiteTide) → IsFound Events book (asked_in cert) site found → tide_rejection found cert ≡ rejection_in book site cert
+pub site_rejection : (book : Book) (cert : Certificate) (site : Site) (found : SiteTide)
+    → IsFound Events book (asked_by_certificate cert) site found
+    → tide_rejection found cert ≡ rejection_in book site cert
 site_rejection book cert site found is =
-    rejection_alike _ _ _ cert.tracks (found_alike (version_of cert) book (asked_in cert) site found cert.mark is)
+    rejection_alike _ _ _ cert.tracks (found_alike (version_of cert) book (asked_by_certificate cert) site found cert.mark is)
     ∙ ap (λ b. rejection_of (followed_by (version_of cert) book site cert.mark) (widened_of b cert.begin cert.end) cert.tracks) is.basis
 
-pub judged_by : (book : Book) (table : List Offsets) (cert : Certificate) (zone : Zone) (site : Site) → site_in Events book table cert.station (asked_in cert) ≡ Ok site → judged_in book table cert zone ≡ Ok (judged book site cert zone (rejection_in book site cert))
+pub judged_by : (book : Book) (table : List Offsets) (cert : Certificate) (zone : Zone) (site : Site)
+    → site_in Events book table cert.station (asked_by_certificate cert) ≡ Ok site
+    → judged_in book table cert zone ≡ Ok (judged book site cert zone (rejection_in book site cert))
 unfolding judged_in
 judged_by book table cert zone site expected = rw expected refl
 
-pub judged_refused : (memory : Bool) (book : Book) (table : List Offsets) (cert : Certificate) (zone : Zone) (refusal : Refusal) → Excused memory (site_in Events book table cert.station (asked_in cert)) refusal → Excused memory (judged_in book table cert zone) refusal
+pub judged_refused : (memory : Bool) (book : Book) (table : List Offsets) (cert : Certificate) (zone : Zone)
+    (refusal : Refusal) → Excused memory (site_in Events book table cert.station (asked_by_certificate cert)) refusal
+    → Excused memory (judged_in book table cert zone) refusal
 unfolding judged_in
 judged_refused memory book table cert zone refusal excused = excused_then memory _ _ refusal excused
 
 -- the bytes are no certificate's, or they are one's
-pub read_refused : (book : Book) (table : List Offsets) (bytes : List ℕ) (zone : Zone) (fault : CertFault) → Excused (wants_memory fault) (certificate_of bytes) fault → Excused (wants_memory_of_refusal (refusal_of_cert fault)) (checked book table bytes zone) (refusal_of_cert fault)
+pub read_refused : (book : Book) (table : List Offsets) (bytes : List ℕ) (zone : Zone) (fault : CertFault)
+    → Excused (is_out_of_memory fault) (certificate_of bytes) fault
+    → Excused (refusal_is_out_of_memory (refusal_of_cert fault)) (checked book table bytes zone) (refusal_of_cert fault)
 unfolding checked
 read_refused book table bytes zone NoMemory excused = tt
 read_refused book table bytes zone (NotACertificate line) excused = rw excused refl
 
-pub checked_by : (book : Book) (table : List Offsets) (bytes : List ℕ) (zone : Zone) (cert : Certificate) → certificate_of bytes ≡ Ok cert → checked book table bytes zone ≡ judged_in book table cert zone
+pub checked_by : (book : Book) (table : List Offsets) (bytes : List ℕ) (zone : Zone) (cert : Certificate)
+    → certificate_of bytes ≡ Ok cert → checked book table bytes zone ≡ judged_in book table cert zone
 unfolding checked judged_in
 checked_by book table bytes zone cert is = rw is refl
 
 -- ---- a station that was found
 
-found_in : (found : Found) (cert : Certificate) → found.reach ≡ Events → found.asked ≡ asked_in cert → IsFound Events found.origin.book (asked_in cert) (site_of found) (tide_of_found found)
-found_in found cert reach same = subst (λ a. IsFound Events found.origin.book a (site_of found) (tide_of_found found)) same (found_for found Events reach)
+found_in : (found : FoundStation) (cert : Certificate) → found.reach ≡ Events → found.asked ≡ asked_by_certificate cert
+    → IsFound Events found.origin.book (asked_by_certificate cert) (site_of found) (tide_of_found found)
+found_in found cert reach same =
+    subst (λ a. IsFound Events found.origin.book a (site_of found) (tide_of_found found)) same (found_for found Events reach)
 
-ready_in : (found : Found) (cert : Certificate) → found.reach ≡ Events → found.asked ≡ asked_in cert → IsReady (asked_in cert) (tide_of_found found)
-ready_in found cert reach same = ready_of_found found.origin.book (asked_in cert) (site_of found) (tide_of_found found) (found_in found cert reach same)
+ready_in : (found : FoundStation) (cert : Certificate) → found.reach ≡ Events → found.asked ≡ asked_by_certificate cert
+    → IsReady (asked_by_certificate cert) (tide_of_found found)
+ready_in found cert reach same = ready_of_found found.origin.book (asked_by_certificate cert) (site_of found)
+    (tide_of_found found) (found_in found cert reach same)
 
 -- the first fault by the tide is the first fault
-pub rejection_for : (found : Found) (cert : Certificate) → found.reach ≡ Events → found.asked ≡ asked_in cert → tide_rejection (tide_of_found found) cert ≡ rejection_in found.origin.book (site_of found) cert
-rejection_for found cert reach same = site_rejection found.origin.book cert (site_of found) (tide_of_found found) (found_in found cert reach same)
+pub rejection_for : (found : FoundStation) (cert : Certificate) → found.reach ≡ Events
+    → found.asked ≡ asked_by_certificate cert
+    → tide_rejection (tide_of_found found) cert ≡ rejection_in found.origin.book (site_of found) cert
+rejection_for found cert reach same =
+    site_rejection found.origin.book cert (site_of found) (tide_of_found found) (found_in found cert reach same)
 
-pub span_in : (found : Found) (cert : Certificate) → found.reach ≡ Events → found.asked ≡ asked_in cert → found.span ≡ widened_of found.basis cert.begin cert.end
+pub span_in : (found : FoundStation) (cert : Certificate) → found.reach ≡ Events
+    → found.asked ≡ asked_by_certificate cert → found.span ≡ widened_of found.basis cert.begin cert.end
 span_in found cert reach same = span_for found Events reach ∙ ap (λ (a : Asked). widened_of found.basis a.begin a.end) same
 
-pub found_short : (found : Found) (cert : Certificate) → found.reach ≡ Events → found.asked ≡ asked_in cert → IsCertificate cert → rejection_in found.origin.book (site_of found) cert ≡ None → AreShort cert.tracks
-found_short found cert reach same sound none =
-    ready_short (tide_of_found found) cert (ready_in found cert reach same) sound (rejection_for found cert reach same ∙ none)
+pub found_short : (found : FoundStation) (cert : Certificate) → found.reach ≡ Events
+    → found.asked ≡ asked_by_certificate cert → IsCertificate cert
+    → rejection_in found.origin.book (site_of found) cert ≡ None → AreShort cert.tracks
+found_short found cert reach same valid none =
+    ready_short (tide_of_found found) cert (ready_in found cert reach same) valid (rejection_for found cert reach same ∙ none)
 
-pub found_movable : (found : Found) (cert : Certificate) (events : List Event) → found.reach ≡ Events → found.asked ≡ asked_in cert → events ≡ merged_of found.span.begin cert.tracks → IsCertificate cert → rejection_in found.origin.book (site_of found) cert ≡ None → All IsMovable events
-found_movable found cert events reach same is sound none =
+pub found_movable : (found : FoundStation) (cert : Certificate) (events : List Event) → found.reach ≡ Events
+    → found.asked ≡ asked_by_certificate cert → events ≡ merged_of found.span.begin cert.tracks → IsCertificate cert
+    → rejection_in found.origin.book (site_of found) cert ≡ None → All IsMovable events
+found_movable found cert events reach same is valid none =
     rw (is, span_in found cert reach same)
-    (ready_movable (version_of cert) (asked_in cert) (tide_of_found found) cert.tracks (ready_in found cert reach same)
-    (tide_accepted (tide_of_found found) cert sound (rejection_for found cert reach same ∙ none)))
+    (ready_movable (version_of cert) (asked_by_certificate cert) (tide_of_found found) cert.tracks (ready_in found cert reach same)
+    (tide_accepted (tide_of_found found) cert valid (rejection_for found cert reach same ∙ none)))
 
-pub found_list : (found : Found) (cert : Certificate) (events : List Event) → found.reach ≡ Events → found.asked ≡ asked_in cert → events ≡ merged_of found.span.begin cert.tracks → IsCertificate cert → rejection_in found.origin.book (site_of found) cert ≡ None → shifted_of found.basis found.asked.begin found.asked.end events ≡ events_of found.origin.book (site_of found) (asked_in cert)
-found_list found cert events reach same is sound none =
+pub found_list : (found : FoundStation) (cert : Certificate) (events : List Event) → found.reach ≡ Events
+    → found.asked ≡ asked_by_certificate cert → events ≡ merged_of found.span.begin cert.tracks → IsCertificate cert
+    → rejection_in found.origin.book (site_of found) cert ≡ None
+    → shifted_of found.basis found.asked.begin found.asked.end events
+    ≡ events_of found.origin.book (site_of found) (asked_by_certificate cert)
+found_list found cert events reach same is valid none =
     rw (is, span_in found cert reach same, same)
-    (accepted_events (tide_of_found found) cert (ready_in found cert reach same) sound (rejection_for found cert reach same ∙ none)
-    ∙ found_events found.origin.book (asked_in cert) (site_of found) (tide_of_found found) (found_in found cert reach same))
+    (accepted_events (tide_of_found found) cert (ready_in found cert reach same) valid (rejection_for found cert reach same ∙ none)
+    ∙ found_events found.origin.book (asked_by_certificate cert) (site_of found) (tide_of_found found) (found_in found cert reach same))
 
-pub found_lines : (found : Found) (cert : Certificate) → found.reach ≡ Events → found.asked ≡ asked_in cert → All (IsListed found.origin.station.units) (events_of found.origin.book (site_of found) (asked_in cert))
+pub found_lines : (found : FoundStation) (cert : Certificate) → found.reach ≡ Events
+    → found.asked ≡ asked_by_certificate cert → All (IsListed found.origin.station.units)
+    (events_of found.origin.book (site_of found) (asked_by_certificate cert))
 found_lines found cert reach same =
-    rw (← found_events found.origin.book (asked_in cert) (site_of found) (tide_of_found found) (found_in found cert reach same))
-    (tide_lines (asked_in cert) (tide_of_found found) (ready_in found cert reach same))
+    rw (← found_events found.origin.book (asked_by_certificate cert) (site_of found) (tide_of_found found) (found_in found cert reach same))
+    (tide_lines (asked_by_certificate cert) (tide_of_found found) (ready_in found cert reach same))

@@ -16,30 +16,46 @@ use Rattle.station_span.specs.Sites.{Site, site_in}
 use Rattle.station_span.specs.Workings.Finds.{IsSiteList}
 use Rattle.station_span.proofs.FoundLemmas.{excused_then}
 use Rattle.tide_answer.specs.Answers.{heights, heights_text, on_clock, rows_in, rows_of, text_alone}
-use Rattle.tide_answer.specs.Asking.{asked_from}
+use Rattle.tide_answer.specs.Asking.{asked_from_minute}
 
 -- ---- a list of levels
 
 -- the number of rows is refused
-pub refused_rows : (memory : Bool) (book : Book) (table : List Offsets) (name : List ℕ) (asked : Asked) (step : ℤ) (layout : Layout) (zone : Zone) (site : Site) (refusal : Refusal) → site_in Levels book table name asked ≡ Ok site → level_in site.basis ≡ Ok tt → Excused memory (rows_in asked.begin asked.end step) refusal → Excused memory (heights book table name asked step layout zone) refusal
+pub refused_rows : (memory : Bool) (book : Book) (table : List Offsets) (name : List ℕ) (asked : Asked) (step : ℤ)
+    (layout : Layout) (zone : Zone) (site : Site) (refusal : Refusal) → site_in Levels book table name asked ≡ Ok site
+    → level_in site.basis ≡ Ok tt → Excused memory (rows_in asked.begin asked.end step) refusal
+    → Excused memory (heights book table name asked step layout zone) refusal
 unfolding heights
 refused_rows memory book table name asked step layout zone site refusal expected level excused =
     rw (expected, level) (excused_then memory (rows_in asked.begin asked.end step) _ refusal excused)
 
 -- nothing is refused
-pub whole_list : (book : Book) (table : List Offsets) (name : List ℕ) (asked : Asked) (step : ℤ) (layout : Layout) (zone : Zone) (site : Site) (rows : List Row) → site_in Levels book table name asked ≡ Ok site → level_in site.basis ≡ Ok tt → rows_in asked.begin asked.end step ≡ Ok tt → rows ≡ rows_of book site asked.begin asked.end step → heights book table name asked step layout zone ≡ Ok (text_alone (heights_text layout name site.station.units rows zone))
+pub whole_list : (book : Book) (table : List Offsets) (name : List ℕ) (asked : Asked) (step : ℤ) (layout : Layout)
+    (zone : Zone) (site : Site) (rows : List Row) → site_in Levels book table name asked ≡ Ok site
+    → level_in site.basis ≡ Ok tt → rows_in asked.begin asked.end step ≡ Ok tt
+    → rows ≡ rows_of book site asked.begin asked.end step → heights book table name asked step layout zone
+    ≡ Ok (text_alone (heights_text layout name site.station.units rows zone))
 unfolding heights
 whole_list book table name asked step layout zone site rows expected level few are = rw (expected, level, few, are) refl
 
 -- ---- a clock
 
 -- a level is refused
-pub refused_level : (memory : Bool) (book : Book) (table : List Offsets) (name : List ℕ) (now : ℤ) (zone : Zone) (site : Site) (refusal : Refusal) → site_in Events book table name (asked_from now) ≡ Ok site → Excused memory (level_in site.basis) refusal → Excused memory (on_clock book table name now zone) refusal
+pub refused_level : (memory : Bool) (book : Book) (table : List Offsets) (name : List ℕ) (now : ℤ) (zone : Zone)
+    (site : Site) (refusal : Refusal) → site_in Events book table name (asked_from_minute now) ≡ Ok site
+    → Excused memory (level_in site.basis) refusal → Excused memory (on_clock book table name now zone) refusal
 unfolding on_clock
 refused_level memory book table name now zone site refusal expected excused =
     rw expected (excused_then memory (level_in site.basis) _ refusal excused)
 
 -- nothing is refused
-pub whole_clock : (book : Book) (table : List Offsets) (name : List ℕ) (now : ℤ) (zone : Zone) (site : Site) (listed : FoundEvents) → site_in Events book table name (asked_from now) ≡ Ok site → level_in site.basis ≡ Ok tt → IsSiteList book (asked_from now) site listed → on_clock book table name now zone ≡ Ok (record { text = clock_text_of name site.station.units now (level_at book site now) (is_rising_at book site now) listed.events zone; rejected = false; cells = listed.cells })
+pub whole_clock :
+    (book : Book) (table : List Offsets) (name : List ℕ) (now : ℤ) (zone : Zone) (site : Site) (listed : FoundEvents)
+    → site_in Events book table name (asked_from_minute now) ≡ Ok site → level_in site.basis ≡ Ok tt
+    → IsSiteList book (asked_from_minute now) site listed → on_clock book table name now zone ≡ Ok (record {
+      text = clock_text_of name site.station.units now (level_at book site now) (is_rising_at book site now) listed.events zone;
+      rejected = false;
+      cells = listed.cells;
+    })
 unfolding on_clock
 whole_clock book table name now zone site listed expected level list = rw (expected, level, list.events, list.cells) refl

@@ -5,7 +5,7 @@ use Rattle.std.proofs.lemmas.Int.{ints}
 use Rattle.harmonics_text.specs.declared.book.Book.{Book}
 use Rattle.harmonics_text.specs.Books.{IsBook}
 use Rattle.highest_water.specs.declared.certificate.PeakCertificate.{PeakCertificate}
-use Rattle.highest_water.specs.declared.fault.CertFault.{CertFault}
+use Rattle.highest_water.specs.declared.fault.PeakFault.{PeakFault}
 use Rattle.highest_water.specs.declared.peak.Peak.{Peak}
 use Rattle.highest_water.specs.declared.verdict.PeakVerdict.{PeakVerdict}
 use Rattle.highest_water.specs.declared.verdict.PeakVerdict.TheVariants.{WrongLength, Outside, NotUnder, WrongValue, Above, Accepted}
@@ -31,11 +31,11 @@ use Rattle.station_span.proofs.PeakLemmas.{IsHighestAt, accepted_certificate, ac
 use Rattle.station_span.proofs.SiteLemmas.{found_at, found_of_site, site_basis, then_ok}
 use Rattle.tide_answer.specs.declared.text.Answer.{Answer}
 use Rattle.tide_answer.specs.Answers.{text_alone, highest, highest_text_at, peak_certificate_by, peak_certified, peak_checked, peak_from, peak_judged, text_accepted}
-use Rattle.tide_answer.specs.Asking.{asked_of_peak}
+use Rattle.tide_answer.specs.Asking.{asked_by_peak_certificate}
 use Rattle.tide_answer.specs.Laws.{IsAskable, AcceptsListing}
-use Rattle.tide_answer.specs.PeakLaws.{IsMovedInto, IsHighestWater, TellsTheHighest, AcceptsWhatPeakCertifies, PeakCertifiesInShort, AcceptsOnlyPeaksInShort, AcceptsOnlyTruePeaks}
-use Rattle.tide_answer.proofs.LawLemmas.{near_asked}
-use Rattle.tide_answer.proofs.PeakLemmas.{peak_near}
+use Rattle.tide_answer.specs.PeakLaws.{IsMovedInto, IsHighestWater, ReportsTheHighest, AcceptsWhatPeakCertifies, PeakCertifiesInShort, AcceptsOnlyPeaksInShort, AcceptsOnlyTruePeaks}
+use Rattle.tide_answer.proofs.LawLemmas.{askable_in_range}
+use Rattle.tide_answer.proofs.PeakLemmas.{peak_in_range}
 
 -- ---- the highest water, by the reference's level
 
@@ -43,10 +43,12 @@ use Rattle.tide_answer.proofs.PeakLemmas.{peak_near}
 level_alone : (level : ℤ) → over_mark (pos 1000000) (pos 0) (pos 0) level ≡ pos 1000000 *ℤ level
 level_alone level = omega (arith, ints)
 
-level_value : (book : Book) (site : Site) (m : ℤ) → (level_curve book site).track.value m ≡ pos 1000000 *ℤ predicted_level book site.station m
+level_value : (book : Book) (site : Site) (m : ℤ)
+    → (level_curve book site).track.value m ≡ pos 1000000 *ℤ predicted_level book site.station m
 level_value book site m = level_alone (predicted_level book site.station m)
 
-highest_value : (book : Book) (site : Site) (asked : Asked) (at value : ℤ) → IsHighestAt book site asked at value → value ≡ pos 1000000 *ℤ predicted_level book site.station at
+highest_value : (book : Book) (site : Site) (asked : Asked) (at value : ℤ) → IsHighestAt book site asked at value
+    → value ≡ pos 1000000 *ℤ predicted_level book site.station at
 highest_value book site asked at value peak = sym peak.has ∙ level_value book site at
 
 no_more : (value other k l : ℤ) → value ≡ pos 1000000 *ℤ k → other ≡ pos 1000000 *ℤ l → value ≤ℤ other → k ≤ℤ l
@@ -55,13 +57,15 @@ no_more value other k l is also most = omega (arith, ints)
 less : (value other k l : ℤ) → value ≡ pos 1000000 *ℤ k → other ≡ pos 1000000 *ℤ l → value <ℤ other → k <ℤ l
 less value other k l is also most = omega (arith, ints)
 
-highest_water : (book : Book) (site : Site) (asked : Asked) (at value : ℤ) → IsOffset site.basis.high → asked.begin <ℤ asked.end → IsHighestAt book site asked at value → IsHighestWater book site asked at
+highest_water : (book : Book) (site : Site) (asked : Asked) (at value : ℤ) → IsOffset site.basis.high
+    → asked.begin <ℤ asked.end → IsHighestAt book site asked at value → IsHighestWater book site asked at
 highest_water book site asked at value offset some peak =
     let from = peak.from in
     let before = peak.before in
     let add = site.basis.high.add in
     let is = highest_value book site asked at value peak in
-    let greatest : (m : ℤ) → IsMovedInto site asked m → predicted_level book site.station m ≤ℤ predicted_level book site.station at = λ m moved.
+    let greatest : (m : ℤ) → IsMovedInto site asked m
+    → predicted_level book site.station m ≤ℤ predicted_level book site.station at = λ m moved.
     let begins = moved.from in
     let ends = moved.before in
     no_more _ _ _ _ (level_value book site m) is (peak.greatest m (omega (arith, ints)) (omega (arith, ints))) in
@@ -79,57 +83,66 @@ highest_water book site asked at value offset some peak =
 
 -- ---- the answer of `highest`
 
-highest_offset : (book : Book) (table : List Offsets) (name : List ℕ) (asked : Asked) (site : Site) → IsTable table → highest_site book table name asked ≡ Ok site → IsOffset site.basis.high
+highest_offset : (book : Book) (table : List Offsets) (name : List ℕ) (asked : Asked) (site : Site) → IsTable table
+    → highest_site book table name asked ≡ Ok site → IsOffset site.basis.high
 highest_offset book table name asked site rows is =
     (site_basis Highest book table name asked site rows (highest_parts book table name asked site is).0).high
 
-pub told_highest : TellsTheHighest
+pub reported_highest : ReportsTheHighest
 unfolding highest
-told_highest book table name asked zone answer rows ok =
+reported_highest book table name asked zone answer rows ok =
     let site = then_ok (highest_site book table name asked) _ answer ok in
     let some = highest_minutes book table name asked site.0 site.1 in
     record {
       site = site.0;
       at = (highest_of book site.0 asked).at;
       found = site.1;
-      water = highest_water book site.0 asked _ _ (highest_offset book table name asked site.0 rows site.1) some (highest_found book site.0 asked some);
-      told = (let last = site.2 in cc);
+      water = highest_water book site.0 asked _ _ (highest_offset book table name asked site.0 rows site.1) some
+          (highest_found book site.0 asked some);
+      reported = (let last = site.2 in cc);
     }
 
 -- a span has one highest water
-lists : (book : Book) (table : List Offsets) (name : List ℕ) (asked : Asked) (site : Site) (at value : ℤ) → highest_site book table name asked ≡ Ok site → IsHighestAt book site asked at value → AcceptsListing (highest book table name asked Utc) (text_accepted (highest_text_at book site name at Utc))
+lists : (book : Book) (table : List Offsets) (name : List ℕ) (asked : Asked) (site : Site) (at value : ℤ)
+    → highest_site book table name asked ≡ Ok site → IsHighestAt book site asked at value
+    → AcceptsListing (highest book table name asked Utc) (text_accepted (highest_text_at book site name at Utc))
 unfolding highest
 lists book table name asked site at value is peak =
     let found = highest_found book site asked (highest_minutes book table name asked site is) in
-    let one = highest-one (level_curve book site) (first_source site asked) (first_source site asked +ℤ pos (minute_count asked)) at value _ _ peak found in
+    let one = highest-one (level_curve book site) (first_source site asked)
+    (first_source site asked +ℤ pos (minute_count asked)) at value _ _ peak found in
     (text_alone (highest_text_at book site name at Utc), rw (is, ← one.0) refl, refl)
 
 -- ---- what is accepted is true
 
-read_ok : (result : Result PeakCertificate CertFault) (cert : PeakCertificate) → peak_from result ≡ Ok cert → result ≡ Ok cert
+read_ok : (result : Result PeakCertificate PeakFault) (cert : PeakCertificate) → peak_from result ≡ Ok cert → result ≡ Ok cert
 read_ok (Ok found) cert ok = cc
 read_ok (Err fault) cert ok = absurd cc
 
-unrejected : (book : Book) (site : Site) (cert : PeakCertificate) (verdict : PeakVerdict) (answer : Answer) → peak_judged book site cert verdict ≡ answer → answer.rejected ≡ false → verdict ≡ Accepted
+unrejected : (book : Book) (site : Site) (cert : PeakCertificate) (verdict : PeakVerdict) (answer : Answer)
+    → peak_judged book site cert verdict ≡ answer → answer.rejected ≡ false → verdict ≡ Accepted
 unrejected book site cert Accepted answer is accepted = refl
 unrejected book site cert (WrongLength covered wanted) answer is accepted = absurd (let rejected = ap (λ (a : Answer). a.rejected) is in cc)
 unrejected book site cert Outside answer is accepted = absurd (let rejected = ap (λ (a : Answer). a.rejected) is in cc)
 unrejected book site cert (NotUnder cell) answer is accepted = absurd (let rejected = ap (λ (a : Answer). a.rejected) is in cc)
-unrejected book site cert (WrongValue written computed) answer is accepted = absurd (let rejected = ap (λ (a : Answer). a.rejected) is in cc)
+unrejected book site cert (WrongValue written computed) answer is accepted =
+    absurd (let rejected = ap (λ (a : Answer). a.rejected) is in cc)
 unrejected book site cert (Above cell) answer is accepted = absurd (let rejected = ap (λ (a : Answer). a.rejected) is in cc)
 
 record WasJudged (book : Book) (table : List Offsets) (bytes : List ℕ) (answer : Answer) : Type 0 where
   pub certificate : PeakCertificate
   pub site : Site
   pub read : peak_of bytes ≡ Ok certificate
-  pub found : highest_site book table certificate.station (asked_of_peak certificate) ≡ Ok site
-  pub judged : peak_judged book site certificate (highest_verdict book site (asked_of_peak certificate) certificate.peak) ≡ answer
+  pub found : highest_site book table certificate.station (asked_by_peak_certificate certificate) ≡ Ok site
+  pub judged : peak_judged book site certificate
+      (highest_verdict book site (asked_by_peak_certificate certificate) certificate.peak) ≡ answer
 
-was_judged : (book : Book) (table : List Offsets) (bytes : List ℕ) (answer : Answer) → peak_checked book table bytes ≡ Ok answer → WasJudged book table bytes answer
+was_judged : (book : Book) (table : List Offsets) (bytes : List ℕ) (answer : Answer)
+    → peak_checked book table bytes ≡ Ok answer → WasJudged book table bytes answer
 unfolding peak_checked
 was_judged book table bytes answer ok =
     let cert = then_ok (peak_from (peak_of bytes)) _ answer ok in
-    let site = then_ok (highest_site book table cert.0.station (asked_of_peak cert.0)) _ answer cert.2 in
+    let site = then_ok (highest_site book table cert.0.station (asked_by_peak_certificate cert.0)) _ answer cert.2 in
     record {
       certificate = cert.0;
       site = site.0;
@@ -138,16 +151,17 @@ was_judged book table bytes answer ok =
       judged = (let last = site.2 in cc);
     }
 
-pub peak_true : ((bytes : List ℕ) → ReadsPeak bytes (peak_of bytes)) → ((c : PeakCertificate) (bytes : List ℕ) → IsPeakTextOf c bytes → IsPeakCertificate c) → AcceptsOnlyTruePeaks
+pub peak_true : ((bytes : List ℕ) → ReadsPeak bytes (peak_of bytes))
+    → ((c : PeakCertificate) (bytes : List ℕ) → IsPeakTextOf c bytes → IsPeakCertificate c) → AcceptsOnlyTruePeaks
 peak_true reads only book table bytes answer is rows ok accepted =
     let was = was_judged book table bytes answer ok in
     let cert = was.certificate in
-    let asked = asked_of_peak cert in
+    let asked = asked_by_peak_certificate cert in
     let site = was.site in
     let written : IsPeakTextOf cert bytes = rw was.read at (reads bytes) in
-    let near = peak_near cert (only cert bytes written) in
+    let in_range = peak_in_range cert (only cert bytes written) in
     let parts = highest_parts book table cert.station asked site was.found in
-    let found = found_of_site Highest book table cert.station asked site is rows near parts.0 in
+    let found = found_of_site Highest book table cert.station asked site is rows in_range parts.0 in
     let right = unrejected book site cert _ answer was.judged accepted in
     let peak = accepted_highest book asked site cert.peak found parts.1 right in
     let some = highest_minutes book table cert.station asked site was.found in
@@ -157,7 +171,7 @@ peak_true reads only book table bytes answer is rows ok accepted =
       site = site;
       written = written;
       asked = was.found;
-      water = highest_water book site asked cert.peak.at cert.peak.value found.sound.high some peak;
+      water = highest_water book site asked cert.peak.at cert.peak.value found.valid.high some peak;
       value = highest_value book site asked cert.peak.at cert.peak.value peak;
       listing = subst (AcceptsListing (highest book table cert.station asked Utc)) answered
           (lists book table cert.station asked site cert.peak.at cert.peak.value was.found peak);
@@ -171,20 +185,25 @@ record WasCertified (book : Book) (table : List Offsets) (name : List ℕ) (aske
   pub expected : highest_site book table name asked ≡ Ok site
   pub text : certificate.text ≡ peak_text (peak_certificate_by book site name asked)
   pub highest : HasHighest (found_at book site) asked
-  pub sound : IsPeakCertificate (peak_certificate_by book site name asked)
+  pub valid : IsPeakCertificate (peak_certificate_by book site name asked)
 
-site_certified : (book : Book) (table : List Offsets) (name : List ℕ) (asked : Asked) (certificate : Answer) → peak_certified book table name asked ≡ Ok certificate → (site : Site) × (highest_site book table name asked ≡ Ok site) × (certificate.text ≡ peak_text (peak_certificate_by book site name asked))
+site_certified : (book : Book) (table : List Offsets) (name : List ℕ) (asked : Asked) (certificate : Answer)
+    → peak_certified book table name asked ≡ Ok certificate
+    → (site : Site) × (highest_site book table name asked ≡ Ok site)
+    × (certificate.text ≡ peak_text (peak_certificate_by book site name asked))
 unfolding peak_certified
 site_certified book table name asked certificate ok =
     let site = then_ok (highest_site book table name asked) _ certificate ok in
     (site.0, site.1, (let last = site.2 in cc))
 
-was_certified : (book : Book) (table : List Offsets) (name : List ℕ) (asked : Asked) (certificate : Answer) → IsBook book → IsTable table → IsAskable asked → peak_certified book table name asked ≡ Ok certificate → WasCertified book table name asked certificate
+was_certified : (book : Book) (table : List Offsets) (name : List ℕ) (asked : Asked) (certificate : Answer)
+    → IsBook book → IsTable table → IsAskable asked → peak_certified book table name asked ≡ Ok certificate
+    → WasCertified book table name asked certificate
 was_certified book table name asked certificate is rows askable ok =
     let was = site_certified book table name asked certificate ok in
     let site = was.0 in
     let parts = highest_parts book table name asked site was.1 in
-    let found = found_of_site Highest book table name asked site is rows (near_asked asked askable) parts.0 in
+    let found = found_of_site Highest book table name asked site is rows (askable_in_range asked askable) parts.0 in
     let has = has_highest book asked site (found_at book site) found parts.1 in
     let peak = highest_of book site asked in
     let right = verdict_alike book asked site (found_at book site) peak found parts.1 has ∙ highest_of_accepted book site asked has.some in
@@ -193,15 +212,19 @@ was_certified book table name asked certificate is rows askable ok =
       expected = was.1;
       text = was.2;
       highest = has;
-      sound = accepted_certificate name asked (found_at book site) peak (site_name Highest book table name asked site is rows parts.0)
-          (record { begin = askable.begin; end = askable.end }) found.gentle has right;
+      valid = accepted_certificate name asked (found_at book site) peak (site_name Highest book table name asked site is rows parts.0)
+          (record { begin = askable.begin; end = askable.end }) found.within_limits has right;
     }
 
-checked_by : (book : Book) (table : List Offsets) (bytes : List ℕ) (cert : PeakCertificate) (site : Site) → peak_of bytes ≡ Ok cert → highest_site book table cert.station (asked_of_peak cert) ≡ Ok site → highest_verdict book site (asked_of_peak cert) cert.peak ≡ Accepted → peak_checked book table bytes ≡ Ok (peak_judged book site cert Accepted)
+checked_by : (book : Book) (table : List Offsets) (bytes : List ℕ) (cert : PeakCertificate) (site : Site)
+    → peak_of bytes ≡ Ok cert → highest_site book table cert.station (asked_by_peak_certificate cert) ≡ Ok site
+    → highest_verdict book site (asked_by_peak_certificate cert) cert.peak ≡ Accepted
+    → peak_checked book table bytes ≡ Ok (peak_judged book site cert Accepted)
 unfolding peak_checked
 checked_by book table bytes cert site read found right = rw (read, found, right) refl
 
-verdict_unmarked : (book : Book) (site : Site) (asked : Asked) (peak : Peak) → highest_verdict book site (record asked { mark = None }) peak ≡ highest_verdict book site asked peak
+verdict_unmarked : (book : Book) (site : Site) (asked : Asked) (peak : Peak)
+    → highest_verdict book site (record asked { mark = None }) peak ≡ highest_verdict book site asked peak
 unfolding highest_verdict
 verdict_unmarked book site asked peak = refl
 
@@ -214,24 +237,27 @@ peak_accepted again book table name asked certificate is rows askable ok =
     let found = highest_unmarked book table name asked site was.expected in
     let right = verdict_unmarked book site asked (highest_of book site asked) ∙ highest_of_accepted book site asked some in (
       peak_judged book site cert Accepted,
-      ap (peak_checked book table) was.text ∙ checked_by book table (peak_text cert) cert site (again cert was.sound) found right,
+      ap (peak_checked book table) was.text ∙ checked_by book table (peak_text cert) cert site (again cert was.valid) found right,
       lists book table name asked site _ _ was.expected (highest_found book site asked some),
     )
 
 -- ---- what is certified is short
 
 -- its cells have the minutes of the span
-whole_cells : (book : Book) (site : Site) (asked : Asked) (peak : Peak) → highest_verdict book site asked peak ≡ Accepted → all_minutes peak.cells ≡ minute_count asked
+whole_cells : (book : Book) (site : Site) (asked : Asked) (peak : Peak)
+    → highest_verdict book site asked peak ≡ Accepted → all_minutes peak.cells ≡ minute_count asked
 unfolding highest_verdict
 whole_cells book site asked peak right = (verdict-cells (level_curve book site) (first_source site asked) (minute_count asked) peak right).0
 
-pub peak_short : ((c : PeakCertificate) → IsPeakCertificate c → all_minutes c.peak.cells ≤ 5270400 → length (peak_text c) < 10542000) → PeakCertifiesInShort
+pub peak_short :
+    ((c : PeakCertificate) → IsPeakCertificate c → all_minutes c.peak.cells ≤ 5270400 → length (peak_text c) < 10542000)
+    → PeakCertifiesInShort
 peak_short fits book table name asked certificate is rows askable ok =
     let was = was_certified book table name asked certificate is rows askable ok in
     let some = was.highest.some in
     let few = was.highest.few in
     let whole = whole_cells book was.site asked (highest_of book was.site asked) (highest_of_accepted book was.site asked some) in
-    rw was.text (fits (peak_certificate_by book was.site name asked) was.sound (omega (arith, ints)))
+    rw was.text (fits (peak_certificate_by book was.site name asked) was.valid (omega (arith, ints)))
 
 -- ---- what is accepted is short
 
@@ -242,12 +268,12 @@ pub accepted_peak_short : ((bytes : List ℕ) → ReadsPeak bytes (peak_of bytes
 accepted_peak_short reads only fits book table bytes answer is rows ok accepted =
     let was = was_judged book table bytes answer ok in
     let cert = was.certificate in
-    let asked = asked_of_peak cert in
+    let asked = asked_by_peak_certificate cert in
     let site = was.site in
     let written : IsPeakTextOf cert bytes = rw was.read at (reads bytes) in
     let one = only cert bytes written in
     let parts = highest_parts book table cert.station asked site was.found in
-    let found = found_of_site Highest book table cert.station asked site is rows (peak_near cert one.0) parts.0 in
+    let found = found_of_site Highest book table cert.station asked site is rows (peak_in_range cert one.0) parts.0 in
     let right = unrejected book site cert _ answer was.judged accepted in
     let whole = whole_cells book site asked cert.peak right in
     let some = highest_minutes book table cert.station asked site was.found in

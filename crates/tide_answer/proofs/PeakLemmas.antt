@@ -10,51 +10,59 @@ use Rattle.highest_water.specs.declared.certificate.PeakCertificate.{PeakCertifi
 use Rattle.highest_water.specs.declared.peak.Peak.{Peak}
 use Rattle.highest_water.specs.PeakTexts.{IsPeakCertificate, cell_lines_of, peak_cell_line_of, peak_head_lines_of, peak_lines_of, peak_text}
 use Rattle.station_table.specs.declared.offsets.Offsets.{Offsets}
-use Rattle.station_span.specs.declared.found.Found.{Found}
+use Rattle.station_span.specs.declared.found_station.FoundStation.{FoundStation}
 use Rattle.station_span.specs.Peaks.{highest_of, highest_site, highest_verdict}
 use Rattle.station_span.specs.Sites.{Site}
 use Rattle.station_span.specs.Workings.Finds.{HasPeak, site_of, tide_of_found}
 use Rattle.station_span.specs.Workings.Peaks.{tide_peak}
-use Rattle.station_span.specs.Workings.Spans.{AreMoments, IsNear}
+use Rattle.station_span.specs.Workings.Spans.{AreMoments, IsInRange}
 use Rattle.station_span.proofs.HeldLemmas.{highest_for, peak_for}
 use Rattle.station_span.proofs.PeakLemmas.{accepted_certificate, tide_peak_accepted}
 use Rattle.tide_answer.specs.Answers.{peak_judged}
-use Rattle.tide_answer.specs.Asking.{asked_of_peak}
+use Rattle.tide_answer.specs.Asking.{asked_by_peak_certificate}
 use Rattle.tide_answer.specs.Workings.Peaks.{peak_certificate_in, peak_judged_in}
-use Rattle.tide_answer.proofs.AnswerLemmas.{moment_near}
+use Rattle.tide_answer.proofs.AnswerLemmas.{moment_in_range}
 use Rattle.tide_answer.proofs.CheckLemmas.{lines_long}
 
 -- ---- the certificate
 
 -- the parts of a highest water that is found are within their ranges
-pub certificate_sound : (name : List ℕ) (found : Found) (peak : Peak) → IsStationName name → AreMoments found.asked → HasPeak found → peak ≡ highest_of found.origin.book (site_of found) found.asked → IsPeakCertificate (peak_certificate_in name found.asked peak)
-certificate_sound name found peak named moments has same =
+pub certificate_valid : (name : List ℕ) (found : FoundStation) (peak : Peak) → IsStationName name
+    → AreMoments found.asked → HasPeak found → peak ≡ highest_of found.origin.book (site_of found) found.asked
+    → IsPeakCertificate (peak_certificate_in name found.asked peak)
+certificate_valid name found peak named moments has same =
     let tide = tide_of_found found in
     let highest = highest_for found has in
     let found_peak : peak ≡ tide_peak tide found.asked = same ∙ sym (peak_for found has) in
-    accepted_certificate name found.asked tide peak named moments found.sound.gentle highest (rw found_peak (tide_peak_accepted tide found.asked highest))
+    accepted_certificate name found.asked tide peak named moments found.valid.within_limits highest
+    (rw found_peak (tide_peak_accepted tide found.asked highest))
 
 -- ---- a certificate that was read
 
-pub peak_near : (cert : PeakCertificate) → IsPeakCertificate cert → IsNear (asked_of_peak cert)
-peak_near cert sound = record {
-  begin = moment_near cert.begin sound.begin;
-  end = moment_near cert.end sound.end;
+pub peak_in_range : (cert : PeakCertificate) → IsPeakCertificate cert → IsInRange (asked_by_peak_certificate cert)
+peak_in_range cert valid = record {
+  begin = moment_in_range cert.begin valid.begin;
+  end = moment_in_range cert.end valid.end;
   mark = λ level is. absurd cc;
 }
 
 -- a text has a line for each cell
-pub few_cells : (cert : PeakCertificate) (bytes : List ℕ) → peak_text cert ≡ bytes → length bytes ≤ MOST_BYTES → length cert.peak.cells < 2 ^ 32
+pub few_cells : (cert : PeakCertificate) (bytes : List ℕ) → peak_text cert ≡ bytes → length bytes ≤ MOST_BYTES
+    → length cert.peak.cells < 2 ^ 32
 unfolding peak_text
 few_cells cert bytes text few =
     let is : joined (peak_lines_of cert) ≡ bytes = text in
     let size = ap length is in
     let long = lines_long (peak_lines_of cert) in
-    let all : length (peak_lines_of cert) ≡ length (peak_head_lines_of cert) + length (cell_lines_of cert.peak.cells) = length-append (peak_head_lines_of cert) (cell_lines_of cert.peak.cells) in
-    let lines : length (cell_lines_of cert.peak.cells) ≡ length (map peak_cell_line_of cert.peak.cells) + 1 = length-append (map peak_cell_line_of cert.peak.cells) (last_line ∷ []) in
+    let all : length (peak_lines_of cert) ≡ length (peak_head_lines_of cert) + length (cell_lines_of cert.peak.cells) =
+    length-append (peak_head_lines_of cert) (cell_lines_of cert.peak.cells) in
+    let lines : length (cell_lines_of cert.peak.cells) ≡ length (map peak_cell_line_of cert.peak.cells) + 1 =
+    length-append (map peak_cell_line_of cert.peak.cells) (last_line ∷ []) in
     let cells : length (map peak_cell_line_of cert.peak.cells) ≡ length cert.peak.cells = length-map cert.peak.cells peak_cell_line_of in
     omega arith
 
-pub judged_by : (book : Book) (table : List Offsets) (cert : PeakCertificate) (site : Site) → highest_site book table cert.station (asked_of_peak cert) ≡ Ok site → peak_judged_in book table cert ≡ Ok (peak_judged book site cert (highest_verdict book site (asked_of_peak cert) cert.peak))
+pub judged_by : (book : Book) (table : List Offsets) (cert : PeakCertificate) (site : Site)
+    → highest_site book table cert.station (asked_by_peak_certificate cert) ≡ Ok site → peak_judged_in book table cert
+    ≡ Ok (peak_judged book site cert (highest_verdict book site (asked_by_peak_certificate cert) cert.peak))
 unfolding peak_judged_in
 judged_by book table cert site expected = rw expected refl

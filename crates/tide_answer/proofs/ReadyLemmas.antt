@@ -16,36 +16,51 @@ use Rattle.tide_answer.specs.declared.given.Given.{Given}
 use Rattle.station_span.specs.declared.reach.Reach.TheVariants.{Events}
 use Rattle.tide_fault.specs.declared.refusal.Refusal.{Refusal}
 use Rattle.tide_answer.specs.Answers.{answered, asks_span, named_by, predicted, certified}
-use Rattle.tide_answer.specs.Asking.{asked_by}
+use Rattle.tide_answer.specs.Asking.{asked_by_question}
 use Rattle.station_span.specs.Sites.{Site, site_in}
 use Rattle.tide_answer.specs.Streams.{can_stream, prepared, streams_by}
 use Rattle.tide_answer.specs.Workings.Streaming.{form_of, stream_answer}
 use Rattle.station_span.proofs.FoundLemmas.{excused_then}
 
 -- the name is missing
-pub refused_station : (command : Command) (book : Book) (table : List Offsets) (question : Question) (given : Given) (refusal : Refusal) → question.command ≡ command → IsTrue (can_stream command) → named_by question.station ≡ Err refusal → prepared book table question given ≡ Err refusal
+pub refused_station : (command : Command) (book : Book) (table : List Offsets) (question : Question) (given : Given)
+    (refusal : Refusal) → question.command ≡ command → IsTrue (can_stream command)
+    → named_by question.station ≡ Err refusal → prepared book table question given ≡ Err refusal
 unfolding prepared answered asks_span
 refused_station Predict book table question given refusal is can name = rw (is, name) refl
 refused_station Certify book table question given refusal is can name = rw (is, name) refl
 refused_station _ book table question given refusal is can name = absurd (let no = can in cc)
 
-pub refused_span : (command : Command) (book : Book) (table : List Offsets) (question : Question) (given : Given) (text : List ℕ) (refusal : Refusal) → question.command ≡ command → IsTrue (can_stream command) → named_by question.station ≡ Ok text → named_by (asked_by question) ≡ Err refusal → prepared book table question given ≡ Err refusal
-unfolding prepared answered asks_span asked_by
+pub refused_span : (command : Command) (book : Book) (table : List Offsets) (question : Question) (given : Given)
+    (text : List ℕ) (refusal : Refusal) → question.command ≡ command → IsTrue (can_stream command)
+    → named_by question.station ≡ Ok text → named_by (asked_by_question question) ≡ Err refusal
+    → prepared book table question given ≡ Err refusal
+unfolding prepared answered asks_span asked_by_question
 refused_span Predict book table question given text refusal is can name span = rw (is, name, span) refl
 refused_span Certify book table question given text refusal is can name span = rw (is, name, span) refl
 refused_span _ book table question given text refusal is can name span = absurd (let no = can in cc)
 
-pub refused_site : (command : Command) (memory : Bool) (book : Book) (table : List Offsets) (question : Question) (given : Given) (text : List ℕ) (asked : Asked) (refusal : Refusal) → question.command ≡ command → IsTrue (can_stream command) → named_by question.station ≡ Ok text → named_by (asked_by question) ≡ Ok asked → Excused memory (site_in Events book table text asked) refusal → Excused memory (prepared book table question given) refusal
-unfolding prepared answered asks_span asked_by predicted certified
+pub refused_site : (command : Command) (memory : Bool) (book : Book) (table : List Offsets) (question : Question)
+    (given : Given) (text : List ℕ) (asked : Asked) (refusal : Refusal) → question.command ≡ command
+    → IsTrue (can_stream command) → named_by question.station ≡ Ok text
+    → named_by (asked_by_question question) ≡ Ok asked → Excused memory (site_in Events book table text asked) refusal
+    → Excused memory (prepared book table question given) refusal
+unfolding prepared answered asks_span asked_by_question predicted certified
 refused_site Predict memory book table question given text asked refusal is can name span excused =
-    rw (is, name, span) (excused_then memory (site_in Events book table text asked >>= _) _ refusal (excused_then memory (site_in Events book table text asked) _ refusal excused))
+    rw (is, name, span) (excused_then memory (site_in Events book table text asked >>= _) _ refusal
+    (excused_then memory (site_in Events book table text asked) _ refusal excused))
 refused_site Certify memory book table question given text asked refusal is can name span excused =
-    rw (is, name, span) (excused_then memory (site_in Events book table text asked >>= _) _ refusal (excused_then memory (site_in Events book table text asked) _ refusal excused))
+    rw (is, name, span) (excused_then memory (site_in Events book table text asked >>= _) _ refusal
+    (excused_then memory (site_in Events book table text asked) _ refusal excused))
 refused_site _ memory book table question given text asked refusal is can name span excused = absurd (let no = can in cc)
 
 -- the answer isn't streamed
-pub ready_none : (command : Command) (book : Book) (table : List Offsets) (question : Question) (given : Given) (text : List ℕ) (asked : Asked) (site : Site) → question.command ≡ command → IsTrue (can_stream command) → named_by question.station ≡ Ok text → named_by (asked_by question) ≡ Ok asked → site_in Events book table text asked ≡ Ok site → streams_by site.basis question.layout given.zone ≡ false → prepared book table question given ≡ Ok (record { stream = None })
-unfolding prepared answered asks_span asked_by predicted certified
+pub ready_none : (command : Command) (book : Book) (table : List Offsets) (question : Question) (given : Given)
+    (text : List ℕ) (asked : Asked) (site : Site) → question.command ≡ command → IsTrue (can_stream command)
+    → named_by question.station ≡ Ok text → named_by (asked_by_question question) ≡ Ok asked
+    → site_in Events book table text asked ≡ Ok site → streams_by site.basis question.layout given.zone ≡ false
+    → prepared book table question given ≡ Ok (record { stream = None })
+unfolding prepared answered asks_span asked_by_question predicted certified
 ready_none Predict book table question given text asked site is can name span found streams = rw (is, name, span, found, streams) refl
 ready_none Certify book table question given text asked site is can name span found streams = rw (is, name, span, found, streams) refl
 ready_none _ book table question given text asked site is can name span found streams = absurd (let no = can in cc)
@@ -56,20 +71,29 @@ both true true h = (refl, refl)
 both true false h = (refl, h)
 both false b h = (h, absurd cc)
 
-pub ready_some : (command : Command) (layout : Layout) (book : Book) (table : List Offsets) (question : Question) (given : Given) (text : List ℕ) (asked : Asked) (site : Site) → question.command ≡ command → question.layout ≡ layout → IsTrue (can_stream command) → named_by question.station ≡ Ok text → named_by (asked_by question) ≡ Ok asked → site_in Events book table text asked ≡ Ok site → streams_by site.basis layout given.zone ≡ true → prepared book table question given ≡ Ok (record { stream = Some (stream_answer (form_of command) book site text asked given.zone) })
-unfolding prepared answered asks_span asked_by predicted certified
-ready_some Predict Plain book table question given text asked site is lay can name span at streams = rw (is, lay, name, span, at, streams) refl
+pub ready_some : (command : Command) (layout : Layout) (book : Book) (table : List Offsets) (question : Question)
+    (given : Given) (text : List ℕ) (asked : Asked) (site : Site) → question.command ≡ command
+    → question.layout ≡ layout → IsTrue (can_stream command) → named_by question.station ≡ Ok text
+    → named_by (asked_by_question question) ≡ Ok asked → site_in Events book table text asked ≡ Ok site
+    → streams_by site.basis layout given.zone ≡ true → prepared book table question given
+    ≡ Ok (record { stream = Some (stream_answer (form_of command) book site text asked given.zone) })
+unfolding prepared answered asks_span asked_by_question predicted certified
+ready_some Predict Plain book table question given text asked site is lay can name span at streams =
+    rw (is, lay, name, span, at, streams) refl
 ready_some Predict Csv book table question given text asked site is lay can name span at streams =
     absurd (let no = (both (is_plain site.basis) false streams).1 in cc)
-ready_some Certify layout book table question given text asked site is lay can name span at streams = rw (is, lay, name, span, at, streams) refl
+ready_some Certify layout book table question given text asked site is lay can name span at streams =
+    rw (is, lay, name, span, at, streams) refl
 ready_some _ layout book table question given text asked site is lay can name span at streams = absurd (let no = can in cc)
 
 -- the zone of a streamed answer
-pub zone_some : (streams : Bool) (zone given : Zone) → Some zone ≡ (if streams then Some given else None) → (streams ≡ true) × (zone ≡ given)
+pub zone_some : (streams : Bool) (zone given : Zone) → Some zone ≡ (if streams then Some given else None)
+    → (streams ≡ true) × (zone ≡ given)
 zone_some true zone given is = (refl, cc)
 zone_some false zone given is = absurd cc
 
-pub zone_none : (streams : Bool) (given : Zone) → (let o : Option Zone = None in o) ≡ (if streams then Some given else None) → streams ≡ false
+pub zone_none : (streams : Bool) (given : Zone)
+    → (let o : Option Zone = None in o) ≡ (if streams then Some given else None) → streams ≡ false
 zone_none true given is = absurd cc
 zone_none false given is = refl
 

@@ -7,7 +7,7 @@ use Rattle.std.proofs.lemmas.List.FromFn.{map-range_with_len_more}
 use Rattle.std.proofs.Math.Nat.{div-mul-le_self, mul-le-mul_right}
 use Rattle.listing.specs.declared.row.Row.{Row}
 use Rattle.zone_time.specs.Zones.{InZoneYears}
-use Rattle.station_span.specs.declared.found.Found.{Found}
+use Rattle.station_span.specs.declared.found_station.FoundStation.{FoundStation}
 use Rattle.station_span.specs.Workings.Finds.{AreLooked, IsLooked, site_of, tide_of_found}
 use Rattle.station_span.proofs.HeldLemmas.{looked_level}
 use Rattle.station_span.proofs.LevelLemmas.{zone_minute}
@@ -20,7 +20,8 @@ product_pos : (m n : ℕ) → pos m *ℤ pos n ≡ pos (m * n)
 product_pos m n = refl
 
 -- a row's minute isn't after the end
-pub row_within : (begin end step : ℤ) (place : ℕ) → begin ≤ℤ end → IsStep step → place < row_count begin end step → (begin ≤ℤ (begin +ℤ (step *ℤ pos place))) × ((begin +ℤ (step *ℤ pos place)) ≤ℤ end)
+pub row_within : (begin end step : ℤ) (place : ℕ) → begin ≤ℤ end → IsStep step → place < row_count begin end step
+    → (begin ≤ℤ (begin +ℤ (step *ℤ pos place))) × ((begin +ℤ (step *ℤ pos place)) ≤ℤ end)
 row_within begin end (pos step) place forward is below =
     let fits : place ≤ unsigned_abs (end -ℤ begin) / step = omega arith in
     let product : place * step ≤ unsigned_abs (end -ℤ begin) / step * step = mul-le-mul_right step fits in
@@ -28,18 +29,24 @@ row_within begin end (pos step) place forward is below =
     (omega (arith, ints), omega (arith, ints))
 row_within begin end (negsuc step) place forward is below = absurd (let first = is.first in omega (arith, ints))
 
-pub row_level : (found : Found) (step : ℤ) (place : ℕ) → AreLooked found → IsStep step → place < row_count found.asked.begin found.asked.end step → IsLooked found (found.asked.begin +ℤ (step *ℤ pos place))
+pub row_level : (found : FoundStation) (step : ℤ) (place : ℕ) → AreLooked found → IsStep step → place
+    < row_count found.asked.begin found.asked.end step → IsLooked found (found.asked.begin +ℤ (step *ℤ pos place))
 row_level found step place looked is below =
-    let within = row_within found.asked.begin found.asked.end step place found.sound.span.forward is below in
+    let within = row_within found.asked.begin found.asked.end step place found.valid.span.forward is below in
     looked (found.asked.begin +ℤ (step *ℤ pos place)) within.0 within.1
 
 -- ---- a list that grows
 
-pub row_added : (found : Found) (step : ℤ) (count : ℕ) (rows more : List Row) (row : Row) → AreLooked found → IsStep step → count < row_count found.asked.begin found.asked.end step → AreRows found.origin.book (site_of found) found.asked.begin step count rows → row ≡ row_at found.origin.book (site_of found) found.asked.begin step count → more ≡ rows ++ row ∷ [] → AreRows found.origin.book (site_of found) found.asked.begin step (count + 1) more
+pub row_added : (found : FoundStation) (step : ℤ) (count : ℕ) (rows more : List Row) (row : Row) → AreLooked found
+    → IsStep step → count < row_count found.asked.begin found.asked.end step
+    → AreRows found.origin.book (site_of found) found.asked.begin step count rows
+    → row ≡ row_at found.origin.book (site_of found) found.asked.begin step count → more ≡ rows ++ row ∷ []
+    → AreRows found.origin.book (site_of found) found.asked.begin step (count + 1) more
 row_added found step count rows more row looked is below are next added =
     let here = row_at found.origin.book (site_of found) found.asked.begin step in
     let next_rows = map-range_with_len_more here 0 count count (omega arith) in
-    let minute : InZoneYears (here count).minute = zone_minute (tide_of_found found) _ (looked_level found _ (row_level found step count looked is below)) in
+    let minute : InZoneYears (here count).minute =
+    zone_minute (tide_of_found found) _ (looked_level found _ (row_level found step count looked is below)) in
     let listed = are.listed in
     let alone : All (λ (row : Row). InZoneYears row.minute) (here count ∷ []) =
     All-cons (λ row. InZoneYears row.minute) _ [] minute (λ place default past. absurd (omega (arith, past))) in

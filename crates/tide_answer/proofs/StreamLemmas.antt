@@ -15,7 +15,7 @@ use Rattle.curve_law.specs.declared.cell.Cell.{Cell}
 use Rattle.curve_law.specs.declared.cell.Cell.TheVariants.{Quiet, Still, Turn}
 use Rattle.curve_law.specs.declared.event.Event.{Event}
 use Rattle.curve_law.specs.declared.tracks.Tracks.{Tracks}
-use Rattle.curve_law.specs.Cells.{event_in, minutes_of, turns}
+use Rattle.curve_law.specs.Cells.{event_in, minutes_of, cell_events}
 use Rattle.event_list.specs.Events.{cell_count, cells_in, merged_of}
 use Rattle.event_list.specs.Merging.{cells_left}
 use Rattle.event_list.specs.Order.{ordered}
@@ -24,7 +24,7 @@ use Rattle.event_list.proofs.EventLemmas.{cells-parts, count-few, merged-parts}
 use Rattle.event_list.proofs.OrderLemmas.{sum-ordered}
 use Rattle.interval_search.specs.Looking.{Looking}
 use Rattle.station_span.specs.declared.asked.Asked.{Asked}
-use Rattle.station_span.specs.declared.found.Found.{Found}
+use Rattle.station_span.specs.declared.found_station.FoundStation.{FoundStation}
 use Rattle.station_span.specs.declared.reach.Reach.TheVariants.{Events}
 use Rattle.station_span.specs.Following.{followed, tracks_of}
 use Rattle.station_span.specs.Workings.Finds.{AreReferences, site_of, tide_of_found}
@@ -33,27 +33,35 @@ use Rattle.station_cells.specs.Sending.{left_count}
 use Rattle.tide_answer.specs.Workings.Streaming.{head_text, tracks_text, HasCells}
 use Rattle.tide_answer.specs.Workings.Certifying.{certificate_in}
 use Rattle.station_span.specs.Workings.Spans.{AreMoments}
-use Rattle.tide_answer.proofs.CertificateLemmas.{certificate_sound}
+use Rattle.tide_answer.proofs.CertificateLemmas.{certificate_valid}
 
 -- ---- cells
 
-pub cells_small : (found : Found) → found.reach ≡ Events → cells_in (tracks_of found.origin.book (site_of found) found.asked) ≤ 600000000000
+pub cells_small : (found : FoundStation) → found.reach ≡ Events
+    → cells_in (tracks_of found.origin.book (site_of found) found.asked) ≤ 600000000000
 unfolding cell_count tracks_of
 cells_small found is =
-    let few = count-few (followed found.origin.book (site_of found) found.asked) (widened_of found.basis found.asked.begin found.asked.end) in
-    let near = (found_for found Events is).span.near in
-    let forward = near.forward in
-    let begin = near.begin in
-    let end = near.end in
+    let few = count-few (followed found.origin.book (site_of found) found.asked)
+    (widened_of found.basis found.asked.begin found.asked.end) in
+    let in_range = (found_for found Events is).span.in_range in
+    let forward = in_range.forward in
+    let begin = in_range.begin in
+    let end = in_range.end in
     omega (arith, ints, few)
 
 pub left_counted : {C : Type 0} (search : Option (Looking C)) → left_count search ≡ sum_by length (option_to_list (cells_left search))
 left_counted None = refl
 left_counted (Some search) = omega (arith, sum_by-cons length search.left [])
 
-pub all_counted : {C : Type 0} (turn : List Cell) (slack mark : Option (Looking C)) → length turn + left_count slack + left_count mark ≡ cells_in (record { turn = turn; slack = cells_left slack; mark = cells_left mark })
+pub all_counted : {C : Type 0} (turn : List Cell) (slack mark : Option (Looking C)) → length turn + left_count slack
+    + left_count mark ≡ cells_in (record { turn = turn; slack = cells_left slack; mark = cells_left mark })
 all_counted turn slack mark =
-    omega (arith, left_counted slack, left_counted mark, cells-parts (record { turn = turn; slack = cells_left slack; mark = cells_left mark }))
+    omega (
+      arith,
+      left_counted slack,
+      left_counted mark,
+      cells-parts (record { turn = turn; slack = cells_left slack; mark = cells_left mark }),
+    )
 
 -- ---- events
 
@@ -69,21 +77,28 @@ event_few a (Quiet n) = omega arith
 event_few a Still = omega arith
 event_few a (Turn kind level) = omega arith
 
-turns_few : (a : ℤ) (cells : List Cell) → sum_by one (turns a cells) ≤ length cells
-unfolding turns
-turns_few a [] = omega arith
-turns_few a (cell ∷ cells) =
-    omega (arith, sum_by-append one (event_in a cell) (turns (a +ℤ pos (minutes_of cell)) cells), ones (event_in a cell), event_few a cell, turns_few (a +ℤ pos (minutes_of cell)) cells)
+cell_events_few : (a : ℤ) (cells : List Cell) → sum_by one (cell_events a cells) ≤ length cells
+unfolding cell_events
+cell_events_few a [] = omega arith
+cell_events_few a (cell ∷ cells) =
+    omega (
+      arith,
+      sum_by-append one (event_in a cell) (cell_events (a +ℤ pos (minutes_of cell)) cells),
+      ones (event_in a cell),
+      event_few a cell,
+      cell_events_few (a +ℤ pos (minutes_of cell)) cells,
+    )
 
-track_few : (a : ℤ) (cells : Option (List Cell)) → sum_by one (flat_map (turns a) (option_to_list cells)) ≤ sum_by length (option_to_list cells)
+track_few : (a : ℤ) (cells : Option (List Cell))
+    → sum_by one (flat_map (cell_events a) (option_to_list cells)) ≤ sum_by length (option_to_list cells)
 track_few a None = omega arith
-track_few a (Some cells) = rw (append-nil (turns a cells)) (omega (arith, sum_by-cons length cells [], turns_few a cells))
+track_few a (Some cells) = rw (append-nil (cell_events a cells)) (omega (arith, sum_by-cons length cells [], cell_events_few a cells))
 
 merged_few : (a : ℤ) (t : Tracks) → length (merged_of a t) ≤ cells_in t
 merged_few a t =
-    let turn = turns a t.turn in
-    let slack = flat_map (turns a) (option_to_list t.slack) in
-    let mark = flat_map (turns a) (option_to_list t.mark) in
+    let turn = cell_events a t.turn in
+    let slack = flat_map (cell_events a) (option_to_list t.slack) in
+    let mark = flat_map (cell_events a) (option_to_list t.mark) in
     let all = sum-ordered one (turn ++ (slack ++ mark)) in
     rw (merged-parts a t)
     (omega (
@@ -92,12 +107,13 @@ merged_few a t =
       sum_by-append one turn (slack ++ mark),
       sum_by-append one slack mark,
       cells-parts t,
-      turns_few a t.turn,
+      cell_events_few a t.turn,
       track_few a t.slack,
       track_few a t.mark,
     ))
 
-pub events_small : (found : Found) (events : List Event) → found.reach ≡ Events → AreReferences found events → 96 * length events < 2 ^ 63
+pub events_small : (found : FoundStation) (events : List Event) → found.reach ≡ Events → AreReferences found events
+    → 96 * length events < 2 ^ 63
 events_small found events is references =
     let few = merged_few found.span.begin (tracks_of found.origin.book (site_of found) found.asked) in
     let small = cells_small found is in
@@ -105,19 +121,26 @@ events_small found events is references =
 
 -- ---- the parts of a certificate
 
-pub turn_small : (found : Found) → found.reach ≡ Events → length (tracks_of found.origin.book (site_of found) found.asked).turn ≤ 600000000000
+pub turn_small : (found : FoundStation) → found.reach ≡ Events
+    → length (tracks_of found.origin.book (site_of found) found.asked).turn ≤ 600000000000
 turn_small found is = omega (arith, cells-parts (tracks_of found.origin.book (site_of found) found.asked), cells_small found is)
 
-pub slack_small : {C : Type 0} (found : Found) (search : Option (Looking C)) → found.reach ≡ Events → cells_left search ≡ (tracks_of found.origin.book (site_of found) found.asked).slack → left_count search ≤ 600000000000
+pub slack_small : {C : Type 0} (found : FoundStation) (search : Option (Looking C)) → found.reach ≡ Events
+    → cells_left search ≡ (tracks_of found.origin.book (site_of found) found.asked).slack
+    → left_count search ≤ 600000000000
 slack_small found search is left =
     let tracks = tracks_of found.origin.book (site_of found) found.asked in
-    let count : left_count search ≡ sum_by length (option_to_list tracks.slack) = left_counted search ∙ ap (λ (o : Option (List Cell)). sum_by length (option_to_list o)) left in
+    let count : left_count search ≡ sum_by length (option_to_list tracks.slack) =
+    left_counted search ∙ ap (λ (o : Option (List Cell)). sum_by length (option_to_list o)) left in
     omega (arith, count, cells-parts tracks, cells_small found is)
 
-pub mark_small : {C : Type 0} (found : Found) (search : Option (Looking C)) → found.reach ≡ Events → cells_left search ≡ (tracks_of found.origin.book (site_of found) found.asked).mark → left_count search ≤ 600000000000
+pub mark_small : {C : Type 0} (found : FoundStation) (search : Option (Looking C)) → found.reach ≡ Events
+    → cells_left search ≡ (tracks_of found.origin.book (site_of found) found.asked).mark
+    → left_count search ≤ 600000000000
 mark_small found search is left =
     let tracks = tracks_of found.origin.book (site_of found) found.asked in
-    let count : left_count search ≡ sum_by length (option_to_list tracks.mark) = left_counted search ∙ ap (λ (o : Option (List Cell)). sum_by length (option_to_list o)) left in
+    let count : left_count search ≡ sum_by length (option_to_list tracks.mark) =
+    left_counted search ∙ ap (λ (o : Option (List Cell)). sum_by length (option_to_list o)) left in
     omega (arith, count, cells-parts tracks, cells_small found is)
 
 pub mark_in_range : (mark : Option ℤ) → ForSome mark (λ level. unsigned_abs level ≤ 10000000000) → IfSome mark IsMark
@@ -133,22 +156,27 @@ if_cells : (track : TrackName) (cells : Option (List Cell)) → IfSome cells (Al
 if_cells track (Some cells) all = All-weaker (IsCellOf track) IsCell (cell_of track) cells all
 if_cells track None all = tt
 
-pub has_cells : (name : List ℕ) (found : Found) → found.reach ≡ Events → IsStationName name → AreMoments found.asked → HasCells (tracks_of found.origin.book (site_of found) found.asked)
+pub has_cells : (name : List ℕ) (found : FoundStation) → found.reach ≡ Events → IsStationName name
+    → AreMoments found.asked → HasCells (tracks_of found.origin.book (site_of found) found.asked)
 has_cells name found reach named moments =
     let tracks = tracks_of found.origin.book (site_of found) found.asked in
-    let is = certificate_sound name found.asked (tide_of_found found) tracks named moments.begin moments.end (ready_for found reach) (tracks_tide found reach) in
+    let is = certificate_valid name found.asked (tide_of_found found) tracks named moments.begin moments.end
+    (ready_for found reach) (tracks_tide found reach) in
     record {
       turn = All-weaker (IsCellOf names.Turn) IsCell (cell_of names.Turn) tracks.turn is.turn;
       slack = if_cells names.Slack tracks.slack is.slack;
       mark = if_cells names.Mark tracks.mark is.crossings;
     }
 
-pub searched : {C : Type 0} (search : Option (Looking C)) (cells : Option (List Cell)) → cells_left search ≡ cells → IfSome cells (All IsCell) → ForSome search (λ s. All IsCell s.left)
+pub searched : {C : Type 0} (search : Option (Looking C)) (cells : Option (List Cell)) → cells_left search ≡ cells
+    → IfSome cells (All IsCell) → ForSome search (λ s. All IsCell s.left)
 searched (Some s) cells is all x e = let same : s ≡ x = cc in rw (← same) (rw (← is) at all)
 searched None cells is all x e = absurd cc
 
 -- the text in its parts
-text_parts : (c : Certificate) → certificate_text c ≡ joined (head_lines_of c) ++ joined (track_lines_of names.Turn c.tracks.turn) ++ joined (lines_if_there names.Slack c.tracks.slack) ++ joined (lines_if_there names.Mark c.tracks.mark) ++ ended last_line
+text_parts : (c : Certificate) → certificate_text c ≡ joined (head_lines_of c)
+    ++ joined (track_lines_of names.Turn c.tracks.turn) ++ joined (lines_if_there names.Slack c.tracks.slack)
+    ++ joined (lines_if_there names.Mark c.tracks.mark) ++ ended last_line
 unfolding certificate_text last_line
 text_parts c =
     let turn = track_lines_of names.Turn c.tracks.turn in
@@ -162,7 +190,8 @@ text_parts c =
     ∙ sym (append_assoc (joined (head_lines_of c) ++ joined turn) (joined slack) (joined crossings ++ ended last_line))
     ∙ sym (append_assoc (joined (head_lines_of c) ++ joined turn ++ joined slack) (joined crossings) (ended last_line))
 
-pub certificate_parts : (name : List ℕ) (asked : Asked) (tracks : Tracks) → certificate_text (certificate_in name asked tracks) ≡ head_text name asked ++ tracks_text tracks ++ codes "done\n"
+pub certificate_parts : (name : List ℕ) (asked : Asked) (tracks : Tracks)
+    → certificate_text (certificate_in name asked tracks) ≡ head_text name asked ++ tracks_text tracks ++ codes "done\n"
 unfolding title_of station_line_of last_line
 certificate_parts name asked tracks =
     let b = ended (begin_line_of asked.begin) in

@@ -15,7 +15,7 @@ use Rattle.event_list.specs.declared.span.Span.{Span}
 use Rattle.station_span.specs.declared.reach.Reach.TheVariants.{Events}
 use Rattle.tide_fault.specs.declared.refusal.Refusal.{Refusal}
 use Rattle.station_cells.specs.declared.rejection.Rejection.{Rejection}
-use Rattle.station_span.specs.declared.found.Found.{Found}
+use Rattle.station_span.specs.declared.found_station.FoundStation.{FoundStation}
 use Rattle.station_span.specs.Workings.Finds.{site_of}
 use Rattle.station_span.proofs.HeldLemmas.{found_for}
 use Rattle.tide_answer.specs.declared.tally.Tally.{Tally}
@@ -24,17 +24,24 @@ use Rattle.station_span.specs.Sites.{Site, site_in}
 use Rattle.tide_answer.specs.Trials.{plus, station_tally, tally_on, tally_at, tally_by, trial_span}
 use Rattle.station_cells.specs.Rejections.{HasFewCells}
 use Rattle.tide_answer.specs.Workings.Certifying.{certificate_in, rejection_in}
-use Rattle.station_span.specs.Workings.Spans.{IsNear}
+use Rattle.station_span.specs.Workings.Spans.{IsInRange}
 use Rattle.tide_answer.specs.Workings.Tallies.{IsUpTo}
 use Rattle.station_span.proofs.FoundLemmas.{excused_then}
 
-pub station_whole : (book : Book) (name : List ℕ) (site : Site) (span : Span) (tracks : Tracks) (events : List Event) (rejection : Option Rejection) → site_in Events book [] name trial_span ≡ Ok site → span ≡ widened_of site.basis trial_span.begin trial_span.end → tracks ≡ tracks_of book site trial_span → events ≡ events_of book site trial_span → rejection ≡ rejection_in book site (certificate_in name trial_span tracks) → station_tally book name ≡ Ok (tally_by span tracks events rejection)
+pub station_whole : (book : Book) (name : List ℕ) (site : Site) (span : Span) (tracks : Tracks) (events : List Event)
+    (rejection : Option Rejection) → site_in Events book [] name trial_span ≡ Ok site
+    → span ≡ widened_of site.basis trial_span.begin trial_span.end → tracks ≡ tracks_of book site trial_span → events
+    ≡ events_of book site trial_span → rejection ≡ rejection_in book site (certificate_in name trial_span tracks)
+    → station_tally book name ≡ Ok (tally_by span tracks events rejection)
 unfolding station_tally tally_at
-station_whole book name site span tracks events rejection expected looked covers list judged = rw (expected, looked, list, judged, covers) refl
+station_whole book name site span tracks events rejection expected looked covers list judged =
+    rw (expected, looked, list, judged, covers) refl
 
 -- ---- the number of cells of a station's tracks
 
-parts_few : (turn : List Cell) (slack mark : Option (List Cell)) → cells_in (record { turn = turn; slack = slack; mark = mark }) < 2 ^ 32 → HasFewCells (record { turn = turn; slack = slack; mark = mark })
+parts_few : (turn : List Cell) (slack mark : Option (List Cell))
+    → cells_in (record { turn = turn; slack = slack; mark = mark }) < 2 ^ 32
+    → HasFewCells (record { turn = turn; slack = slack; mark = mark })
 unfolding cells_in
 parts_few turn None None few = record {
   turn = omega (arith, few);
@@ -57,37 +64,45 @@ parts_few turn (Some slack) (Some mark) few = record {
   mark = λ x e. let same : mark ≡ x = cc in rw (← same) (omega (arith, few));
 }
 
-covers_few : (found : Found) → found.reach ≡ Events → cells_in (tracks_of found.origin.book (site_of found) found.asked) < 2 ^ 32
+covers_few : (found : FoundStation) → found.reach ≡ Events → cells_in (tracks_of found.origin.book (site_of found) found.asked) < 2 ^ 32
 unfolding cell_count tracks_of
 covers_few found is =
-    let few = count-few (followed found.origin.book (site_of found) found.asked) (widened_of found.basis found.asked.begin found.asked.end) in
+    let few = count-few (followed found.origin.book (site_of found) found.asked)
+    (widened_of found.basis found.asked.begin found.asked.end) in
     let span = (found_for found Events is).span in
-    let forward = span.near.forward in
+    let forward = span.in_range.forward in
     let begins = span.beside.begins in
     let ends = span.beside.ends in
-    let long = found.sound.few in
+    let long = found.valid.few in
     omega (arith, ints, few)
 
-pub tracks_few : (found : Found) (tracks : Tracks) → found.reach ≡ Events → tracks ≡ tracks_of found.origin.book (site_of found) found.asked → HasFewCells tracks
+pub tracks_few : (found : FoundStation) (tracks : Tracks) → found.reach ≡ Events
+    → tracks ≡ tracks_of found.origin.book (site_of found) found.asked → HasFewCells tracks
 tracks_few found tracks is same =
     parts_few tracks.turn tracks.slack tracks.mark (rw same (covers_few found is))
 
 -- ---- from one station to the next
 
-pub tally_next : (book : Book) (sum one : Tally) (stations : List Station) (i : ℕ) (d : Station) → i < length stations → station_tally book (get_or stations i d).name ≡ Ok one → tally_on book sum (drop i stations) ≡ tally_on book (plus sum one) (drop (i + 1) stations)
+pub tally_next : (book : Book) (sum one : Tally) (stations : List Station) (i : ℕ) (d : Station) → i < length stations
+    → station_tally book (get_or stations i d).name ≡ Ok one
+    → tally_on book sum (drop i stations) ≡ tally_on book (plus sum one) (drop (i + 1) stations)
 unfolding tally_on
 tally_next book sum one stations i d within is = rw (drop_more stations i d within, is) refl
 
-pub tally_refused : (memory : Bool) (book : Book) (sum : Tally) (stations : List Station) (i : ℕ) (d : Station) (refusal : Refusal) → i < length stations → Excused memory (station_tally book (get_or stations i d).name) refusal → Excused memory (tally_on book sum (drop i stations)) refusal
+pub tally_refused : (memory : Bool) (book : Book) (sum : Tally) (stations : List Station) (i : ℕ) (d : Station)
+    (refusal : Refusal) → i < length stations → Excused memory (station_tally book (get_or stations i d).name) refusal
+    → Excused memory (tally_on book sum (drop i stations)) refusal
 unfolding tally_on
-tally_refused memory book sum stations i d refusal within excused = rw (drop_more stations i d within) (excused_then memory _ _ refusal excused)
+tally_refused memory book sum stations i d refusal within excused =
+    rw (drop_more stations i d within) (excused_then memory _ _ refusal excused)
 
-pub tally_done : (book : Book) (sum : Tally) (stations : List Station) (i : ℕ) → length stations ≤ i → tally_on book sum (drop i stations) ≡ Ok sum
+pub tally_done : (book : Book) (sum : Tally) (stations : List Station) (i : ℕ) → length stations ≤ i
+    → tally_on book sum (drop i stations) ≡ Ok sum
 unfolding tally_on
 tally_done book sum stations i all = rw (drop_all i stations all) refl
 
-pub trial_near : IsNear trial_span
-trial_near = record { begin = omega arith; end = omega arith; mark = λ x e. absurd cc }
+pub trial_in_range : IsInRange trial_span
+trial_in_range = record { begin = omega arith; end = omega arith; mark = λ x e. absurd cc }
 
 pub tally_up : (i : ℕ) (sum one : Tally) → IsUpTo (i * 2 ^ 66) sum → IsUpTo (2 ^ 66) one → IsUpTo ((i + 1) * 2 ^ 66) (plus sum one)
 unfolding plus

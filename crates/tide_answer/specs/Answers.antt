@@ -1,5 +1,32 @@
 -- The answer to a request over harmonic constants and a table of offsets (this project).
-use Rattle.std.specs.Prelude.{ℕ, ◌+◌, ◌/◌, ℤ, pos, ◌+ℤ◌, ◌-ℤ◌, ◌*ℤ◌, nat_lt, unsigned_abs, true, false, not, ◌==◌, if◌then◌else◌, List, ◌++◌, count_by, map, codes, Option, Some, None, Result, Ok, Err}
+use Rattle.std.specs.Prelude.{
+  ℕ,
+  ◌+◌,
+  ◌/◌,
+  ℤ,
+  pos,
+  ◌+ℤ◌,
+  ◌-ℤ◌,
+  ◌*ℤ◌,
+  nat_lt,
+  unsigned_abs,
+  true,
+  false,
+  not,
+  ◌==◌,
+  if◌then◌else◌,
+  List,
+  ◌++◌,
+  count_by,
+  map,
+  codes,
+  Option,
+  Some,
+  None,
+  Result,
+  Ok,
+  Err,
+}
 use Rattle.std.specs.List.{range_with_len}
 use Rattle.std.specs.Option.{ok_or}
 use Rattle.std.specs.Ordering.{int_eq}
@@ -15,20 +42,36 @@ use Rattle.harmonics_text.specs.declared.book.Book.{Book}
 use Rattle.harmonics_text.specs.declared.book.Station.{Station}
 use Rattle.harmonics_text.specs.declared.book.Units.{Units}
 use Rattle.highest_water.specs.declared.certificate.PeakCertificate.{PeakCertificate}
-use Rattle.highest_water.specs.declared.fault.CertFault.{CertFault as PeakFault}
-use Rattle.highest_water.specs.declared.fault.CertFault.TheVariants as peak
+use Rattle.highest_water.specs.declared.fault.PeakFault.{PeakFault}
+use Rattle.highest_water.specs.declared.fault.PeakFault.TheVariants as peak
 use Rattle.highest_water.specs.declared.verdict.PeakVerdict.{PeakVerdict}
 use Rattle.highest_water.specs.declared.verdict.PeakVerdict.TheVariants.{Accepted}
 use Rattle.highest_water.specs.PeakTexts.{peak_text}
 use Rattle.highest_water.specs.PeakReadings.{peak_of}
-use Rattle.highest_water.specs.Telling.{verdict_line}
+use Rattle.highest_water.specs.VerdictLines.{verdict_line}
 use Rattle.listing.specs.declared.row.Row.{Row}
 use Rattle.listing.specs.Abouts.{about_text_of}
 use Rattle.listing.specs.Listings.{plain_events_of, plain_heights_of, clock_text_of, highest_text_of}
 use Rattle.listing.specs.Records.{csv_events_of, csv_heights_of}
 use Rattle.listing.specs.StationLists.{stations_text_of}
 use Rattle.question.specs.declared.command.Command.{Command}
-use Rattle.question.specs.declared.command.Command.TheVariants.{Predict, Certify, Check, Heights, Calendar, Clock, Stations, Sample, Trial, Serve, Report, Highest, Peak, PeakCheck, About}
+use Rattle.question.specs.declared.command.Command.TheVariants.{
+  Predict,
+  Certify,
+  Check,
+  Heights,
+  Calendar,
+  Clock,
+  Stations,
+  Sample,
+  Trial,
+  Serve,
+  Report,
+  Highest,
+  Peak,
+  PeakCheck,
+  About,
+}
 use Rattle.question.specs.declared.question.Layout.{Layout}
 use Rattle.question.specs.declared.question.Layout.TheVariants.{Plain, Csv}
 use Rattle.question.specs.declared.question.Question.{Question}
@@ -47,7 +90,7 @@ use Rattle.tide_fault.specs.declared.refusal.Refusal.TheVariants.{NoMemory, NotA
 use Rattle.station_cells.specs.declared.rejection.Rejection.{Rejection}
 use Rattle.tide_answer.specs.declared.listed.Listed.{Listed}
 use Rattle.tide_answer.specs.declared.text.Answer.{Answer}
-use Rattle.tide_answer.specs.Asking.{asked_by, asked_from, asked_in, asked_of_peak}
+use Rattle.tide_answer.specs.Asking.{asked_by_question, asked_from_minute, asked_by_certificate, asked_by_peak_certificate}
 use Rattle.tide_fault.specs.Faults.{refusal_of_cert}
 use Rattle.station_span.specs.Following.{followed_by, events_of, tracks_of, cells_of}
 use Rattle.station_cells.specs.Rejections.{rejection_of, rejection_line}
@@ -66,7 +109,7 @@ text_of_events book site asked text = record { text = text; rejected = false; ce
 
 -- the answer that accepts a certificate: the line `Accepted`, and what follows it
 abbrev pub text_accepted : List ℕ → Answer
-text_accepted told = text_alone (codes "Accepted\n" ++ told)
+text_accepted shown = text_alone (codes "Accepted\n" ++ shown)
 
 -- the answer that rejects a certificate with the line of its first fault
 abbrev pub text_rejected : List ℕ → Answer
@@ -123,15 +166,16 @@ version_of cert = if cert.version == 1 then First else Second
 -- the answer to a certificate: if it is valid, `Accepted` and the events of its own station, span and mark
 abbrev pub judged : Book → Site → Certificate → Zone → Option Rejection → Answer
 judged book site cert zone None =
-    text_accepted (plain_events_of cert.station site.station.units (events_of book site (asked_in cert)) zone)
+    text_accepted (plain_events_of cert.station site.station.units (events_of book site (asked_by_certificate cert)) zone)
 judged book site cert zone (Some rejection) = text_rejected (rejection_line rejection)
 
 -- the answer of `check`
 unfoldable pub checked : Book → List Offsets → List ℕ → Zone → Result Answer Refusal
 checked book table bytes zone = do
   cert ← certificate_from (certificate_of bytes)
-  site ← site_in Events book table cert.station (asked_in cert)
-  Ok (judged book site cert zone (rejection_of (followed_by (version_of cert) book site cert.mark) (widened_of site.basis cert.begin cert.end) cert.tracks))
+  site ← site_in Events book table cert.station (asked_by_certificate cert)
+  Ok (judged book site cert zone (rejection_of (followed_by (version_of cert) book site cert.mark)
+      (widened_of site.basis cert.begin cert.end) cert.tracks))
 
 -- ---- levels
 
@@ -173,11 +217,11 @@ heights book table name asked step layout zone = do
 -- the answer of `clock`: the level and its direction at a minute, and the events of the day from there on
 unfoldable pub on_clock : Book → List Offsets → List ℕ → ℤ → Zone → Result Answer Refusal
 on_clock book table name now zone = do
-  site ← site_in Events book table name (asked_from now)
+  site ← site_in Events book table name (asked_from_minute now)
   level ← level_in site.basis
-  Ok (text_of_events book site (asked_from now)
+  Ok (text_of_events book site (asked_from_minute now)
       (clock_text_of name site.station.units now (level_at book site now) (is_rising_at book site now)
-      (events_of book site (asked_from now)) zone))
+      (events_of book site (asked_from_minute now)) zone))
 
 -- ---- the highest water
 
@@ -223,8 +267,8 @@ peak_judged book site cert verdict = text_rejected (verdict_line verdict)
 unfoldable pub peak_checked : Book → List Offsets → List ℕ → Result Answer Refusal
 peak_checked book table bytes = do
   cert ← peak_from (peak_of bytes)
-  site ← highest_site book table cert.station (asked_of_peak cert)
-  Ok (peak_judged book site cert (highest_verdict book site (asked_of_peak cert) cert.peak))
+  site ← highest_site book table cert.station (asked_by_peak_certificate cert)
+  Ok (peak_judged book site cert (highest_verdict book site (asked_by_peak_certificate cert) cert.peak))
 
 -- ---- the facts of a station
 
@@ -233,8 +277,8 @@ abbrev pub constituent_count : Station → ℕ
 constituent_count station = count_by (λ amplitude. not (int_eq amplitude (pos 0))) station.amplitude
 
 -- the answer of `about`
-unfoldable pub known : Book → List Offsets → List ℕ → Result Answer Refusal
-known book table name = do
+unfoldable pub station_about : Book → List Offsets → List ℕ → Result Answer Refusal
+station_about book table name = do
   site ← station_in book table name
   Ok (text_alone (about_text_of name site.station.name site.station.units (constituent_count site.station)
       (predicted_agreement book site.station)))
@@ -249,7 +293,7 @@ named_by said = ok_or said NoStation
 unfoldable pub asks_span : Question → (List ℕ → Asked → Result Answer Refusal) → Result Answer Refusal
 asks_span question next = do
   name ← named_by question.station
-  asked ← named_by (asked_by question)
+  asked ← named_by (asked_by_question question)
   next name asked
 
 -- the answer of a command that needs a station
@@ -262,7 +306,7 @@ asks_name question next = do
 unfoldable pub listed : Book → List Offsets → Question → Result Listed Refusal
 listed book table question = do
   name ← named_by question.station
-  asked ← named_by (asked_by question)
+  asked ← named_by (asked_by_question question)
   site ← site_in Events book table name asked
   Ok (record { name = name; units = site.station.units; events = events_of book site asked })
 
@@ -273,8 +317,8 @@ text_from Trial (Some seed) = trial_of seed >>= λ text. Ok (text_alone text)
 text_from _ _ = Err NoStation
 
 -- the answer to a request that names no file, or the first refusal
-unfoldable pub answered_alone : Question → Result Answer Refusal
-answered_alone question = text_from question.command question.seed
+unfoldable pub answered_without_files : Question → Result Answer Refusal
+answered_without_files question = text_from question.command question.seed
 
 -- the answer of a command that needs a span; all others have none here
 abbrev pub text_over : Command → Book → List Offsets → Question → Zone → List ℕ → Asked → Result Answer Refusal
@@ -292,10 +336,10 @@ text_by Check book table question given = checked book table given.certificate g
 text_by PeakCheck book table question given = peak_checked book table given.certificate
 text_by Clock book table question given =
     asks_name question (λ name. on_clock book table name given.now given.zone)
-text_by About book table question given = asks_name question (λ name. known book table name)
+text_by About book table question given = asks_name question (λ name. station_about book table name)
 text_by Stations book table question given = Ok (text_alone (stations_text_of book table))
-text_by Sample book table question given = answered_alone question
-text_by Trial book table question given = answered_alone question
+text_by Sample book table question given = answered_without_files question
+text_by Trial book table question given = answered_without_files question
 text_by Report book table question given = Err NoStation
 text_by Serve book table question given = Err NoStation
 text_by command book table question given =

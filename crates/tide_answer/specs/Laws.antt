@@ -7,7 +7,7 @@ use Rattle.cert_text.specs.Certificates.{IsMark}
 use Rattle.cert_text.specs.Spelling.{IsTextOf}
 use Rattle.curve_law.specs.declared.cell.Cell.{Cell}
 use Rattle.curve_law.specs.declared.tracks.Tracks.{Tracks}
-use Rattle.curve_law.specs.Cells.{turns}
+use Rattle.curve_law.specs.Cells.{cell_events}
 use Rattle.curve_law.specs.Meaning.{Meaning}
 use Rattle.event_list.specs.declared.span.Span.{Span}
 use Rattle.event_list.specs.Events.{Followed, events_over}
@@ -24,7 +24,7 @@ use Rattle.station_span.specs.declared.reach.Reach.TheVariants.{Events}
 use Rattle.tide_fault.specs.declared.refusal.Refusal.{Refusal}
 use Rattle.tide_answer.specs.declared.text.Answer.{Answer}
 use Rattle.tide_answer.specs.Answers.{text_alone, predicted, certified, checked}
-use Rattle.tide_answer.specs.Asking.{asked_in}
+use Rattle.tide_answer.specs.Asking.{asked_by_certificate}
 use Rattle.station_span.specs.Following.{followed}
 use Rattle.station_span.specs.Sites.{Site, site_in}
 
@@ -37,13 +37,15 @@ pub record IsAskable (asked : Asked) : Type 0 where
 
 -- the answer is the line `Accepted`, and then the listing of the prediction
 abbrev pub AcceptsListing : Result Answer Refusal → Answer → Type 0
-AcceptsListing prediction answer = (listing : Answer) × (prediction ≡ Ok listing) × (answer ≡ text_alone (codes "Accepted\n" ++ listing.text))
+AcceptsListing prediction answer =
+    (listing : Answer) × (prediction ≡ Ok listing) × (answer ≡ text_alone (codes "Accepted\n" ++ listing.text))
 
 -- the certificate of a request is accepted, with the listing of the same request's prediction
 abbrev pub AcceptsWhatIsCertified : Type 0
 AcceptsWhatIsCertified = (book : Book) (table : List Offsets) (name : List ℕ) (asked : Asked) (zone : Zone) (certificate : Answer) →
     IsBook book → IsTable table → IsAskable asked → certified book table name asked ≡ Ok certificate →
-    (answer : Answer) × (checked book table certificate.text zone ≡ Ok answer) × AcceptsListing (predicted book table name asked Plain zone) answer
+    (answer : Answer) × (checked book table certificate.text zone ≡ Ok answer)
+    × AcceptsListing (predicted book table name asked Plain zone) answer
 
 -- the certificate of a request has fewer than 333,000,000 bytes
 abbrev pub CertifiesInShort : Type 0
@@ -52,17 +54,17 @@ CertifiesInShort = (book : Book) (table : List Offsets) (name : List ℕ) (asked
 
 -- the events in a track's cells are those of the plain list, which evaluates every minute of the span; no
 -- track is present without its curve
-abbrev pub TellsTrack : Span → Option Meaning → Option (List Cell) → Type 0
-TellsTrack span (Some curve) (Some cells) = turns span.begin cells ≡ events_over span curve
-TellsTrack span None None = Unit {0}
-TellsTrack span (Some curve) None = ⊥
-TellsTrack span None (Some cells) = ⊥
+abbrev pub ListsTrack : Span → Option Meaning → Option (List Cell) → Type 0
+ListsTrack span (Some curve) (Some cells) = cell_events span.begin cells ≡ events_over span curve
+ListsTrack span None None = Unit {0}
+ListsTrack span (Some curve) None = ⊥
+ListsTrack span None (Some cells) = ⊥
 
 -- each track has exactly the events of its curve
-pub record TellsTracks (span : Span) (curves : Followed) (tracks : Tracks) : Type 0 where
-  pub turn : TellsTrack span (Some curves.turn) (Some tracks.turn)
-  pub slack : TellsTrack span curves.slack tracks.slack
-  pub mark : TellsTrack span curves.mark tracks.mark
+pub record ListsEvents (span : Span) (curves : Followed) (tracks : Tracks) : Type 0 where
+  pub turn : ListsTrack span (Some curves.turn) (Some tracks.turn)
+  pub slack : ListsTrack span curves.slack tracks.slack
+  pub mark : ListsTrack span curves.mark tracks.mark
 
 -- the bytes are a certificate's text; its tracks have every event of the curves of its own station, span
 -- and mark and no other, and the answer lists what the prediction for them lists
@@ -70,14 +72,16 @@ pub record IsTrueCertificate (book : Book) (table : List Offsets) (bytes : List 
   pub certificate : Certificate
   pub site : Site
   pub written : IsTextOf certificate bytes
-  pub asked : site_in Events book table certificate.station (asked_in certificate) ≡ Ok site
-  pub tracks : TellsTracks (widened_of site.basis certificate.begin certificate.end) (followed book site (asked_in certificate)) certificate.tracks
-  pub listing : AcceptsListing (predicted book table certificate.station (asked_in certificate) Plain zone) answer
+  pub asked : site_in Events book table certificate.station (asked_by_certificate certificate) ≡ Ok site
+  pub tracks : ListsEvents (widened_of site.basis certificate.begin certificate.end)
+      (followed book site (asked_by_certificate certificate)) certificate.tracks
+  pub listing : AcceptsListing (predicted book table certificate.station (asked_by_certificate certificate) Plain zone) answer
 
 -- every accepted certificate is true, whoever wrote it
 abbrev pub AcceptsOnlyWhatIsTrue : Type 0
 AcceptsOnlyWhatIsTrue = (book : Book) (table : List Offsets) (bytes : List ℕ) (zone : Zone) (answer : Answer) →
-    IsBook book → IsTable table → checked book table bytes zone ≡ Ok answer → answer.rejected ≡ false → IsTrueCertificate book table bytes zone answer
+    IsBook book → IsTable table → checked book table bytes zone ≡ Ok answer → answer.rejected ≡ false
+    → IsTrueCertificate book table bytes zone answer
 
 -- every accepted certificate has fewer than 333,000,000 bytes, whoever wrote it
 abbrev pub AcceptsOnlyInShort : Type 0

@@ -16,7 +16,7 @@ use Rattle.station_span.specs.Peaks.{highest_site}
 use Rattle.station_span.specs.Sites.{Site}
 use Rattle.tide_answer.specs.declared.text.Answer.{Answer}
 use Rattle.tide_answer.specs.Answers.{text_alone, highest, highest_text_at, peak_certified, peak_checked}
-use Rattle.tide_answer.specs.Asking.{asked_of_peak}
+use Rattle.tide_answer.specs.Asking.{asked_by_peak_certificate}
 use Rattle.tide_answer.specs.Laws.{IsAskable, AcceptsListing}
 
 -- ---- the highest water
@@ -32,20 +32,22 @@ pub record IsHighestWater (book : Book) (site : Site) (asked : Asked) (at : ℤ)
   pub inside : IsMovedInto site asked at
   pub greatest : (m : ℤ) → IsMovedInto site asked m → predicted_level book site.station m ≤ℤ predicted_level book site.station at
   pub first : (m : ℤ) → IsMovedInto site asked m → m <ℤ at → predicted_level book site.station m <ℤ predicted_level book site.station at
-  pub level : (minute : ℤ) → asked.begin ≤ℤ minute → minute <ℤ asked.end → level_at book site minute ≤ℤ level_at book site (at +ℤ site.basis.high.add)
+  pub level : (minute : ℤ) → asked.begin ≤ℤ minute → minute <ℤ asked.end
+      → level_at book site minute ≤ℤ level_at book site (at +ℤ site.basis.high.add)
 
 -- the answer prints the highest water of the station's span
-pub record IsToldHighest (book : Book) (table : List Offsets) (name : List ℕ) (asked : Asked) (zone : Zone) (answer : Answer) : Type 0 where
+pub record IsReportedHighest (book : Book) (table : List Offsets) (name : List ℕ) (asked : Asked) (zone : Zone)
+    (answer : Answer) : Type 0 where
   pub site : Site
   pub at : ℤ
   pub found : highest_site book table name asked ≡ Ok site
   pub water : IsHighestWater book site asked at
-  pub told : answer ≡ text_alone (highest_text_at book site name at zone)
+  pub reported : answer ≡ text_alone (highest_text_at book site name at zone)
 
 -- every answer of `highest` prints the highest water
-abbrev pub TellsTheHighest : Type 0
-TellsTheHighest = (book : Book) (table : List Offsets) (name : List ℕ) (asked : Asked) (zone : Zone) (answer : Answer) →
-    IsTable table → highest book table name asked zone ≡ Ok answer → IsToldHighest book table name asked zone answer
+abbrev pub ReportsTheHighest : Type 0
+ReportsTheHighest = (book : Book) (table : List Offsets) (name : List ℕ) (asked : Asked) (zone : Zone) (answer : Answer) →
+    IsTable table → highest book table name asked zone ≡ Ok answer → IsReportedHighest book table name asked zone answer
 
 -- ---- its certificates
 
@@ -59,7 +61,8 @@ AcceptsWhatPeakCertifies = (book : Book) (table : List Offsets) (name : List ℕ
 -- the certificate of a request has fewer than 10,542,000 bytes
 abbrev pub PeakCertifiesInShort : Type 0
 PeakCertifiesInShort = (book : Book) (table : List Offsets) (name : List ℕ) (asked : Asked) (certificate : Answer) →
-    IsBook book → IsTable table → IsAskable asked → peak_certified book table name asked ≡ Ok certificate → length certificate.text < 10542000
+    IsBook book → IsTable table → IsAskable asked → peak_certified book table name asked ≡ Ok certificate
+    → length certificate.text < 10542000
 
 -- the bytes are the text of a certificate whose minute has the highest water of its own station and span,
 -- and whose value is a million times the reference's level there; and the answer is what `highest` prints
@@ -68,10 +71,10 @@ pub record IsTruePeak (book : Book) (table : List Offsets) (bytes : List ℕ) (a
   pub certificate : PeakCertificate
   pub site : Site
   pub written : IsPeakTextOf certificate bytes
-  pub asked : highest_site book table certificate.station (asked_of_peak certificate) ≡ Ok site
-  pub water : IsHighestWater book site (asked_of_peak certificate) certificate.peak.at
+  pub asked : highest_site book table certificate.station (asked_by_peak_certificate certificate) ≡ Ok site
+  pub water : IsHighestWater book site (asked_by_peak_certificate certificate) certificate.peak.at
   pub value : certificate.peak.value ≡ pos 1000000 *ℤ predicted_level book site.station certificate.peak.at
-  pub listing : AcceptsListing (highest book table certificate.station (asked_of_peak certificate) Utc) answer
+  pub listing : AcceptsListing (highest book table certificate.station (asked_by_peak_certificate certificate) Utc) answer
 
 -- every accepted certificate is true, whoever wrote it
 abbrev pub AcceptsOnlyTruePeaks : Type 0

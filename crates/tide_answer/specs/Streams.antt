@@ -20,7 +20,7 @@ use Rattle.tide_answer.specs.declared.ready.Ready.{Ready}
 use Rattle.tide_fault.specs.declared.refusal.Refusal.{Refusal}
 use Rattle.tide_answer.specs.declared.text.Answer.{Answer}
 use Rattle.tide_answer.specs.Answers.{answered, named_by}
-use Rattle.tide_answer.specs.Asking.{asked_by}
+use Rattle.tide_answer.specs.Asking.{asked_by_question}
 use Rattle.station_span.specs.Sites.{site_in}
 
 -- the commands whose answers can be written as they are found
@@ -49,7 +49,7 @@ unfoldable pub prepared : Book → List Offsets → Question → Given → Resul
 prepared book table question given = do
   answer ← answered book table question given
   name ← named_by question.station
-  asked ← named_by (asked_by question)
+  asked ← named_by (asked_by_question question)
   site ← site_in Events book table name asked
   Ok (record { stream = if streams_by site.basis question.layout given.zone then Some answer else None })
 

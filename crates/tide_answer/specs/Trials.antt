@@ -1,12 +1,32 @@
 -- A trial of the predictor over a sample file (this project).
-use Rattle.std.specs.Prelude.{ℕ, ◌+◌, ◌*◌, pos, List, [], ◌∷◌, ◌++◌, length, sum_by, take, codes, decimal, Option, Some, None, Result, Ok, Err}
+use Rattle.std.specs.Prelude.{
+  ℕ,
+  ◌+◌,
+  ◌*◌,
+  pos,
+  List,
+  [],
+  ◌∷◌,
+  ◌++◌,
+  length,
+  sum_by,
+  take,
+  codes,
+  decimal,
+  Option,
+  Some,
+  None,
+  Result,
+  Ok,
+  Err,
+}
 use Rattle.curve_law.specs.declared.cell.Cell.{Cell}
 use Rattle.curve_law.specs.declared.cell.Cell.TheVariants.{Quiet, Still, Turn}
 use Rattle.curve_law.specs.declared.event.Event.{Event}
 use Rattle.curve_law.specs.declared.tracks.Tracks.{Tracks}
 use Rattle.decimal_text.specs.Expected.{◌>>=◌}
 use Rattle.event_list.specs.declared.span.Span.{Span}
-use Rattle.event_list.specs.Events.{minutes_in, cells_in, tracks_of as tracks_in}
+use Rattle.event_list.specs.Events.{span_minutes, cells_in, tracks_of as tracks_in}
 use Rattle.event_list.specs.Shifts.{widened_of}
 use Rattle.harmonics_text.specs.declared.book.Book.{Book}
 use Rattle.harmonics_text.specs.declared.book.Station.{Station}
@@ -47,7 +67,7 @@ accepted_if (Some rejection) = 0
 -- and the quiet ones among them; and the certificates that are accepted
 unfoldable pub tally_by : Span → Tracks → List Event → Option Rejection → Tally
 tally_by span tracks events rejection = record {
-  minutes = minutes_in span * length (tracks_in tracks);
+  minutes = span_minutes span * length (tracks_in tracks);
   events = length events;
   cells = cells_in tracks;
   quiet = sum_by quiet_in (tracks_in tracks);

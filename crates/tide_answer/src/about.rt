@@ -1,16 +1,16 @@
 //! The answer of `about`: the facts of a station.
 
 ghost use Rattle.std.specs.Prelude.{◌≡◌, IfErr};
-ghost use Rattle.decimal_text.specs.Expected.{Gives};
-ghost use Rattle.tide_answer.specs.Answers.{constituent_count, known};
-ghost use Rattle.tide_fault.specs.Faults.{wants_memory_of_refusal, IsToldRefusal};
+ghost use Rattle.decimal_text.specs.Expected.{ReturnsUnless};
+ghost use Rattle.tide_answer.specs.Answers.{constituent_count, station_about};
+ghost use Rattle.tide_fault.specs.Faults.{refusal_is_out_of_memory, IsPrintableRefusal};
 
 use crate::text::{Answer, text_alone};
 use decimal_text::Text;
-use harmonics_text::{SoundBook, Station};
+use harmonics_text::{Station, ValidBook};
 use listing::about_text;
 use slope_agreement::{agreement, predicted_agreements};
-use station_span::find_known;
+use station_span::find_reference;
 use station_table::OffsetTable;
 use std::alloc::Global;
 use tide_fault::Refusal;
@@ -20,17 +20,17 @@ use tide_fault::Refusal;
 ///
 /// # Errors
 /// The first [`Refusal`] in this order: the station, its unit, the bounds on its constants.
-#[tactic(auto, unfolding(crate::specs::Answers::known))]
-pub fn tell_about(
+#[tactic(auto, unfolding(crate::specs::Answers::station_about))]
+pub fn about_answer(
     alloc: Global,
-    book: &SoundBook<'_>,
+    book: &ValidBook<'_>,
     table: &OffsetTable,
     name: &Text,
 ) -> Result<Answer, Refusal>
-    ensures exact { Gives wants_memory_of_refusal (known book.now table.now name.now) result }
-    ensures told { IfErr result (IsToldRefusal table.now) }
+    ensures exact { ReturnsUnless refusal_is_out_of_memory (station_about book.now table.now name.now) result }
+    ensures printable { IfErr result (IsPrintableRefusal table.now) }
 {
-    let found = find_known(alloc, book, table, name)?;
+    let found = find_reference(alloc, book, table, name)?;
     let station = found.station;
     let count = constituent_count(station);
     predicted_agreements();

@@ -1,15 +1,15 @@
 //! The answer to a request that names no file.
 
 ghost use Rattle.std.specs.Prelude.{[], Some, IfErr};
-ghost use Rattle.decimal_text.specs.Expected.{Gives};
+ghost use Rattle.decimal_text.specs.Expected.{ReturnsUnless};
 ghost use Rattle.question.specs.declared.command.Command.{Command};
-ghost use Rattle.tide_answer.specs.Answers.{answered_alone, text_from};
-ghost use Rattle.tide_fault.specs.Faults.{wants_memory_of_refusal, IsToldRefusal};
+ghost use Rattle.tide_answer.specs.Answers.{answered_without_files, text_from};
+ghost use Rattle.tide_fault.specs.Faults.{refusal_is_out_of_memory, IsPrintableRefusal};
 
-use crate::sample::give_sample;
+use crate::sample::sample_answer;
 use crate::text::{Answer, text_alone};
 use crate::trial::try_sample;
-use question::{Command, SoundQuestion};
+use question::{Command, ValidQuestion};
 use std::alloc::Global;
 use tide_fault::Refusal;
 
@@ -18,23 +18,23 @@ use tide_fault::Refusal;
 /// # Errors
 /// The first [`Refusal`] in the order of `specs/Answers.antt`. [`Refusal::NoMemory`] may be
 /// returned in place of any result.
-#[tactic(auto, unfolding(crate::specs::Answers::answered_alone))]
-pub fn answer_alone(alloc: Global, question: &SoundQuestion<'_>) -> Result<Answer, Refusal>
-    ensures exact { Gives wants_memory_of_refusal (answered_alone question.now) result }
-    ensures told { IfErr result (IsToldRefusal []) }
+#[tactic(auto, unfolding(crate::specs::Answers::answered_without_files))]
+pub fn answer_alone(alloc: Global, question: &ValidQuestion<'_>) -> Result<Answer, Refusal>
+    ensures exact { ReturnsUnless refusal_is_out_of_memory (answered_without_files question.now) result }
+    ensures printable { IfErr result (IsPrintableRefusal []) }
 {
     let question = question.get();
     match (question.command, question.seed) {
-        (Command::Sample, Some(seed)) => Ok(give_sample(alloc, seed)?),
-        (Command::Trial, Some(seed)) => give_trial(alloc, seed),
+        (Command::Sample, Some(seed)) => Ok(sample_answer(alloc, seed)?),
+        (Command::Trial, Some(seed)) => trial_answer(alloc, seed),
         _ => Err(Refusal::NoStation),
     }
 }
 
 // Returns the lines of the trial of `seed`.
-fn give_trial(alloc: Global, seed: u64) -> Result<Answer, Refusal>
-    ensures exact { Gives wants_memory_of_refusal (text_from Command.Trial (Some seed)) result }
-    ensures told { IfErr result (IsToldRefusal []) }
+fn trial_answer(alloc: Global, seed: u64) -> Result<Answer, Refusal>
+    ensures exact { ReturnsUnless refusal_is_out_of_memory (text_from Command.Trial (Some seed)) result }
+    ensures printable { IfErr result (IsPrintableRefusal []) }
 {
     Ok(text_alone(try_sample(alloc, seed)?))
 }

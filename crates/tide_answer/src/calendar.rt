@@ -1,15 +1,15 @@
 //! The answer of `calendar`: the events of a station, date by date.
 
 ghost use Rattle.std.specs.Prelude.{IfErr};
-ghost use Rattle.decimal_text.specs.Expected.{Gives};
+ghost use Rattle.decimal_text.specs.Expected.{ReturnsUnless};
 ghost use Rattle.tide_answer.specs.Answers.{on_calendar};
-ghost use Rattle.tide_fault.specs.Faults.{wants_memory_of_refusal, IsToldRefusal};
-ghost use Rattle.station_span.specs.Workings.Spans.{IsNear};
+ghost use Rattle.tide_fault.specs.Faults.{refusal_is_out_of_memory, IsPrintableRefusal};
+ghost use Rattle.station_span.specs.Workings.Spans.{IsInRange};
 
 use crate::text::Answer;
 use calendar_sheet::calendar_text;
 use decimal_text::Text;
-use harmonics_text::SoundBook;
+use harmonics_text::ValidBook;
 use station_span::{Asked, list_station};
 use station_table::OffsetTable;
 use std::alloc::Global;
@@ -24,15 +24,15 @@ use zone_time::ZoneClock;
 #[tactic(auto, unfolding(crate::specs::Answers::on_calendar))]
 pub fn list_days(
     alloc: Global,
-    book: &SoundBook<'_>,
+    book: &ValidBook<'_>,
     table: &OffsetTable,
     name: &Text,
     asked: &Asked,
     zone: &ZoneClock<'_>,
 ) -> Result<Answer, Refusal>
-    requires near { IsNear asked.now }
-    ensures exact { Gives wants_memory_of_refusal (on_calendar book.now table.now name.now asked.now zone.now) result }
-    ensures told { IfErr result (IsToldRefusal table.now) }
+    requires in_range { IsInRange asked.now }
+    ensures exact { ReturnsUnless refusal_is_out_of_memory (on_calendar book.now table.now name.now asked.now zone.now) result }
+    ensures printable { IfErr result (IsPrintableRefusal table.now) }
 {
     let listed = list_station(alloc, book, table, name, asked)?;
     let text = calendar_text(

@@ -1,11 +1,11 @@
 //! The answer of `certify`: the certificate of a station's events.
 
 ghost use Rattle.std.specs.Prelude.{◌≡◌, IfErr};
-ghost use Rattle.decimal_text.specs.Expected.{Gives};
+ghost use Rattle.decimal_text.specs.Expected.{ReturnsUnless};
 ghost use Rattle.tide_answer.specs.Answers.{certified};
-ghost use Rattle.tide_fault.specs.Faults.{wants_memory_of_refusal, IsToldRefusal};
+ghost use Rattle.tide_fault.specs.Faults.{refusal_is_out_of_memory, IsPrintableRefusal};
 ghost use Rattle.tide_answer.specs.Workings.Certifying.{certificate_in};
-ghost use Rattle.station_span.specs.Workings.Spans.{IsNear};
+ghost use Rattle.station_span.specs.Workings.Spans.{IsInRange};
 ghost use Rattle.zone_time.specs.Moments.{IsMoment};
 
 use crate::text::Answer;
@@ -13,7 +13,7 @@ use crate::tracks::find_tracks;
 use cert_text::{Certificate, write_certificate};
 use curve_law::Tracks;
 use decimal_text::Text;
-use harmonics_text::SoundBook;
+use harmonics_text::ValidBook;
 use station_cells::cell_count;
 use station_span::{Asked, Reach, find_station};
 use station_table::OffsetTable;
@@ -29,16 +29,16 @@ use tide_fault::Refusal;
 #[tactic(auto, unfolding(crate::specs::Answers::certified))]
 pub fn certify(
     alloc: Global,
-    book: &SoundBook<'_>,
+    book: &ValidBook<'_>,
     table: &OffsetTable,
     name: &Text,
     asked: &Asked,
 ) -> Result<Answer, Refusal>
-    requires near { IsNear asked.now }
+    requires in_range { IsInRange asked.now }
     requires begin { IsMoment asked.now.begin }
     requires end { IsMoment asked.now.end }
-    ensures exact { Gives wants_memory_of_refusal (certified book.now table.now name.now asked.now) result }
-    ensures told { IfErr result (IsToldRefusal table.now) }
+    ensures exact { ReturnsUnless refusal_is_out_of_memory (certified book.now table.now name.now asked.now) result }
+    ensures printable { IfErr result (IsPrintableRefusal table.now) }
 {
     let found = find_station(alloc, book, table, Reach::Events, name, asked)?;
     let tracks = find_tracks(alloc, &found)?;

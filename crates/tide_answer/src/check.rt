@@ -3,27 +3,27 @@
 ghost use Rattle.std.specs.Prelude.{◌≡◌, ◌≤◌, length, All, None, IfOk, IfErr};
 ghost use Rattle.cert_text.specs.Certificates.{IsCertificate};
 ghost use Rattle.decimal_text.specs.declared.limits.TheConstants.{MOST_BYTES};
-ghost use Rattle.decimal_text.specs.Expected.{Gives};
+ghost use Rattle.decimal_text.specs.Expected.{ReturnsUnless};
 ghost use Rattle.event_text.specs.Lines.{IsListed};
 ghost use Rattle.station_cells.specs.Rejections.{HasFewCells};
 ghost use Rattle.station_span.specs.declared.reach.Reach.{Reach};
 ghost use Rattle.station_span.specs.Following.{events_of};
 ghost use Rattle.station_span.specs.Workings.Finds.{site_of};
 ghost use Rattle.tide_answer.specs.Answers.{checked, judged};
-ghost use Rattle.tide_answer.specs.Asking.{asked_in};
+ghost use Rattle.tide_answer.specs.Asking.{asked_by_certificate};
 ghost use Rattle.tide_answer.specs.Workings.Certifying.{judged_in, rejection_in};
-ghost use Rattle.tide_fault.specs.Faults.{wants_memory_of_refusal, IsToldRefusal};
+ghost use Rattle.tide_fault.specs.Faults.{refusal_is_out_of_memory, IsPrintableRefusal};
 
-use crate::asking::asked_in;
-use crate::judging::find_rejection;
+use crate::asked_spans::asked_by_certificate;
+use crate::certificate_rejection::find_rejection;
 use crate::text::{Answer, accepted, rejected};
 use cert_text::{Certificate, certificates_have_one_text, read_certificate};
 use curve_law::Events;
 use event_list::{merged, shifted};
-use harmonics_text::SoundBook;
+use harmonics_text::ValidBook;
 use listing::plain_events;
 use station_cells::rejection_line;
-use station_span::{Asked, Found, Reach, find_station};
+use station_span::{Asked, FoundStation, Reach, find_station};
 use station_table::OffsetTable;
 use std::alloc::{AllocError, Global};
 use tide_fault::Refusal;
@@ -38,14 +38,14 @@ use zone_time::ZoneClock;
 #[tactic(auto, unfolding(crate::specs::Answers::checked))]
 pub fn check(
     alloc: Global,
-    book: &SoundBook<'_>,
+    book: &ValidBook<'_>,
     table: &OffsetTable,
     bytes: &[u8],
     zone: &ZoneClock<'_>,
 ) -> Result<Answer, Refusal>
-    requires few { length bytes.now ≤ MOST_BYTES }
-    ensures exact { Gives wants_memory_of_refusal (checked book.now table.now bytes.now zone.now) result }
-    ensures told { IfErr result (IsToldRefusal table.now) }
+    requires count_bound { length bytes.now ≤ MOST_BYTES }
+    ensures exact { ReturnsUnless refusal_is_out_of_memory (checked book.now table.now bytes.now zone.now) result }
+    ensures printable { IfErr result (IsPrintableRefusal table.now) }
 {
     let cert = read_certificate(alloc, bytes)?;
     certificates_have_one_text();
@@ -55,15 +55,15 @@ pub fn check(
 /// Checks the certificate `cert`.
 fn judge(
     alloc: Global,
-    book: &SoundBook<'_>,
+    book: &ValidBook<'_>,
     table: &OffsetTable,
     cert: &Certificate,
     zone: &ZoneClock<'_>,
 ) -> Result<Answer, Refusal>
     requires cert { IsCertificate cert.now }
-    requires few { HasFewCells cert.now.tracks }
-    ensures exact { Gives wants_memory_of_refusal (judged_in book.now table.now cert.now zone.now) result }
-    ensures told { IfErr result (IsToldRefusal table.now) }
+    requires count_bound { HasFewCells cert.now.tracks }
+    ensures exact { ReturnsUnless refusal_is_out_of_memory (judged_in book.now table.now cert.now zone.now) result }
+    ensures printable { IfErr result (IsPrintableRefusal table.now) }
 {
     let found = find_station(
         alloc,
@@ -71,7 +71,7 @@ fn judge(
         table,
         Reach::Events,
         &cert.station,
-        &asked_in(cert),
+        &asked_by_certificate(cert),
     )?;
     match find_rejection(&found, cert) {
         None => Ok(accept(alloc, &found, cert, zone)?),
@@ -82,12 +82,12 @@ fn judge(
 // Returns the events of the cells of a valid certificate, which are all events of its span.
 fn accept(
     alloc: Global,
-    found: &Found,
+    found: &FoundStation,
     cert: &Certificate,
     zone: &ZoneClock<'_>,
 ) -> Result<Answer, AllocError>
     requires reach { found.now.reach ≡ Reach.Events }
-    requires same { found.now.asked ≡ asked_in cert.now }
+    requires same { found.now.asked ≡ asked_by_certificate cert.now }
     requires cert { IsCertificate cert.now }
     requires valid { rejection_in found.now.origin.book (site_of found.now) cert.now ≡ None }
     ensures { IfOk result (λ answer. answer ≡ judged found.now.origin.book (site_of found.now) cert.now zone.now None) }
@@ -98,12 +98,12 @@ fn accept(
 }
 
 /// Returns the events of a valid certificate's cells.
-fn events_of(alloc: Global, found: &Found, cert: &Certificate) -> Result<Events, AllocError>
+fn events_of(alloc: Global, found: &FoundStation, cert: &Certificate) -> Result<Events, AllocError>
     requires reach { found.now.reach ≡ Reach.Events }
-    requires same { found.now.asked ≡ asked_in cert.now }
+    requires same { found.now.asked ≡ asked_by_certificate cert.now }
     requires cert { IsCertificate cert.now }
     requires valid { rejection_in found.now.origin.book (site_of found.now) cert.now ≡ None }
-    ensures exact { IfOk result (λ events. events ≡ events_of found.now.origin.book (site_of found.now) (asked_in cert.now)) }
+    ensures exact { IfOk result (λ events. events ≡ events_of found.now.origin.book (site_of found.now) (asked_by_certificate cert.now)) }
     ensures listed { IfOk result (All (IsListed found.now.origin.station.units)) }
 {
     let events = merged(alloc, &cert.tracks, found.span.begin)?;

@@ -1,15 +1,15 @@
 //! The answer of `clock`: the level now, and the events of the next day.
 
 ghost use Rattle.std.specs.Prelude.{◌≡◌, pos, negsuc, ◌≤ℤ◌, IfErr};
-ghost use Rattle.decimal_text.specs.Expected.{Gives};
+ghost use Rattle.decimal_text.specs.Expected.{ReturnsUnless};
 ghost use Rattle.tide_answer.specs.Answers.{on_clock};
-ghost use Rattle.tide_answer.specs.Asking.{asked_from};
-ghost use Rattle.tide_fault.specs.Faults.{wants_memory_of_refusal, IsToldRefusal};
-ghost use Rattle.station_span.specs.Workings.Spans.{IsNear};
+ghost use Rattle.tide_answer.specs.Asking.{asked_from_minute};
+ghost use Rattle.tide_fault.specs.Faults.{refusal_is_out_of_memory, IsPrintableRefusal};
+ghost use Rattle.station_span.specs.Workings.Spans.{IsInRange};
 
 use crate::text::Answer;
 use decimal_text::Text;
-use harmonics_text::SoundBook;
+use harmonics_text::ValidBook;
 use listing::clock_text;
 use station_span::{Asked, Reach, check_level, find_events, find_station, is_rising, level_at};
 use station_table::OffsetTable;
@@ -25,9 +25,9 @@ use zone_time::{MINUTES_OF_DAY, ZoneClock};
 /// The first [`Refusal`] in the order of `predict`, and then that of a station without a level at
 /// each minute.
 #[tactic(auto, unfolding(crate::specs::Answers::on_clock))]
-pub fn tell_now(
+pub fn clock_answer(
     alloc: Global,
-    book: &SoundBook<'_>,
+    book: &ValidBook<'_>,
     table: &OffsetTable,
     name: &Text,
     now: i64,
@@ -35,8 +35,8 @@ pub fn tell_now(
 ) -> Result<Answer, Refusal>
     requires earliest { negsuc 9999999999 ≤ℤ now }
     requires latest { now ≤ℤ pos 10000000000 }
-    ensures exact { Gives wants_memory_of_refusal (on_clock book.now table.now name.now now zone.now) result }
-    ensures told { IfErr result (IsToldRefusal table.now) }
+    ensures exact { ReturnsUnless refusal_is_out_of_memory (on_clock book.now table.now name.now now zone.now) result }
+    ensures printable { IfErr result (IsPrintableRefusal table.now) }
 {
     let asked = day_from(now);
     let found = find_station(alloc, book, table, Reach::Events, name, &asked)?;
@@ -65,8 +65,8 @@ pub fn tell_now(
 fn day_from(now: i64) -> Asked
     requires earliest { negsuc 9999999999 ≤ℤ now }
     requires latest { now ≤ℤ pos 10000000000 }
-    ensures exact { result ≡ asked_from now }
-    ensures near { IsNear result }
+    ensures exact { result ≡ asked_from_minute now }
+    ensures in_range { IsInRange result }
 {
     Asked {
         begin: now,

@@ -1,20 +1,20 @@
 //! The answer of `heights`: the levels of a station in a span, one each step.
 
 ghost use Rattle.std.specs.Prelude.{◌≡◌, ◌≤◌, ◌+ℤ◌, ◌*ℤ◌, ◌-ℤ◌, pos, negsuc, [], All, unsigned_abs, Ok, Err, IfOk, IfErr, OnOk};
-ghost use Rattle.decimal_text.specs.Expected.{Gives};
+ghost use Rattle.decimal_text.specs.Expected.{ReturnsUnless};
 ghost use Rattle.tide_answer.specs.Answers.{heights, heights_text, row_at, row_count, row_limit, rows_in, rows_of};
-ghost use Rattle.tide_fault.specs.Faults.{wants_memory_of_refusal, IsToldRefusal};
+ghost use Rattle.tide_fault.specs.Faults.{refusal_is_out_of_memory, IsPrintableRefusal};
 ghost use Rattle.tide_answer.specs.Workings.Rows.{IsStep};
 ghost use Rattle.station_span.specs.Workings.Finds.{AreLooked, IsLooked, site_of};
-ghost use Rattle.station_span.specs.Workings.Spans.{IsNear};
+ghost use Rattle.station_span.specs.Workings.Spans.{IsInRange};
 ghost use Rattle.zone_time.specs.Zones.{InZoneYears};
 
 use crate::text::{Answer, text_alone};
 use decimal_text::{Bytes, Text};
-use harmonics_text::{SoundBook, Units};
+use harmonics_text::{Units, ValidBook};
 use listing::{Row, Rows, csv_heights, plain_heights};
 use question::Layout;
-use station_span::{Asked, Found, Reach, check_level, find_station, level_at};
+use station_span::{Asked, FoundStation, Reach, check_level, find_station, level_at};
 use station_table::OffsetTable;
 use std::alloc::{AllocError, Global};
 use tide_fault::Refusal;
@@ -33,7 +33,7 @@ const ROW_LIMIT: u64 = 100_000;
 #[tactic(auto, unfolding(crate::specs::Answers::heights))]
 pub fn list_heights(
     alloc: Global,
-    book: &SoundBook<'_>,
+    book: &ValidBook<'_>,
     table: &OffsetTable,
     name: &Text,
     asked: &Asked,
@@ -41,10 +41,10 @@ pub fn list_heights(
     layout: Layout,
     zone: &ZoneClock<'_>,
 ) -> Result<Answer, Refusal>
-    requires near { IsNear asked.now }
+    requires in_range { IsInRange asked.now }
     requires step { IsStep step }
-    ensures exact { Gives wants_memory_of_refusal (heights book.now table.now name.now asked.now step layout zone.now) result }
-    ensures told { IfErr result (IsToldRefusal table.now) }
+    ensures exact { ReturnsUnless refusal_is_out_of_memory (heights book.now table.now name.now asked.now step layout zone.now) result }
+    ensures printable { IfErr result (IsPrintableRefusal table.now) }
 {
     let found = find_station(alloc, book, table, Reach::Levels, name, asked)?;
     check_level(&found)?;
@@ -57,11 +57,11 @@ pub fn list_heights(
 /// Returns `Ok` if the list has at most 100,000 rows.
 #[tactic(auto, unfolding(crate::specs::Answers::rows_in))]
 fn check_rows(asked: &Asked, step: i64) -> Result<(), Refusal>
-    requires near { IsNear asked.now }
+    requires in_range { IsInRange asked.now }
     requires step { IsStep step }
     ensures exact { result ≡ rows_in asked.now.begin asked.now.end step }
-    ensures few { OnOk result (row_count asked.now.begin asked.now.end step ≤ row_limit) }
-    ensures told { IfErr result (IsToldRefusal []) }
+    ensures count_bound { OnOk result (row_count asked.now.begin asked.now.end step ≤ row_limit) }
+    ensures printable { IfErr result (IsPrintableRefusal []) }
 {
     let rows = row_count(asked, step);
     if rows > ROW_LIMIT {
@@ -72,29 +72,30 @@ fn check_rows(asked: &Asked, step: i64) -> Result<(), Refusal>
 
 /// Returns the number of rows.
 fn row_count(asked: &Asked, step: i64) -> u64
-    requires near { IsNear asked.now }
+    requires in_range { IsInRange asked.now }
     requires step { IsStep step }
     ensures exact { result ≡ row_count asked.now.begin asked.now.end step }
-    ensures few { result ≤ 40000000001 }
+    ensures count_bound { result ≤ 40000000001 }
 {
-    minutes_in(asked) / step.unsigned_abs() + 1
+    asked_minutes(asked) / step.unsigned_abs() + 1
 }
 
 /// Returns the number of minutes of the span.
-fn minutes_in(asked: &Asked) -> u64
-    requires { IsNear asked.now }
+fn asked_minutes(asked: &Asked) -> u64
+    requires { IsInRange asked.now }
     ensures exact { result ≡ unsigned_abs (asked.now.end -ℤ asked.now.begin) }
-    ensures few { result ≤ 40000000000 }
+    ensures count_bound { result ≤ 40000000000 }
 {
     (asked.end - asked.begin).unsigned_abs()
 }
 
 /// Returns the rows.
-fn rows_of(alloc: Global, found: &Found, step: i64) -> Result<Rows, AllocError>
+fn rows_of(alloc: Global, found: &FoundStation, step: i64) -> Result<Rows, AllocError>
     requires step { IsStep step }
     requires levels { AreLooked found.now }
-    requires few { row_count found.now.asked.begin found.now.asked.end step ≤ row_limit }
-    ensures exact { IfOk result (λ rows. rows ≡ rows_of found.now.origin.book (site_of found.now) found.now.asked.begin found.now.asked.end step) }
+    requires count_bound { row_count found.now.asked.begin found.now.asked.end step ≤ row_limit }
+    ensures exact { IfOk result (λ rows. rows
+        ≡ rows_of found.now.origin.book (site_of found.now) found.now.asked.begin found.now.asked.end step) }
     ensures listed { IfOk result (λ rows. All (λ row. InZoneYears row.minute) rows) }
 {
     let mut rows = Vec::new(alloc);
@@ -105,7 +106,7 @@ fn rows_of(alloc: Global, found: &Found, step: i64) -> Result<Rows, AllocError>
 }
 
 /// Returns the row at index `place`.
-fn row_at(found: &Found, step: i64, place: u64) -> Row
+fn row_at(found: &FoundStation, step: i64, place: u64) -> Row
     requires step { IsStep step }
     requires place { place ≤ row_limit }
     requires level { IsLooked found.now (found.now.asked.begin +ℤ (step *ℤ pos place)) }
@@ -133,7 +134,7 @@ fn minutes_to(step: i64, place: u64) -> i64
     requires step { IsStep step }
     requires place { place ≤ row_limit }
     ensures exact { result ≡ step *ℤ pos place }
-    ensures few { unsigned_abs result ≤ 4464000000 }
+    ensures count_bound { unsigned_abs result ≤ 4464000000 }
 {
     step * place as i64
 }

@@ -2,21 +2,21 @@
 //! certificate.
 
 ghost use Rattle.std.specs.Prelude.{◌≡◌, IfErr, IfOk};
-ghost use Rattle.decimal_text.specs.Expected.{Gives};
+ghost use Rattle.decimal_text.specs.Expected.{ReturnsUnless};
 ghost use Rattle.tide_answer.specs.Answers.{highest, highest_text_at, peak_certified};
 ghost use Rattle.tide_answer.specs.Workings.Peaks.{peak_certificate_in};
-ghost use Rattle.tide_fault.specs.Faults.{wants_memory_of_refusal, IsToldRefusal};
+ghost use Rattle.tide_fault.specs.Faults.{refusal_is_out_of_memory, IsPrintableRefusal};
 ghost use Rattle.station_span.specs.Workings.Finds.{HasPeak, site_of, tide_of_found};
 ghost use Rattle.station_span.specs.Workings.Peaks.{IsSourceIn};
-ghost use Rattle.station_span.specs.Workings.Spans.{AreMoments, IsNear};
+ghost use Rattle.station_span.specs.Workings.Spans.{AreMoments, IsInRange};
 
 use crate::text::{Answer, text_alone};
 use decimal_text::{Bytes, Text};
-use harmonics_text::SoundBook;
+use harmonics_text::ValidBook;
 use highest_water::{Peak, PeakCertificate, write_peak};
 use listing::highest_text;
 use station_span::{
-    Asked, Found, find_highest, find_level, highest_minute, level_at, moved_minute,
+    Asked, FoundStation, find_highest, find_level, highest_minute, level_at, moved_minute,
 };
 use station_table::OffsetTable;
 use std::alloc::{AllocError, Global};
@@ -30,17 +30,17 @@ use zone_time::ZoneClock;
 /// The first [`Refusal`] in this order: the station, its unit, the span, the bounds on its
 /// constants, the mark, a level at each minute.
 #[tactic(auto, unfolding(crate::specs::Answers::highest))]
-pub fn tell_highest(
+pub fn highest_answer(
     alloc: Global,
-    book: &SoundBook<'_>,
+    book: &ValidBook<'_>,
     table: &OffsetTable,
     name: &Text,
     asked: &Asked,
     zone: &ZoneClock<'_>,
 ) -> Result<Answer, Refusal>
-    requires near { IsNear asked.now }
-    ensures exact { Gives wants_memory_of_refusal (highest book.now table.now name.now asked.now zone.now) result }
-    ensures told { IfErr result (IsToldRefusal table.now) }
+    requires in_range { IsInRange asked.now }
+    ensures exact { ReturnsUnless refusal_is_out_of_memory (highest book.now table.now name.now asked.now zone.now) result }
+    ensures printable { IfErr result (IsPrintableRefusal table.now) }
 {
     let found = find_level(alloc, book, table, name, asked)?;
     let at = highest_minute(&found);
@@ -52,7 +52,7 @@ pub fn tell_highest(
 /// which the offset moves the reference's minute `at`.
 pub fn highest_text_at(
     alloc: Global,
-    found: &Found,
+    found: &FoundStation,
     name: &Text,
     at: i64,
     zone: &ZoneClock<'_>,
@@ -74,15 +74,15 @@ pub fn highest_text_at(
 #[tactic(auto, unfolding(crate::specs::Answers::peak_certified))]
 pub fn certify_peak(
     alloc: Global,
-    book: &SoundBook<'_>,
+    book: &ValidBook<'_>,
     table: &OffsetTable,
     name: &Text,
     asked: &Asked,
 ) -> Result<Answer, Refusal>
-    requires near { IsNear asked.now }
+    requires in_range { IsInRange asked.now }
     requires moments { AreMoments asked.now }
-    ensures exact { Gives wants_memory_of_refusal (peak_certified book.now table.now name.now asked.now) result }
-    ensures told { IfErr result (IsToldRefusal table.now) }
+    ensures exact { ReturnsUnless refusal_is_out_of_memory (peak_certified book.now table.now name.now asked.now) result }
+    ensures printable { IfErr result (IsPrintableRefusal table.now) }
 {
     let found = find_level(alloc, book, table, name, asked)?;
     let peak = find_highest(alloc, &found)?;

@@ -9,26 +9,26 @@
 
 mod about;
 mod alone;
-mod answering;
-mod asking;
+mod asked_spans;
 mod calendar;
+mod certificate_rejection;
+mod certificate_sending;
 mod certify;
-mod certifying;
 mod check;
 mod clock;
+mod commands;
 mod form;
 mod given;
 mod heights;
 mod highest;
-mod judging;
 mod laws;
 mod listed;
+mod listing_sending;
 mod peak_check;
 mod peak_laws;
 mod predict;
 mod ready;
 mod sample;
-mod sending;
 mod streaming;
 mod tally;
 mod text;
@@ -36,14 +36,14 @@ mod tracks;
 mod trial;
 
 pub use alone::answer_alone;
-pub use answering::{answer, answer_valid};
 pub use book_loading::load_book;
+pub use commands::{answer, answer_valid};
 pub use given::{Given, GivenView};
 pub use heights::worked_rows;
 pub use laws::{accepted_is_short, accepted_is_true, certified_is_accepted, certified_is_short};
 pub use listed::{Listed, station_events};
 pub use peak_laws::{
-    accepted_peak_is_short, accepted_peak_is_true, highest_is_told, peak_certified_is_accepted,
+    accepted_peak_is_short, accepted_peak_is_true, highest_is_reported, peak_certified_is_accepted,
     peak_certified_is_short,
 };
 pub use ready::{Ready, answer_into, can_stream, prepare};

@@ -1,21 +1,21 @@
 //! The events of a station, for a report.
 
 ghost use Rattle.std.specs.Prelude.{◌≢◌, ◌≤◌, All, IfErr, IfOk};
-ghost use Rattle.decimal_text.specs.Expected.{Gives};
+ghost use Rattle.decimal_text.specs.Expected.{ReturnsUnless};
 ghost use Rattle.event_text.specs.Lines.{IsListed};
 ghost use Rattle.harmonics_text.specs.declared.book.Units.{Units};
 ghost use Rattle.harmonics_text.specs.Books.{IsBook};
 ghost use Rattle.question.specs.Asked.{IsAsked};
 ghost use Rattle.tide_answer.specs.Answers.{listed};
 ghost use Rattle.tide_answer.specs.Givens.{IsGiven};
-ghost use Rattle.tide_fault.specs.Faults.{wants_memory_of_refusal, IsToldRefusal};
+ghost use Rattle.tide_fault.specs.Faults.{refusal_is_out_of_memory, IsPrintableRefusal};
 
-use crate::asking::{span_named, station_named};
+use crate::asked_spans::{span_named, station_named};
 use crate::given::Given;
 use curve_law::Events;
 use decimal_text::Text;
-use harmonics_text::{Book, SoundBook, Units};
-use question::{Question, SoundQuestion};
+use harmonics_text::{Book, Units, ValidBook};
+use question::{Question, ValidQuestion};
 use station_span::list_station;
 use station_table::OffsetTable;
 use std::alloc::Global;
@@ -55,16 +55,16 @@ pub fn station_events(
     requires book { IsBook book.now }
     requires asked { IsAsked question.now }
     requires given { IsGiven given.now }
-    ensures exact { Gives wants_memory_of_refusal (listed book.now table.now question.now) result }
-    ensures told { IfErr result (IsToldRefusal table.now) }
+    ensures exact { ReturnsUnless refusal_is_out_of_memory (listed book.now table.now question.now) result }
+    ensures printable { IfErr result (IsPrintableRefusal table.now) }
     ensures lines { IfOk result (λ found. All (IsListed found.units) found.events) }
     ensures levels { IfOk result (λ found. found.units ≢ Units.KnotsSquared) }
     ensures printed { IfOk result (λ found. All (λ b. (32 ≤ b) × (b ≢ 127)) found.name) }
 {
-    let question = SoundQuestion::new(question);
+    let question = ValidQuestion::new(question);
     let name = station_named(&question)?;
     let asked = span_named(&question)?;
-    let found = list_station(alloc, &SoundBook::new(book), table, name, &asked)?;
+    let found = list_station(alloc, &ValidBook::new(book), table, name, &asked)?;
     Ok(Listed {
         name: name.copy()?,
         units: found.units,

@@ -1,26 +1,26 @@
 //! The answer of `peakcheck`: the check of a certificate of a highest water.
 
 ghost use Rattle.std.specs.Prelude.{◌≡◌, ◌<◌, ◌≤◌, ◌^◌, length, [], IfErr, IfOk};
-ghost use Rattle.decimal_text.specs.Expected.{Gives};
+ghost use Rattle.decimal_text.specs.Expected.{ReturnsUnless};
 ghost use Rattle.decimal_text.specs.declared.limits.TheConstants.{MOST_BYTES};
 ghost use Rattle.highest_water.specs.PeakReadings.{peak_of};
 ghost use Rattle.highest_water.specs.PeakTexts.{IsPeakCertificate};
 ghost use Rattle.highest_water.specs.declared.verdict.PeakVerdict.{PeakVerdict};
 ghost use Rattle.tide_answer.specs.Answers.{peak_checked, peak_from, peak_judged};
 ghost use Rattle.tide_answer.specs.Workings.Peaks.{peak_judged_in};
-ghost use Rattle.tide_fault.specs.Faults.{wants_memory_of_refusal, IsToldRefusal};
+ghost use Rattle.tide_fault.specs.Faults.{refusal_is_out_of_memory, IsPrintableRefusal};
 ghost use Rattle.station_span.specs.Workings.Finds.{HasPeak, site_of, tide_of_found};
 ghost use Rattle.station_span.specs.Workings.Peaks.{IsSourceIn};
 
-use crate::asking::asked_of_peak;
+use crate::asked_spans::asked_by_peak_certificate;
 use crate::highest::highest_text_at;
 use crate::text::{Answer, accepted, rejected};
-use harmonics_text::SoundBook;
+use harmonics_text::ValidBook;
 use highest_water::{
-    CertFault, PeakCertificate, PeakVerdict, peak_certificates_have_one_text, read_peak,
+    PeakCertificate, PeakFault, PeakVerdict, peak_certificates_have_one_text, read_peak,
     verdict_line,
 };
-use station_span::{Found, find_level, judge_highest};
+use station_span::{FoundStation, find_level, judge_highest};
 use station_table::OffsetTable;
 use std::alloc::{AllocError, Global};
 use tide_fault::Refusal;
@@ -36,13 +36,13 @@ use zone_time::Zone;
 #[tactic(auto, unfolding(crate::specs::Answers::peak_checked))]
 pub fn check_peak_text(
     alloc: Global,
-    book: &SoundBook<'_>,
+    book: &ValidBook<'_>,
     table: &OffsetTable,
     bytes: &[u8],
 ) -> Result<Answer, Refusal>
-    requires few { length bytes.now ≤ MOST_BYTES }
-    ensures exact { Gives wants_memory_of_refusal (peak_checked book.now table.now bytes.now) result }
-    ensures told { IfErr result (IsToldRefusal table.now) }
+    requires count_bound { length bytes.now ≤ MOST_BYTES }
+    ensures exact { ReturnsUnless refusal_is_out_of_memory (peak_checked book.now table.now bytes.now) result }
+    ensures printable { IfErr result (IsPrintableRefusal table.now) }
 {
     let cert = peak_in(alloc, bytes)?;
     judge_peak(alloc, book, table, &cert)
@@ -51,16 +51,16 @@ pub fn check_peak_text(
 /// Reads the certificate whose text is `bytes`.
 fn peak_in(alloc: Global, bytes: &[u8]) -> Result<PeakCertificate, Refusal>
     requires { length bytes.now ≤ MOST_BYTES }
-    ensures exact { Gives wants_memory_of_refusal (peak_from (peak_of bytes.now)) result }
-    ensures sound { IfOk result IsPeakCertificate }
-    ensures few { IfOk result (λ cert. length cert.peak.cells < 2 ^ 32) }
-    ensures told { IfErr result (IsToldRefusal []) }
+    ensures exact { ReturnsUnless refusal_is_out_of_memory (peak_from (peak_of bytes.now)) result }
+    ensures valid { IfOk result IsPeakCertificate }
+    ensures count_bound { IfOk result (λ cert. length cert.peak.cells < 2 ^ 32) }
+    ensures printable { IfErr result (IsPrintableRefusal []) }
 {
     peak_certificates_have_one_text();
     match read_peak(alloc, bytes) {
         Ok(cert) => Ok(cert),
-        Err(CertFault::NoMemory) => Err(Refusal::NoMemory),
-        Err(CertFault::NotACertificate { line }) => Err(Refusal::NotACertificate { line }),
+        Err(PeakFault::NoMemory) => Err(Refusal::NoMemory),
+        Err(PeakFault::NotACertificate { line }) => Err(Refusal::NotACertificate { line }),
     }
 }
 
@@ -68,16 +68,22 @@ fn peak_in(alloc: Global, bytes: &[u8]) -> Result<PeakCertificate, Refusal>
 #[tactic(auto, unfolding(crate::specs::Workings::Peaks::peak_judged_in))]
 fn judge_peak(
     alloc: Global,
-    book: &SoundBook<'_>,
+    book: &ValidBook<'_>,
     table: &OffsetTable,
     cert: &PeakCertificate,
 ) -> Result<Answer, Refusal>
     requires cert { IsPeakCertificate cert.now }
-    requires few { length cert.now.peak.cells < 2 ^ 32 }
-    ensures exact { Gives wants_memory_of_refusal (peak_judged_in book.now table.now cert.now) result }
-    ensures told { IfErr result (IsToldRefusal table.now) }
+    requires count_bound { length cert.now.peak.cells < 2 ^ 32 }
+    ensures exact { ReturnsUnless refusal_is_out_of_memory (peak_judged_in book.now table.now cert.now) result }
+    ensures printable { IfErr result (IsPrintableRefusal table.now) }
 {
-    let found = find_level(alloc, book, table, &cert.station, &asked_of_peak(cert))?;
+    let found = find_level(
+        alloc,
+        book,
+        table,
+        &cert.station,
+        &asked_by_peak_certificate(cert),
+    )?;
     match judge_highest(&found, &cert.peak) {
         PeakVerdict::Accepted => Ok(accept_peak(alloc, &found, cert)?),
         verdict => Ok(rejected(verdict_line(alloc, verdict)?)),
@@ -85,7 +91,11 @@ fn judge_peak(
 }
 
 /// Returns the answer that accepts `cert`.
-fn accept_peak(alloc: Global, found: &Found, cert: &PeakCertificate) -> Result<Answer, AllocError>
+fn accept_peak(
+    alloc: Global,
+    found: &FoundStation,
+    cert: &PeakCertificate,
+) -> Result<Answer, AllocError>
     requires peak { HasPeak found.now }
     requires inside { IsSourceIn (tide_of_found found.now) found.now.asked cert.now.peak.at }
     ensures { IfOk result (λ answer. answer ≡ peak_judged found.now.origin.book (site_of found.now) cert.now PeakVerdict.Accepted) }

@@ -1,6 +1,12 @@
 //! Laws of certificates of a highest water.
 
-ghost use Rattle.tide_answer.specs.PeakLaws.{AcceptsOnlyPeaksInShort, AcceptsOnlyTruePeaks, AcceptsWhatPeakCertifies, PeakCertifiesInShort, TellsTheHighest};
+ghost use Rattle.tide_answer.specs.PeakLaws.{
+  AcceptsOnlyPeaksInShort,
+  AcceptsOnlyTruePeaks,
+  AcceptsWhatPeakCertifies,
+  PeakCertifiesInShort,
+  ReportsTheHighest,
+};
 
 use highest_water::{
     peak_certificates_have_one_text, peak_readings_go_by_the_grammar, peak_texts_are_short,
@@ -9,8 +15,8 @@ use highest_water::{
 /// `highest` prints the highest water of its station's span: at the first of the reference's
 /// minutes moved there that have their greatest level. The station's own level is nowhere in the
 /// span higher than the printed one.
-pub fn highest_is_told()
-    ensures { TellsTheHighest }
+pub fn highest_is_reported()
+    ensures { ReportsTheHighest }
 {}
 
 /// `peakcheck` accepts what `peak` returned, with what `highest` prints in universal time for the

@@ -1,15 +1,15 @@
 //! The answer of `predict`: the events of a station over a span.
 
 ghost use Rattle.std.specs.Prelude.{◌≡◌, All, IfErr, IfOk};
-ghost use Rattle.decimal_text.specs.Expected.{Gives};
+ghost use Rattle.decimal_text.specs.Expected.{ReturnsUnless};
 ghost use Rattle.event_text.specs.Lines.{IsListed};
 ghost use Rattle.tide_answer.specs.Answers.{events_text, predicted};
-ghost use Rattle.tide_fault.specs.Faults.{wants_memory_of_refusal, IsToldRefusal};
-ghost use Rattle.station_span.specs.Workings.Spans.{IsNear};
+ghost use Rattle.tide_fault.specs.Faults.{refusal_is_out_of_memory, IsPrintableRefusal};
+ghost use Rattle.station_span.specs.Workings.Spans.{IsInRange};
 
 use crate::text::Answer;
 use decimal_text::{Bytes, Text};
-use harmonics_text::SoundBook;
+use harmonics_text::ValidBook;
 use listing::{csv_events, plain_events};
 use question::Layout;
 use station_span::{Asked, FoundEvents, list_station};
@@ -27,16 +27,16 @@ use zone_time::ZoneClock;
 #[tactic(auto, unfolding(crate::specs::Answers::predicted))]
 pub fn predict(
     alloc: Global,
-    book: &SoundBook<'_>,
+    book: &ValidBook<'_>,
     table: &OffsetTable,
     name: &Text,
     asked: &Asked,
     layout: Layout,
     zone: &ZoneClock<'_>,
 ) -> Result<Answer, Refusal>
-    requires near { IsNear asked.now }
-    ensures exact { Gives wants_memory_of_refusal (predicted book.now table.now name.now asked.now layout zone.now) result }
-    ensures told { IfErr result (IsToldRefusal table.now) }
+    requires in_range { IsInRange asked.now }
+    ensures exact { ReturnsUnless refusal_is_out_of_memory (predicted book.now table.now name.now asked.now layout zone.now) result }
+    ensures printable { IfErr result (IsPrintableRefusal table.now) }
 {
     let listed = list_station(alloc, book, table, name, asked)?;
     let text = list_events(alloc, layout, name, &listed, zone)?;

@@ -2,20 +2,20 @@
 
 ghost use Rattle.std.specs.Prelude.{◌≡◌, if◌then◌else◌, Some, None, IsSome, IsTrue, IfErr, is_some};
 ghost use Rattle.std.specs.Option.{ForSome};
-ghost use Rattle.decimal_text.specs.Expected.{Gives};
+ghost use Rattle.decimal_text.specs.Expected.{ReturnsUnless};
 ghost use Rattle.harmonics_text.specs.Books.{IsBook};
 ghost use Rattle.question.specs.Asked.{IsAsked};
-ghost use Rattle.tide_fault.specs.Faults.{wants_memory_of_refusal, IsToldRefusal};
+ghost use Rattle.tide_fault.specs.Faults.{refusal_is_out_of_memory, IsPrintableRefusal};
 ghost use Rattle.tide_answer.specs.Givens.{IsGiven};
 ghost use Rattle.tide_answer.specs.Streams.{can_stream, prepared, streams_by, Streams};
 ghost use Rattle.tide_answer.specs.Workings.Streaming.{form_of};
 
-use crate::asking::{span_named, station_named};
+use crate::asked_spans::{span_named, station_named};
 use crate::form::Form;
 use crate::given::Given;
 use crate::streaming::Stream;
-use harmonics_text::{Book, SoundBook};
-use question::{Command, Layout, Question, SoundQuestion};
+use harmonics_text::{Book, ValidBook};
+use question::{Command, Layout, Question, ValidQuestion};
 use station_span::{Reach, find_station};
 use station_table::{Basis, OffsetTable};
 use std::alloc::Global;
@@ -55,11 +55,11 @@ pub fn prepare(
     requires asked { IsAsked question.now }
     requires given { IsGiven given.now }
     requires command { IsTrue (can_stream question.now.command) }
-    ensures exact { Gives wants_memory_of_refusal (prepared book.now table.now question.now given.entry.now) result }
-    ensures told { IfErr result (IsToldRefusal table.now) }
+    ensures exact { ReturnsUnless refusal_is_out_of_memory (prepared book.now table.now question.now given.entry.now) result }
+    ensures printable { IfErr result (IsPrintableRefusal table.now) }
 {
-    let book = SoundBook::new(book);
-    let question = SoundQuestion::new(question);
+    let book = ValidBook::new(book);
+    let question = ValidQuestion::new(question);
     find_ready(alloc, &book, table, &question, given)
 }
 
@@ -67,15 +67,15 @@ pub fn prepare(
 #[tactic(auto, unfolding(crate::specs::Streams::prepared))]
 fn find_ready(
     alloc: Global,
-    book: &SoundBook<'_>,
+    book: &ValidBook<'_>,
     table: &OffsetTable,
-    question: &SoundQuestion<'_>,
+    question: &ValidQuestion<'_>,
     given: &Given,
 ) -> Result<Ready, Refusal>
     requires given { IsGiven given.now }
     requires command { IsTrue (can_stream question.now.command) }
-    ensures exact { Gives wants_memory_of_refusal (prepared book.now table.now question.now given.entry.now) result }
-    ensures told { IfErr result (IsToldRefusal table.now) }
+    ensures exact { ReturnsUnless refusal_is_out_of_memory (prepared book.now table.now question.now given.entry.now) result }
+    ensures printable { IfErr result (IsPrintableRefusal table.now) }
 {
     let name = station_named(question)?;
     let asked = span_named(question)?;

@@ -9,7 +9,7 @@ use sample_tides::sample;
 use std::alloc::{AllocError, Global};
 
 /// Returns the harmonics file of made-up constants that `seed` determines.
-pub fn give_sample(alloc: Global, seed: u64) -> Result<Answer, AllocError>
+pub fn sample_answer(alloc: Global, seed: u64) -> Result<Answer, AllocError>
     ensures { IfOk result (λ answer. answer ≡ text_alone (sample_of seed)) }
 {
     Ok(text_alone(sample(alloc, seed)?))

@@ -4,11 +4,11 @@ ghost use Rattle.std.specs.Prelude.{◌≡◌};
 ghost use Rattle.tide_answer.specs.Streams.{Streams};
 ghost use Rattle.tide_answer.specs.Workings.Streaming.{stream_of, IsStream};
 
-use crate::certifying::send_certificate;
+use crate::certificate_sending::send_certificate;
 use crate::form::Form;
-use crate::sending::send_listing;
+use crate::listing_sending::send_listing;
 use decimal_text::Text;
-use station_span::{Found, merge_of};
+use station_span::{FoundStation, merge_of};
 use std::marker::Model;
 use tide_edge::{Sink, WriteFailed};
 use zone_time::Zone;
@@ -18,7 +18,7 @@ use zone_time::Zone;
 #[derive(Drop)]
 pub struct Stream {
     form: Form,
-    found: Found,
+    found: FoundStation,
     name: Text,
     zone: Zone,
 }
@@ -36,7 +36,7 @@ impl Model for Stream {
 
 impl Stream {
     /// Returns the answer of the form `form` for the station `found`.
-    pub fn new(form: Form, found: Found, name: Text, zone: Zone) -> Stream
+    pub fn new(form: Form, found: FoundStation, name: Text, zone: Zone) -> Stream
         requires { IsStream found name zone }
         ensures { result ≡ stream_of form found name zone }
     {
@@ -66,7 +66,7 @@ impl Stream {
 /// Writes a listing.
 fn write_listing<S: Sink>(
     out: &mut S,
-    found: &Found,
+    found: &FoundStation,
     name: &Text,
     zone: &Zone,
 ) -> Result<u64, WriteFailed>
@@ -81,7 +81,7 @@ fn write_listing<S: Sink>(
 /// Writes a certificate.
 fn write_certificate<S: Sink>(
     out: &mut S,
-    found: &Found,
+    found: &FoundStation,
     name: &Text,
     zone: &Zone,
 ) -> Result<u64, WriteFailed>

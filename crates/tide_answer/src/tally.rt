@@ -1,9 +1,24 @@
 //! The counts of a trial.
 
-ghost use Rattle.std.specs.Prelude.{◌≡◌, ◌*◌, ◌<◌, ◌≤◌, ◌^◌, ◌++◌, codes, decimal, length, sum_by, option_to_list, IfOk, OnOk, string_bytes};
-ghost use Rattle.event_list.specs.Events.{minutes_in, cells_in, tracks_of as tracks_in};
+ghost use Rattle.std.specs.Prelude.{
+  ◌≡◌,
+  ◌*◌,
+  ◌<◌,
+  ◌≤◌,
+  ◌^◌,
+  ◌++◌,
+  codes,
+  decimal,
+  length,
+  sum_by,
+  option_to_list,
+  IfOk,
+  OnOk,
+  string_bytes,
+};
+ghost use Rattle.event_list.specs.Events.{span_minutes, cells_in, tracks_of as tracks_in};
 ghost use Rattle.tide_answer.specs.Trials.{accepted_if, nothing, number_line, plus, quiet_in, quiet_one, tally_by, trial_text};
-ghost use Rattle.station_span.specs.Workings.Spans.{IsNearSpan};
+ghost use Rattle.station_span.specs.Workings.Spans.{IsSpanInRange};
 ghost use Rattle.tide_answer.specs.Workings.Tallies.{IsUpTo};
 
 use curve_law::{Cell, Cells, Events, Tracks};
@@ -60,10 +75,10 @@ impl Tally {
     /// check, if any.
     #[tactic(auto, unfolding(crate::specs::Trials::tally_by))]
     pub fn of(span: &Span, tracks: &Tracks, events: &Events, rejection: Option<Rejection>) -> Tally
-        requires near { IsNearSpan span.now }
-        requires few { cells_in tracks.now < 2 ^ 64 }
+        requires in_range { IsSpanInRange span.now }
+        requires count_bound { cells_in tracks.now < 2 ^ 64 }
         ensures exact { result ≡ tally_by span.now tracks.now events.now rejection }
-        ensures few { IsUpTo (2 ^ 66) result }
+        ensures count_bound { IsUpTo (2 ^ 66) result }
     {
         Tally {
             minutes: minutes_of(span, tracks),
@@ -77,18 +92,18 @@ impl Tally {
 
 /// Returns the minutes of all tracks.
 fn minutes_of(span: &Span, tracks: &Tracks) -> u128
-    requires { IsNearSpan span.now }
-    ensures exact { result ≡ minutes_in span.now * length (tracks_in tracks.now) }
-    ensures few { result ≤ 2 ^ 64 }
+    requires { IsSpanInRange span.now }
+    ensures exact { result ≡ span_minutes span.now * length (tracks_in tracks.now) }
+    ensures count_bound { result ≤ 2 ^ 64 }
 {
     u128::from(span_minutes(span)) * u128::from(track_count(tracks))
 }
 
 /// Returns the number of minutes of `span`.
 fn span_minutes(span: &Span) -> u64
-    requires { IsNearSpan span.now }
-    ensures exact { result ≡ minutes_in span.now }
-    ensures few { result ≤ 200000000000 }
+    requires { IsSpanInRange span.now }
+    ensures exact { result ≡ span_minutes span.now }
+    ensures count_bound { result ≤ 200000000000 }
 {
     (span.end - span.begin).unsigned_abs()
 }
@@ -96,7 +111,7 @@ fn span_minutes(span: &Span) -> u64
 /// Returns the number of tracks.
 fn track_count(tracks: &Tracks) -> u32
     ensures exact { result ≡ length (tracks_in tracks.now) }
-    ensures few { result ≤ 3 }
+    ensures count_bound { result ≤ 3 }
 {
     1 + u32::from(tracks.slack.is_some()) + u32::from(tracks.mark.is_some())
 }
@@ -104,7 +119,7 @@ fn track_count(tracks: &Tracks) -> u32
 /// Returns the number of quiet cells of all tracks.
 fn quiet_count(tracks: &Tracks) -> u128
     ensures exact { result ≡ sum_by quiet_in (tracks_in tracks.now) }
-    ensures few { result ≤ 2 ^ 66 }
+    ensures count_bound { result ≤ 2 ^ 66 }
 {
     quiet_of(&tracks.turn) + quiet_if_followed(&tracks.slack) + quiet_if_followed(&tracks.mark)
 }
@@ -112,7 +127,7 @@ fn quiet_count(tracks: &Tracks) -> u128
 /// Returns the number of quiet cells of a track that may be absent.
 fn quiet_if_followed(cells: &Option<Cells>) -> u128
     ensures exact { result ≡ sum_by quiet_in (option_to_list cells.now) }
-    ensures few { result < 2 ^ 64 }
+    ensures count_bound { result < 2 ^ 64 }
 {
     match cells {
         Some(cells) => quiet_of(cells),
@@ -123,7 +138,7 @@ fn quiet_if_followed(cells: &Option<Cells>) -> u128
 /// Returns the number of quiet cells of a track.
 fn quiet_of(cells: &Cells) -> u128
     ensures exact { result ≡ quiet_in cells.now }
-    ensures few { result < 2 ^ 64 }
+    ensures count_bound { result < 2 ^ 64 }
 {
     let mut quiet: u64 = 0;
     for cell in cells.as_slice() {
@@ -135,7 +150,7 @@ fn quiet_of(cells: &Cells) -> u128
 /// Returns 1 if `cell` is quiet, and 0 otherwise.
 fn quiet_one(cell: Cell) -> u64
     ensures exact { result ≡ quiet_one cell }
-    ensures few { result ≤ 1 }
+    ensures count_bound { result ≤ 1 }
 {
     match cell {
         Cell::Quiet(_) => 1,
@@ -146,7 +161,7 @@ fn quiet_one(cell: Cell) -> u64
 // Returns 1 if there is no rejection, and 0 otherwise.
 fn accepted_count(rejection: Option<Rejection>) -> u128
     ensures exact { result ≡ accepted_if rejection }
-    ensures few { result ≤ 1 }
+    ensures count_bound { result ≤ 1 }
 {
     match rejection {
         None => 1,

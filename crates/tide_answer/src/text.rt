@@ -28,13 +28,13 @@ pub fn text_alone(text: Bytes) -> Answer
     }
 }
 
-/// Returns the answer that accepts a certificate: the line `Accepted`, and then `told`.
-pub fn accepted(alloc: Global, told: &Bytes) -> Result<Answer, AllocError>
-    ensures { IfOk result (λ answer. answer ≡ text_accepted told.now) }
+/// Returns the answer that accepts a certificate: the line `Accepted`, and then `shown`.
+pub fn accepted(alloc: Global, shown: &Bytes) -> Result<Answer, AllocError>
+    ensures { IfOk result (λ answer. answer ≡ text_accepted shown.now) }
 {
     let mut text = Vec::new(alloc);
     text.extend_from_slice(b"Accepted\n")?;
-    text.extend_from_slice(told.as_slice())?;
+    text.extend_from_slice(shown.as_slice())?;
     Ok(text_alone(Bytes::from_vec(text)))
 }
 

@@ -8,12 +8,12 @@ ghost use Rattle.station_span.specs.Workings.Finds.{site_of};
 use curve_law::Tracks;
 use rate_bound::Version;
 use station_cells::tracks_over;
-use station_span::{Found, mark_curve, slack_curve, turn_curve};
+use station_span::{FoundStation, mark_curve, slack_curve, turn_curve};
 use std::alloc::{AllocError, Global};
 
 /// Returns the cells of each curve that is followed, over the reference's minutes that are
 /// evaluated.
-pub fn find_tracks(alloc: Global, found: &Found) -> Result<Tracks, AllocError>
+pub fn find_tracks(alloc: Global, found: &FoundStation) -> Result<Tracks, AllocError>
     requires { found.now.reach ≡ Reach.Events }
     ensures { IfOk result (λ tracks. tracks ≡ tracks_of found.now.origin.book (site_of found.now) found.now.asked) }
 {

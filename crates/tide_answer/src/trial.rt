@@ -1,20 +1,20 @@
 //! The answer of `trial`: a trial of the predictor over a file made from a seed.
 
 ghost use Rattle.std.specs.Prelude.{◌≡◌, ◌<◌, ◌≤◌, ◌^◌, [], length, take, IfErr, IfOk};
-ghost use Rattle.decimal_text.specs.Expected.{Gives};
+ghost use Rattle.decimal_text.specs.Expected.{ReturnsUnless};
 ghost use Rattle.harmonics_text.specs.Books.{IsBook};
 ghost use Rattle.harmonics_text.specs.Reading.{book_of};
-ghost use Rattle.tide_fault.specs.Faults.{wants_memory_of_refusal, IsToldRefusal};
+ghost use Rattle.tide_fault.specs.Faults.{refusal_is_out_of_memory, IsPrintableRefusal};
 ghost use Rattle.tide_answer.specs.Trials.{book_from, nothing, station_count, station_tally, tally_on, trial_of};
 ghost use Rattle.tide_answer.specs.Workings.Tallies.{IsUpTo};
 ghost use Rattle.decimal_text.specs.declared.limits.TheConstants.{MOST_BYTES};
 
+use crate::certificate_rejection::find_rejection;
 use crate::certify::certificate_of;
-use crate::judging::find_rejection;
 use crate::tally::{Tally, tally_text};
 use crate::tracks::find_tracks;
 use decimal_text::{Bytes, Text};
-use harmonics_text::{Book, BookFault, SoundBook, Station, read_book};
+use harmonics_text::{Book, BookFault, Station, ValidBook, read_book};
 use sample_tides::sample;
 use station_span::{Asked, Reach, find_events, find_station};
 use station_table::OffsetTable;
@@ -38,21 +38,21 @@ const SPAN: Asked = Asked {
 /// [`Refusal::BadSample`] if the file isn't of its form, and the first [`Refusal`] of a station.
 #[tactic(auto, unfolding(crate::specs::Trials::trial_of))]
 pub fn try_sample(alloc: Global, seed: u64) -> Result<Bytes, Refusal>
-    ensures exact { Gives wants_memory_of_refusal (trial_of seed) result }
-    ensures told { IfErr result (IsToldRefusal []) }
+    ensures exact { ReturnsUnless refusal_is_out_of_memory (trial_of seed) result }
+    ensures printable { IfErr result (IsPrintableRefusal []) }
 {
     let text = sample(alloc, seed)?;
     let book = book_in(alloc, text.as_slice())?;
-    let sum = tally_stations(alloc, &SoundBook::new(&book), first_stations(&book))?;
+    let sum = tally_stations(alloc, &ValidBook::new(&book), first_stations(&book))?;
     Ok(tally_text(alloc, seed, sum)?)
 }
 
 /// Reads the harmonics file `text`.
 fn book_in(alloc: Global, text: &[u8]) -> Result<Book, Refusal>
     requires { length text.now ≤ MOST_BYTES }
-    ensures exact { Gives wants_memory_of_refusal (book_from (book_of text.now)) result }
-    ensures sound { IfOk result IsBook }
-    ensures told { IfErr result (IsToldRefusal []) }
+    ensures exact { ReturnsUnless refusal_is_out_of_memory (book_from (book_of text.now)) result }
+    ensures valid { IfOk result IsBook }
+    ensures printable { IfErr result (IsPrintableRefusal []) }
 {
     match read_book(alloc, text) {
         Ok(book) => Ok(book),
@@ -64,7 +64,7 @@ fn book_in(alloc: Global, text: &[u8]) -> Result<Book, Refusal>
 /// Returns the first forty stations of `book`, or all if there are fewer.
 fn first_stations(book: &Book) -> &[Station]
     ensures exact { result.now ≡ take station_count book.now.stations }
-    ensures few { length result.now ≤ 40 }
+    ensures count_bound { length result.now ≤ 40 }
 {
     let stations = book.stations.as_slice();
     if stations.len() <= STATIONS {
@@ -78,13 +78,13 @@ fn first_stations(book: &Book) -> &[Station]
 // next.
 fn tally_stations(
     alloc: Global,
-    book: &SoundBook<'_>,
+    book: &ValidBook<'_>,
     stations: &[Station],
 ) -> Result<Tally, Refusal>
-    requires few { length stations.now ≤ 40 }
-    ensures exact { Gives wants_memory_of_refusal (tally_on book.now nothing stations.now) result }
-    ensures told { IfErr result (IsToldRefusal []) }
-    ensures few { IfOk result (IsUpTo (2 ^ 100)) }
+    requires count_bound { length stations.now ≤ 40 }
+    ensures exact { ReturnsUnless refusal_is_out_of_memory (tally_on book.now nothing stations.now) result }
+    ensures printable { IfErr result (IsPrintableRefusal []) }
+    ensures count_bound { IfOk result (IsUpTo (2 ^ 100)) }
 {
     let table = OffsetTable::new(alloc);
     let mut sum = Tally::nothing();
@@ -99,14 +99,14 @@ fn tally_stations(
 #[tactic(auto, unfolding(crate::specs::Trials::station_tally))]
 fn tally_station(
     alloc: Global,
-    book: &SoundBook<'_>,
+    book: &ValidBook<'_>,
     table: &OffsetTable,
     name: &Text,
 ) -> Result<Tally, Refusal>
     requires table { table.now ≡ [] }
-    ensures exact { Gives wants_memory_of_refusal (station_tally book.now name.now) result }
-    ensures told { IfErr result (IsToldRefusal []) }
-    ensures few { IfOk result (IsUpTo (2 ^ 66)) }
+    ensures exact { ReturnsUnless refusal_is_out_of_memory (station_tally book.now name.now) result }
+    ensures printable { IfErr result (IsPrintableRefusal []) }
+    ensures count_bound { IfOk result (IsUpTo (2 ^ 66)) }
 {
     let found = find_station(alloc, book, table, Reach::Events, name, &SPAN)?;
     let listed = find_events(alloc, &found)?;

@@ -29,10 +29,10 @@ use Rattle.station_span.specs.declared.asked.Asked.{Asked}
 use Rattle.tide_fault.specs.declared.refusal.Refusal.{Refusal}
 use Rattle.tide_answer.specs.declared.text.Answer.{Answer}
 use Rattle.tide_answer.specs.Answers.{asks_span, named_by}
-use Rattle.tide_answer.specs.Asking.{asked_by}
+use Rattle.tide_answer.specs.Asking.{asked_by_question}
 use Rattle.tide_answer.specs.Laws.{IsAskable}
 use Rattle.station_span.proofs.SiteLemmas.{then_ok}
-use Rattle.tide_desk.specs.Answers.{asked_of, ask_from, asks_to_serve, known_in, question_in, wanted_by}
+use Rattle.tide_desk.specs.Answers.{question_of_words, ask_from, asks_to_serve, found_in, question_in, wanted_by}
 
 -- ---- the request of pairs
 
@@ -55,15 +55,17 @@ ask_ok : (asked : Result Question AskFault) (question : Question) → ask_from a
 ask_ok (Ok found) question ok = cc
 ask_ok (Err fault) question ok = absurd cc
 
-unserved : (serves : Bool) (asked : Result Question AskFault) (question : Question) → cond serves (Err UnknownCommand) asked ≡ Ok question → asked ≡ Ok question
+unserved : (serves : Bool) (asked : Result Question AskFault) (question : Question)
+    → cond serves (Err UnknownCommand) asked ≡ Ok question → asked ≡ Ok question
 unserved true asked question ok = absurd cc
 unserved false asked question ok = ok
 
-words_ask : (sheets : List SheetMeaning) (words : List (List ℕ)) (question : Question) → asked_of sheets words ≡ Ok question → WasAsked (pairs_of words) question
-unfolding asked_of
+words_ask : (sheets : List SheetMeaning) (words : List (List ℕ)) (question : Question)
+    → question_of_words sheets words ≡ Ok question → WasAsked (pairs_of words) question
+unfolding question_of_words
 words_ask sheets words question ok =
     let asked = then_ok (ask_from (question_in (pairs_of words))) _ question ok in
-    let known = then_ok (known_in (wanted_by asked.0) (missing_of sheets (wanted_by asked.0))) _ question asked.2 in
+    let known = then_ok (found_in (wanted_by asked.0) (missing_of sheets (wanted_by asked.0))) _ question asked.2 in
     let same : asked.0 ≡ question = (let last = known.2 in cc) in
     pairs_ask (pairs_of words) question
     (unserved (asks_to_serve (pairs_of words)) (question_of (pairs_of words)) question
@@ -76,11 +78,13 @@ pub record IsInRange (question : Question) : Type 0 where
   pub end : ForSome question.end IsMoment
   pub mark : ForSome question.mark (λ millionths. unsigned_abs millionths ≤ 10000000000)
 
-value_in_range : {V : Type 0} (P : V → Type 0) (form : List ℕ → Option V) (said : Option (List ℕ)) → ((text : List ℕ) (v : V) → form text ≡ Some v → P v) → ForSome (option_and_then form said) P
+value_in_range : {V : Type 0} (P : V → Type 0) (form : List ℕ → Option V) (said : Option (List ℕ))
+    → ((text : List ℕ) (v : V) → form text ≡ Some v → P v) → ForSome (option_and_then form said) P
 value_in_range P form None range v is = absurd cc
 value_in_range P form (Some text) range v is = range text v is
 
-pub asked_in_range : (sheets : List SheetMeaning) (words : List (List ℕ)) (question : Question) → asked_of sheets words ≡ Ok question → IsInRange question
+pub asked_in_range : (sheets : List SheetMeaning) (words : List (List ℕ)) (question : Question)
+    → question_of_words sheets words ≡ Ok question → IsInRange question
 asked_in_range sheets words question ok =
     let was = words_ask sheets words question ok in
     subst IsInRange was.is (record {
@@ -107,7 +111,8 @@ got_ok None fault x ok = absurd cc
 abbrev pub Lacks : Command → Key → Type 0
 Lacks command k = key_named Line command (name_of k) ≡ None
 
-key_unsaid : (command : Command) (k new : Key) (name text : List ℕ) (said : Said) → Lacks command k → key_named Line command name ≡ Some new → said k ≡ None → also new text said k ≡ None
+key_unsaid : (command : Command) (k new : Key) (name text : List ℕ) (said : Said) → Lacks command k
+    → key_named Line command name ≡ Some new → said k ≡ None → also new text said k ≡ None
 key_unsaid command k new name text said lacks found none = by_test (bytes_eq (name_of k) (name_of new))
     (λ same.
     let passes = found_passes (λ k. bytes_eq (name_of k) name && has_key Line command k) all_keys new found in
@@ -117,7 +122,8 @@ key_unsaid command k new name text said lacks found none = by_test (bytes_eq (na
     absurd cc)
     (λ other. rw other none)
 
-item_unsaid : (command : Command) (k : Key) (place : ℕ) (item : Item) (said more : Said) → Lacks command k → with_item Line command place item said ≡ Ok more → said k ≡ None → more k ≡ None
+item_unsaid : (command : Command) (k : Key) (place : ℕ) (item : Item) (said more : Said) → Lacks command k
+    → with_item Line command place item said ≡ Ok more → said k ≡ None → more k ≡ None
 unfolding with_item
 item_unsaid command k place item said more lacks ok none =
     let text = then_ok (ok_or item.value (NotAPair place)) _ more ok in
@@ -128,25 +134,32 @@ item_unsaid command k place item said more lacks ok none =
     let found = got_ok (key_named Line command item.key) (UnknownKey place) new.0 new.1 in
     subst (λ (s : Said). s k ≡ None) same (key_unsaid command k new.0 item.key text.0 said lacks found none)
 
-items_unsaid : (command : Command) (k : Key) (items : List Item) (place : ℕ) (said more : Said) → Lacks command k → with_items Line command place items said ≡ Ok more → said k ≡ None → more k ≡ None
+items_unsaid : (command : Command) (k : Key) (items : List Item) (place : ℕ) (said more : Said) → Lacks command k
+    → with_items Line command place items said ≡ Ok more → said k ≡ None → more k ≡ None
 unfolding with_items
 items_unsaid command k [] place said more lacks ok none = let same : said ≡ more = cc in subst (λ (s : Said). s k ≡ None) same none
 items_unsaid command k (item ∷ items) place said more lacks ok none =
     let one = then_ok (with_item Line command place item said) _ more ok in
     items_unsaid command k items (place + 1) one.0 more lacks one.2 (item_unsaid command k place item said one.0 lacks one.1 none)
 
-words_unsaid : (sheets : List SheetMeaning) (words : List (List ℕ)) (question : Question) (command : Command) (k : Key) → asked_of sheets words ≡ Ok question → question.command ≡ command → Lacks command k → (said : Said) × (said k ≡ None) × (asked Line command said ≡ question)
+words_unsaid : (sheets : List SheetMeaning) (words : List (List ℕ)) (question : Question) (command : Command) (k : Key)
+    → question_of_words sheets words ≡ Ok question → question.command ≡ command → Lacks command k
+    → (said : Said) × (said k ≡ None) × (asked Line command said ≡ question)
 words_unsaid sheets words question command k ok is lacks =
     let was = words_ask sheets words question ok in
     let same : was.command ≡ command = ap (λ (q : Question). q.command) was.is ∙ is in
     (was.said, items_unsaid command k (pairs_of words).items 1 nothing_said was.said lacks (rw same at was.items) refl, rw same at was.is)
 
-pub names_no_certificate : (sheets : List SheetMeaning) (words : List (List ℕ)) (question : Question) (command : Command) → Lacks command key.Certificate → asked_of sheets words ≡ Ok question → question.command ≡ command → question.certificate ≡ None
+pub names_no_certificate : (sheets : List SheetMeaning) (words : List (List ℕ)) (question : Question)
+    (command : Command) → Lacks command key.Certificate → question_of_words sheets words ≡ Ok question
+    → question.command ≡ command → question.certificate ≡ None
 names_no_certificate sheets words question command lacks ok is =
     let was = words_unsaid sheets words question command key.Certificate ok is lacks in
     ap (λ (q : Question). q.certificate) (sym was.2) ∙ ap (option_and_then some_text) was.1
 
-pub names_no_zone : (sheets : List SheetMeaning) (words : List (List ℕ)) (question : Question) (command : Command) → Lacks command key.Zone → asked_of sheets words ≡ Ok question → question.command ≡ command → question.zone ≡ Utc
+pub names_no_zone : (sheets : List SheetMeaning) (words : List (List ℕ)) (question : Question) (command : Command)
+    → Lacks command key.Zone → question_of_words sheets words ≡ Ok question → question.command ≡ command
+    → question.zone ≡ Utc
 names_no_zone sheets words question command lacks ok is =
     let was = words_unsaid sheets words question command key.Zone ok is lacks in
     ap (λ (q : Question). q.zone) (sym was.2) ∙ ap (λ (text : Option (List ℕ)). unwrap_or (option_and_then (zone_of Line) text) Utc) was.1
@@ -164,24 +177,29 @@ named_ok : {A : Type 0} (said : Option A) (value : A) → named_by said ≡ Ok v
 named_ok (Some found) value ok = cc
 named_ok None value ok = absurd cc
 
-span_parts : (question : Question) (begin end : Option ℤ) (asked : Asked) → question.begin ≡ begin → question.end ≡ end → asked_by question ≡ Some asked → (begin ≡ Some asked.begin) × (end ≡ Some asked.end) × (question.mark ≡ asked.mark)
-unfolding asked_by
+span_parts : (question : Question) (begin end : Option ℤ) (asked : Asked) → question.begin ≡ begin → question.end ≡ end
+    → asked_by_question question ≡ Some asked
+    → (begin ≡ Some asked.begin) × (end ≡ Some asked.end) × (question.mark ≡ asked.mark)
+unfolding asked_by_question
 span_parts question (Some begin) (Some end) asked b e is =
     let same : record { begin = begin; end = end; mark = question.mark } ≡ asked = (let some = rw (b, e) at is in cc) in
     (ap (λ (a : Asked). Some a.begin) same, ap (λ (a : Asked). Some a.end) same, ap (λ (a : Asked). a.mark) same)
 span_parts question (Some begin) None asked b e is = absurd (let none = rw (b, e) at is in cc)
 span_parts question None end asked b e is = absurd (let none = rw b at is in cc)
 
-pub went_over_span : (question : Question) (next : List ℕ → Asked → Result Answer Refusal) (answer : Answer) → asks_span question next ≡ Ok answer → (name : List ℕ) × (asked : Asked) × NamesSpan question name asked × (next name asked ≡ Ok answer)
+pub went_over_span : (question : Question) (next : List ℕ → Asked → Result Answer Refusal) (answer : Answer)
+    → asks_span question next ≡ Ok answer
+    → (name : List ℕ) × (asked : Asked) × NamesSpan question name asked × (next name asked ≡ Ok answer)
 unfolding asks_span
 went_over_span question next answer ok =
     let name = then_ok (named_by question.station) _ answer ok in
-    let asked = then_ok (named_by (asked_by question)) _ answer name.2 in
-    let parts = span_parts question question.begin question.end asked.0 refl refl (named_ok (asked_by question) asked.0 asked.1) in
+    let asked = then_ok (named_by (asked_by_question question)) _ answer name.2 in
+    let parts = span_parts question question.begin question.end asked.0 refl refl (named_ok (asked_by_question question) asked.0 asked.1) in
     (name.0, asked.0, record { station = named_ok question.station name.0 name.1; begin = parts.0; end = parts.1; mark = parts.2 }, asked.2)
 
-pub goes_over_span : (question : Question) (next : List ℕ → Asked → Result Answer Refusal) (name : List ℕ) (asked : Asked) → NamesSpan question name asked → asks_span question next ≡ next name asked
-unfolding asks_span asked_by
+pub goes_over_span : (question : Question) (next : List ℕ → Asked → Result Answer Refusal) (name : List ℕ)
+    (asked : Asked) → NamesSpan question name asked → asks_span question next ≡ next name asked
+unfolding asks_span asked_by_question
 goes_over_span question next name asked names = rw (names.station, names.begin, names.end, names.mark) refl
 
 pub askable : (question : Question) (name : List ℕ) (asked : Asked) → IsInRange question → NamesSpan question name asked → IsAskable asked

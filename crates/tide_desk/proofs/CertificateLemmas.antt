@@ -10,11 +10,11 @@ use Rattle.report_sheets.specs.Sheets.{SheetMeaning}
 use Rattle.station_span.specs.declared.asked.Asked.{Asked}
 use Rattle.tide_answer.specs.declared.text.Answer.{Answer}
 use Rattle.tide_answer.specs.Answers.{certified, predicted, text_by}
-use Rattle.tide_answer.specs.Asking.{asked_in}
+use Rattle.tide_answer.specs.Asking.{asked_by_certificate}
 use Rattle.tide_answer.specs.Laws as books
 use Rattle.named_files.specs.declared.materials.Materials.{Materials}
 use Rattle.named_files.specs.Readings.{zone_named}
-use Rattle.tide_desk.specs.Answers.{answered_by, given_with, is_report, minute_for}
+use Rattle.tide_desk.specs.Answers.{answered_over_optional_file, given_with, is_report, minute_for}
 use Rattle.tide_desk.specs.Laws.{Subject, subject_in, subject_of, AsksListing, AcceptsWithListing, AcceptsWhatCertifyAnswers, AcceptsOnlyTrueCertificates}
 use Rattle.tide_edge.specs.FileStates.{Folder}
 use Rattle.tide_desk.proofs.AskedLemmas.{NamesSpan, asked_in_range, askable, goes_over_span, names_no_certificate}
@@ -31,7 +31,11 @@ check_reads question is = record { alone = λ seed. rw is refl; plain = ap is_re
 
 -- ---- the listing of a subject
 
-listing_text : (question : Question) (read : Materials) (minute : ℤ) (name : List ℕ) (asked : Asked) (listing : Answer) → question.command ≡ Predict → question.layout ≡ Plain → NamesSpan question name asked → predicted read.book read.table name asked Plain read.zone ≡ Ok listing → text_by question.command read.book read.table question (given_with read (minute_for question.command minute)) ≡ Ok listing
+listing_text : (question : Question) (read : Materials) (minute : ℤ) (name : List ℕ) (asked : Asked) (listing : Answer)
+    → question.command ≡ Predict → question.layout ≡ Plain → NamesSpan question name asked
+    → predicted read.book read.table name asked Plain read.zone ≡ Ok listing
+    → text_by question.command read.book read.table question (given_with read (minute_for question.command minute))
+    ≡ Ok listing
 listing_text question read minute name asked listing command layout names is =
     let given = given_with read (minute_for question.command minute) in
     ap (λ (c : Command). text_by c read.book read.table question given) command
@@ -39,23 +43,37 @@ listing_text question read minute name asked listing command layout names is =
     ∙ ap (λ (l : Layout). predicted read.book read.table name asked l read.zone) layout
     ∙ is
 
-listed : (sheets : List SheetMeaning) (folder : Folder) (check question : Question) (subject : Subject) (file name : List ℕ) (asked : Asked) (read : Materials) (listing : Answer) (minute : ℤ) → check.file ≡ Some file → WasRead folder check file read → IsSubject subject name asked → predicted read.book read.table name asked Plain read.zone ≡ Ok listing → AsksListing check subject question → question.certificate ≡ None → answered_by sheets (λ slot. folder) minute question question.file ≡ Ok listing
+listed : (sheets : List SheetMeaning) (folder : Folder) (check question : Question) (subject : Subject)
+    (file name : List ℕ) (asked : Asked) (read : Materials) (listing : Answer) (minute : ℤ) → check.file ≡ Some file
+    → WasRead folder check file read → IsSubject subject name asked
+    → predicted read.book read.table name asked Plain read.zone ≡ Ok listing → AsksListing check subject question
+    → question.certificate ≡ None
+    → answered_over_optional_file sheets (λ slot. folder) minute question question.file ≡ Ok listing
 listed sheets folder check question subject file name asked read listing minute named was about is asks none =
-    shown_over sheets folder check question file read read.zone listing minute named was (ap is_report asks.command) asks.files (ap (zone_named folder) asks.zone ∙ was.zone) none
-    (listing_text question (record read { certificate = [] }) minute name asked listing asks.command asks.layout (names_subject question subject name asked asks.about about) is)
+    shown_over sheets folder check question file read read.zone listing minute named was
+    (ap is_report asks.command) asks.files (ap (zone_named folder) asks.zone ∙ was.zone) none
+    (listing_text question (record read { certificate = [] }) minute name asked listing asks.command asks.layout
+    (names_subject question subject name asked asks.about about) is)
 
-with_listing : (sheets : List SheetMeaning) (folder : Folder) (check : Question) (subject : Subject) (file name : List ℕ) (asked : Asked) (read : Materials) (answer : Answer) → check.file ≡ Some file → WasRead folder check file read → IsSubject subject name asked → books.AcceptsListing (predicted read.book read.table name asked Plain read.zone) answer → AcceptsWithListing sheets folder check subject answer
+with_listing : (sheets : List SheetMeaning) (folder : Folder) (check : Question) (subject : Subject)
+    (file name : List ℕ) (asked : Asked) (read : Materials) (answer : Answer) → check.file ≡ Some file
+    → WasRead folder check file read → IsSubject subject name asked
+    → books.AcceptsListing (predicted read.book read.table name asked Plain read.zone) answer
+    → AcceptsWithListing sheets folder check subject answer
 with_listing sheets folder check subject file name asked read answer named was about accepts =
     accepts_with sheets folder (AsksListing check subject) accepts.0 answer
     (λ words question is asks. names_no_certificate sheets words question Predict refl is asks.command)
-    (λ minute question asks none. listed sheets folder check question subject file name asked read accepts.0 minute named was about accepts.1 asks none)
+    (λ minute question asks none. listed sheets folder check question subject file name asked read accepts.0 minute
+    named was about accepts.1 asks none)
     accepts.2
 
 -- ---- the answer of `certify` is accepted
 
 pub certified_accepted : books.AcceptsWhatIsCertified → books.CertifiesInShort → AcceptsWhatCertifyAnswers
-certified_accepted accepts shortens sheets before after minute later words more certify check certificate zone asks ok asks_check holds shown =
-    let was = was_made certified sheets before minute words Certify certify certificate (certify_reads certify asks.is) (λ book table question given. refl) asks ok in
+certified_accepted accepts shortens sheets before after minute later words more certify check certificate zone asks ok
+    asks_check holds shown =
+    let was = was_made certified sheets before minute words Certify certify certificate (certify_reads certify asks.is)
+    (λ book table question given. refl) asks ok in
     let book = named_book before was.file was.read.book was.files.book in
     let table = named_table before certify.offsets was.read.table was.files.table in
     let can = askable certify was.name was.asked (asked_in_range sheets words certify asks.asked) was.names in
@@ -66,17 +84,18 @@ certified_accepted accepts shortens sheets before after minute later words more 
     let accepted = accepts was.read.book was.read.table was.name was.asked zone certificate book table can was.text in (
       accepted.0,
       checks sheets after later more Check check has.name read accepted.0 refl asks_check has.named files accepted.1,
-      with_listing sheets after check (subject_of certify) has.name was.name was.asked read accepted.0 has.named files (subject_named certify was.name was.asked was.names) accepted.2,
+      with_listing sheets after check (subject_of certify) has.name was.name was.asked read accepted.0 has.named files
+          (subject_named certify was.name was.asked was.names) accepted.2,
     )
 
 -- ---- an accepted certificate is true
 
 pub accepted_true : books.AcceptsOnlyWhatIsTrue → AcceptsOnlyTrueCertificates
-accepted_true tells sheets folder minute words check answer asks ok accepted =
+accepted_true reports sheets folder minute words check answer asks ok accepted =
     let was = was_answered sheets folder minute words check answer asks.asked (check_reads check asks.is) ok in
     let read = was.read in
     let judged = text_at check.command Check read check (given_with read (minute_for check.command minute)) answer asks.is was.text in
-    let is_true = tells read.book read.table read.certificate read.zone answer
+    let is_true = reports read.book read.table read.certificate read.zone answer
     (named_book folder was.name read.book was.files.book) (named_table folder check.offsets read.table was.files.table) judged accepted in
     let cert = is_true.certificate in
     let some = text_some Spells cert read.certificate (λ spelled. spelled) is_true.written in
@@ -90,6 +109,7 @@ accepted_true tells sheets folder minute words check answer asks ok accepted =
       shown = was.files.zone;
       held = certificate_held folder check.certificate read.certificate was.files.certificate some;
       is_true = is_true;
-      listing = with_listing sheets folder check (subject_in cert) was.name cert.station (asked_in cert) read answer was.file was.files
+      listing = with_listing sheets folder check (subject_in cert) was.name cert.station
+          (asked_by_certificate cert) read answer was.file was.files
           (record { station = refl; begin = refl; end = refl; mark = refl }) is_true.listing;
     }

@@ -17,7 +17,7 @@ use Rattle.tide_answer.specs.declared.text.Answer.{Answer}
 use Rattle.tide_answer.specs.Answers.{asks_span, text_alone, text_by}
 use Rattle.named_files.specs.declared.materials.Materials.{Materials}
 use Rattle.named_files.specs.Readings.{book_named, table_named, zone_named, certificate_named}
-use Rattle.tide_desk.specs.Answers.{answer_of, answered_by, asked_of, given_with, is_report, minute_for}
+use Rattle.tide_desk.specs.Answers.{answer_of, answered_over_optional_file, question_of_words, given_with, is_report, minute_for}
 use Rattle.tide_desk.specs.Laws.{Asks, NameSameFiles, Subject, subject_of, HaveSameBook, HoldsCertificate, AcceptsWith}
 use Rattle.tide_edge.specs.FileStates.{Folder}
 use Rattle.tide_desk.proofs.AskedLemmas.{NamesSpan, went_over_span}
@@ -25,7 +25,9 @@ use Rattle.tide_desk.proofs.FileLemmas.{ReadsFiles, WasRead, certificate_there, 
 
 -- ---- the text of a command
 
-pub text_at : (command other : Command) (read : Materials) (question : Question) (given : Given) (answer : Answer) → command ≡ other → text_by command read.book read.table question given ≡ Ok answer → text_by other read.book read.table question given ≡ Ok answer
+pub text_at : (command other : Command) (read : Materials) (question : Question) (given : Given) (answer : Answer)
+    → command ≡ other → text_by command read.book read.table question given ≡ Ok answer
+    → text_by other read.book read.table question given ≡ Ok answer
 text_at command other read question given answer same ok =
     subst (λ (c : Command). text_by c read.book read.table question given ≡ Ok answer) same ok
 
@@ -38,7 +40,8 @@ pub record IsSubject (subject : Subject) (name : List ℕ) (asked : Asked) : Typ
   pub end : subject.end ≡ Some asked.end
   pub mark : subject.mark ≡ asked.mark
 
-pub names_subject : (question : Question) (subject : Subject) (name : List ℕ) (asked : Asked) → subject_of question ≡ subject → IsSubject subject name asked → NamesSpan question name asked
+pub names_subject : (question : Question) (subject : Subject) (name : List ℕ) (asked : Asked)
+    → subject_of question ≡ subject → IsSubject subject name asked → NamesSpan question name asked
 names_subject question subject name asked same is = record {
   station = ap (λ (s : Subject). s.station) same ∙ is.station;
   begin = ap (λ (s : Subject). s.begin) same ∙ is.begin;
@@ -46,13 +49,20 @@ names_subject question subject name asked same is = record {
   mark = ap (λ (s : Subject). s.mark) same ∙ is.mark;
 }
 
-pub subject_named : (question : Question) (name : List ℕ) (asked : Asked) → NamesSpan question name asked → IsSubject (subject_of question) name asked
+pub subject_named : (question : Question) (name : List ℕ) (asked : Asked) → NamesSpan question name asked
+    → IsSubject (subject_of question) name asked
 subject_named question name asked names = record { station = names.station; begin = names.begin; end = names.end; mark = names.mark }
 
 -- ---- a request over the files of a check
 
 -- such a request without a certificate, in a zone that was read
-pub shown_over : (sheets : List SheetMeaning) (folder : Folder) (check question : Question) (file : List ℕ) (read : Materials) (zone : Zone) (shown : Answer) (minute : ℤ) → check.file ≡ Some file → WasRead folder check file read → is_report question.command ≡ false → NameSameFiles question check → zone_named folder question.zone ≡ Ok zone → question.certificate ≡ None → text_by question.command read.book read.table question (given_with (record read { zone = zone; certificate = [] }) (minute_for question.command minute)) ≡ Ok shown → answered_by sheets (λ slot. folder) minute question question.file ≡ Ok shown
+pub shown_over : (sheets : List SheetMeaning) (folder : Folder) (check question : Question) (file : List ℕ)
+    (read : Materials) (zone : Zone) (shown : Answer) (minute : ℤ) → check.file ≡ Some file
+    → WasRead folder check file read → is_report question.command ≡ false → NameSameFiles question check
+    → zone_named folder question.zone ≡ Ok zone → question.certificate ≡ None
+    → text_by question.command read.book read.table question
+    (given_with (record read { zone = zone; certificate = [] }) (minute_for question.command minute)) ≡ Ok shown
+    → answered_over_optional_file sheets (λ slot. folder) minute question question.file ≡ Ok shown
 unfolding certificate_named
 shown_over sheets folder check question file read zone shown minute named was plain files place none text =
     is_answered sheets folder minute question shown plain (record {
@@ -75,7 +85,8 @@ Makes = Book → List Offsets → List ℕ → Asked → Result Answer Refusal
 
 -- the command makes a certificate of a station's span
 abbrev pub GoesOver : Command → Makes → Type 0
-GoesOver command made = (book : Book) (table : List Offsets) (question : Question) (given : Given) → text_by command book table question given ≡ asks_span question (λ name asked. made book table name asked)
+GoesOver command made = (book : Book) (table : List Offsets) (question : Question) (given : Given)
+    → text_by command book table question given ≡ asks_span question (λ name asked. made book table name asked)
 
 -- the station and the span of an answer of the command
 pub record IsMade (made : Makes) (folder : Folder) (question : Question) (certificate : Answer) : Type 0 where
@@ -88,12 +99,16 @@ pub record IsMade (made : Makes) (folder : Folder) (question : Question) (certif
   pub names : NamesSpan question name asked
   pub text : made read.book read.table name asked ≡ Ok certificate
 
-pub was_made : (made : Makes) (sheets : List SheetMeaning) (folder : Folder) (minute : ℤ) (words : List (List ℕ)) (command : Command) (question : Question) (certificate : Answer) → ReadsFiles question → GoesOver command made → Asks sheets words command question → answer_of sheets folder minute words ≡ Ok certificate → IsMade made folder question certificate
+pub was_made : (made : Makes) (sheets : List SheetMeaning) (folder : Folder) (minute : ℤ) (words : List (List ℕ))
+    (command : Command) (question : Question) (certificate : Answer) → ReadsFiles question → GoesOver command made
+    → Asks sheets words command question → answer_of sheets folder minute words ≡ Ok certificate
+    → IsMade made folder question certificate
 was_made made sheets folder minute words command question certificate reads goes asks ok =
     let was = was_answered sheets folder minute words question certificate asks.asked reads ok in
     let given = given_with was.read (minute_for question.command minute) in
     let text = text_at question.command command was.read question given certificate asks.is was.text in
-    let over = went_over_span question (λ name asked. made was.read.book was.read.table name asked) certificate (sym (goes was.read.book was.read.table question given) ∙ text) in
+    let over = went_over_span question (λ name asked. made was.read.book was.read.table name asked) certificate
+    (sym (goes was.read.book was.read.table question given) ∙ text) in
     record {
       file = was.name;
       named = was.file;
@@ -121,7 +136,9 @@ pub record HasBook (folder : Folder) (check : Question) (book : Book) : Type 0 w
   pub named : check.file ≡ Some name
   pub is : book_named folder name ≡ Ok book
 
-pub has_book : (made : Makes) (before after : Folder) (question check : Question) (certificate : Answer) (was : IsMade made before question certificate) → HaveSameBook before after question.file check.file → HasBook after check was.read.book
+pub has_book : (made : Makes) (before after : Folder) (question check : Question) (certificate : Answer)
+    (was : IsMade made before question certificate) → HaveSameBook before after question.file check.file
+    → HasBook after check was.read.book
 has_book made before after question check certificate was same =
     let there = there_and check.file _ same in
     let here = there_and question.file _ there.2 in
@@ -129,7 +146,11 @@ has_book made before after question check certificate was same =
     record { name = there.0; named = there.1; is = here.2 ∙ ap (book_named before) name ∙ was.files.book }
 
 -- the files of the check, and the certificate among them
-pub checked_files : (made : Makes) (before after : Folder) (question check : Question) (certificate : Answer) (zone : Zone) (was : IsMade made before question certificate) (has : HasBook after check was.read.book) → length certificate.text ≤ MOST_BYTES → HoldsCertificate before after question check certificate.text → zone_named after check.zone ≡ Ok zone → WasRead after check has.name (record { book = was.read.book; table = was.read.table; zone = zone; certificate = certificate.text })
+pub checked_files : (made : Makes) (before after : Folder) (question check : Question) (certificate : Answer)
+    (zone : Zone) (was : IsMade made before question certificate) (has : HasBook after check was.read.book)
+    → length certificate.text ≤ MOST_BYTES → HoldsCertificate before after question check certificate.text
+    → zone_named after check.zone ≡ Ok zone → WasRead after check has.name
+    (record { book = was.read.book; table = was.read.table; zone = zone; certificate = certificate.text })
 checked_files made before after question check certificate zone was has few holds shown = record {
   book = has.is;
   table = holds.offsets ∙ was.files.table;
@@ -139,7 +160,11 @@ checked_files made before after question check certificate zone was has few hold
 
 -- ---- the answer of a check
 
-pub checks : (sheets : List SheetMeaning) (folder : Folder) (minute : ℤ) (words : List (List ℕ)) (command : Command) (check : Question) (file : List ℕ) (read : Materials) (answer : Answer) → is_report command ≡ false → Asks sheets words command check → check.file ≡ Some file → WasRead folder check file read → text_by command read.book read.table check (given_with read (minute_for check.command minute)) ≡ Ok answer → answer_of sheets folder minute words ≡ Ok answer
+pub checks : (sheets : List SheetMeaning) (folder : Folder) (minute : ℤ) (words : List (List ℕ)) (command : Command)
+    (check : Question) (file : List ℕ) (read : Materials) (answer : Answer) → is_report command ≡ false
+    → Asks sheets words command check → check.file ≡ Some file → WasRead folder check file read
+    → text_by command read.book read.table check (given_with read (minute_for check.command minute)) ≡ Ok answer
+    → answer_of sheets folder minute words ≡ Ok answer
 checks sheets folder minute words command check file read answer plain asks named was ok =
     words_answer sheets folder minute words check asks.asked
     ∙ is_answered sheets folder minute check answer (ap is_report asks.is ∙ plain)
@@ -152,7 +177,11 @@ checks sheets folder minute words command check file read answer plain asks name
     })
 
 -- a request for what is shown names no certificate
-pub accepts_with : (sheets : List SheetMeaning) (folder : Folder) (asks : Question → Type 0) (shown answer : Answer) → ((words : List (List ℕ)) (question : Question) → asked_of sheets words ≡ Ok question → asks question → question.certificate ≡ None) → ((minute : ℤ) (question : Question) → asks question → question.certificate ≡ None → answered_by sheets (λ slot. folder) minute question question.file ≡ Ok shown) → answer ≡ text_alone (codes "Accepted\n" ++ shown.text) → AcceptsWith sheets folder asks answer
+pub accepts_with : (sheets : List SheetMeaning) (folder : Folder) (asks : Question → Type 0) (shown answer : Answer)
+    → ((words : List (List ℕ)) (question : Question) → question_of_words sheets words ≡ Ok question → asks question
+    → question.certificate ≡ None) → ((minute : ℤ) (question : Question) → asks question → question.certificate ≡ None
+    → answered_over_optional_file sheets (λ slot. folder) minute question question.file ≡ Ok shown)
+    → answer ≡ text_alone (codes "Accepted\n" ++ shown.text) → AcceptsWith sheets folder asks answer
 accepts_with sheets folder asks shown answer none shows text = record {
   shown = shown;
   text = text;
@@ -163,14 +192,17 @@ accepts_with sheets folder asks shown answer none shows text = record {
 
 -- ---- a text has at least one byte
 
-lines_some : {C : Type 0} (spells : C → List (List ℕ) → Type 0) (said : C) (lines : List (List ℕ)) → (spells said [] → ⊥) → spells said lines → joined lines ≡ [] → ⊥
+lines_some : {C : Type 0} (spells : C → List (List ℕ) → Type 0) (said : C) (lines : List (List ℕ))
+    → (spells said [] → ⊥) → spells said lines → joined lines ≡ [] → ⊥
 lines_some spells said [] never spelled none = never spelled
 lines_some spells said (line ∷ lines) never spelled none =
     let length_none = ap length none in
     omega (arith, length_none, length-append (ended line) (joined lines), length-append line (10 ∷ []))
 
-pub text_some : {C : Type 0} (spells : C → List (List ℕ) → Type 0) (said : C) (text : List ℕ) → (spells said [] → ⊥) → IsTextBy spells said text → text ≡ [] → ⊥
+pub text_some : {C : Type 0} (spells : C → List (List ℕ) → Type 0) (said : C) (text : List ℕ) → (spells said [] → ⊥)
+    → IsTextBy spells said text → text ≡ [] → ⊥
 text_some spells said text never written none = lines_some spells said written.0 never written.1 (sym written.2 ∙ none)
 
-pub named_read : (folder : Folder) (file : Option (List ℕ)) (name : List ℕ) (book : Book) → file ≡ Some name → book_named folder name ≡ Ok book → IsSomeAnd file (λ n. book_named folder n ≡ Ok book)
+pub named_read : (folder : Folder) (file : Option (List ℕ)) (name : List ℕ) (book : Book) → file ≡ Some name
+    → book_named folder name ≡ Ok book → IsSomeAnd file (λ n. book_named folder n ≡ Ok book)
 named_read folder file name book named ok = rw named ok

@@ -9,7 +9,8 @@ use Rattle.named_files.specs.declared.no_answer.NoAnswer.{NoAnswer}
 use Rattle.tide_desk.specs.InMemory.{MemoryHoldsTheAnswer, answer_in}
 use Rattle.tide_desk.specs.Outcomes.{is_write_fault, output_with, text_with}
 
-taken_whole : (before after : HeldSink) (text : List ℕ) → before.taken ≡ [] → sink_state after ≡ put text (sink_state before) → after.taken ≡ text
+taken_whole : (before after : HeldSink) (text : List ℕ) → before.taken ≡ []
+    → sink_state after ≡ put text (sink_state before) → after.taken ≡ text
 taken_whole before after text empty is = ap (λ (s : SinkState). s.taken) is ∙ ap (λ (taken : List ℕ). taken ++ text) empty
 
 taken_by : (expected : Result Answer NoAnswer) (status : Status) (before after : HeldSink) → before.taken ≡ []

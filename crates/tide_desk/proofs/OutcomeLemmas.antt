@@ -9,15 +9,15 @@ use Rattle.tide_fault.specs.declared.refusal.Refusal.TheVariants as refusals
 use Rattle.tide_fault.specs.declared.status.Status.{Status}
 use Rattle.tide_fault.specs.declared.status.Status.TheVariants.{Done, Rejected, ReadFault}
 use Rattle.tide_answer.specs.declared.text.Answer.{Answer}
-use Rattle.tide_fault.specs.Faults.{wants_memory as fault_wants_memory, wants_memory_of_refusal, line_of as line_of_fault, ask_line, form_line, table_line, refusal_line as line_of_refusal}
+use Rattle.tide_fault.specs.Faults.{is_out_of_memory as fault_is_out_of_memory, refusal_is_out_of_memory, line_of as line_of_fault, ask_line, form_line, table_line, refusal_line as line_of_refusal}
 use Rattle.decimal_text.specs.Expected.{Excuses, memory, given}
 use Rattle.tide_edge.specs.SinkStates.{Wrote, put}
 use Rattle.named_files.specs.declared.no_answer.NoAnswer.{NoAnswer}
-use Rattle.named_files.specs.declared.no_answer.NoAnswer.TheVariants.{Unread, Told}
+use Rattle.named_files.specs.declared.no_answer.NoAnswer.TheVariants.{Unread, Faulty}
 use Rattle.named_files.specs.declared.no_answer.NoAnswer.TheVariants as none_of
-use Rattle.named_files.specs.NoAnswers.{status_of, line_of, source_of, wants_memory}
+use Rattle.named_files.specs.NoAnswers.{status_of, line_of, source_of, is_out_of_memory}
 use Rattle.tide_desk.specs.Outcomes.{Says, EndsAs, Outputs, is_write_fault, output_with, line_with}
-use Rattle.named_files.specs.Telling.{Tells}
+use Rattle.named_files.specs.Reporting.{Reports}
 
 -- the status of a fault fits the expected answer, its line belongs to it, and nothing is written
 record Fits (expected : Result Answer NoAnswer) (none : NoAnswer) : Type 0 where
@@ -26,50 +26,63 @@ record Fits (expected : Result Answer NoAnswer) (none : NoAnswer) : Type 0 where
   output : output_with expected (status_of none) ≡ []
   unfailed : is_write_fault (status_of none) ≡ false
 
-fits : (expected : Result Answer NoAnswer) (none : NoAnswer) → Excused (wants_memory none) expected none → Fits expected none
+fits : (expected : Result Answer NoAnswer) (none : NoAnswer) → Excused (is_out_of_memory none) expected none → Fits expected none
 unfolding line_of_fault ask_line form_line table_line line_of_refusal
-fits expected Unread gives = rw gives (record { says = refl; line = refl; output = refl; unfailed = refl })
-fits expected (Told (Ask ask.NoMemory)) gives = record { says = tt; line = refl; output = refl; unfailed = refl }
-fits expected (Told (Ask _)) gives = rw gives (record { says = refl; line = refl; output = refl; unfailed = refl })
-fits expected (Told (NoSheet word)) gives = rw gives (record { says = refl; line = refl; output = refl; unfailed = refl })
-fits expected (Told (TooLong slot)) gives = rw gives (record { says = refl; line = refl; output = refl; unfailed = refl })
-fits expected (Told (Book form.NoMemory)) gives = record { says = tt; line = refl; output = refl; unfailed = refl }
-fits expected (Told (Book (form.At line why))) gives = rw gives (record { says = refl; line = refl; output = refl; unfailed = refl })
-fits expected (Told (Offsets table.NoMemory)) gives = record { says = tt; line = refl; output = refl; unfailed = refl }
-fits expected (Told (Offsets (table.At row why))) gives = rw gives (record { says = refl; line = refl; output = refl; unfailed = refl })
-fits expected (Told BadZone) gives = rw gives (record { says = refl; line = refl; output = refl; unfailed = refl })
-fits expected (Told (Refused refusals.NoMemory)) gives = record { says = tt; line = refl; output = refl; unfailed = refl }
-fits expected (Told (Refused _)) gives = rw gives (record { says = refl; line = refl; output = refl; unfailed = refl })
-fits expected (none_of.Refused refusals.NoMemory rows) gives = record { says = tt; line = refl; output = refl; unfailed = refl }
-fits expected (none_of.Refused _ rows) gives = rw gives (record { says = refl; line = refl; output = refl; unfailed = refl })
+fits expected Unread returned = rw returned (record { says = refl; line = refl; output = refl; unfailed = refl })
+fits expected (Faulty (Ask ask.NoMemory)) returned = record { says = tt; line = refl; output = refl; unfailed = refl }
+fits expected (Faulty (Ask _)) returned = rw returned (record { says = refl; line = refl; output = refl; unfailed = refl })
+fits expected (Faulty (NoSheet word)) returned = rw returned (record { says = refl; line = refl; output = refl; unfailed = refl })
+fits expected (Faulty (TooLong slot)) returned = rw returned (record { says = refl; line = refl; output = refl; unfailed = refl })
+fits expected (Faulty (Book form.NoMemory)) returned = record { says = tt; line = refl; output = refl; unfailed = refl }
+fits expected (Faulty (Book (form.At line why))) returned =
+    rw returned (record { says = refl; line = refl; output = refl; unfailed = refl })
+fits expected (Faulty (Offsets table.NoMemory)) returned = record { says = tt; line = refl; output = refl; unfailed = refl }
+fits expected (Faulty (Offsets (table.At row why))) returned =
+    rw returned (record { says = refl; line = refl; output = refl; unfailed = refl })
+fits expected (Faulty BadZone) returned = rw returned (record { says = refl; line = refl; output = refl; unfailed = refl })
+fits expected (Faulty (Refused refusals.NoMemory)) returned = record { says = tt; line = refl; output = refl; unfailed = refl }
+fits expected (Faulty (Refused _)) returned = rw returned (record { says = refl; line = refl; output = refl; unfailed = refl })
+fits expected (none_of.Refused refusals.NoMemory rows) returned = record { says = tt; line = refl; output = refl; unfailed = refl }
+fits expected (none_of.Refused _ rows) returned = rw returned (record { says = refl; line = refl; output = refl; unfailed = refl })
 
 -- a fault was reported and nothing was written
-ends_itself : (expected : Result Answer NoAnswer) (none : NoAnswer) (before after : Outputs) (failed : Bool) → Excused (wants_memory none) expected none → Wrote before.out after.out false [] → Wrote before.err after.err failed (line_of none) → EndsAs expected (status_of none) before after
-ends_itself expected none before after failed gives quiet told =
-    let f = fits expected none gives in
-    record { says = f.says; output = rw (f.unfailed, f.output) quiet; failed = failed; line = rw f.line told }
+ends_itself : (expected : Result Answer NoAnswer) (none : NoAnswer) (before after : Outputs) (failed : Bool)
+    → Excused (is_out_of_memory none) expected none → Wrote before.out after.out false []
+    → Wrote before.err after.err failed (line_of none) → EndsAs expected (status_of none) before after
+ends_itself expected none before after failed returned quiet reported =
+    let f = fits expected none returned in
+    record { says = f.says; output = rw (f.unfailed, f.output) quiet; failed = failed; line = rw f.line reported }
 
-pub ends_told : (expected : Result Answer NoAnswer) (none : NoAnswer) (status : Status) (before after : Outputs) → Excused (wants_memory none) expected none → Wrote before.out after.out false [] → Tells none status before.err after.err → EndsAs expected status before after
-ends_told expected none status before after gives quiet told =
-    elim told [
-      | inl t ↦ rw t.0 (ends_itself expected none before after t.1.0 gives quiet t.1.1)
+pub ends_reported : (expected : Result Answer NoAnswer) (none : NoAnswer) (status : Status) (before after : Outputs)
+    → Excused (is_out_of_memory none) expected none → Wrote before.out after.out false []
+    → Reports none status before.err after.err → EndsAs expected status before after
+ends_reported expected none status before after returned quiet reported =
+    elim reported [
+      | inl t ↦ rw t.0 (ends_itself expected none before after t.1.0 returned quiet t.1.1)
       | inr t ↦ rw t.0 (record { says = tt; output = quiet; failed = t.2.0; line = t.2.1 })
     ]
 
 -- a fault over observable objects is the expected one, unless reading failed and the files or the clock
 -- weren't steady
-excused_inside : (firm : Type 0) (memory_wanted : Bool) (expected : Result Answer NoAnswer) (none : NoAnswer) → Excuses (cond memory_wanted memory given) firm expected none → Excused memory_wanted expected none
+excused_inside : (firm : Type 0) (out_of_memory : Bool) (expected : Result Answer NoAnswer) (none : NoAnswer)
+    → Excuses (cond out_of_memory memory given) firm expected none → Excused out_of_memory expected none
 excused_inside firm true expected none excuses = tt
 excused_inside firm false expected none excuses = excuses
 
-pub own_excused : (firm : Type 0) (expected : Result Answer NoAnswer) (none : NoAnswer) → Excuses (source_of none) firm expected none → firm ⊎ (¬ (status_of none ≡ ReadFault)) → Excused (wants_memory none) expected none
+pub own_excused : (firm : Type 0) (expected : Result Answer NoAnswer) (none : NoAnswer)
+    → Excuses (source_of none) firm expected none → firm ⊎ (¬ (status_of none ≡ ReadFault))
+    → Excused (is_out_of_memory none) expected none
 own_excused firm expected Unread excuses either = elim either [ inl f ↦ excuses f | inr not_read ↦ absurd (not_read refl) ]
-own_excused firm expected (Told fault) excuses either = excused_inside firm (fault_wants_memory fault) expected (Told fault) excuses
-own_excused firm expected (none_of.Refused refusal rows) excuses either = excused_inside firm (wants_memory_of_refusal refusal) expected (none_of.Refused refusal rows) excuses
+own_excused firm expected (Faulty fault) excuses either = excused_inside firm (fault_is_out_of_memory fault) expected (Faulty fault) excuses
+own_excused firm expected (none_of.Refused refusal rows) excuses either =
+    excused_inside firm (refusal_is_out_of_memory refusal) expected (none_of.Refused refusal rows) excuses
 
-pub ends_own : (firm : Type 0) (expected : Result Answer NoAnswer) (none : NoAnswer) (status : Status) (before after : Outputs) → Excuses (source_of none) firm expected none → firm ⊎ (¬ (status ≡ ReadFault)) → Wrote before.out after.out false [] → Tells none status before.err after.err → EndsAs expected status before after
-ends_own firm expected none status before after excuses either quiet told =
-    elim told [
+pub ends_own : (firm : Type 0) (expected : Result Answer NoAnswer) (none : NoAnswer) (status : Status)
+    (before after : Outputs) → Excuses (source_of none) firm expected none → firm ⊎ (¬ (status ≡ ReadFault))
+    → Wrote before.out after.out false [] → Reports none status before.err after.err
+    → EndsAs expected status before after
+ends_own firm expected none status before after excuses either quiet reported =
+    elim reported [
       | inl t ↦
           let same : firm ⊎ (¬ (status_of none ≡ ReadFault)) = elim either [ inl f ↦ inl f | inr n ↦ inr (λ e. n (t.0 ∙ e)) ] in
           rw t.0 (ends_itself expected none before after t.1.0 (own_excused firm expected none excuses same) quiet t.1.1)

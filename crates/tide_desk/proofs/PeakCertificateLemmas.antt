@@ -11,12 +11,12 @@ use Rattle.zone_time.specs.declared.zone.Zone.TheVariants.{Utc}
 use Rattle.station_span.specs.declared.asked.Asked.{Asked}
 use Rattle.tide_answer.specs.declared.text.Answer.{Answer}
 use Rattle.tide_answer.specs.Answers.{highest, peak_certified, text_by}
-use Rattle.tide_answer.specs.Asking.{asked_of_peak}
+use Rattle.tide_answer.specs.Asking.{asked_by_peak_certificate}
 use Rattle.tide_answer.specs.Laws.{AcceptsListing}
 use Rattle.tide_answer.specs.PeakLaws as books
 use Rattle.named_files.specs.declared.materials.Materials.{Materials}
 use Rattle.named_files.specs.Readings.{zone_named}
-use Rattle.tide_desk.specs.Answers.{answered_by, given_with, is_report, minute_for}
+use Rattle.tide_desk.specs.Answers.{answered_over_optional_file, given_with, is_report, minute_for}
 use Rattle.tide_desk.specs.Laws.{Subject, subject_of}
 use Rattle.tide_desk.specs.PeakLaws.{subject_of_peak, AsksHighest, AcceptsWithHighest, AcceptsWhatPeakAnswers, AcceptsOnlyTruePeaks}
 use Rattle.tide_edge.specs.FileStates.{Folder}
@@ -38,30 +38,46 @@ utc_named folder zone is = rw is refl
 
 -- ---- the highest water of a subject
 
-highest_text : (question : Question) (read : Materials) (minute : ℤ) (name : List ℕ) (asked : Asked) (shown : Answer) → question.command ≡ Highest → NamesSpan question name asked → highest read.book read.table name asked read.zone ≡ Ok shown → text_by question.command read.book read.table question (given_with read (minute_for question.command minute)) ≡ Ok shown
+highest_text : (question : Question) (read : Materials) (minute : ℤ) (name : List ℕ) (asked : Asked) (shown : Answer)
+    → question.command ≡ Highest → NamesSpan question name asked
+    → highest read.book read.table name asked read.zone ≡ Ok shown
+    → text_by question.command read.book read.table question (given_with read (minute_for question.command minute))
+    ≡ Ok shown
 highest_text question read minute name asked shown command names is =
     let given = given_with read (minute_for question.command minute) in
     ap (λ (c : Command). text_by c read.book read.table question given) command
     ∙ goes_over_span question (λ name asked. highest read.book read.table name asked read.zone) name asked names
     ∙ is
 
-told : (sheets : List SheetMeaning) (folder : Folder) (check question : Question) (subject : Subject) (file name : List ℕ) (asked : Asked) (read : Materials) (shown : Answer) (minute : ℤ) → check.file ≡ Some file → WasRead folder check file read → IsSubject subject name asked → highest read.book read.table name asked Utc ≡ Ok shown → AsksHighest check subject question → question.certificate ≡ None → answered_by sheets (λ slot. folder) minute question question.file ≡ Ok shown
-told sheets folder check question subject file name asked read shown minute named was about is asks none =
-    shown_over sheets folder check question file read Utc shown minute named was (ap is_report asks.command) asks.files (utc_named folder question.zone asks.zone) none
-    (highest_text question (record read { zone = Utc; certificate = [] }) minute name asked shown asks.command (names_subject question subject name asked asks.about about) is)
+reported : (sheets : List SheetMeaning) (folder : Folder) (check question : Question) (subject : Subject)
+    (file name : List ℕ) (asked : Asked) (read : Materials) (shown : Answer) (minute : ℤ) → check.file ≡ Some file
+    → WasRead folder check file read → IsSubject subject name asked → highest read.book read.table name asked Utc
+    ≡ Ok shown → AsksHighest check subject question → question.certificate ≡ None
+    → answered_over_optional_file sheets (λ slot. folder) minute question question.file ≡ Ok shown
+reported sheets folder check question subject file name asked read shown minute named was about is asks none =
+    shown_over sheets folder check question file read Utc shown minute named was (ap is_report asks.command) asks.files
+    (utc_named folder question.zone asks.zone) none
+    (highest_text question (record read { zone = Utc; certificate = [] }) minute name asked shown asks.command
+    (names_subject question subject name asked asks.about about) is)
 
-with_highest : (sheets : List SheetMeaning) (folder : Folder) (check : Question) (subject : Subject) (file name : List ℕ) (asked : Asked) (read : Materials) (answer : Answer) → check.file ≡ Some file → WasRead folder check file read → IsSubject subject name asked → AcceptsListing (highest read.book read.table name asked Utc) answer → AcceptsWithHighest sheets folder check subject answer
+with_highest : (sheets : List SheetMeaning) (folder : Folder) (check : Question) (subject : Subject)
+    (file name : List ℕ) (asked : Asked) (read : Materials) (answer : Answer) → check.file ≡ Some file
+    → WasRead folder check file read → IsSubject subject name asked
+    → AcceptsListing (highest read.book read.table name asked Utc) answer
+    → AcceptsWithHighest sheets folder check subject answer
 with_highest sheets folder check subject file name asked read answer named was about accepts =
     accepts_with sheets folder (AsksHighest check subject) accepts.0 answer
     (λ words question is asks. names_no_certificate sheets words question Highest refl is asks.command)
-    (λ minute question asks none. told sheets folder check question subject file name asked read accepts.0 minute named was about accepts.1 asks none)
+    (λ minute question asks none. reported sheets folder check question subject file name asked read accepts.0 minute
+    named was about accepts.1 asks none)
     accepts.2
 
 -- ---- the answer of `peak` is accepted
 
 pub peak_accepted : books.AcceptsWhatPeakCertifies → books.PeakCertifiesInShort → AcceptsWhatPeakAnswers
 peak_accepted accepts shortens sheets before after minute later words more peak check certificate asks ok asks_check holds =
-    let was = was_made peak_certified sheets before minute words Peak peak certificate (peak_reads peak asks.is) (λ book table question given. refl) asks ok in
+    let was = was_made peak_certified sheets before minute words Peak peak certificate (peak_reads peak asks.is)
+    (λ book table question given. refl) asks ok in
     let book = named_book before was.file was.read.book was.files.book in
     let table = named_table before peak.offsets was.read.table was.files.table in
     let can = askable peak was.name was.asked (asked_in_range sheets words peak asks.asked) was.names in
@@ -73,17 +89,18 @@ peak_accepted accepts shortens sheets before after minute later words more peak 
     let accepted = accepts was.read.book was.read.table was.name was.asked certificate book table can was.text in (
       accepted.0,
       checks sheets after later more PeakCheck check has.name read accepted.0 refl asks_check has.named files accepted.1,
-      with_highest sheets after check (subject_of peak) has.name was.name was.asked read accepted.0 has.named files (subject_named peak was.name was.asked was.names) accepted.2,
+      with_highest sheets after check (subject_of peak) has.name was.name was.asked read accepted.0 has.named files
+          (subject_named peak was.name was.asked was.names) accepted.2,
     )
 
 -- ---- an accepted certificate is true
 
 pub peak_true : books.AcceptsOnlyTruePeaks → AcceptsOnlyTruePeaks
-peak_true tells sheets folder minute words check answer asks ok accepted =
+peak_true reports sheets folder minute words check answer asks ok accepted =
     let was = was_answered sheets folder minute words check answer asks.asked (check_reads check asks.is) ok in
     let read = was.read in
     let judged = text_at check.command PeakCheck read check (given_with read (minute_for check.command minute)) answer asks.is was.text in
-    let is_true = tells read.book read.table read.certificate answer
+    let is_true = reports read.book read.table read.certificate answer
     (named_book folder was.name read.book was.files.book) (named_table folder check.offsets read.table was.files.table) judged accepted in
     let cert = is_true.certificate in
     let some = text_some SpellsPeak cert read.certificate (λ spelled. spelled) is_true.written in
@@ -95,6 +112,7 @@ peak_true tells sheets folder minute words check answer asks ok accepted =
       offsets = was.files.table;
       held = certificate_held folder check.certificate read.certificate was.files.certificate some;
       is_true = is_true;
-      told = with_highest sheets folder check (subject_of_peak cert) was.name cert.station (asked_of_peak cert) read answer was.file was.files
+      reported = with_highest sheets folder check (subject_of_peak cert) was.name cert.station
+          (asked_by_peak_certificate cert) read answer was.file was.files
           (record { station = refl; begin = refl; end = refl; mark = refl }) is_true.listing;
     }

@@ -13,14 +13,14 @@ use Rattle.tide_fault.specs.declared.fault.Fault.{Fault}
 use Rattle.tide_fault.specs.declared.fault.Fault.TheVariants.{Ask, NoSheet, TooLong, Book, Offsets, BadZone, Refused}
 use Rattle.tide_fault.specs.declared.refusal.Refusal.TheVariants as refusals
 use Rattle.tide_fault.specs.declared.status.Status.{Status}
-use Rattle.tide_fault.specs.Faults.{wants_memory as fault_wants_memory}
+use Rattle.tide_fault.specs.Faults.{is_out_of_memory as fault_is_out_of_memory}
 use Rattle.named_files.specs.declared.no_answer.NoAnswer.{NoAnswer}
-use Rattle.named_files.specs.declared.no_answer.NoAnswer.TheVariants.{Unread, Told}
+use Rattle.named_files.specs.declared.no_answer.NoAnswer.TheVariants.{Unread, Faulty}
 use Rattle.named_files.specs.declared.no_answer.NoAnswer.TheVariants as none_of
 use Rattle.named_files.specs.NoAnswers.{source_of}
 use Rattle.named_files.specs.Readings.{Folders, files_in}
-use Rattle.named_files.specs.Telling.{Tells}
-use Rattle.tide_desk.specs.Answers.{AsksClock, HasFiles}
+use Rattle.named_files.specs.Reporting.{Reports}
+use Rattle.tide_desk.specs.Answers.{ReadsClock, HasFiles}
 use Rattle.tide_desk.specs.Outcomes.{is_settled}
 use Rattle.tide_desk.specs.Workings.Settled.{IsSettled}
 
@@ -30,22 +30,23 @@ never is = cc
 -- such a reason follows from the request and the bytes that were read
 settled_given : (none : NoAnswer) → IsSettled none → source_of none ≡ given
 settled_given Unread settled = never settled
-settled_given (Told (Ask ask.NoMemory)) settled = never settled
-settled_given (Told (Ask _)) settled = refl
-settled_given (Told (NoSheet word)) settled = refl
-settled_given (Told (TooLong slot)) settled = refl
-settled_given (Told (Book form.NoMemory)) settled = never settled
-settled_given (Told (Book (form.At line why))) settled = refl
-settled_given (Told (Offsets table.NoMemory)) settled = never settled
-settled_given (Told (Offsets (table.At row why))) settled = refl
-settled_given (Told BadZone) settled = refl
-settled_given (Told (Refused refusals.NoMemory)) settled = never settled
-settled_given (Told (Refused _)) settled = refl
+settled_given (Faulty (Ask ask.NoMemory)) settled = never settled
+settled_given (Faulty (Ask _)) settled = refl
+settled_given (Faulty (NoSheet word)) settled = refl
+settled_given (Faulty (TooLong slot)) settled = refl
+settled_given (Faulty (Book form.NoMemory)) settled = never settled
+settled_given (Faulty (Book (form.At line why))) settled = refl
+settled_given (Faulty (Offsets table.NoMemory)) settled = never settled
+settled_given (Faulty (Offsets (table.At row why))) settled = refl
+settled_given (Faulty BadZone) settled = refl
+settled_given (Faulty (Refused refusals.NoMemory)) settled = never settled
+settled_given (Faulty (Refused _)) settled = refl
 settled_given (none_of.Refused refusals.NoMemory rows) settled = never settled
 settled_given (none_of.Refused _ rows) settled = refl
 
 -- such a reason is the expected one
-settled_expected : {A : Type 0} (firm : Type 0) (expected : Result A NoAnswer) (none : NoAnswer) → Excuses (source_of none) firm expected none → IsSettled none → expected ≡ Err none
+settled_expected : {A : Type 0} (firm : Type 0) (expected : Result A NoAnswer) (none : NoAnswer)
+    → Excuses (source_of none) firm expected none → IsSettled none → expected ≡ Err none
 settled_expected firm expected none excuses settled =
     subst (λ source. Excuses source firm expected none) (settled_given none settled) excuses
 
@@ -54,7 +55,8 @@ no_value (Ok value) fault is ok = cc
 no_value (Err other) fault is ok = never ok
 
 -- the reason isn't that a file couldn't be read, if it can be
-pub unread_unsettled : {A : Type 0} (firm : Type 0) (expected : Result A NoAnswer) (none : NoAnswer) → Excuses (source_of none) firm expected none → IsOk expected → IsSettled none → ⊥
+pub unread_unsettled : {A : Type 0} (firm : Type 0) (expected : Result A NoAnswer) (none : NoAnswer)
+    → Excuses (source_of none) firm expected none → IsOk expected → IsSettled none → ⊥
 unread_unsettled firm expected none excuses ok settled =
     no_value expected none (settled_expected firm expected none excuses settled) ok
 
@@ -63,22 +65,25 @@ memory_of : (b : Bool) → cond b memory given ≡ given → b ≡ false
 memory_of true is = cc
 memory_of false is = refl
 
-pub unasked_unsettled : (asked : Result Question Fault) (fault : Fault) → Excused (fault_wants_memory fault) asked fault → AsksClock asked → IsSettled (Told fault) → ⊥
+pub unasked_unsettled : (asked : Result Question Fault) (fault : Fault)
+    → Excused (fault_is_out_of_memory fault) asked fault → ReadsClock asked → IsSettled (Faulty fault) → ⊥
 unasked_unsettled (Ok question) fault excused asks settled =
-    let given_one = memory_of (fault_wants_memory fault) (settled_given (Told fault) settled) in
+    let given_one = memory_of (fault_is_out_of_memory fault) (settled_given (Faulty fault) settled) in
     let is : Ok question ≡ Err fault = rw given_one at excused in cc
 unasked_unsettled (Err other) fault excused asks settled = asks
 
 -- a request that names no file has no files that can be read
-pub nameless_unread : (folders : Folders) (asked : Result Question Fault) (question : Question) → asked ≡ Ok question → question.file ≡ None → HasFiles folders asked → ⊥
+pub nameless_unread : (folders : Folders) (asked : Result Question Fault) (question : Question) → asked ≡ Ok question
+    → question.file ≡ None → HasFiles folders asked → ⊥
 nameless_unread folders asked question is none has =
     let P : Option (List ℕ) → Type 0 = λ file. IsSomeAnd file (λ name. IsOk (files_in folders question name)) in
     subst P none (rw is at has)
 
 -- the line that is written belongs to the status
-pub settled_told : (none : NoAnswer) (status : Status) (before after : SinkState) → Tells none status before after → IsTrue (is_settled status) → IsSettled none
-settled_told none status before after told settled =
-    elim told [
+pub settled_reported : (none : NoAnswer) (status : Status) (before after : SinkState) → Reports none status before after
+    → IsTrue (is_settled status) → IsSettled none
+settled_reported none status before after reported settled =
+    elim reported [
       | inl t ↦ rw t.0 at settled
       | inr t ↦ never (rw t.0 at settled)
     ]

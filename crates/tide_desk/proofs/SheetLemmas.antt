@@ -11,7 +11,8 @@ some_place true other place is = (refl, cc)
 some_place false other place is = absurd cc
 
 -- the index is one of the requested words
-pub missing_within : (sheets : List SheetMeaning) (wanted : List (List ℕ)) (place : ℕ) → missing_of sheets wanted ≡ Some place → place < length wanted
+pub missing_within : (sheets : List SheetMeaning) (wanted : List (List ℕ)) (place : ℕ)
+    → missing_of sheets wanted ≡ Some place → place < length wanted
 unfolding missing_of
 missing_within sheets wanted place is =
     let first = position_or_len (λ word. not (has_sheet sheets word)) wanted in

@@ -2,11 +2,11 @@
 use Rattle.std.proofs.Common.{◌≡◌, ◌∙◌, ap, ℕ, false, List, [], ◌++◌, map, append-nil, append_assoc, Option, Some, None, Result, Ok, Err, inl, refl, sym}
 use Rattle.decimal_text.specs.Expected.{Excused}
 use Rattle.named_files.specs.declared.no_answer.NoAnswer.{NoAnswer}
-use Rattle.named_files.specs.NoAnswers.{wants_memory}
+use Rattle.named_files.specs.NoAnswers.{is_out_of_memory}
 use Rattle.named_files.specs.Opened.{IsResultOf, failing_file}
-use Rattle.named_files.specs.Telling.{Tells}
+use Rattle.named_files.specs.Reporting.{Reports}
 use Rattle.named_files.proofs.OpenedLemmas.{up_to}
-use Rattle.named_files.proofs.SettledLemmas.{told_settles}
+use Rattle.named_files.proofs.SettledLemmas.{reported_settles}
 use Rattle.question.specs.declared.question.Question.{Question}
 use Rattle.report_sheets.specs.Sheets.{SheetMeaning}
 use Rattle.tide_answer.specs.declared.text.Answer.{Answer}
@@ -15,10 +15,10 @@ use Rattle.tide_edge.specs.SinkStates.{Wrote}
 use Rattle.tide_fault.specs.declared.fault.Fault.{Fault}
 use Rattle.tide_fault.specs.declared.slot.Slot.{Slot}
 use Rattle.tide_fault.specs.declared.status.Status.{Status}
-use Rattle.tide_desk.specs.Answers.{asked_of}
+use Rattle.tide_desk.specs.Answers.{question_of_words}
 use Rattle.tide_desk.specs.Outcomes.{EndsAs, Outputs, Sources}
 use Rattle.tide_desk.specs.Shown.{EndsAsShown, answer_by, names_by, names_wanted}
-use Rattle.tide_desk.proofs.OutcomeLemmas.{ends_told, own_excused}
+use Rattle.tide_desk.proofs.OutcomeLemmas.{ends_reported, own_excused}
 
 -- ---- The names up to a fault are the first of all
 
@@ -28,7 +28,8 @@ wider_by question None why = ([], refl)
 wider_by question (Some name) None = ([], sym (append-nil (names_by question (Some name) None)))
 wider_by question (Some name) (Some slot) = up_to name question slot
 
-wider : (asked : Result Question Fault) (why : Option Slot) → (more : List (List ℕ)) × (names_wanted asked None ≡ names_wanted asked why ++ more)
+wider : (asked : Result Question Fault) (why : Option Slot)
+    → (more : List (List ℕ)) × (names_wanted asked None ≡ names_wanted asked why ++ more)
 wider (Ok question) why = wider_by question question.file why
 wider (Err fault) why = ([], refl)
 
@@ -36,7 +37,8 @@ wider (Err fault) why = ([], refl)
 
 pub shown_answered : (sheets : List SheetMeaning) (words : List (List ℕ)) (before after : Sources) (answer : Answer) (status : Status)
     (unwritten written : Outputs)
-    → IsResultOf (names_wanted (asked_of sheets words)) (λ openings. answer_by sheets words openings before.clock after.clock) before.files.openings after.files.openings (Ok answer)
+    → IsResultOf (names_wanted (question_of_words sheets words)) (λ openings.
+    answer_by sheets words openings before.clock after.clock) before.files.openings after.files.openings (Ok answer)
     → ((openings : List Opening) → answer_by sheets words openings before.clock after.clock ≡ Ok answer
     → EndsAs (answer_by sheets words openings before.clock after.clock) status unwritten written)
     → EndsAsShown sheets words before after status unwritten written
@@ -51,18 +53,20 @@ shown_answered sheets words before after answer status unwritten written shown e
 
 pub shown_refused : (sheets : List SheetMeaning) (words : List (List ℕ)) (before after : Sources) (none : NoAnswer) (status : Status)
     (unwritten written : Outputs)
-    → IsResultOf (names_wanted (asked_of sheets words)) (λ openings. answer_by sheets words openings before.clock after.clock) before.files.openings after.files.openings (Err none)
-    → Wrote unwritten.out written.out false [] → Tells none status unwritten.err written.err
+    → IsResultOf (names_wanted (question_of_words sheets words)) (λ openings.
+    answer_by sheets words openings before.clock after.clock) before.files.openings after.files.openings (Err none)
+    → Wrote unwritten.out written.out false [] → Reports none status unwritten.err written.err
     → EndsAsShown sheets words before after status unwritten written
-shown_refused sheets words before after none status unwritten written shown quiet told =
+shown_refused sheets words before after none status unwritten written shown quiet reported =
     let expected : Result Answer NoAnswer = answer_by sheets words shown.openings before.clock after.clock in
-    let gives : Excused (wants_memory none) expected none = own_excused (Unit {0}) expected none shown.answer (inl tt) in
-    let to = wider (asked_of sheets words) (failing_file {T = Answer} (Err none)) in
+    let returned : Excused (is_out_of_memory none) expected none = own_excused (Unit {0}) expected none shown.answer (inl tt) in
+    let to = wider (question_of_words sheets words) (failing_file {T = Answer} (Err none)) in
     record {
       openings = shown.openings;
       all = shown.all;
       unopened = shown.unopened ++ to.0;
       names = to.1 ∙ ap (λ n. n ++ to.0) shown.names ∙ append_assoc (map (λ o. o.name) shown.openings) shown.unopened to.0;
-      last = λ other. (shown.unopened, rw (told_settles expected none status unwritten.err written.err shown.answer told other) shown.names);
-      ends = ends_told expected none status unwritten written gives quiet told;
+      last = λ other.
+          (shown.unopened, rw (reported_settles expected none status unwritten.err written.err shown.answer reported other) shown.names);
+      ends = ends_reported expected none status unwritten written returned quiet reported;
     }

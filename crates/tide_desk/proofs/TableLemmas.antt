@@ -23,7 +23,7 @@ use Rattle.station_table.specs.declared.header.Header.{Header}
 use Rattle.station_table.specs.declared.header.Header.TheVariants.{Plain, WithSlack}
 use Rattle.station_table.specs.declared.offset.Slack.{Slack}
 use Rattle.station_table.specs.declared.offsets.Offsets.{Offsets}
-use Rattle.station_table.specs.Fields.{text_of, name_in, name_of, value_of, within, clock_of, or_bad_number, minutes_in, decimal_from, millionths_in, add_of, times_of, plus_of}
+use Rattle.station_table.specs.Fields.{text_of, name_in, name_of, value_of, within, clock_of, or_bad_number, minutes_of_text, decimal_from, millionths_in, add_of, times_of, plus_of}
 use Rattle.station_table.specs.Offsets.{IsAdd, IsSlack, IsTableName, IsOffsets, IsTable}
 use Rattle.station_table.specs.Table.{field_of, both_or_none, slack_of, counted, offsets_of, at_row, header_of, rows_from, table_in, table_of}
 use Rattle.station_table.proofs.RecordLemmas.{shorter}
@@ -54,9 +54,9 @@ name_byte : (b : ℕ) → is_name_byte b ≡ true → (32 ≤ b) × (b ≡ 127 �
 name_byte b is =
     let parts = and_parts _ _ is in (leb-true 32 b parts.0, eqb-false b 127 (not-true _ parts.1))
 
-name_sound : (field name : List ℕ) → name_of field ≡ Ok name → IsTableName name
+name_valid : (field name : List ℕ) → name_of field ≡ Ok name → IsTableName name
 unfolding name_of text_of name_in
-name_sound field name ok =
+name_valid field name ok =
     let text = then_ok (text_of field) name_in name ok in
     let utf8 = passed (is_utf8 field) field text.0 NotUtf8 text.1 in
     let good = passed (nat_le 1 (length text.0) && nat_le (length text.0) 400 && list_all is_name_byte text.0) text.0 name BadName text.2 in
@@ -70,77 +70,79 @@ name_sound field name ok =
       printable = λ k d few. name_byte (get_or text.0 k d) (bytes k d few);
     })
 
-within_sound : (least most z v : ℤ) → within least most z ≡ Ok v → IsWithin least most v
+within_valid : (least most z v : ℤ) → within least most z ≡ Ok v → IsWithin least most v
 unfolding within
-within_sound least most z v ok =
+within_valid least most z v ok =
     let inside = not_failed (int_lt z least || int_lt most z) z v OutOfRange ok in
     let sides = or_parts (int_lt z least) (int_lt most z) inside.0 in
     let low = sides.0 in
     let high = sides.1 in
     subst (IsWithin least most) inside.1 (record { least = grind (arith, ints); most = grind (arith, ints) })
 
-usual_or : (P : ℤ → Type 0) (b : Bool) (usual v : ℤ) (ruled : Result ℤ OffsetWhy) → P usual → ((w : ℤ) → ruled ≡ Ok w → P w) → cond b (Ok usual) ruled ≡ Ok v → P v
+usual_or : (P : ℤ → Type 0) (b : Bool) (usual v : ℤ) (ruled : Result ℤ OffsetWhy) → P usual
+    → ((w : ℤ) → ruled ≡ Ok w → P w) → cond b (Ok usual) ruled ≡ Ok v → P v
 usual_or P true usual v ruled own rule ok = let same : usual ≡ v = cc in subst P same own
 usual_or P false usual v ruled own rule ok = rule v ok
 
-value_sound : (P : ℤ → Type 0) (usual : ℤ) (rule : List ℕ → Result ℤ OffsetWhy) (field : List ℕ) (v : ℤ) → P usual → ((text : List ℕ) (w : ℤ) → rule text ≡ Ok w → P w) → value_of usual rule field ≡ Ok v → P v
+value_valid : (P : ℤ → Type 0) (usual : ℤ) (rule : List ℕ → Result ℤ OffsetWhy) (field : List ℕ) (v : ℤ) → P usual
+    → ((text : List ℕ) (w : ℤ) → rule text ≡ Ok w → P w) → value_of usual rule field ≡ Ok v → P v
 unfolding value_of
-value_sound P usual rule field v own ruled ok =
+value_valid P usual rule field v own ruled ok =
     let text = then_ok (text_of field) _ v ok in
     usual_or P (length text.0 == 0) usual v (rule text.0) own (ruled text.0) text.2
 
-minutes_sound : (text : List ℕ) (v : ℤ) → minutes_in text ≡ Ok v → IsAdd v
-unfolding minutes_in
-minutes_sound text v ok =
+minutes_valid : (text : List ℕ) (v : ℤ) → minutes_of_text text ≡ Ok v → IsAdd v
+unfolding minutes_of_text
+minutes_valid text v ok =
     let n = then_ok (or_bad_number (clock_of (without_leading_sign text))) _ v ok in
-    within_sound (negsuc 1439) (pos 1440) _ v n.2
+    within_valid (negsuc 1439) (pos 1440) _ v n.2
 
-millionths_sound : (least most : ℤ) (text : List ℕ) (v : ℤ) → millionths_in least most text ≡ Ok v → IsWithin least most v
+millionths_valid : (least most : ℤ) (text : List ℕ) (v : ℤ) → millionths_in least most text ≡ Ok v → IsWithin least most v
 unfolding millionths_in
-millionths_sound least most text v ok =
+millionths_valid least most text v ok =
     let n = then_ok (decimal_from (read_of text 6)) (within least most) v ok in
-    within_sound least most n.0 v n.2
+    within_valid least most n.0 v n.2
 
-add_sound : (field : List ℕ) (v : ℤ) → add_of field ≡ Ok v → IsAdd v
+add_valid : (field : List ℕ) (v : ℤ) → add_of field ≡ Ok v → IsAdd v
 unfolding add_of
-add_sound field v ok =
-    value_sound IsAdd (pos 0) minutes_in field v (record { least = omega (arith, ints); most = omega (arith, ints) }) minutes_sound ok
+add_valid field v ok =
+    value_valid IsAdd (pos 0) minutes_of_text field v (record { least = omega (arith, ints); most = omega (arith, ints) }) minutes_valid ok
 
-times_sound : (field : List ℕ) (v : ℤ) → times_of field ≡ Ok v → IsWithin (pos 1) (pos 100000000) v
+times_valid : (field : List ℕ) (v : ℤ) → times_of field ≡ Ok v → IsWithin (pos 1) (pos 100000000) v
 unfolding times_of
-times_sound field v ok =
-    value_sound (IsWithin (pos 1) (pos 100000000)) (pos 1000000) (millionths_in (pos 1) (pos 100000000)) field v
-    (record { least = omega (arith, ints); most = omega (arith, ints) }) (millionths_sound (pos 1) (pos 100000000)) ok
+times_valid field v ok =
+    value_valid (IsWithin (pos 1) (pos 100000000)) (pos 1000000) (millionths_in (pos 1) (pos 100000000)) field v
+    (record { least = omega (arith, ints); most = omega (arith, ints) }) (millionths_valid (pos 1) (pos 100000000)) ok
 
-plus_sound : (field : List ℕ) (v : ℤ) → plus_of field ≡ Ok v → IsWithin (negsuc 9999999999) (pos 10000000000) v
+plus_valid : (field : List ℕ) (v : ℤ) → plus_of field ≡ Ok v → IsWithin (negsuc 9999999999) (pos 10000000000) v
 unfolding plus_of
-plus_sound field v ok =
-    value_sound (IsWithin (negsuc 9999999999) (pos 10000000000)) (pos 0) (millionths_in (negsuc 9999999999) (pos 10000000000)) field v
-    (record { least = omega (arith, ints); most = omega (arith, ints) }) (millionths_sound (negsuc 9999999999) (pos 10000000000)) ok
+plus_valid field v ok =
+    value_valid (IsWithin (negsuc 9999999999) (pos 10000000000)) (pos 0) (millionths_in (negsuc 9999999999) (pos 10000000000)) field v
+    (record { least = omega (arith, ints); most = omega (arith, ints) }) (millionths_valid (negsuc 9999999999) (pos 10000000000)) ok
 
 -- ---- a row
 
-both_sound : (a b : Bool) (s : Slack) (slack : Option Slack) → IsSlack s → both_or_none a b s ≡ Ok slack → ForSome slack IsSlack
-both_sound true true s slack is ok x e = absurd cc
-both_sound true false s slack is ok x e = absurd cc
-both_sound false true s slack is ok x e = absurd cc
-both_sound false false s slack is ok x e = let same : s ≡ x = cc in subst IsSlack same is
+both_valid : (a b : Bool) (s : Slack) (slack : Option Slack) → IsSlack s → both_or_none a b s ≡ Ok slack → ForSome slack IsSlack
+both_valid true true s slack is ok x e = absurd cc
+both_valid true false s slack is ok x e = absurd cc
+both_valid false true s slack is ok x e = absurd cc
+both_valid false false s slack is ok x e = let same : s ≡ x = cc in subst IsSlack same is
 
 no_slack : ForSome None IsSlack
 no_slack x e = absurd cc
 
-slack_sound : (header : Header) (fields : List (List ℕ)) (slack : Option Slack) → slack_of header fields ≡ Ok slack → ForSome slack IsSlack
+slack_valid : (header : Header) (fields : List (List ℕ)) (slack : Option Slack) → slack_of header fields ≡ Ok slack → ForSome slack IsSlack
 unfolding slack_of
-slack_sound Plain fields slack ok = let none : None ≡ slack = cc in subst (λ (s : Option Slack). ForSome s IsSlack) none no_slack
-slack_sound WithSlack fields slack ok =
+slack_valid Plain fields slack ok = let none : None ≡ slack = cc in subst (λ (s : Option Slack). ForSome s IsSlack) none no_slack
+slack_valid WithSlack fields slack ok =
     let flood = then_ok (add_of (field_of fields 8)) _ slack ok in
     let ebb = then_ok (add_of (field_of fields 9)) _ slack flood.2 in
-    both_sound _ _ (record { flood_add = flood.0; ebb_add = ebb.0 }) slack
-    (record { flood_add = add_sound (field_of fields 8) flood.0 flood.1; ebb_add = add_sound (field_of fields 9) ebb.0 ebb.1 }) ebb.2
+    both_valid _ _ (record { flood_add = flood.0; ebb_add = ebb.0 }) slack
+    (record { flood_add = add_valid (field_of fields 8) flood.0 flood.1; ebb_add = add_valid (field_of fields 9) ebb.0 ebb.1 }) ebb.2
 
-row_sound : (header : Header) (fields : List (List ℕ)) (offsets : Offsets) → offsets_of header fields ≡ Ok offsets → IsOffsets offsets
+row_valid : (header : Header) (fields : List (List ℕ)) (offsets : Offsets) → offsets_of header fields ≡ Ok offsets → IsOffsets offsets
 unfolding offsets_of
-row_sound header fields offsets ok =
+row_valid header fields offsets ok =
     let all = then_ok (counted header fields) _ offsets ok in
     let name = then_ok (name_of (field_of fields 0)) _ offsets all.2 in
     let reference = then_ok (name_of (field_of fields 1)) _ offsets name.2 in
@@ -160,44 +162,47 @@ row_sound header fields offsets ok =
     } in
     let same : row ≡ offsets = one_value row offsets slack.2 in
     subst IsOffsets same (record {
-      name = name_sound (field_of fields 0) name.0 name.1;
-      reference = name_sound (field_of fields 1) reference.0 reference.1;
+      name = name_valid (field_of fields 0) name.0 name.1;
+      reference = name_valid (field_of fields 1) reference.0 reference.1;
       high = record {
-        add = add_sound (field_of fields 2) high_add.0 high_add.1;
-        times = times_sound (field_of fields 4) high_times.0 high_times.1;
-        plus = plus_sound (field_of fields 6) high_plus.0 high_plus.1;
+        add = add_valid (field_of fields 2) high_add.0 high_add.1;
+        times = times_valid (field_of fields 4) high_times.0 high_times.1;
+        plus = plus_valid (field_of fields 6) high_plus.0 high_plus.1;
       };
       low = record {
-        add = add_sound (field_of fields 3) low_add.0 low_add.1;
-        times = times_sound (field_of fields 5) low_times.0 low_times.1;
-        plus = plus_sound (field_of fields 7) low_plus.0 low_plus.1;
+        add = add_valid (field_of fields 3) low_add.0 low_add.1;
+        times = times_valid (field_of fields 5) low_times.0 low_times.1;
+        plus = plus_valid (field_of fields 7) low_plus.0 low_plus.1;
       };
-      slack = slack_sound header fields slack.0 slack.1;
+      slack = slack_valid header fields slack.0 slack.1;
     })
 
 -- ---- all rows
 
-rows_sound : (header : Header) (row : ℕ) (records : List (List (List ℕ))) (table : List Offsets) → rows_from header row records ≡ Ok table → All IsOffsets table
+rows_valid : (header : Header) (row : ℕ) (records : List (List (List ℕ))) (table : List Offsets)
+    → rows_from header row records ≡ Ok table → All IsOffsets table
 unfolding rows_from
-rows_sound header row [] table ok = let none : [] ≡ table = cc in subst (All IsOffsets) none (All-nil IsOffsets)
-rows_sound header row (fields ∷ more) table ok =
+rows_valid header row [] table ok = let none : [] ≡ table = cc in subst (All IsOffsets) none (All-nil IsOffsets)
+rows_valid header row (fields ∷ more) table ok =
     let first = then_ok (at_row row (offsets_of header fields)) _ table ok in
     let rest = then_ok (rows_from header (row + 1) more) _ table first.2 in
     let same : first.0 ∷ rest.0 ≡ table = (let last = rest.2 in cc) in
     subst (All IsOffsets) same
     (All-cons IsOffsets first.0 rest.0
-    (row_sound header fields first.0 (row_went_well row (offsets_of header fields) first.0 first.1))
-    (rows_sound header (row + 1) more rest.0 rest.1))
+    (row_valid header fields first.0 (row_went_well row (offsets_of header fields) first.0 first.1))
+    (rows_valid header (row + 1) more rest.0 rest.1))
 
-in_sound : (records : List (List (List ℕ))) (table : List Offsets) → table_in records ≡ Ok table → All IsOffsets table × (length table ≤ length records)
+in_valid : (records : List (List (List ℕ))) (table : List Offsets) → table_in records ≡ Ok table
+    → All IsOffsets table × (length table ≤ length records)
 unfolding table_in
-in_sound [] table ok = absurd cc
-in_sound (names ∷ rows) table ok =
+in_valid [] table ok = absurd cc
+in_valid (names ∷ rows) table ok =
     let header = then_ok (header_of names) _ table ok in
-    (rows_sound header.0 2 rows table header.2, omega (arith, rows_count header.0 2 rows table header.2))
+    (rows_valid header.0 2 rows table header.2, omega (arith, rows_count header.0 2 rows table header.2))
 
 -- at most as many records as are read
-next_few : (more : State → List ℕ → List (List (List ℕ))) (n : ℕ) (read : Option Read) → ((s : State) (xs : List ℕ) → length (more s xs) ≤ n) → length (records_next more read) ≤ suc n
+next_few : (more : State → List ℕ → List (List (List ℕ))) (n : ℕ) (read : Option Read)
+    → ((s : State) (xs : List ℕ) → length (more s xs) ≤ n) → length (records_next more read) ≤ suc n
 next_few more n None few = omega arith
 next_few more n (Some p) few = omega (arith, few p.1 p.2)
 
@@ -206,11 +211,11 @@ unfolding records_from
 records_few cfg zero s xs = omega arith
 records_few cfg (suc n) s xs = next_few (records_from cfg n) n (next_record cfg s [] [] xs) (records_few cfg n)
 
-pub table_sound : (bytes : List ℕ) (table : List Offsets) → length bytes ≤ MOST_BYTES → table_of bytes ≡ Ok table → IsTable table
+pub table_valid : (bytes : List ℕ) (table : List Offsets) → length bytes ≤ MOST_BYTES → table_of bytes ≡ Ok table → IsTable table
 unfolding table_of
-table_sound bytes table few ok =
+table_valid bytes table few ok =
     let text = strip_bom bytes in
-    let both = in_sound (records default_config text) table ok in
+    let both = in_valid (records default_config text) table ok in
     record {
       few = omega (arith, both.1, records_few default_config (length text + 1) st.StartRecord text, shorter bytes, few);
       each = both.0;

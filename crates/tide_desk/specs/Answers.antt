@@ -1,5 +1,27 @@
 -- The answer to a command line over files and a clock, with the sheets of a report (this project).
-use Rattle.std.specs.Prelude.{ℕ, ℤ, pos, Bool, true, false, IsTrue, if◌then◌else◌, List, [], codes, Option, Some, None, Result, Ok, Err, IsOk, IsSome, slice_get, unwrap_or}
+use Rattle.std.specs.Prelude.{
+  ℕ,
+  ℤ,
+  pos,
+  Bool,
+  true,
+  false,
+  IsTrue,
+  if◌then◌else◌,
+  List,
+  [],
+  codes,
+  Option,
+  Some,
+  None,
+  Result,
+  Ok,
+  Err,
+  IsOk,
+  IsSome,
+  slice_get,
+  unwrap_or,
+}
 use Rattle.std.specs.Option.{option_map_or, IsSomeAnd}
 use Rattle.std.specs.Result.{IsOkAnd}
 use Rattle.std.specs.Str.{bytes_eq}
@@ -23,9 +45,9 @@ use Rattle.tide_fault.specs.declared.refusal.Refusal.{Refusal}
 use Rattle.tide_answer.specs.declared.given.Given.{Given}
 use Rattle.tide_answer.specs.declared.listed.Listed.{Listed}
 use Rattle.tide_answer.specs.declared.text.Answer.{Answer}
-use Rattle.tide_answer.specs.Answers.{answered, answered_alone, listed, text_alone}
+use Rattle.tide_answer.specs.Answers.{answered, answered_without_files, listed, text_alone}
 use Rattle.named_files.specs.declared.no_answer.NoAnswer.{NoAnswer}
-use Rattle.named_files.specs.NoAnswers.{told, refused_over}
+use Rattle.named_files.specs.NoAnswers.{faulty, refused_over}
 use Rattle.named_files.specs.declared.materials.Materials.{Materials}
 use Rattle.named_files.specs.Readings.{Folders, files_allowed, files_in}
 use Rattle.tide_edge.specs.FileStates.{Folder}
@@ -60,15 +82,15 @@ abbrev pub word_at : List (List ℕ) → ℕ → List ℕ
 word_at wanted place = unwrap_or (slice_get wanted place) []
 
 -- the step of the sheets: each requested word is a sheet's, or the first that isn't is the fault
-abbrev pub known_in : List (List ℕ) → Option ℕ → Result (Unit {0}) Fault
-known_in wanted None = Ok tt
-known_in wanted (Some place) = Err (NoSheet (word_at wanted place))
+abbrev pub found_in : List (List ℕ) → Option ℕ → Result (Unit {0}) Fault
+found_in wanted None = Ok tt
+found_in wanted (Some place) = Err (NoSheet (word_at wanted place))
 
 -- the request of a command line, if a report can have these sheets
-unfoldable pub asked_of : List SheetMeaning → List (List ℕ) → Result Question Fault
-asked_of sheets words = do
+unfoldable pub question_of_words : List SheetMeaning → List (List ℕ) → Result Question Fault
+question_of_words sheets words = do
   question ← ask_from (question_in (pairs_of words))
-  known ← known_in (wanted_by question) (missing_of sheets (wanted_by question))
+  known ← found_in (wanted_by question) (missing_of sheets (wanted_by question))
   Ok question
 
 -- the request names a file
@@ -82,22 +104,22 @@ HasFiles folders asked = IsOkAnd asked (λ question. IsSomeAnd question.file (λ
 -- ---- The clock, which is read after all files
 
 -- the commands that read the clock
-abbrev pub asks_clock : Command → Bool
-asks_clock Clock = true
-asks_clock Report = true
-asks_clock _ = false
+abbrev pub reads_clock : Command → Bool
+reads_clock Clock = true
+reads_clock Report = true
+reads_clock _ = false
 
 -- the minute for a command: the present one if it reads the clock, and 0 otherwise
 abbrev pub minute_for : Command → ℤ → ℤ
-minute_for command minute = if asks_clock command then minute else pos 0
+minute_for command minute = if reads_clock command then minute else pos 0
 
 -- the inputs of an answer besides the request, the harmonic constants and the offsets
 abbrev pub given_with : Materials → ℤ → Given
 given_with read now = record { zone = read.zone; certificate = read.certificate; now = now }
 
 -- the request is for a command that reads the clock
-abbrev pub AsksClock : Result Question Fault → Type 0
-AsksClock asked = IsOkAnd asked (λ question. IsTrue (asks_clock question.command))
+abbrev pub ReadsClock : Result Question Fault → Type 0
+ReadsClock asked = IsOkAnd asked (λ question. IsTrue (reads_clock question.command))
 
 -- ---- The bytes that may be read
 
@@ -128,27 +150,28 @@ reported sheets book table question now = do
   Ok (text_alone (pages_of sheets (wanted_by question) (head_of events now) events.events))
 
 -- the answer over harmonic constants and a table: a report, or one without sheets
-abbrev pub answered_with : Bool → List SheetMeaning → Book → List Offsets → Question → Given → Result Answer Refusal
-answered_with true sheets book table question given = reported sheets book table question given.now
-answered_with false sheets book table question given = answered book table question given
+abbrev pub answered_over_book : Bool → List SheetMeaning → Book → List Offsets → Question → Given → Result Answer Refusal
+answered_over_book true sheets book table question given = reported sheets book table question given.now
+answered_over_book false sheets book table question given = answered book table question given
 
 -- the answer over the files; the harmonics file has the name
-unfoldable pub answered_over : List SheetMeaning → Folders → ℤ → Question → List ℕ → Result Answer NoAnswer
-answered_over sheets folders minute question name = do
+unfoldable pub answered_over_file : List SheetMeaning → Folders → ℤ → Question → List ℕ → Result Answer NoAnswer
+answered_over_file sheets folders minute question name = do
   read ← files_in folders question name
   refused_over read.table
-      (answered_with (is_report question.command) sheets read.book read.table question (given_with read (minute_for question.command minute)))
+      (answered_over_book (is_report question.command) sheets read.book read.table question
+      (given_with read (minute_for question.command minute)))
 
 -- the answer to a request, which may name no file
-abbrev pub answered_by : List SheetMeaning → Folders → ℤ → Question → Option (List ℕ) → Result Answer NoAnswer
-answered_by sheets folders minute question None = told (refused_from (answered_alone question))
-answered_by sheets folders minute question (Some name) = answered_over sheets folders minute question name
+abbrev pub answered_over_optional_file : List SheetMeaning → Folders → ℤ → Question → Option (List ℕ) → Result Answer NoAnswer
+answered_over_optional_file sheets folders minute question None = faulty (refused_from (answered_without_files question))
+answered_over_optional_file sheets folders minute question (Some name) = answered_over_file sheets folders minute question name
 
 -- the answer to a command line, for which each file is read from a folder of its own
 unfoldable pub answer_from : List SheetMeaning → Folders → ℤ → List (List ℕ) → Result Answer NoAnswer
 answer_from sheets folders minute words = do
-  question ← told (asked_of sheets words)
-  answered_by sheets folders minute question question.file
+  question ← faulty (question_of_words sheets words)
+  answered_over_optional_file sheets folders minute question question.file
 
 -- the answer to a command line over a folder of files and the present minute
 abbrev pub answer_of : List SheetMeaning → Folder → ℤ → List (List ℕ) → Result Answer NoAnswer

@@ -23,7 +23,7 @@ use Rattle.station_span.specs.declared.reach.Reach.TheVariants.{Events}
 use Rattle.station_table.specs.declared.offsets.Offsets.{Offsets}
 use Rattle.tide_answer.specs.declared.text.Answer.{Answer}
 use Rattle.tide_answer.specs.Answers.{checked, peak_checked, version_of}
-use Rattle.tide_answer.specs.Asking.{asked_in, asked_of_peak}
+use Rattle.tide_answer.specs.Asking.{asked_by_certificate, asked_by_peak_certificate}
 use Rattle.tide_edge.specs.Clocks.{next_minute}
 use Rattle.tide_edge.specs.Faults.{Rose}
 use Rattle.tide_edge.specs.FileStates.{Folder}
@@ -31,7 +31,7 @@ use Rattle.tide_edge.specs.SinkStates.{Wrote, put}
 use Rattle.tide_fault.specs.declared.status.Status.{Status}
 use Rattle.tide_fault.specs.declared.status.Status.TheVariants.{Done, Rejected, NoMemory}
 use Rattle.zone_time.specs.declared.zone.Zone.{Zone}
-use Rattle.tide_desk.specs.Answers.{AsksClock, answer_of, answered_with, asked_of, given_with, is_report, minute_for}
+use Rattle.tide_desk.specs.Answers.{ReadsClock, answer_of, answered_over_book, question_of_words, given_with, is_report, minute_for}
 use Rattle.tide_desk.specs.Laws.{Asks, IsTrueAnswer}
 use Rattle.tide_desk.specs.Outcomes.{IsFirm, refusal_line, text_with}
 use Rattle.tide_desk.specs.PeakLaws.{IsTruePeakAnswer}
@@ -55,8 +55,8 @@ answer_held s sheets words o = answer_of sheets (folder_held s o) (next_minute (
 pub record NothingFailed {F O E K : Type 0} (s : States F O E K) (sheets : List SheetMeaning) (words : List (List ℕ))
     (before after : Objects F O E K) : Type 0 where
   pub observable : IsTrue (s.files before.files).store.is_observable
-  pub readable : AsksClock (asked_of sheets words) → IsTrue (s.clock before.clock).is_observable
-  pub firm : IsFirm (AsksClock (asked_of sheets words)) (sources_of s before) (sources_of s after)
+  pub readable : ReadsClock (question_of_words sheets words) → IsTrue (s.clock before.clock).is_observable
+  pub firm : IsFirm (ReadsClock (question_of_words sheets words)) (sources_of s before) (sources_of s after)
   pub written : ¬ (Rose (s.out before.out).faults (s.out after.out).faults)
 
 -- ---- The end of a run over objects that don't fail
@@ -104,12 +104,12 @@ EndsByWhatCame {F} {O} {E} {K} s = (sheets : List SheetMeaning) (words : List (L
 pub record HasAnswer (sheets : List SheetMeaning) (folder : Folder) (minute : ℤ) (words : List (List ℕ)) (answer : Answer)
     : Type 0 where
   pub question : Question
-  pub asked : asked_of sheets words ≡ Ok question
+  pub asked : question_of_words sheets words ≡ Ok question
   pub name : List ℕ
   pub file : question.file ≡ Some name
   pub read : Materials
   pub files : files_in (λ slot. folder) question name ≡ Ok read
-  pub unrefused : answered_with (is_report question.command) sheets read.book read.table question
+  pub unrefused : answered_over_book (is_report question.command) sheets read.book read.table question
       (given_with read (minute_for question.command minute)) ≡ Ok answer
 
 -- done, or rejected if that is the answer to a certificate, with the whole text and nothing else written
@@ -144,7 +144,7 @@ pub record IsValid (book : Book) (table : List Offsets) (text : List ℕ) : Type
   pub certificate : Certificate
   pub site : Site
   pub written : certificate_of text ≡ Ok certificate
-  pub unrefused : site_in Events book table certificate.station (asked_in certificate) ≡ Ok site
+  pub unrefused : site_in Events book table certificate.station (asked_by_certificate certificate) ≡ Ok site
   pub accepted : rejection_of (followed_by (version_of certificate) book site certificate.mark)
       (widened_of site.basis certificate.begin certificate.end) certificate.tracks ≡ None
 
@@ -154,8 +154,8 @@ pub record IsValidPeak (book : Book) (table : List Offsets) (text : List ℕ) : 
   pub certificate : PeakCertificate
   pub site : Site
   pub written : peak_of text ≡ Ok certificate
-  pub unrefused : highest_site book table certificate.station (asked_of_peak certificate) ≡ Ok site
-  pub accepted : highest_verdict book site (asked_of_peak certificate) certificate.peak ≡ Accepted
+  pub unrefused : highest_site book table certificate.station (asked_by_peak_certificate certificate) ≡ Ok site
+  pub accepted : highest_verdict book site (asked_by_peak_certificate certificate) certificate.peak ≡ Accepted
 
 -- every accepted certificate is valid
 abbrev pub IsValidIfAccepted : Type 0

@@ -6,7 +6,7 @@ use Rattle.tide_answer.specs.declared.text.Answer.{Answer}
 use Rattle.tide_edge.specs.Memory.{HeldClock, HeldFiles, HeldSink, clock_state, files_state, folder_of, sink_state}
 use Rattle.tide_fault.specs.declared.status.Status.{Status}
 use Rattle.tide_fault.specs.declared.status.Status.TheVariants.{Done, Rejected, ReadFault}
-use Rattle.tide_desk.specs.Answers.{AsksClock, answer_of, asked_of}
+use Rattle.tide_desk.specs.Answers.{ReadsClock, answer_of, question_of_words}
 use Rattle.tide_desk.specs.Outcomes.{EndsAs, IsFirm, Outputs, Says, Sources, outputs, sources, text_with}
 
 -- the objects of a run in memory
@@ -32,8 +32,8 @@ answer_in sheets held words = answer_of sheets (folder_of held.files.files) held
 abbrev pub EndsAsPromised : List SheetMeaning → List (List ℕ) → Status → Held → Held → Type 0
 EndsAsPromised sheets words status before after =
     IsTrue (files_state before.files).store.is_observable
-    → (AsksClock (asked_of sheets words) → IsTrue (clock_state before.clock).is_observable)
-    → IsFirm (AsksClock (asked_of sheets words)) (sources_in before) (sources_in after) ⊎ (¬ (status ≡ ReadFault))
+    → (ReadsClock (question_of_words sheets words) → IsTrue (clock_state before.clock).is_observable)
+    → IsFirm (ReadsClock (question_of_words sheets words)) (sources_in before) (sources_in after) ⊎ (¬ (status ≡ ReadFault))
     → EndsAs (answer_in sheets before words) status (outputs_in before) (outputs_in after)
 
 -- In memory the premises hold: any status but a fault of reading is that of the answer, and if a run is

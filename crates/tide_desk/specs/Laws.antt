@@ -13,7 +13,7 @@ use Rattle.zone_time.specs.declared.zone.Zone.{Zone}
 use Rattle.tide_answer.specs.declared.text.Answer.{Answer}
 use Rattle.tide_answer.specs.Answers.{text_alone}
 use Rattle.tide_answer.specs.Laws.{IsTrueCertificate}
-use Rattle.tide_desk.specs.Answers.{answer_of, answered_by, asked_of}
+use Rattle.tide_desk.specs.Answers.{answer_of, answered_over_optional_file, question_of_words}
 use Rattle.named_files.specs.Readings.{book_named, table_named, zone_named}
 use Rattle.tide_edge.specs.FileStates.{Folder}
 
@@ -21,7 +21,7 @@ use Rattle.tide_edge.specs.FileStates.{Folder}
 
 -- the command line is this request, with these sheets, and the request is for the command
 pub record Asks (sheets : List SheetMeaning) (words : List (List ℕ)) (command : Command) (question : Question) : Type 0 where
-  pub asked : asked_of sheets words ≡ Ok question
+  pub asked : question_of_words sheets words ≡ Ok question
   pub is : question.command ≡ command
 
 -- two requests name one file of constants, and one table or none
@@ -85,9 +85,10 @@ pub record AcceptsWith (sheets : List SheetMeaning) (folder : Folder) (asks : Qu
   pub shown : Answer
   pub text : answer ≡ text_alone (codes "Accepted\n" ++ shown.text)
   pub to_words : (minute : ℤ) (words : List (List ℕ)) (question : Question) →
-      asked_of sheets words ≡ Ok question → asks question → answer_of sheets folder minute words ≡ Ok shown
+      question_of_words sheets words ≡ Ok question → asks question → answer_of sheets folder minute words ≡ Ok shown
   pub to_question : (minute : ℤ) (question : Question) →
-      asks question → question.certificate ≡ None → answered_by sheets (λ slot. folder) minute question question.file ≡ Ok shown
+      asks question → question.certificate ≡ None
+      → answered_over_optional_file sheets (λ slot. folder) minute question question.file ≡ Ok shown
 
 -- the answer is the line `Accepted`, and then what `predict` prints for a subject
 abbrev pub AcceptsWithListing : List SheetMeaning → Folder → Question → Subject → Answer → Type 0
@@ -96,7 +97,8 @@ AcceptsWithListing sheets folder check subject = AcceptsWith sheets folder (Asks
 -- the answer of `certify` is accepted, with the listing of its station, span and mark, by each later check,
 -- in any folder, that has the same constants and table and the answer's text as its certificate
 abbrev pub AcceptsWhatCertifyAnswers : Type 0
-AcceptsWhatCertifyAnswers = (sheets : List SheetMeaning) (before after : Folder) (minute later : ℤ) (words more : List (List ℕ)) (certify check : Question) (certificate : Answer) (zone : Zone) →
+AcceptsWhatCertifyAnswers = (sheets : List SheetMeaning) (before after : Folder) (minute later : ℤ)
+    (words more : List (List ℕ)) (certify check : Question) (certificate : Answer) (zone : Zone) →
     Asks sheets words Certify certify → answer_of sheets before minute words ≡ Ok certificate →
     Asks sheets more Check check → HoldsCertificate before after certify check certificate.text →
     zone_named after check.zone ≡ Ok zone →
@@ -119,6 +121,7 @@ pub record IsTrueAnswer (sheets : List SheetMeaning) (folder : Folder) (check : 
 
 -- every certificate that `check` accepts is true, whoever wrote it
 abbrev pub AcceptsOnlyTrueCertificates : Type 0
-AcceptsOnlyTrueCertificates = (sheets : List SheetMeaning) (folder : Folder) (minute : ℤ) (words : List (List ℕ)) (check : Question) (answer : Answer) →
+AcceptsOnlyTrueCertificates = (sheets : List SheetMeaning) (folder : Folder) (minute : ℤ) (words : List (List ℕ))
+    (check : Question) (answer : Answer) →
     Asks sheets words Check check → answer_of sheets folder minute words ≡ Ok answer → answer.rejected ≡ false →
     IsTrueAnswer sheets folder check answer

@@ -1,5 +1,23 @@
 -- The end of a run, and what it has written, by the expected answer (this project).
-use Rattle.std.specs.Prelude.{◌≡◌, ℕ, ℤ, Bool, true, false, if◌then◌else◌, IsTrue, List, [], ◌∷◌, count_by, codes, Result, Ok, Err, IsErrAnd}
+use Rattle.std.specs.Prelude.{
+  ◌≡◌,
+  ℕ,
+  ℤ,
+  Bool,
+  true,
+  false,
+  if◌then◌else◌,
+  IsTrue,
+  List,
+  [],
+  ◌∷◌,
+  count_by,
+  codes,
+  Result,
+  Ok,
+  Err,
+  IsErrAnd,
+}
 use Rattle.std.specs.Result.{IsOkAnd}
 use Rattle.tide_fault.specs.declared.status.Status.{Status}
 use Rattle.tide_fault.specs.declared.status.Status.TheVariants.{Done, Rejected, ReadFault, WriteFault, NoMemory}

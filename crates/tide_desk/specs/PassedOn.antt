@@ -18,7 +18,7 @@ use Rattle.tide_fault.specs.declared.status.Status.{Status}
 use Rattle.tide_fault.specs.declared.status.Status.TheVariants.{Done}
 use Rattle.zone_time.specs.declared.zone.Zone.{Zone}
 use Rattle.zone_time.specs.declared.zone.Zone.TheVariants.{Utc}
-use Rattle.tide_desk.specs.Answers.{asked_of}
+use Rattle.tide_desk.specs.Answers.{question_of_words}
 use Rattle.tide_desk.specs.Completeness.{EndsAccepting, NothingFailed, folder_held}
 use Rattle.tide_desk.specs.Laws.{Asks, AcceptsWithListing, HoldsCertificate, Subject, subject_of}
 use Rattle.tide_desk.specs.PeakLaws.{AcceptsWithHighest}
@@ -64,7 +64,7 @@ pub record CameAs (sheets : List SheetMeaning) (words : List (List ℕ)) (questi
     : Type 0 where
   pub name : List ℕ
   pub file : question.file ≡ Some name
-  pub files : files_in (folders_by (asked_of sheets words) openings) question name ≡ Ok read
+  pub files : files_in (folders_by (question_of_words sheets words) openings) question name ≡ Ok read
 
 -- the certificate that the second run read is what the first one wrote, with the same constants and table
 pub record IsPassedOn (first second : Materials) (written : List ℕ) : Type 0 where

@@ -42,7 +42,8 @@ AcceptsWithHighest sheets folder check subject = AcceptsWith sheets folder (Asks
 -- the answer of `peak` is accepted, with the highest water of its station and span, by each later check, in
 -- any folder, that has the same constants and table and the answer's text as its certificate
 abbrev pub AcceptsWhatPeakAnswers : Type 0
-AcceptsWhatPeakAnswers = (sheets : List SheetMeaning) (before after : Folder) (minute later : ℤ) (words more : List (List ℕ)) (peak check : Question) (certificate : Answer) →
+AcceptsWhatPeakAnswers = (sheets : List SheetMeaning) (before after : Folder) (minute later : ℤ)
+    (words more : List (List ℕ)) (peak check : Question) (certificate : Answer) →
     Asks sheets words Peak peak → answer_of sheets before minute words ≡ Ok certificate →
     Asks sheets more PeakCheck check → HoldsCertificate before after peak check certificate.text →
     (answer : Answer) × (answer_of sheets after later more ≡ Ok answer)
@@ -58,10 +59,11 @@ pub record IsTruePeakAnswer (sheets : List SheetMeaning) (folder : Folder) (chec
   pub offsets : table_named folder check.offsets ≡ Ok table
   pub held : Holds folder check.certificate text
   pub is_true : IsTruePeak book table text answer
-  pub told : AcceptsWithHighest sheets folder check (subject_of_peak is_true.certificate) answer
+  pub reported : AcceptsWithHighest sheets folder check (subject_of_peak is_true.certificate) answer
 
 -- every certificate that `peakcheck` accepts is true, whoever wrote it
 abbrev pub AcceptsOnlyTruePeaks : Type 0
-AcceptsOnlyTruePeaks = (sheets : List SheetMeaning) (folder : Folder) (minute : ℤ) (words : List (List ℕ)) (check : Question) (answer : Answer) →
+AcceptsOnlyTruePeaks = (sheets : List SheetMeaning) (folder : Folder) (minute : ℤ) (words : List (List ℕ))
+    (check : Question) (answer : Answer) →
     Asks sheets words PeakCheck check → answer_of sheets folder minute words ≡ Ok answer → answer.rejected ≡ false →
     IsTruePeakAnswer sheets folder check answer

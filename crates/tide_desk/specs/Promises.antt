@@ -7,7 +7,7 @@ use Rattle.tide_edge.specs.FileStates.{FilesState}
 use Rattle.tide_edge.specs.SinkStates.{SinkState}
 use Rattle.tide_fault.specs.declared.status.Status.{Status}
 use Rattle.tide_fault.specs.declared.status.Status.TheVariants.{ReadFault}
-use Rattle.tide_desk.specs.Answers.{AsksClock, HasFiles, NamesFile, allowed_by, answer_of, asked_of}
+use Rattle.tide_desk.specs.Answers.{ReadsClock, HasFiles, NamesFile, allowed_by, answer_of, question_of_words}
 use Rattle.tide_desk.specs.Outcomes.{EndsAs, IsFirm, IsSilent, IsUntouched, Outputs, Sources, WentOn, is_settled, outputs, sources}
 use Rattle.tide_desk.specs.Shown.{EndsAsShown}
 
@@ -49,24 +49,24 @@ outputs_of s o = outputs (s.out o.out) (s.err o.err)
 --   failed.
 -- - `reads`: the bytes that were read, and the readings of the clock; a fault of reading is one of the
 --   files or of the clock.
--- - `unwritten`, `untold`: the outputs that are unchanged without an answer, and with one.
+-- - `unwritten`, `unprinted`: the outputs that are unchanged without an answer, and with one.
 -- - All others: the cases in which the files and the clock are unchanged, and in which the clock is read.
 pub record AnswersAs {F O E K : Type 0} (s : States F O E K) (sheets : List SheetMeaning) (words : List (List ℕ)) (status : Status)
     (before after : Objects F O E K) : Type 0 where
   pub shown : EndsAsShown sheets words (sources_of s before) (sources_of s after) status (outputs_of s before) (outputs_of s after)
   pub own_files : IsTrue (s.files before.files).store.is_observable
-      → (AsksClock (asked_of sheets words) → IsTrue (s.clock before.clock).is_observable)
-      → IsFirm (AsksClock (asked_of sheets words)) (sources_of s before) (sources_of s after) ⊎ (¬ (status ≡ ReadFault))
+      → (ReadsClock (question_of_words sheets words) → IsTrue (s.clock before.clock).is_observable)
+      → IsFirm (ReadsClock (question_of_words sheets words)) (sources_of s before) (sources_of s after) ⊎ (¬ (status ≡ ReadFault))
       → EndsAs (answer_of sheets (s.files before.files).store.folder (next_minute (s.clock before.clock)) words) status
       (outputs_of s before) (outputs_of s after)
-  pub reads : WentOn (is_read_fault status) (AsksClock (asked_of sheets words)) (allowed_by (asked_of sheets words))
+  pub reads : WentOn (is_read_fault status) (ReadsClock (question_of_words sheets words)) (allowed_by (question_of_words sheets words))
       (sources_of s before) (sources_of s after)
   pub unwritten : IsUntouched status before.out after.out
-  pub untold : IsSilent status before.err after.err
-  pub unopened : ¬ (NamesFile (asked_of sheets words)) → after.files ≡ before.files
-  pub unread : ¬ (AsksClock (asked_of sheets words)) → after.clock ≡ before.clock
+  pub unprinted : IsSilent status before.err after.err
+  pub unopened : ¬ (NamesFile (question_of_words sheets words)) → after.files ≡ before.files
+  pub unread : ¬ (ReadsClock (question_of_words sheets words)) → after.clock ≡ before.clock
   pub read_last : IsTrue (s.files before.files).store.is_observable
-      → ¬ (HasFiles (λ slot. (s.files before.files).store.folder) (asked_of sheets words)) → after.clock ≡ before.clock
-  pub read_once : IsTrue (s.files before.files).store.is_observable → AsksClock (asked_of sheets words)
-      → HasFiles (λ slot. (s.files before.files).store.folder) (asked_of sheets words) → IsTrue (is_settled status)
+      → ¬ (HasFiles (λ slot. (s.files before.files).store.folder) (question_of_words sheets words)) → after.clock ≡ before.clock
+  pub read_once : IsTrue (s.files before.files).store.is_observable → ReadsClock (question_of_words sheets words)
+      → HasFiles (λ slot. (s.files before.files).store.folder) (question_of_words sheets words) → IsTrue (is_settled status)
       → (minute : ℤ) × (s.clock after.clock ≡ clock_after (Ok minute) (s.clock before.clock))

@@ -6,7 +6,7 @@ use Rattle.question.specs.declared.command.Command.{Command}
 use Rattle.question.specs.declared.question.Question.{Question}
 use Rattle.report_sheets.specs.Sheets.{SheetMeaning}
 use Rattle.tide_answer.specs.declared.text.Answer.{Answer}
-use Rattle.tide_answer.specs.Answers.{answered_alone}
+use Rattle.tide_answer.specs.Answers.{answered_without_files}
 use Rattle.tide_edge.specs.Clocks.{ClockState}
 use Rattle.tide_edge.specs.FileStates.{Opening, openings_of}
 use Rattle.tide_fault.specs.declared.fault.Fault.{Fault}
@@ -15,10 +15,10 @@ use Rattle.tide_fault.specs.declared.status.Status.{Status}
 use Rattle.tide_fault.specs.declared.status.Status.TheVariants.{NoMemory}
 use Rattle.named_files.specs.declared.no_answer.NoAnswer.{NoAnswer}
 use Rattle.named_files.specs.declared.no_answer.NoAnswer.TheVariants.{Unread}
-use Rattle.named_files.specs.NoAnswers.{told, refused_over}
+use Rattle.named_files.specs.NoAnswers.{faulty, refused_over}
 use Rattle.named_files.specs.Opened.{failing_file, folders_shown, names_to}
 use Rattle.named_files.specs.Readings.{Folders, files_in}
-use Rattle.tide_desk.specs.Answers.{answered_with, asked_of, asks_clock, given_with, is_report, refused_from}
+use Rattle.tide_desk.specs.Answers.{answered_over_book, question_of_words, reads_clock, given_with, is_report, refused_from}
 use Rattle.tide_desk.specs.Outcomes.{EndsAs, Outputs, Sources}
 
 -- ---- The answer, if the clock may fail
@@ -30,7 +30,7 @@ minute_given (Some minute) = Ok minute
 
 -- the minute for a command: 0 if it doesn't read the clock
 abbrev pub minute_read : Command → Option ℤ → Result ℤ NoAnswer
-minute_read command given = if asks_clock command then minute_given given else Ok (pos 0)
+minute_read command given = if reads_clock command then minute_given given else Ok (pos 0)
 
 -- the answer over files whose clock, which is read after them, may have failed
 unfoldable pub shown_over : List SheetMeaning → Folders → Option ℤ → Question → List ℕ → Result Answer NoAnswer
@@ -38,17 +38,17 @@ shown_over sheets folders given question name = do
   read ← files_in folders question name
   now ← minute_read question.command given
   refused_over read.table
-      (answered_with (is_report question.command) sheets read.book read.table question (given_with read now))
+      (answered_over_book (is_report question.command) sheets read.book read.table question (given_with read now))
 
 -- the answer to a request, which may name no file
 abbrev pub shown_by : List SheetMeaning → Folders → Option ℤ → Question → Option (List ℕ) → Result Answer NoAnswer
-shown_by sheets folders given question None = told (refused_from (answered_alone question))
+shown_by sheets folders given question None = faulty (refused_from (answered_without_files question))
 shown_by sheets folders given question (Some name) = shown_over sheets folders given question name
 
 -- the answer to a command line, for which each file is read from a folder of its own
 unfoldable pub answer_shown : List SheetMeaning → Folders → Option ℤ → List (List ℕ) → Result Answer NoAnswer
 answer_shown sheets folders given words = do
-  question ← told (asked_of sheets words)
+  question ← faulty (question_of_words sheets words)
   shown_by sheets folders given question question.file
 
 -- ---- The openings and the minute
@@ -75,7 +75,7 @@ given_between before after = slice_get after.given (length before.given)
 -- the answer to a command line by the openings and by what the clock returned between two states
 abbrev pub answer_by : List SheetMeaning → List (List ℕ) → List Opening → ClockState → ClockState → Result Answer NoAnswer
 answer_by sheets words openings before after =
-    answer_shown sheets (folders_by (asked_of sheets words) openings) (given_between before after) words
+    answer_shown sheets (folders_by (question_of_words sheets words) openings) (given_between before after) words
 
 -- A run ends by the answer to its command line by what it opened and what the clock returned. It opened the
 -- first of the files that the command line names, in their order, each once; and unless memory ran out,
@@ -85,7 +85,8 @@ pub record EndsAsShown (sheets : List SheetMeaning) (words : List (List ℕ)) (b
   pub openings : List Opening
   pub all : openings_of after.files.openings ≡ openings_of before.files.openings ++ openings
   pub unopened : List (List ℕ)
-  pub names : names_wanted (asked_of sheets words) None ≡ map (λ o. o.name) openings ++ unopened
+  pub names : names_wanted (question_of_words sheets words) None ≡ map (λ o. o.name) openings ++ unopened
   pub last : ¬ (status ≡ NoMemory) → (behind : List (List ℕ))
-      × (names_wanted (asked_of sheets words) (failing_file (answer_by sheets words openings before.clock after.clock)) ≡ map (λ o. o.name) openings ++ behind)
+      × (names_wanted (question_of_words sheets words) (failing_file (answer_by sheets words openings before.clock after.clock))
+      ≡ map (λ o. o.name) openings ++ behind)
   pub ends : EndsAs (answer_by sheets words openings before.clock after.clock) status unwritten written

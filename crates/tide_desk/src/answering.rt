@@ -1,13 +1,27 @@
 //! The answer to a command line, or the first reason for which there is none.
 
 ghost use Rattle.std.specs.Prelude.{◌≡◌, ℤ, Bool, false, IsTrue, None, Ok, IsOk, IfOk, IfErr, OnErr, if◌then◌else◌, map};
-ghost use Rattle.decimal_text.specs.Expected.{Gives};
-ghost use Rattle.named_files.specs.NoAnswers.{IsTold, reading_failed, refused_over, source_of, told, wants_memory};
+ghost use Rattle.decimal_text.specs.Expected.{ReturnsUnless};
+ghost use Rattle.named_files.specs.NoAnswers.{IsPrintable, reading_failed, refused_over, source_of, faulty, is_out_of_memory};
 ghost use Rattle.named_files.specs.Opened.{IsResultOf, failing_file, folders_shown, names_to};
 ghost use Rattle.named_files.specs.Readings.{files_allowed, files_in};
 ghost use Rattle.named_files.specs.Workings.Materials.{AreMaterials};
-ghost use Rattle.tide_answer.specs.Answers.{answered_alone};
-ghost use Rattle.tide_desk.specs.Answers.{AsksClock, HasFiles, NamesFile, allowed_by, answer_of, answered_over, answered_with, asked_of, asks_clock, given_with, is_report, minute_for, refused_from};
+ghost use Rattle.tide_answer.specs.Answers.{answered_without_files};
+ghost use Rattle.tide_desk.specs.Answers.{
+  ReadsClock,
+  HasFiles,
+  NamesFile,
+  allowed_by,
+  answer_of,
+  answered_over_file,
+  answered_over_book,
+  question_of_words,
+  reads_clock,
+  given_with,
+  is_report,
+  minute_for,
+  refused_from,
+};
 ghost use Rattle.tide_desk.specs.Outcomes.{IsFirm, WentOn, sources};
 ghost use Rattle.tide_desk.specs.Shown.{answer_by, given_between, minute_read, names_wanted, shown_over};
 ghost use Rattle.tide_desk.specs.Workings.Settled.{IsSettled, reading_of};
@@ -18,9 +32,9 @@ use crate::asking::read_words;
 use crate::reply::Reply;
 use crate::replying::reply_with;
 use decimal_text::{Text, Words};
-use harmonics_text::SoundBook;
+use harmonics_text::ValidBook;
 use named_files::{Materials, NoAnswer, read_files};
-use question::{Command, SoundQuestion};
+use question::{Command, ValidQuestion};
 use report_sheets::Sheet;
 use std::alloc::Global;
 use tide_answer::{Given, answer_alone};
@@ -40,42 +54,45 @@ pub fn answer_words<F: Files, K: Clock>(
     clock: &mut K,
     sheets: Vec<Box<dyn Sheet>>,
 ) -> Result<Reply, NoAnswer>
-    ensures own { let meanings = map meaning sheets.items in let asked = asked_of meanings words.now in
-        IsTrue (F.state files.old).store.is_observable → (AsksClock asked → IsTrue (K.state clock.old).is_observable)
-        → Meets source_of (IsFirm (AsksClock asked) (sources (F.state files.old) (K.state clock.old)) (sources (F.state files.new) (K.state clock.new)))
+    ensures own { let meanings = map meaning sheets.items in let asked = question_of_words meanings words.now in
+        IsTrue (F.state files.old).store.is_observable → (ReadsClock asked → IsTrue (K.state clock.old).is_observable)
+        → Meets source_of (IsFirm (ReadsClock asked) (sources (F.state files.old) (K.state clock.old))
+        (sources (F.state files.new) (K.state clock.new)))
         (answer_of meanings (F.state files.old).store.folder (next_minute (K.state clock.old)) words.now) result }
     ensures shown { let meanings = map meaning sheets.items in
-        IsResultOf (names_wanted (asked_of meanings words.now)) (λ openings. answer_by meanings words.now openings (K.state clock.old) (K.state clock.new))
+        IsResultOf (names_wanted (question_of_words meanings words.now))
+        (λ openings. answer_by meanings words.now openings (K.state clock.old) (K.state clock.new))
         (F.state files.old).openings (F.state files.new).openings result }
-    ensures told { IfErr result IsTold }
-    ensures reads { let asked = asked_of (map meaning sheets.items) words.now in
-        WentOn (reading_failed result) (AsksClock asked) (allowed_by asked)
+    ensures printable { IfErr result IsPrintable }
+    ensures reads { let asked = question_of_words (map meaning sheets.items) words.now in
+        WentOn (reading_failed result) (ReadsClock asked) (allowed_by asked)
         (sources (F.state files.old) (K.state clock.old)) (sources (F.state files.new) (K.state clock.new)) }
-    ensures unopened { ¬ (NamesFile (asked_of (map meaning sheets.items) words.now)) → files.new ≡ files.old }
-    ensures unasked { ¬ (AsksClock (asked_of (map meaning sheets.items) words.now)) → clock.new ≡ clock.old }
+    ensures unopened { ¬ (NamesFile (question_of_words (map meaning sheets.items) words.now)) → files.new ≡ files.old }
+    ensures clock_unread { ¬ (ReadsClock (question_of_words (map meaning sheets.items) words.now)) → clock.new ≡ clock.old }
     ensures asked_last { IsTrue (F.state files.old).store.is_observable
-        → ¬ (HasFiles (λ slot. (F.state files.old).store.folder) (asked_of (map meaning sheets.items) words.now)) → clock.new ≡ clock.old }
-    ensures asked_once { let asked = asked_of (map meaning sheets.items) words.now in
-        IsTrue (F.state files.old).store.is_observable → AsksClock asked → HasFiles (λ slot. (F.state files.old).store.folder) asked
+        → ¬ (HasFiles (λ slot. (F.state files.old).store.folder) (question_of_words (map meaning sheets.items) words.now))
+        → clock.new ≡ clock.old }
+    ensures clock_read_once { let asked = question_of_words (map meaning sheets.items) words.now in
+        IsTrue (F.state files.old).store.is_observable → ReadsClock asked → HasFiles (λ slot. (F.state files.old).store.folder) asked
         → IfErr result IsSettled → (minute : ℤ) × (K.state clock.new ≡ clock_after (Ok minute) (K.state clock.old)) }
 {
     let question = read_words(alloc, words, &sheets)?;
-    let sound = SoundQuestion::new(&question);
+    let valid = ValidQuestion::new(&question);
     match &question.file {
-        Some(name) => answer_over(alloc, &sound, name, files, clock, sheets),
-        None => answer_without(alloc, &sound),
+        Some(name) => answer_over(alloc, &valid, name, files, clock, sheets),
+        None => answer_without(alloc, &valid),
     }
 }
 
 // Returns the answer to a request that names no file.
-fn answer_without(alloc: Global, question: &SoundQuestion<'_>) -> Result<Reply, NoAnswer>
-    ensures exact { Gives wants_memory (told (refused_from (answered_alone question.now))) result }
-    ensures told { IfErr result IsTold }
+fn answer_without(alloc: Global, question: &ValidQuestion<'_>) -> Result<Reply, NoAnswer>
+    ensures exact { ReturnsUnless is_out_of_memory (faulty (refused_from (answered_without_files question.now))) result }
+    ensures printable { IfErr result IsPrintable }
     ensures read { reading_failed result ≡ false }
 {
     match answer_alone(alloc, question) {
         Ok(answer) => Ok(Reply::made(answer)),
-        Err(refusal) => Err(NoAnswer::Told(Fault::Refused(refusal))),
+        Err(refusal) => Err(NoAnswer::Faulty(Fault::Refused(refusal))),
     }
 }
 
@@ -83,25 +100,29 @@ fn answer_without(alloc: Global, question: &SoundQuestion<'_>) -> Result<Reply, 
 // files.
 fn answer_over<F: Files, K: Clock>(
     alloc: Global,
-    question: &SoundQuestion<'_>,
+    question: &ValidQuestion<'_>,
     name: &Text,
     files: &mut F,
     clock: &mut K,
     sheets: Vec<Box<dyn Sheet>>,
 ) -> Result<Reply, NoAnswer>
-    ensures own { IsTrue (F.state files.old).store.is_observable → (IsTrue (asks_clock question.now.command) → IsTrue (K.state clock.old).is_observable)
-        → Meets source_of (IsFirm (IsTrue (asks_clock question.now.command)) (sources (F.state files.old) (K.state clock.old)) (sources (F.state files.new) (K.state clock.new)))
-        (answered_over (map meaning sheets.items) (λ slot. (F.state files.old).store.folder) (next_minute (K.state clock.old)) question.now name.now) result }
+    ensures own { IsTrue (F.state files.old).store.is_observable
+        → (IsTrue (reads_clock question.now.command) → IsTrue (K.state clock.old).is_observable)
+        → Meets source_of (IsFirm (IsTrue (reads_clock question.now.command))
+        (sources (F.state files.old) (K.state clock.old)) (sources (F.state files.new) (K.state clock.new)))
+        (answered_over_file (map meaning sheets.items) (λ slot. (F.state files.old).store.folder)
+        (next_minute (K.state clock.old)) question.now name.now) result }
     ensures shown { IsResultOf (names_to name.now question.now)
-        (λ openings. shown_over (map meaning sheets.items) (folders_shown question.now openings) (given_between (K.state clock.old) (K.state clock.new)) question.now name.now)
+        (λ openings. shown_over (map meaning sheets.items) (folders_shown question.now openings)
+        (given_between (K.state clock.old) (K.state clock.new)) question.now name.now)
         (F.state files.old).openings (F.state files.new).openings result }
-    ensures told { IfErr result IsTold }
-    ensures reads { WentOn (reading_failed result) (IsTrue (asks_clock question.now.command)) (files_allowed question.now)
+    ensures printable { IfErr result IsPrintable }
+    ensures reads { WentOn (reading_failed result) (IsTrue (reads_clock question.now.command)) (files_allowed question.now)
         (sources (F.state files.old) (K.state clock.old)) (sources (F.state files.new) (K.state clock.new)) }
-    ensures unasked { ¬ (IsTrue (asks_clock question.now.command)) → clock.new ≡ clock.old }
+    ensures clock_unread { ¬ (IsTrue (reads_clock question.now.command)) → clock.new ≡ clock.old }
     ensures asked_last { IsTrue (F.state files.old).store.is_observable
         → ¬ (IsOk (files_in (λ slot. (F.state files.old).store.folder) question.now name.now)) → clock.new ≡ clock.old }
-    ensures asked_once { IsTrue (F.state files.old).store.is_observable → IsTrue (asks_clock question.now.command)
+    ensures clock_read_once { IsTrue (F.state files.old).store.is_observable → IsTrue (reads_clock question.now.command)
         → IsOk (files_in (λ slot. (F.state files.old).store.folder) question.now name.now)
         → IfErr result IsSettled → (minute : ℤ) × (K.state clock.new ≡ clock_after (Ok minute) (K.state clock.old)) }
 {
@@ -111,17 +132,19 @@ fn answer_over<F: Files, K: Clock>(
 }
 
 // Returns the present minute if the command needs it, and 0 otherwise.
-fn read_minute<K: Clock>(clock: &mut K, question: &SoundQuestion<'_>) -> Result<i64, NoAnswer>
-    ensures own { (IsTrue (asks_clock question.now.command) → IsTrue (K.state clock.old).is_observable)
+fn read_minute<K: Clock>(clock: &mut K, question: &ValidQuestion<'_>) -> Result<i64, NoAnswer>
+    ensures own { (IsTrue (reads_clock question.now.command) → IsTrue (K.state clock.old).is_observable)
         → IfOk result (λ now. now ≡ minute_for question.now.command (next_minute (K.state clock.old))) }
-    ensures given { Gives (λ none. false) (minute_read question.now.command (given_between (K.state clock.old) (K.state clock.new))) result }
+    ensures given { ReturnsUnless (λ none. false)
+        (minute_read question.now.command (given_between (K.state clock.old) (K.state clock.new))) result }
     ensures in_range { IfOk result IsClockMinute }
     ensures unread { IfErr result (λ none. none ≡ NoAnswer.Unread) }
-    ensures asked { OnErr result (IsTrue (asks_clock question.now.command)) }
-    ensures time { K.state clock.new ≡ (if asks_clock question.now.command then clock_after (reading_of result) (K.state clock.old) else K.state clock.old) }
-    ensures unasked { ¬ (IsTrue (asks_clock question.now.command)) → clock.new ≡ clock.old }
+    ensures asked { OnErr result (IsTrue (reads_clock question.now.command)) }
+    ensures time { K.state clock.new ≡ (if reads_clock question.now.command
+        then clock_after (reading_of result) (K.state clock.old) else K.state clock.old) }
+    ensures clock_unread { ¬ (IsTrue (reads_clock question.now.command)) → clock.new ≡ clock.old }
 {
-    if !asks_clock(question.get().command) {
+    if !reads_clock(question.get().command) {
         return Ok(0);
     }
     match clock.minute() {
@@ -131,8 +154,8 @@ fn read_minute<K: Clock>(clock: &mut K, question: &SoundQuestion<'_>) -> Result<
 }
 
 /// Returns true if `command` reads the clock.
-fn asks_clock(command: Command) -> bool
-    ensures { result ≡ asks_clock command }
+fn reads_clock(command: Command) -> bool
+    ensures { result ≡ reads_clock command }
 {
     matches!(command, Command::Clock | Command::Report)
 }
@@ -141,14 +164,15 @@ fn asks_clock(command: Command) -> bool
 fn answer_with(
     alloc: Global,
     read: Materials,
-    question: &SoundQuestion<'_>,
+    question: &ValidQuestion<'_>,
     now: i64,
     sheets: Vec<Box<dyn Sheet>>,
 ) -> Result<Reply, NoAnswer>
     requires materials { AreMaterials read }
     requires now { IsClockMinute now }
-    ensures exact { Gives wants_memory (refused_over read.table (answered_with (is_report question.now.command) (map meaning sheets.items) read.book read.table question.now (given_with read now))) result }
-    ensures told { IfErr result IsTold }
+    ensures exact { ReturnsUnless is_out_of_memory (refused_over read.table (answered_over_book (is_report question.now.command)
+        (map meaning sheets.items) read.book read.table question.now (given_with read now))) result }
+    ensures printable { IfErr result IsPrintable }
     ensures read { reading_failed result ≡ false }
     ensures of_no_file { failing_file result ≡ None }
 {
@@ -163,7 +187,7 @@ fn answer_with(
         certificate,
         now,
     };
-    let book = SoundBook::new(&book);
+    let book = ValidBook::new(&book);
     match reply_with(alloc, &book, &table, question, &given, sheets) {
         Ok(reply) => Ok(reply),
         Err(refusal) => Err(NoAnswer::Refused(refusal, table)),

@@ -1,13 +1,13 @@
 //! The request of a command line.
 
 ghost use Rattle.std.specs.Prelude.{◌≡◌, ◌<◌, [], Some, length, map, unwrap_or, IfOk, IfErr};
-ghost use Rattle.decimal_text.specs.Expected.{Excused, Gives};
+ghost use Rattle.decimal_text.specs.Expected.{Excused, ReturnsUnless};
 ghost use Rattle.question.specs.Asked.{IsAsked};
-ghost use Rattle.question.specs.Questions.{wants_memory as ask_wants_memory};
+ghost use Rattle.question.specs.Questions.{is_out_of_memory as ask_is_out_of_memory};
 ghost use Rattle.question.specs.Words.{pairs_of};
 ghost use Rattle.report_sheets.specs.Pages.{missing_of};
-ghost use Rattle.tide_fault.specs.Faults.{wants_memory, IsTold};
-ghost use Rattle.tide_desk.specs.Answers.{asked_of, asks_to_serve, known_in, question_in};
+ghost use Rattle.tide_fault.specs.Faults.{is_out_of_memory, IsPrintable};
+ghost use Rattle.tide_desk.specs.Answers.{question_of_words, asks_to_serve, found_in, question_in};
 
 use decimal_text::Words;
 use question::{AskFault, Pairs, Question, pairs_of_words, read_question};
@@ -20,24 +20,24 @@ use tide_fault::{Fault, Refusal};
 /// # Errors
 /// [`Fault::Ask`] if the arguments are no request, and [`Fault::NoSheet`] for the first named sheet
 /// that isn't one of `sheets`.
-#[tactic(auto, unfolding(crate::specs::Answers::asked_of))]
+#[tactic(auto, unfolding(crate::specs::Answers::question_of_words))]
 pub fn read_words(
     alloc: Global,
     words: &Words,
     sheets: &Vec<Box<dyn Sheet>>,
 ) -> Result<Question, Fault>
-    ensures exact { Gives wants_memory (asked_of (map meaning sheets.now.items) words.now) result }
+    ensures exact { ReturnsUnless is_out_of_memory (question_of_words (map meaning sheets.now.items) words.now) result }
     ensures asked { IfOk result IsAsked }
-    ensures told { IfErr result (IsTold []) }
+    ensures printable { IfErr result (IsPrintable []) }
 {
     let question = question_in_words(alloc, words)?;
-    check_known(&question.sheets, sheets)?;
+    check_found(&question.sheets, sheets)?;
     Ok(question)
 }
 
 /// Returns the request of the arguments `words`, whose command isn't `serve`.
 fn question_in_words(alloc: Global, words: &Words) -> Result<Question, AskFault>
-    ensures exact { Gives ask_wants_memory (question_in (pairs_of words.now)) result }
+    ensures exact { ReturnsUnless ask_is_out_of_memory (question_in (pairs_of words.now)) result }
     ensures asked { IfOk result IsAsked }
 {
     let pairs = pairs_of_words(alloc, words)?;
@@ -58,10 +58,10 @@ fn asks_to_serve(pairs: &Pairs) -> bool
 }
 
 // Returns `Ok` if each word in `wanted` is that of one of `sheets`.
-fn check_known(wanted: &Option<Words>, sheets: &Vec<Box<dyn Sheet>>) -> Result<(), Fault>
+fn check_found(wanted: &Option<Words>, sheets: &Vec<Box<dyn Sheet>>) -> Result<(), Fault>
     ensures exact { let wanted = unwrap_or wanted.now [] in
-        Gives wants_memory (known_in wanted (missing_of (map meaning sheets.now.items) wanted)) result }
-    ensures told { IfErr result (IsTold []) }
+        ReturnsUnless is_out_of_memory (found_in wanted (missing_of (map meaning sheets.now.items) wanted)) result }
+    ensures printable { IfErr result (IsPrintable []) }
 {
     match wanted {
         Some(wanted) => match missing(sheets, wanted) {
@@ -75,8 +75,8 @@ fn check_known(wanted: &Option<Words>, sheets: &Vec<Box<dyn Sheet>>) -> Result<(
 // Returns the fault of the word at index `place` of `wanted`, which no sheet has.
 fn unknown(wanted: &Words, place: usize) -> Fault
     requires { place < length wanted.now }
-    ensures exact { Excused (wants_memory result) (known_in wanted.now (Some place)) result }
-    ensures told { IsTold [] result }
+    ensures exact { Excused (is_out_of_memory result) (found_in wanted.now (Some place)) result }
+    ensures printable { IsPrintable [] result }
 {
     match wanted.as_slice()[place].copy() {
         Ok(word) => Fault::NoSheet { word },

@@ -1,6 +1,14 @@
 //! Laws of runs over files, outputs and a clock that don't fail.
 
-ghost use Rattle.tide_desk.specs.Completeness.{EndsByItsAnswer, EndsByWhatCame, IsComplete, AcceptsValid, AcceptsValidPeaks, IsValidIfAccepted, IsValidPeakIfAccepted};
+ghost use Rattle.tide_desk.specs.Completeness.{
+  EndsByItsAnswer,
+  EndsByWhatCame,
+  IsComplete,
+  AcceptsValid,
+  AcceptsValidPeaks,
+  IsValidIfAccepted,
+  IsValidPeakIfAccepted,
+};
 ghost use Rattle.tide_desk.specs.Promises.{states};
 
 use crate::certificate_laws::what_check_accepts_is_true;

@@ -2,7 +2,7 @@
 
 ghost use Rattle.std.specs.Prelude.{◌≡◌, ◌⊎◌, ℤ, Bool, Ok, IsTrue, if◌then◌else◌, map};
 ghost use Rattle.named_files.specs.NoAnswers.{is_read_fault};
-ghost use Rattle.tide_desk.specs.Answers.{AsksClock, HasFiles, NamesFile, allowed_by, answer_of, asked_of};
+ghost use Rattle.tide_desk.specs.Answers.{ReadsClock, HasFiles, NamesFile, allowed_by, answer_of, question_of_words};
 ghost use Rattle.tide_desk.specs.Outcomes.{EndsAs, IsFirm, IsSilent, IsUntouched, WentOn, is_settled, outputs, sources};
 ghost use Rattle.tide_desk.specs.Promises.{AnswersAs, objects, states};
 ghost use Rattle.tide_desk.specs.Shown.{EndsAsShown};
@@ -11,7 +11,7 @@ ghost use Rattle.tide_fault.specs.declared.status.Status.{Status};
 
 use crate::answering::answer_words;
 use decimal_text::Words;
-use named_files::{refuse, tell};
+use named_files::{refuse, report};
 use report_sheets::Sheet;
 use std::alloc::Global;
 use tide_edge::{Clock, Files, Sink};
@@ -66,26 +66,27 @@ fn write_answer<F: Files, O: Sink, E: Sink, K: Clock>(
     clock: &mut K,
     sheets: Vec<Box<dyn Sheet>>,
 ) -> Status
-    ensures own_files { let meanings = map meaning sheets.items in let asked = asked_of meanings words.now in
-        IsTrue (F.state files.old).store.is_observable → (AsksClock asked → IsTrue (K.state clock.old).is_observable)
-        → IsFirm (AsksClock asked) (sources (F.state files.old) (K.state clock.old)) (sources (F.state files.new) (K.state clock.new))
+    ensures own_files { let meanings = map meaning sheets.items in let asked = question_of_words meanings words.now in
+        IsTrue (F.state files.old).store.is_observable → (ReadsClock asked → IsTrue (K.state clock.old).is_observable)
+        → IsFirm (ReadsClock asked) (sources (F.state files.old) (K.state clock.old)) (sources (F.state files.new) (K.state clock.new))
         ⊎ (¬ (result ≡ Status.ReadFault))
         → EndsAs (answer_of meanings (F.state files.old).store.folder (next_minute (K.state clock.old)) words.now) result
         (outputs (O.state out.old) (E.state err.old)) (outputs (O.state out.new) (E.state err.new)) }
     ensures as_shown { EndsAsShown (map meaning sheets.items) words.now
         (sources (F.state files.old) (K.state clock.old)) (sources (F.state files.new) (K.state clock.new)) result
         (outputs (O.state out.old) (E.state err.old)) (outputs (O.state out.new) (E.state err.new)) }
-    ensures reads { let asked = asked_of (map meaning sheets.items) words.now in
-        WentOn (is_read_fault result) (AsksClock asked) (allowed_by asked)
+    ensures reads { let asked = question_of_words (map meaning sheets.items) words.now in
+        WentOn (is_read_fault result) (ReadsClock asked) (allowed_by asked)
         (sources (F.state files.old) (K.state clock.old)) (sources (F.state files.new) (K.state clock.new)) }
     ensures unwritten { IsUntouched result out.old out.new }
-    ensures untold { IsSilent result err.old err.new }
-    ensures unopened { ¬ (NamesFile (asked_of (map meaning sheets.items) words.now)) → files.new ≡ files.old }
-    ensures unasked { ¬ (AsksClock (asked_of (map meaning sheets.items) words.now)) → clock.new ≡ clock.old }
+    ensures unprinted { IsSilent result err.old err.new }
+    ensures unopened { ¬ (NamesFile (question_of_words (map meaning sheets.items) words.now)) → files.new ≡ files.old }
+    ensures clock_unread { ¬ (ReadsClock (question_of_words (map meaning sheets.items) words.now)) → clock.new ≡ clock.old }
     ensures asked_last { IsTrue (F.state files.old).store.is_observable
-        → ¬ (HasFiles (λ slot. (F.state files.old).store.folder) (asked_of (map meaning sheets.items) words.now)) → clock.new ≡ clock.old }
-    ensures asked_once { let asked = asked_of (map meaning sheets.items) words.now in
-        IsTrue (F.state files.old).store.is_observable → AsksClock asked → HasFiles (λ slot. (F.state files.old).store.folder) asked
+        → ¬ (HasFiles (λ slot. (F.state files.old).store.folder) (question_of_words (map meaning sheets.items) words.now))
+        → clock.new ≡ clock.old }
+    ensures clock_read_once { let asked = question_of_words (map meaning sheets.items) words.now in
+        IsTrue (F.state files.old).store.is_observable → ReadsClock asked → HasFiles (λ slot. (F.state files.old).store.folder) asked
         → IsTrue (is_settled result) → (minute : ℤ) × (K.state clock.new ≡ clock_after (Ok minute) (K.state clock.old)) }
 {
     match answer_words(alloc, words, files, clock, sheets) {
@@ -93,7 +94,7 @@ fn write_answer<F: Files, O: Sink, E: Sink, K: Clock>(
             Ok(rejected) => judged(rejected),
             Err(_) => refuse(err, Status::WriteFault, b"write fault\n"),
         },
-        Err(none) => tell(alloc, none, err),
+        Err(none) => report(alloc, none, err),
     }
 }
 

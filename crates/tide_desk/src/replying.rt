@@ -1,19 +1,19 @@
 //! The answer to a request over files that were read.
 
 ghost use Rattle.std.specs.Prelude.{◌≡◌, ◌&&◌, IfOk, IfErr, map};
-ghost use Rattle.decimal_text.specs.Expected.{Gives};
+ghost use Rattle.decimal_text.specs.Expected.{ReturnsUnless};
 ghost use Rattle.tide_answer.specs.Answers.{answered};
-ghost use Rattle.tide_fault.specs.Faults.{wants_memory_of_refusal, IsToldRefusal};
+ghost use Rattle.tide_fault.specs.Faults.{refusal_is_out_of_memory, IsPrintableRefusal};
 ghost use Rattle.tide_answer.specs.Givens.{IsGiven};
 ghost use Rattle.tide_answer.specs.Streams.{is_zone_file, prepared};
-ghost use Rattle.tide_desk.specs.Answers.{answered_with, is_report};
+ghost use Rattle.tide_desk.specs.Answers.{answered_over_book, is_report};
 ghost use Rattle.tide_desk.specs.Workings.Replies.{IsReply, answer_by, is_stream, is_streaming, may_stream};
 
 use crate::body::Body;
 use crate::reply::Reply;
 use crate::reporting::report;
-use harmonics_text::SoundBook;
-use question::{Command, Layout, Question, SoundQuestion};
+use harmonics_text::ValidBook;
+use question::{Command, Layout, Question, ValidQuestion};
 use report_sheets::Sheet;
 use station_table::OffsetTable;
 use std::alloc::Global;
@@ -28,15 +28,16 @@ use zone_time::Zone;
 /// The first [`Refusal`] in the order of [`answer`](tide_answer::answer).
 pub fn reply_with(
     alloc: Global,
-    book: &SoundBook<'_>,
+    book: &ValidBook<'_>,
     table: &OffsetTable,
-    question: &SoundQuestion<'_>,
+    question: &ValidQuestion<'_>,
     given: &Given,
     sheets: Vec<Box<dyn Sheet>>,
 ) -> Result<Reply, Refusal>
     requires given { IsGiven given.now }
-    ensures exact { Gives wants_memory_of_refusal (answered_with (is_report question.now.command) (map meaning sheets.items) book.now table.now question.now given.entry.now) result }
-    ensures told { IfErr result (IsToldRefusal table.now) }
+    ensures exact { ReturnsUnless refusal_is_out_of_memory (answered_over_book (is_report question.now.command)
+        (map meaning sheets.items) book.now table.now question.now given.entry.now) result }
+    ensures printable { IfErr result (IsPrintableRefusal table.now) }
 {
     if is_report(question.get().command) {
         let answer = report(alloc, book, table, question, given, sheets)?;
@@ -55,14 +56,14 @@ fn is_report(command: Command) -> bool
 // Returns the answer to a request that isn't for a report.
 fn reply_to(
     alloc: Global,
-    book: &SoundBook<'_>,
+    book: &ValidBook<'_>,
     table: &OffsetTable,
-    question: &SoundQuestion<'_>,
+    question: &ValidQuestion<'_>,
     given: &Given,
 ) -> Result<Reply, Refusal>
     requires given { IsGiven given.now }
-    ensures exact { Gives wants_memory_of_refusal (answered book.now table.now question.now given.entry.now) result }
-    ensures told { IfErr result (IsToldRefusal table.now) }
+    ensures exact { ReturnsUnless refusal_is_out_of_memory (answered book.now table.now question.now given.entry.now) result }
+    ensures printable { IfErr result (IsPrintableRefusal table.now) }
 {
     match body_for(alloc, book, table, question, given) {
         Ok(body) => Ok(Reply::of(body)),
@@ -74,17 +75,17 @@ fn reply_to(
 // prepared source does; its text is made only otherwise.
 fn body_for(
     alloc: Global,
-    book: &SoundBook<'_>,
+    book: &ValidBook<'_>,
     table: &OffsetTable,
-    question: &SoundQuestion<'_>,
+    question: &ValidQuestion<'_>,
     given: &Given,
 ) -> Result<Body, Refusal>
     requires given { IsGiven given.now }
-    ensures exact { Gives wants_memory_of_refusal (answered book.now table.now question.now given.entry.now) (answer_by result) }
-    ensures sound { IfOk result IsReply }
+    ensures exact { ReturnsUnless refusal_is_out_of_memory (answered book.now table.now question.now given.entry.now) (answer_by result) }
+    ensures valid { IfOk result IsReply }
     ensures streams { IfOk result (λ body. is_stream body
         ≡ (may_stream question.now given.entry.now.zone && is_streaming (prepared book.now table.now question.now given.entry.now))) }
-    ensures told { IfErr result (IsToldRefusal table.now) }
+    ensures printable { IfErr result (IsPrintableRefusal table.now) }
 {
     let book = book.get();
     let question = question.get();

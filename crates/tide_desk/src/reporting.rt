@@ -1,17 +1,17 @@
 //! The report of a station's events.
 
 ghost use Rattle.std.specs.Prelude.{◌≡◌, ◌≢◌, ◌≤◌, [], All, IfErr, IfOk, map, unwrap_or};
-ghost use Rattle.decimal_text.specs.Expected.{Gives};
+ghost use Rattle.decimal_text.specs.Expected.{ReturnsUnless};
 ghost use Rattle.event_text.specs.Lines.{IsListed};
 ghost use Rattle.harmonics_text.specs.declared.book.Units.{Units};
 ghost use Rattle.report_sheets.specs.Pages.{pages_of};
 ghost use Rattle.tide_answer.specs.Givens.{IsGiven};
 ghost use Rattle.tide_desk.specs.Answers.{head_of, reported};
-ghost use Rattle.tide_fault.specs.Faults.{wants_memory_of_refusal, IsToldRefusal};
+ghost use Rattle.tide_fault.specs.Faults.{refusal_is_out_of_memory, IsPrintableRefusal};
 
 use decimal_text::{Bytes, Words};
-use harmonics_text::SoundBook;
-use question::SoundQuestion;
+use harmonics_text::ValidBook;
+use question::ValidQuestion;
 use report_sheets::{Head, Sheet, fill};
 use station_table::OffsetTable;
 use std::alloc::{AllocError, Global};
@@ -26,15 +26,16 @@ use tide_fault::Refusal;
 #[tactic(auto, unfolding(crate::specs::Answers::reported))]
 pub fn report(
     alloc: Global,
-    book: &SoundBook<'_>,
+    book: &ValidBook<'_>,
     table: &OffsetTable,
-    question: &SoundQuestion<'_>,
+    question: &ValidQuestion<'_>,
     given: &Given,
     sheets: Vec<Box<dyn Sheet>>,
 ) -> Result<Answer, Refusal>
     requires given { IsGiven given.now }
-    ensures exact { Gives wants_memory_of_refusal (reported (map meaning sheets.items) book.now table.now question.now given.entry.now.now) result }
-    ensures told { IfErr result (IsToldRefusal table.now) }
+    ensures exact { ReturnsUnless refusal_is_out_of_memory
+        (reported (map meaning sheets.items) book.now table.now question.now given.entry.now.now) result }
+    ensures printable { IfErr result (IsPrintableRefusal table.now) }
 {
     let book = book.get();
     let question = question.get();
@@ -58,7 +59,8 @@ fn pages(
     requires name { All (λ b. (32 ≤ b) × (b ≢ 127)) listed.name }
     requires units { listed.units ≢ Units.KnotsSquared }
     requires events { All (IsListed listed.units) listed.events }
-    ensures { IfOk result (λ text. text ≡ pages_of (map meaning sheets.items) (unwrap_or wanted.now []) (head_of listed now) listed.events) }
+    ensures { IfOk result (λ text. text
+        ≡ pages_of (map meaning sheets.items) (unwrap_or wanted.now []) (head_of listed now) listed.events) }
 {
     let head = Head {
         name: listed.name,

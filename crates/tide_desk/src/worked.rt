@@ -7,7 +7,7 @@ ghost use Rattle.question.specs.Worked.{bare};
 ghost use Rattle.report_sheets.specs.Listings.{first_sheet};
 ghost use Rattle.report_sheets.specs.Pages.{missing_of};
 ghost use Rattle.tide_fault.specs.declared.fault.Fault.{Fault};
-ghost use Rattle.tide_desk.specs.Answers.{asked_of, known_in, minute_for};
+ghost use Rattle.tide_desk.specs.Answers.{question_of_words, found_in, minute_for};
 ghost use Rattle.tide_answer.specs.Answers.{text_alone};
 ghost use Rattle.tide_desk.specs.Completeness.{HasAnswer, NothingFailed, folder_held};
 ghost use Rattle.tide_desk.specs.Worked.{in_memory, pier, pier_words};
@@ -22,13 +22,15 @@ pub fn worked_minutes()
 {}
 
 /// The fault of the first word that no sheet has, if the arguments themselves are in order.
-#[tactic(auto, unfolding(crate::specs::Answers::asked_of, report_sheets::specs::Pages::missing_of, question::specs::Questions::question_of, question::specs::Questions::with_items, question::specs::Questions::with_item, question::specs::Forms::some_text, question::specs::Forms::sheets_of))]
+#[tactic(auto, unfolding(crate::specs::Answers::question_of_words, report_sheets::specs::Pages::missing_of, question::specs::Questions::question_of, question::specs::Questions::with_items, question::specs::Questions::with_item, question::specs::Forms::some_text, question::specs::Forms::sheets_of))]
 pub fn worked_sheets()
-    ensures no_sheet { known_in (codes "first" ∷ []) (missing_of [] (codes "first" ∷ [])) ≡ Err (Fault.NoSheet (codes "first")) }
+    ensures no_sheet { found_in (codes "first" ∷ []) (missing_of [] (codes "first" ∷ [])) ≡ Err (Fault.NoSheet (codes "first")) }
     ensures second { let wanted = codes "first" ∷ codes "graph" ∷ codes "table" ∷ [] in
-        known_in wanted (missing_of (first_sheet 10 ∷ []) wanted) ≡ Err (Fault.NoSheet (codes "graph")) }
-    ensures none_wanted { asked_of [] (codes "stations" ∷ codes "file=f" ∷ []) ≡ Ok (record (bare Command.Stations) { file = Some (codes "f") }) }
-    ensures words_first { asked_of [] (codes "report" ∷ codes "file=f" ∷ codes "sheets=first,first" ∷ []) ≡ Err (Fault.Ask (AskFault.BadValue 2)) }
+        found_in wanted (missing_of (first_sheet 10 ∷ []) wanted) ≡ Err (Fault.NoSheet (codes "graph")) }
+    ensures none_wanted { question_of_words [] (codes "stations" ∷ codes "file=f" ∷ [])
+        ≡ Ok (record (bare Command.Stations) { file = Some (codes "f") }) }
+    ensures words_first { question_of_words [] (codes "report" ∷ codes "file=f" ∷ codes "sheets=first,first" ∷ [])
+        ≡ Err (Fault.Ask (AskFault.BadValue 2)) }
 {}
 
 /// A run in memory that lists the stations of a small file: it has an answer, and nothing failed.

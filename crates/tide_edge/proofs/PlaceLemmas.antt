@@ -21,4 +21,5 @@ bytes_at-slice_get (x ∷ xs) (suc n) = grind (arith, common_steps, bytes_at-sli
 pub folder_at_place : (files : List NamedFile) (name : List ℕ)
     → folder_of files name ≡ option_map (bytes_at files) (position (λ file. bytes_eq file.name name) files)
 folder_at_place files name =
-    rw (find_at (λ (file : NamedFile). bytes_eq file.name name) files) (bytes_at-slice_get files (position_or_len (λ (file : NamedFile). bytes_eq file.name name) files))
+    rw (find_at (λ (file : NamedFile). bytes_eq file.name name) files)
+    (bytes_at-slice_get files (position_or_len (λ (file : NamedFile). bytes_eq file.name name) files))

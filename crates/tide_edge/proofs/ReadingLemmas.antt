@@ -21,8 +21,8 @@ counted_most_by false count is = rw is (omega arith)
 pub counted_most : (count : ℕ) → counted count ≤ count + 1
 counted_most count = counted_most_by (count == 2 ^ 64 - 1) count refl
 
-begun_by : (tells : Bool) (file : Option (List ℕ)) (rest : List ℕ) → IsTrue tells → IsSome file
-    → file ≡ Some (if tells then unwrap_or file [] else rest)
+begun_by : (observable : Bool) (file : Option (List ℕ)) (rest : List ℕ) → IsTrue observable → IsSome file
+    → file ≡ Some (if observable then unwrap_or file [] else rest)
 begun_by true (Some bytes) rest t is = refl
 begun_by true None rest t is = let untrue : false ≡ true = is in cc
 begun_by false file rest t is = let untrue : false ≡ true = t in cc
@@ -35,7 +35,8 @@ begun_whole s name t is = begun_by s.store.is_observable (s.store.folder name) s
 -- the result of reading on is the result of reading the file
 pub read_on_whole : {T : Type 0} (opened : T) (limit : ℕ) (name : List ℕ) (s : FilesState) (result : Result (List ℕ) ReadAllFault)
     → (IsTrue s.store.is_observable → IsSome (s.store.folder name))
-    → (IsTrue s.store.is_observable → Meets source_of (IsTrue s.store.is_steady) (whole limit (Some (files_after_open (Ok opened) name s).rest)) result)
+    → (IsTrue s.store.is_observable → Meets source_of (IsTrue s.store.is_steady)
+    (whole limit (Some (files_after_open (Ok opened) name s).rest)) result)
     → IsTrue s.store.is_observable → Meets source_of (IsTrue s.store.is_steady) (whole limit (s.store.folder name)) result
 read_on_whole opened limit name s result found meets t = rw (begun_whole s name t (found t)) (meets t)
 
@@ -96,7 +97,8 @@ too_long_came limit name bytes false over = rw (le-leb (suc limit) (length bytes
 -- the bytes after one more piece, which exceed the limit
 pub too_long_on : (limit count : ℕ) (room name bytes : List ℕ) (is_ended : Bool) → count ≤ length room → length bytes ≤ limit
     → limit - length bytes < count
-    → whole limit (as_came limit (record { name = name; is_open = true; bytes = bytes ++ take count room; is_ended = is_ended })) ≡ Err TooLong
+    → whole limit (as_came limit (record { name = name; is_open = true; bytes = bytes ++ take count room; is_ended = is_ended }))
+    ≡ Err TooLong
 too_long_on limit count room name bytes is_ended within most over =
     too_long_came limit name (bytes ++ take count room) is_ended
     (rw (length-append bytes (take count room), length-take-le count room within) (omega (arith, most, over)))
@@ -106,7 +108,8 @@ pub came_on : {T E : Type 0} (source : E → Source) (expected : Option (List �
     (initial now after : Openings) (result : Result T E) → initial.latest ≡ Some (just_opened true name)
     → now ≡ record initial { latest = Some (record { name = name; is_open = true; bytes = bytes; is_ended = false }) }
     → after ≡ openings_after_read count room now
-    → Meets source (Unit {0}) (expected (as_came limit (record { name = name; is_open = true; bytes = bytes ++ take count room; is_ended = (count == 0) || false }))) result
+    → Meets source (Unit {0}) (expected (as_came limit
+    (record { name = name; is_open = true; bytes = bytes ++ take count room; is_ended = (count == 0) || false }))) result
     → HasCome source expected limit initial after result
 came_on source expected limit count room name bytes initial now after result fresh so_far next meets =
     (name, bytes ++ take count room, (count == 0) || false, fresh, next ∙ ap (openings_after_read count room) so_far, meets)
@@ -183,7 +186,8 @@ ended_came limit name bytes within = rw (append-nil bytes, le-leb (length bytes)
 -- one more piece exceeds the limit
 pub passed_on : (limit count : ℕ) (room name bytes : List ℕ) (initial now after : Openings)
     → now ≡ record initial { latest = Some (record { name = name; is_open = true; bytes = bytes; is_ended = false }) }
-    → after ≡ openings_after_read count room now → count ≤ length room → length bytes ≤ limit → limit - length bytes < count → IsPassed limit after
+    → after ≡ openings_after_read count room now → count ≤ length room → length bytes ≤ limit
+    → limit - length bytes < count → IsPassed limit after
 passed_on limit count room name bytes initial now after so_far next within most over = (
   record { name = name; is_open = true; bytes = bytes ++ take count room; is_ended = (count == 0) || false },
   ap (λ o. o.latest) (next ∙ ap (openings_after_read count room) so_far),

@@ -34,7 +34,8 @@ abbrev pub stream_of : {S : Type 0} → HostLine S → S
 stream_of line = line.stream
 
 -- the open connection of a door, if there is one
-abbrev pub line_of : {R S L : Type 0} {read : Read.Ghosts S} {write : Write.Ghosts S} {stream : AsRawFd.Ghosts S} {listener : AsRawFd.Ghosts L}
+abbrev pub line_of : {R S L : Type 0} {read : Read.Ghosts S} {write : Write.Ghosts S} {stream : AsRawFd.Ghosts S}
+    {listener : AsRawFd.Ghosts L}
     → HostDoor R S L read write stream listener → Option (HostLine S)
 line_of door = door.line
 

@@ -1,5 +1,31 @@
 -- A door, its connections, and the bytes read and written over each (this project).
-use Rattle.std.specs.Prelude.{◌≡◌, ℕ, ◌-◌, ◌==◌, nat_lt, Bool, true, false, ◌||◌, if◌then◌else◌, List, [], ◌∷◌, ◌++◌, length, take, drop, Option, Some, None, Result, Ok, Err, is_ok, is_err}
+use Rattle.std.specs.Prelude.{
+  ◌≡◌,
+  ℕ,
+  ◌-◌,
+  ◌==◌,
+  nat_lt,
+  Bool,
+  true,
+  false,
+  ◌||◌,
+  if◌then◌else◌,
+  List,
+  [],
+  ◌∷◌,
+  ◌++◌,
+  length,
+  take,
+  drop,
+  Option,
+  Some,
+  None,
+  Result,
+  Ok,
+  Err,
+  is_ok,
+  is_err,
+}
 use Rattle.tide_edge.specs.declared.failed.Failed.{Failed}
 use Rattle.std.specs.Option.{option_map}
 use Rattle.tide_edge.specs.Faults.{counted, faults_after}
@@ -16,8 +42,8 @@ pub record Doorway : Type 0 where
   pub is_over : Bool
 
 -- the port of a door before `listen`
-abbrev pub unasked : Doorway
-unasked = record { port = None; listens = false; taken = 0; is_open = false; is_over = false }
+abbrev pub not_listening : Doorway
+not_listening = record { port = None; listens = false; taken = 0; is_open = false; is_over = false }
 
 -- the port of a door after `listen`
 abbrev pub asked : ℕ → Bool → Doorway
@@ -105,7 +131,7 @@ connections_of c = c.earlier ++ listed c.latest
 
 -- a door before `listen`: it has accepted no connection, has none open, and `next` hasn't returned
 abbrev pub IsUntouched : Doorway → Connections → Type 0
-IsUntouched doorway connections = (doorway ≡ unasked) × (connections ≡ no_connections)
+IsUntouched doorway connections = (doorway ≡ not_listening) × (connections ≡ no_connections)
 
 -- a connection that was just accepted
 abbrev pub just_taken : Connection
@@ -147,8 +173,8 @@ pub record DoorState : Type 0 where
   pub line_faults : ℕ
 
 -- the traffic after a change, if it is observable, else unchanged
-abbrev pub told_traffic : (Traffic → Traffic) → DoorState → Traffic
-told_traffic change s = if s.is_observable then change s.traffic else s.traffic
+abbrev pub observed_traffic : (Traffic → Traffic) → DoorState → Traffic
+observed_traffic change s = if s.is_observable then change s.traffic else s.traffic
 
 -- the door after `listen`
 abbrev pub door_after_listen : {T : Type 0} → Result T Failed → ℕ → DoorState → DoorState
@@ -162,7 +188,7 @@ abbrev pub door_after_next : Result Bool Failed → DoorState → DoorState
 door_after_next result s = record s {
   doorway = after_next result s.doorway;
   connections = connections_after_next result s.connections;
-  traffic = told_traffic (taken_by result) s;
+  traffic = observed_traffic (taken_by result) s;
   faults = faults_after (is_err result) s.faults;
 }
 
@@ -170,7 +196,7 @@ door_after_next result s = record s {
 abbrev pub door_after_read : Result ℕ Failed → List ℕ → DoorState → DoorState
 door_after_read result room s = record s {
   connections = change_latest (connection_after_read result room) s.connections;
-  traffic = told_traffic (read_by result) s;
+  traffic = observed_traffic (read_by result) s;
   line_faults = faults_after (is_err result) s.line_faults;
 }
 
@@ -178,7 +204,7 @@ door_after_read result room s = record s {
 abbrev pub door_after_write : Result ℕ Failed → List ℕ → DoorState → DoorState
 door_after_write result piece s = record s {
   connections = change_latest (connection_after_write result piece) s.connections;
-  traffic = told_traffic (written_by result piece) s;
+  traffic = observed_traffic (written_by result piece) s;
   line_faults = faults_after (is_err result) s.line_faults;
 }
 

@@ -1,6 +1,35 @@
 -- The objects in memory: their contents, the results of their calls and the states after these (this
 -- project).
-use Rattle.std.specs.Prelude.{ℕ, ℤ, ◌-◌, ◌==◌, nat_lt, min, Bool, true, false, not, ◌||◌, if◌then◌else◌, List, [], ◌∷◌, ◌++◌, length, take, drop, find, Option, None, is_none, is_some, unwrap_or, Result, Ok, Err}
+use Rattle.std.specs.Prelude.{
+  ℕ,
+  ℤ,
+  ◌-◌,
+  ◌==◌,
+  nat_lt,
+  min,
+  Bool,
+  true,
+  false,
+  not,
+  ◌||◌,
+  if◌then◌else◌,
+  List,
+  [],
+  ◌∷◌,
+  ◌++◌,
+  length,
+  take,
+  drop,
+  find,
+  Option,
+  None,
+  is_none,
+  is_some,
+  unwrap_or,
+  Result,
+  Ok,
+  Err,
+}
 use Rattle.std.specs.List.{list_all}
 use Rattle.std.specs.Option.{option_map}
 use Rattle.std.specs.Str.{bytes_eq}
@@ -8,7 +37,21 @@ use Rattle.tide_edge.specs.declared.named_file.NamedFile.{NamedFile}
 use Rattle.tide_edge.specs.declared.failed.Failed.{Failed}
 use Rattle.tide_edge.specs.Calls.{HeldCalls, answer, is_to_fail, after_call}
 use Rattle.tide_edge.specs.Clocks.{ClockState}
-use Rattle.tide_edge.specs.Doors.{Doorway, DoorState, Connections, asked, after_next, closed, append_to_last, first_or_empty, left_after, change_latest, connections_after_next, connection_after_read, connection_after_write}
+use Rattle.tide_edge.specs.Doors.{
+  Doorway,
+  DoorState,
+  Connections,
+  asked,
+  after_next,
+  closed,
+  append_to_last,
+  first_or_empty,
+  left_after,
+  change_latest,
+  connections_after_next,
+  connection_after_read,
+  connection_after_write,
+}
 use Rattle.tide_edge.specs.Faults.{counted, faults_after}
 use Rattle.tide_edge.specs.FileStates.{FilesState, Openings, Reads, one_opening, one_reading, openings_after_open, openings_after_read}
 use Rattle.tide_edge.specs.SinkStates.{SinkState}

@@ -1,6 +1,27 @@
 -- The expected result of reading a whole file, and a bound on what is opened and read for it (this
 -- project).
-use Rattle.std.specs.Prelude.{◌≡◌, ◌⊎◌, ◌<◌, ◌≤◌, ◌+◌, ℕ, Bool, nat_le, nat_lt, ◌&&◌, ◌||◌, if◌then◌else◌, List, length, Option, Some, None, Result, Ok, Err}
+use Rattle.std.specs.Prelude.{
+  ◌≡◌,
+  ◌⊎◌,
+  ◌<◌,
+  ◌≤◌,
+  ◌+◌,
+  ℕ,
+  Bool,
+  nat_le,
+  nat_lt,
+  ◌&&◌,
+  ◌||◌,
+  if◌then◌else◌,
+  List,
+  length,
+  Option,
+  Some,
+  None,
+  Result,
+  Ok,
+  Err,
+}
 use Rattle.decimal_text.specs.Expected.{Source, Meets, memory, outside, given}
 use Rattle.tide_edge.specs.Faults.{faults_after}
 use Rattle.tide_edge.specs.FileStates.{FilesState, Opening, Openings, openings_of}

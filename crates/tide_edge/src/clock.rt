@@ -20,5 +20,5 @@ pub trait Clock {
     fn minute(&mut self) -> Result<i64, Failed>
         ensures after { state self.new ≡ clock_after result (state self.old) }
         ensures in_range { IfOk result IsClockMinute }
-        ensures told { IsTrue (state self.old).is_observable → IfOk result (λ minute. minute ≡ next_minute (state self.old)) };
+        ensures observed { IsTrue (state self.old).is_observable → IfOk result (λ minute. minute ≡ next_minute (state self.old)) };
 }

@@ -2,7 +2,16 @@
 
 ghost use Rattle.std.specs.Prelude.{◌≡◌, ◌↔◌, ◌<◌, ◌≤◌, false, IsTrue, [], length, take, None, IfOk};
 ghost use Rattle.std.specs.List.{concat};
-ghost use Rattle.tide_edge.specs.Doors.{DoorState, door_after_listen, door_after_next, door_after_read, door_after_write, door_after_close, first_or_empty, IsUntouched};
+ghost use Rattle.tide_edge.specs.Doors.{
+  DoorState,
+  door_after_listen,
+  door_after_next,
+  door_after_read,
+  door_after_write,
+  door_after_close,
+  first_or_empty,
+  IsUntouched,
+};
 
 use crate::failed::Failed;
 
@@ -31,7 +40,8 @@ pub trait Door {
         requires listens { IsTrue (state self.old).doorway.listens }
         requires none_open { (state self.old).doorway.is_open ≡ false }
         ensures after { state self.new ≡ door_after_next result (state self.old) }
-        ensures comes { IsTrue (state self.old).is_observable → IfOk result (λ comes. IsTrue comes ↔ (0 < length (state self.old).traffic.waiting)) };
+        ensures comes { IsTrue (state self.old).is_observable
+            → IfOk result (λ comes. IsTrue comes ↔ (0 < length (state self.old).traffic.waiting)) };
 
     /// Reads the next bytes of the open connection into the first bytes of `room`, and returns their
     /// count: 0 at the end of the request. If the door keeps pieces, one call reads bytes of one piece
@@ -46,7 +56,8 @@ pub trait Door {
         ensures within { IfOk result (λ count. count ≤ length room.old) }
         ensures next_bytes { IsTrue (state self.old).is_observable
             → IfOk result (λ count. take count room.new ≡ take count (concat (state self.old).traffic.rest)) }
-        ensures end { IsTrue (state self.old).is_observable → IfOk result (λ count. (count ≡ 0) ↔ (concat (state self.old).traffic.rest ≡ [])) }
+        ensures end { IsTrue (state self.old).is_observable
+            → IfOk result (λ count. (count ≡ 0) ↔ (concat (state self.old).traffic.rest ≡ [])) }
         ensures within_piece { IsTrue (state self.old).is_observable → IsTrue (state self.old).keeps_pieces
             → IfOk result (λ count. count ≤ length (first_or_empty (state self.old).traffic.rest)) };
 

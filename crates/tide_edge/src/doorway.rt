@@ -31,11 +31,11 @@ impl Model for Doorway {
 }
 
 impl Doorway {
-    ghost use Rattle.tide_edge.specs.Doors.{unasked, asked, after_next, closed};
+    ghost use Rattle.tide_edge.specs.Doors.{not_listening, asked, after_next, closed};
 
     /// Returns the state before `listen` is called.
-    pub(crate) fn unasked() -> Doorway
-        ensures { result ≡ unasked }
+    pub(crate) fn not_listening() -> Doorway
+        ensures { result ≡ not_listening }
     {
         Doorway {
             port: None,

@@ -43,7 +43,8 @@ impl<R: rt::Clock + Drop> HostClock<R> {
 }
 
 impl<R: rt::Clock + Drop> Clock for HostClock<R> {
-    ghost state = { λ h. record { is_observable = false; minute_at = λ reading. pos 0; given = h.given.minutes; asked = h.asked; faults = h.faults } };
+    ghost state = { λ h.
+        record { is_observable = false; minute_at = λ reading. pos 0; given = h.given.minutes; asked = h.asked; faults = h.faults } };
 
     fn minute(&mut self) -> Result<i64, Failed> {
         self.asked = one_more(self.asked);
@@ -59,7 +60,8 @@ impl<R: rt::Clock + Drop> Clock for HostClock<R> {
 
 /// Returns `now` in minutes since 1970-01-01T00:00Z, or `None` if this exceeds 10,000,000,000.
 fn minute_at(now: SystemTime) -> Option<i64>
-    ensures exact { MatchOption result (10000000000 < system_time_nanos now / 1000000000 / 60) (λ minute. minute ≡ pos (system_time_nanos now / 1000000000 / 60)) }
+    ensures exact { MatchOption result (10000000000 < system_time_nanos now / 1000000000 / 60)
+        (λ minute. minute ≡ pos (system_time_nanos now / 1000000000 / 60)) }
     ensures in_range { IfSome result IsClockMinute }
 {
     match now.duration_since(UNIX_EPOCH) {

@@ -41,11 +41,11 @@ pub struct HostDoor<R: Net + rt::Clock + Drop> {
 }
 
 impl<R: Net + rt::Clock + Drop> HostDoor<R> {
-    ghost use Rattle.tide_edge.specs.Doors.{no_connections, unasked};
+    ghost use Rattle.tide_edge.specs.Doors.{no_connections, not_listening};
 
     /// Returns a door that doesn't listen yet.
     pub fn new(system: R) -> HostDoor<R>
-        ensures doorway { (⟦<HostDoor<R> as Door>⟧.state result).doorway ≡ unasked }
+        ensures doorway { (⟦<HostDoor<R> as Door>⟧.state result).doorway ≡ not_listening }
         ensures connections { (⟦<HostDoor<R> as Door>⟧.state result).connections ≡ no_connections }
         ensures faults { (⟦<HostDoor<R> as Door>⟧.state result).faults ≡ 0 }
         ensures line_faults { (⟦<HostDoor<R> as Door>⟧.state result).line_faults ≡ 0 }
@@ -54,7 +54,7 @@ impl<R: Net + rt::Clock + Drop> HostDoor<R> {
             system,
             listener: None,
             line: None,
-            doorway: Doorway::unasked(),
+            doorway: Doorway::not_listening(),
             connections: Connections::none(),
             faults: 0,
             line_faults: 0,
@@ -111,7 +111,8 @@ impl<R: Net + rt::Clock + Drop> Door for HostDoor<R> {
         requires open { IsTrue (⟦<HostDoor<R> as Door>⟧.state self.old).doorway.is_open }
         ensures after { ⟦<HostDoor<R> as Door>⟧.state self.new ≡ door_after_read result room.new (⟦<HostDoor<R> as Door>⟧.state self.old) }
         ensures within { IfOk result (λ count. count ≤ length room.old) }
-        ensures tied { ReadConsumes (known_of R.Stream.remaining (line_of self.old)) (known_of R.Stream.remaining (line_of self.new)) result room.new }
+        ensures tied { ReadConsumes (known_of R.Stream.remaining (line_of self.old))
+            (known_of R.Stream.remaining (line_of self.new)) result room.new }
     {
         let read = read_open(&mut self.line, &self.system, &mut self.line_faults, room);
         self.connections.read(room, &read);
@@ -121,10 +122,12 @@ impl<R: Net + rt::Clock + Drop> Door for HostDoor<R> {
     fn write(&mut self, piece: &[u8]) -> Result<usize, Failed>
         requires piece { 0 < length piece.now }
         requires open { IsTrue (⟦<HostDoor<R> as Door>⟧.state self.old).doorway.is_open }
-        ensures after { ⟦<HostDoor<R> as Door>⟧.state self.new ≡ door_after_write result piece.now (⟦<HostDoor<R> as Door>⟧.state self.old) }
+        ensures after { ⟦<HostDoor<R> as Door>⟧.state self.new
+            ≡ door_after_write result piece.now (⟦<HostDoor<R> as Door>⟧.state self.old) }
         ensures some { IfOk result (λ count. 0 < count) }
         ensures within { IfOk result (λ count. count ≤ length piece.now) }
-        ensures tied { WriteAppends (known_of R.Stream.contents (line_of self.old)) (known_of R.Stream.contents (line_of self.new)) result piece.now }
+        ensures tied { WriteAppends (known_of R.Stream.contents (line_of self.old))
+            (known_of R.Stream.contents (line_of self.new)) result piece.now }
     {
         let written = write_open(&mut self.line, &self.system, &mut self.line_faults, piece);
         self.connections.write(piece, &written);

@@ -59,7 +59,8 @@ impl<R: rt::Files + Drop> Files for HostFiles<R> {
     } };
 
     fn open(&mut self, name: &Text) -> Result<(), Failed>
-        ensures after { ⟦<HostFiles<R> as Files>⟧.state self.new ≡ files_after_open result name.now (⟦<HostFiles<R> as Files>⟧.state self.old) }
+        ensures after { ⟦<HostFiles<R> as Files>⟧.state self.new
+            ≡ files_after_open result name.now (⟦<HostFiles<R> as Files>⟧.state self.old) }
         ensures opened { OnOk result (IsSome (file_of self.new)) }
         ensures none_open { OnErr result (file_of self.new ≡ None) }
     {
@@ -80,9 +81,11 @@ impl<R: rt::Files + Drop> Files for HostFiles<R> {
 
     fn read(&mut self, room: &mut [u8]) -> Result<usize, Failed>
         requires { 0 < length room.old }
-        ensures after { ⟦<HostFiles<R> as Files>⟧.state self.new ≡ files_after_read result room.new (⟦<HostFiles<R> as Files>⟧.state self.old) }
+        ensures after { ⟦<HostFiles<R> as Files>⟧.state self.new
+            ≡ files_after_read result room.new (⟦<HostFiles<R> as Files>⟧.state self.old) }
         ensures within { IfOk result (λ count. count ≤ length room.old) }
-        ensures tied { ReadConsumes (left_of R.File.remaining (file_of self.old)) (left_of R.File.remaining (file_of self.new)) result room.new }
+        ensures tied { ReadConsumes (left_of R.File.remaining (file_of self.old))
+            (left_of R.File.remaining (file_of self.new)) result room.new }
     {
         let outcome = read_through(&mut self.opened, room);
         match outcome {

@@ -43,7 +43,8 @@ impl<W: Write + Drop> Sink for HostSink<W> {
 
     fn write(&mut self, piece: &[u8]) -> Result<usize, Failed>
         requires { 0 < length piece.now }
-        ensures after { ⟦<HostSink<W> as Sink>⟧.state self.new ≡ sink_after_write result piece.now (⟦<HostSink<W> as Sink>⟧.state self.old) }
+        ensures after { ⟦<HostSink<W> as Sink>⟧.state self.new
+            ≡ sink_after_write result piece.now (⟦<HostSink<W> as Sink>⟧.state self.old) }
         ensures some { IfOk result (λ count. 0 < count) }
         ensures within { IfOk result (λ count. count ≤ length piece.now) }
         ensures tied { WritesThrough (W.contents (writer_of self.old)) (W.contents (writer_of self.new)) result piece.now }

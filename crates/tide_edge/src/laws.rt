@@ -14,23 +14,23 @@ use crate::memory_sink::MemorySink;
 use crate::sink::Sink;
 
 /// Proves that files in memory are observable, and steady if none of their calls is to fail.
-pub fn memory_files_tell()
+pub fn memory_files_are_observable()
     ensures { (m : HeldFiles) → ⟦<MemoryFiles as Files>⟧.state m ≡ files_state m }
 {}
 
 /// Proves that the bytes that a sink in memory has accepted are observable.
-pub fn memory_sink_tells()
+pub fn memory_sink_is_observable()
     ensures { (s : HeldSink) → ⟦<MemorySink as Sink>⟧.state s ≡ sink_state s }
 {}
 
 /// Proves that the minute of a [`FixedClock`] is observable and the same for each reading.
-pub fn fixed_clock_tells()
+pub fn fixed_clock_is_observable()
     ensures { (c : HeldClock) → ⟦<FixedClock as Clock>⟧.state c ≡ clock_state c }
 {}
 
 /// Proves that the waiting requests and the replies of a door in memory are observable, and that it keeps
 /// pieces.
-pub fn memory_door_tells()
+pub fn memory_door_is_observable()
     ensures { (d : HeldDoor) → ⟦<MemoryDoor as Door>⟧.state d ≡ door_state d }
 {}
 

@@ -57,8 +57,8 @@ pub use host_door::HostDoor;
 pub use host_files::HostFiles;
 pub use host_sink::HostSink;
 pub use laws::{
-    fixed_clock_tells, memory_door_tells, memory_files_tell, memory_sink_tells,
-    openings_are_of_store,
+    fixed_clock_is_observable, memory_door_is_observable, memory_files_are_observable,
+    memory_sink_is_observable, openings_are_of_store,
 };
 pub use memory_door::MemoryDoor;
 pub use memory_files::MemoryFiles;

@@ -1,6 +1,24 @@
 //! A door in memory.
 
-ghost use Rattle.std.specs.Prelude.{◌≡◌, ◌↔◌, ◌<◌, ◌≤◌, ◌++◌, false, IsTrue, [], length, map, take, drop, Some, None, IfOk, MatchOption, slice_get};
+ghost use Rattle.std.specs.Prelude.{
+  ◌≡◌,
+  ◌↔◌,
+  ◌<◌,
+  ◌≤◌,
+  ◌++◌,
+  false,
+  IsTrue,
+  [],
+  length,
+  map,
+  take,
+  drop,
+  Some,
+  None,
+  IfOk,
+  MatchOption,
+  slice_get,
+};
 ghost use Rattle.std.specs.List.{concat, list_all};
 ghost use Rattle.tide_edge.specs.Memory.{are_pieces};
 
@@ -55,7 +73,7 @@ impl Model for MemoryDoor {
 }
 
 impl MemoryDoor {
-    ghost use Rattle.tide_edge.specs.Doors.{no_connections, unasked};
+    ghost use Rattle.tide_edge.specs.Doors.{no_connections, not_listening};
 
     /// Returns a door at which `requests` wait, each in pieces that come one by one; no piece is empty.
     /// All replies together have at most `room` bytes. The calls whose numbers are in `fails` fail,
@@ -73,7 +91,7 @@ impl MemoryDoor {
     ) -> Result<MemoryDoor, AllocError>
         requires { IsTrue (list_all (λ request. are_pieces request.items) requests.items) }
         ensures { IfOk result (λ door. door ≡ record {
-          doorway = unasked;
+          doorway = not_listening;
           connections = no_connections;
           waiting = map (λ request. request.items) requests.items;
           coming = [];
@@ -84,7 +102,7 @@ impl MemoryDoor {
         }) }
     {
         Ok(MemoryDoor {
-            doorway: Doorway::unasked(),
+            doorway: Doorway::not_listening(),
             connections: Connections::none(),
             replies: Replies::new(alloc, room, requests.len())?,
             waiting: VecDeque::from(requests),
@@ -107,7 +125,19 @@ impl MemoryDoor {
 impl Door for MemoryDoor {
     ghost use Rattle.tide_edge.specs.Calls.{answer, is_to_fail};
     ghost use Rattle.tide_edge.specs.Doors.{IsUntouched};
-    ghost use Rattle.tide_edge.specs.Memory.{door_state, comes, after_listen, after_taking, line_count, line_read, after_line_read, is_shut, line_write, after_line_write, after_close};
+    ghost use Rattle.tide_edge.specs.Memory.{
+      door_state,
+      comes,
+      after_listen,
+      after_taking,
+      line_count,
+      line_read,
+      after_line_read,
+      is_shut,
+      line_write,
+      after_line_write,
+      after_close,
+    };
 
     ghost state = { λ d. door_state d };
 

@@ -25,7 +25,13 @@ impl Model for Connections {
 }
 
 impl Connections {
-    ghost use Rattle.tide_edge.specs.Doors.{no_connections, connections_after_next, connection_after_read, connection_after_write, change_latest};
+    ghost use Rattle.tide_edge.specs.Doors.{
+      no_connections,
+      connections_after_next,
+      connection_after_read,
+      connection_after_write,
+      change_latest,
+    };
 
     /// Returns the record before any call.
     pub(crate) fn none() -> Connections

@@ -17,7 +17,7 @@ pub fn worked_rows()
     ensures absent { whole 2 None ≡ Err ReadAllFault.Failed }
 
     ensures rose { Rose 4 5 }
-    ensures stands { ¬ (Rose 4 4) }
+    ensures unchanged { ¬ (Rose 4 4) }
     ensures at_last { Rose (2 ^ 64 - 1) (2 ^ 64 - 1) }
     ensures rose_to_last { Rose (2 ^ 64 - 2) (2 ^ 64 - 1) }
     ensures one_more { counted (2 ^ 64 - 2) ≡ 2 ^ 64 - 1 }

@@ -16,7 +16,7 @@ use Rattle.station_table.specs.declared.fault.OffsetFault.TheVariants as table
 use Rattle.station_table.specs.declared.fault.OffsetWhy.{OffsetWhy}
 use Rattle.station_table.specs.declared.finding.FindFault.{FindFault}
 use Rattle.station_table.specs.declared.finding.FindFault.TheVariants as find
-use Rattle.station_table.specs.declared.offsets.Offsets.{Offsets as Row}
+use Rattle.station_table.specs.declared.offsets.Offsets.{Offsets as TableRow}
 use Rattle.station_table.specs.Reasons.{number_of as number_of_row, text_of as text_of_row}
 use Rattle.station_curve.specs.declared.fault.CurveFault.{CurveFault}
 use Rattle.station_curve.specs.declared.fault.CurveFault.TheVariants as curve
@@ -24,7 +24,23 @@ use Rattle.zone_time.specs.Moments.{IsMoment, moment_text}
 use Rattle.tide_fault.specs.declared.fault.Fault.{Fault}
 use Rattle.tide_fault.specs.declared.fault.Fault.TheVariants.{Ask, NoSheet, TooLong, Book, Offsets, BadZone, Refused}
 use Rattle.tide_fault.specs.declared.refusal.Refusal.{Refusal}
-use Rattle.tide_fault.specs.declared.refusal.Refusal.TheVariants.{NoMemory, NotACertificate, BadSample, NoStation, NoReference, Hydraulic, BackwardSpan, EmptySpan, OutOfYears, TooLarge, TooSteep, SpanTooLong, MarkNotHere, LevelNotHere, TooManyRows}
+use Rattle.tide_fault.specs.declared.refusal.Refusal.TheVariants.{
+  NoMemory,
+  NotACertificate,
+  BadSample,
+  NoStation,
+  NoReference,
+  Hydraulic,
+  BackwardSpan,
+  EmptySpan,
+  OutOfYears,
+  TooLarge,
+  TooSteep,
+  SpanTooLong,
+  MarkNotHere,
+  LevelNotHere,
+  TooManyRows,
+}
 use Rattle.tide_fault.specs.declared.slot.Slot.{Slot}
 use Rattle.tide_fault.specs.declared.slot.Slot.TheVariants as slots
 use Rattle.tide_fault.specs.declared.status.Status.{Status}
@@ -120,7 +136,7 @@ table_line table.NoMemory = codes "no memory\n"
 table_line (table.At row why) = row_line row why
 
 -- the name of the reference of the row at an index of the table
-abbrev pub reference_at : List Row → ℕ → List ℕ
+abbrev pub reference_at : List TableRow → ℕ → List ℕ
 reference_at rows place = option_map_or (λ row. row.reference) (slice_get rows place) []
 
 -- a line that ends with a name
@@ -133,7 +149,7 @@ years_line first last =
     codes "refused: out of years: file has " ++ moment_text first ++ codes " to " ++ moment_text last ++ codes "\n"
 
 -- the line of a refusal; the rows are those of the table
-unfoldable pub refusal_line : List Row → Refusal → List ℕ
+unfoldable pub refusal_line : List TableRow → Refusal → List ℕ
 refusal_line rows NoMemory = codes "no memory\n"
 refusal_line rows (NotACertificate line) = codes "certificate: line " ++ decimal line ++ codes "\n"
 refusal_line rows (BadSample line why) = file_line line why
@@ -151,7 +167,7 @@ refusal_line rows LevelNotHere = codes "refused: level not here\n"
 refusal_line rows (TooManyRows count) = codes "limit: " ++ signed_decimal count ++ codes " rows\n"
 
 -- the line of a fault
-unfoldable pub line_of : List Row → Fault → List ℕ
+unfoldable pub line_of : List TableRow → Fault → List ℕ
 line_of rows (Ask fault) = ask_line fault
 line_of rows (NoSheet word) = naming_line (codes "refused: no sheet ") word
 line_of rows (TooLong slot) = slot_name slot ++ codes ": too long\n"
@@ -162,22 +178,22 @@ line_of rows (Refused refusal) = refusal_line rows refusal
 
 -- a refusal whose line can be printed: its moments are in the years 1 to 9999, and its row is an index of
 -- the table
-abbrev pub IsToldRefusal : List Row → Refusal → Type 0
-IsToldRefusal rows (OutOfYears first last) = IsMoment first × IsMoment last
-IsToldRefusal rows (NoReference place) = place < length rows
-IsToldRefusal rows _ = Unit {0}
+abbrev pub IsPrintableRefusal : List TableRow → Refusal → Type 0
+IsPrintableRefusal rows (OutOfYears first last) = IsMoment first × IsMoment last
+IsPrintableRefusal rows (NoReference place) = place < length rows
+IsPrintableRefusal rows _ = Unit {0}
 
 -- a fault whose line can be printed
-abbrev pub IsTold : List Row → Fault → Type 0
-IsTold rows (Refused refusal) = IsToldRefusal rows refusal
-IsTold rows _ = Unit {0}
+abbrev pub IsPrintable : List TableRow → Fault → Type 0
+IsPrintable rows (Refused refusal) = IsPrintableRefusal rows refusal
+IsPrintable rows _ = Unit {0}
 
 -- ---- out of memory, and faults of the crates below
 
 -- true if memory ran out
-abbrev pub wants_memory_of_refusal : Refusal → Bool
-wants_memory_of_refusal NoMemory = true
-wants_memory_of_refusal _ = false
+abbrev pub refusal_is_out_of_memory : Refusal → Bool
+refusal_is_out_of_memory NoMemory = true
+refusal_is_out_of_memory _ = false
 
 -- the status of a run that ran out of memory
 abbrev pub is_memory : Status → Bool
@@ -185,8 +201,8 @@ is_memory status.NoMemory = true
 is_memory _ = false
 
 -- true if memory ran out
-abbrev pub wants_memory : Fault → Bool
-wants_memory fault = is_memory (status_of fault)
+abbrev pub is_out_of_memory : Fault → Bool
+is_out_of_memory fault = is_memory (status_of fault)
 
 -- the refusal of bytes that are no certificate's text
 abbrev pub refusal_of_cert : CertFault → Refusal

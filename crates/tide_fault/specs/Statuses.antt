@@ -1,7 +1,17 @@
 -- The exit statuses (this project).
 use Rattle.std.specs.Prelude.{ℕ}
 use Rattle.tide_fault.specs.declared.status.Status.{Status}
-use Rattle.tide_fault.specs.declared.status.Status.TheVariants.{Done, Rejected, Words, FileRefused, Refused, Limit, ReadFault, WriteFault, NoMemory}
+use Rattle.tide_fault.specs.declared.status.Status.TheVariants.{
+  Done,
+  Rejected,
+  Words,
+  FileRefused,
+  Refused,
+  Limit,
+  ReadFault,
+  WriteFault,
+  NoMemory,
+}
 
 -- the exit status of the program
 abbrev pub number_of : Status → ℕ

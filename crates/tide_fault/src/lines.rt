@@ -1,7 +1,21 @@
 //! The lines that report faults.
 
 ghost use Rattle.std.specs.Prelude.{◌≡◌, ◌++◌, ◌<◌, codes, length, IfOk, string_bytes};
-ghost use Rattle.tide_fault.specs.Faults.{line_of, slot_name, ask_line, form_line, file_line, table_line, row_line, naming_line, reference_at, refusal_line, years_line, IsTold, IsToldRefusal};
+ghost use Rattle.tide_fault.specs.Faults.{
+  line_of,
+  slot_name,
+  ask_line,
+  form_line,
+  file_line,
+  table_line,
+  row_line,
+  naming_line,
+  reference_at,
+  refusal_line,
+  years_line,
+  IsPrintable,
+  IsPrintableRefusal,
+};
 ghost use Rattle.zone_time.specs.Moments.{IsMoment};
 
 use crate::fault::Fault;
@@ -20,7 +34,7 @@ use zone_time::write_moment;
 /// index into `table`. The moments of [`OutOfYears`](Refusal::OutOfYears) are in the years 1 to
 /// 9999.
 pub fn fault_line(alloc: Global, fault: &Fault, table: &OffsetTable) -> Result<Bytes, AllocError>
-    requires { IsTold table.now fault.now }
+    requires { IsPrintable table.now fault.now }
     ensures { IfOk result (λ line. line ≡ line_of table.now fault.now) }
 {
     let text = fault_text(alloc, fault, table)?;
@@ -29,7 +43,7 @@ pub fn fault_line(alloc: Global, fault: &Fault, table: &OffsetTable) -> Result<B
 
 #[tactic(auto, unfolding(crate::specs::Faults::line_of))]
 fn fault_text(alloc: Global, fault: &Fault, table: &OffsetTable) -> Result<String, AllocError>
-    requires { IsTold table.now fault.now }
+    requires { IsPrintable table.now fault.now }
     ensures { IfOk result (λ text. string_bytes text ≡ line_of table.now fault.now) }
 {
     match fault {
@@ -128,7 +142,7 @@ fn row_text(alloc: Global, row: u32, why: OffsetWhy) -> Result<String, AllocErro
 
 #[tactic(auto, unfolding(crate::specs::Faults::refusal_line))]
 fn refusal_text(alloc: Global, refusal: Refusal, table: &OffsetTable) -> Result<String, AllocError>
-    requires { IsToldRefusal table.now refusal }
+    requires { IsPrintableRefusal table.now refusal }
     ensures { IfOk result (λ text. string_bytes text ≡ refusal_line table.now refusal) }
 {
     match refusal {

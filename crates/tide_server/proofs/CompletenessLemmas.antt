@@ -7,7 +7,7 @@ use Rattle.harmonics_text.specs.declared.fault.BookFault.TheVariants as form
 use Rattle.harmonics_text.specs.Reading.{book_of}
 use Rattle.harmonics_text.specs.Worked.{file_of, pier_book, pier_lines}
 use Rattle.named_files.specs.declared.no_answer.NoAnswer.{NoAnswer}
-use Rattle.named_files.specs.declared.no_answer.NoAnswer.TheVariants.{Unread, Told}
+use Rattle.named_files.specs.declared.no_answer.NoAnswer.TheVariants.{Unread, Faulty}
 use Rattle.named_files.specs.declared.no_answer.NoAnswer.TheVariants as none_of
 use Rattle.named_files.specs.NoAnswers.{source_of, status_of}
 use Rattle.named_files.specs.Readings.{book_named, table_named}
@@ -23,11 +23,11 @@ use Rattle.tide_fault.specs.declared.fault.Fault.TheVariants.{Ask, NoSheet, TooL
 use Rattle.tide_fault.specs.declared.refusal.Refusal.TheVariants as refusals
 use Rattle.tide_fault.specs.declared.status.Status.{Status}
 use Rattle.tide_fault.specs.declared.status.Status.TheVariants.{NoMemory}
-use Rattle.tide_server.specs.declared.stock.Stock.{Stock}
+use Rattle.tide_server.specs.declared.served_data.ServedData.{ServedData}
 use Rattle.tide_server.specs.Completeness.{EndedBefore, EndsBy, IsComplete, NothingFailed, ServedAll}
-use Rattle.tide_server.specs.Openings.{EndedBy, HasListened, IsRefused, service_of, stock_from, stock_named, stock_of}
-use Rattle.tide_server.specs.Promises.{ServesAs, ServiceStates, Services, handed_of}
-use Rattle.tide_server.specs.Worked.{in_memory, pier, pier_stock, pier_words}
+use Rattle.tide_server.specs.Openings.{EndedBy, HasListened, IsRefused, service_of, served_data_from, served_data_named, served_data_of}
+use Rattle.tide_server.specs.Promises.{ServesAs, ServiceStates, Services, server_states_of}
+use Rattle.tide_server.specs.Worked.{in_memory, pier, pier_data, pier_words}
 
 -- ---- No connection was served
 
@@ -35,27 +35,29 @@ use Rattle.tide_server.specs.Worked.{in_memory, pier, pier_stock, pier_words}
 said_for : {A : Type 0} (expected : Result A NoAnswer) (why : NoAnswer) (firm : Type 0) → firm → Excuses (source_of why) firm expected why
     → (expected ≡ Err why) ⊎ (status_of why ≡ NoMemory)
 said_for expected Unread firm stood excused = inl (excused stood)
-said_for expected (Told (Ask ask.NoMemory)) firm stood excused = inr refl
-said_for expected (Told (Ask _)) firm stood excused = inl excused
-said_for expected (Told (NoSheet word)) firm stood excused = inl excused
-said_for expected (Told (TooLong slot)) firm stood excused = inl excused
-said_for expected (Told (Book form.NoMemory)) firm stood excused = inr refl
-said_for expected (Told (Book (form.At line why))) firm stood excused = inl excused
-said_for expected (Told (Offsets table.NoMemory)) firm stood excused = inr refl
-said_for expected (Told (Offsets (table.At row why))) firm stood excused = inl excused
-said_for expected (Told BadZone) firm stood excused = inl excused
-said_for expected (Told (Refused refusals.NoMemory)) firm stood excused = inr refl
-said_for expected (Told (Refused _)) firm stood excused = inl excused
+said_for expected (Faulty (Ask ask.NoMemory)) firm stood excused = inr refl
+said_for expected (Faulty (Ask _)) firm stood excused = inl excused
+said_for expected (Faulty (NoSheet word)) firm stood excused = inl excused
+said_for expected (Faulty (TooLong slot)) firm stood excused = inl excused
+said_for expected (Faulty (Book form.NoMemory)) firm stood excused = inr refl
+said_for expected (Faulty (Book (form.At line why))) firm stood excused = inl excused
+said_for expected (Faulty (Offsets table.NoMemory)) firm stood excused = inr refl
+said_for expected (Faulty (Offsets (table.At row why))) firm stood excused = inl excused
+said_for expected (Faulty BadZone) firm stood excused = inl excused
+said_for expected (Faulty (Refused refusals.NoMemory)) firm stood excused = inr refl
+said_for expected (Faulty (Refused _)) firm stood excused = inl excused
 said_for expected (none_of.Refused refusals.NoMemory rows) firm stood excused = inr refl
 said_for expected (none_of.Refused _ rows) firm stood excused = inl excused
 
 -- the port was not listened to
-before_listening : {F D E K : Type 0} (s : ServiceStates F D E K) (words : List (List ℕ)) (status is : Status) (before after : Services F D E K)
+before_listening : {F D E K : Type 0} (s : ServiceStates F D E K) (words : List (List ℕ)) (status is : Status)
+    (before after : Services F D E K)
     → ServesAs s words status before after → (s.door after.door).doorway.port ≡ None → status ≡ is → EndedBefore status is before after
 before_listening s words status is before after serves unasked ends =
     record { ends = ends; door = serves.unlistened unasked; clock = serves.unread (inl unasked) }
 
-by_why : {F D E K : Type 0} (s : ServiceStates F D E K) (words : List (List ℕ)) (expected : Result Stock NoAnswer) (why : NoAnswer) (status : Status) (before after : Services F D E K)
+by_why : {F D E K : Type 0} (s : ServiceStates F D E K) (words : List (List ℕ)) (expected : Result ServedData NoAnswer)
+    (why : NoAnswer) (status : Status) (before after : Services F D E K)
     → ServesAs s words status before after → (s.door after.door).doorway.port ≡ None → status ≡ status_of why
     → (expected ≡ Err why) ⊎ (status_of why ≡ NoMemory) → EndsBy s expected status before after ⊎ EndedBefore status NoMemory before after
 by_why s words expected why status before after serves unasked ends said =
@@ -64,14 +66,16 @@ by_why s words expected why status before after serves unasked ends said =
       | inr out ↦ inr (before_listening s words status NoMemory before after serves unasked (ends ∙ out))
     ]
 
-by_refusal : {F D E K : Type 0} (s : ServiceStates F D E K) (words : List (List ℕ)) (firm : Type 0) (expected : Result Stock NoAnswer) (status : Status) (before after : Services F D E K)
+by_refusal : {F D E K : Type 0} (s : ServiceStates F D E K) (words : List (List ℕ)) (firm : Type 0)
+    (expected : Result ServedData NoAnswer) (status : Status) (before after : Services F D E K)
     → firm → (s.door before.door).doorway.port ≡ None → ServesAs s words status before after
-    → IsRefused firm expected status (handed_of s before) (handed_of s after)
+    → IsRefused firm expected status (server_states_of s before) (server_states_of s after)
     → EndsBy s expected status before after ⊎ EndedBefore status NoMemory before after
 by_refusal s words firm expected status before after stood unasked serves refused =
     let still : (s.door after.door).doorway.port ≡ None = ap (λ d. d.doorway.port) refused.door ∙ unasked in
     elim refused.said [
-      | inl said ↦ by_why s words expected refused.why status before after serves still said.0 (said_for expected refused.why firm stood refused.excused)
+      | inl said ↦ by_why s words expected refused.why status before after serves still said.0
+          (said_for expected refused.why firm stood refused.excused)
       | inr out ↦ inr (before_listening s words status NoMemory before after serves still out.0)
     ]
 
@@ -89,18 +93,22 @@ risen : (failed : Bool) (before after : ℕ) → after ≡ faults_after failed b
 risen true before after is failed = rw is (le_refl (counted before))
 risen false before after is failed = absurd (cc)
 
-unfailing : {F D E K : Type 0} (s : ServiceStates F D E K) (stock : Stock) (before after : Services F D E K) → NothingFailed s before after
-    → (s.door after.door).doorway.port ≡ Some stock.port → EndedBy true (handed_of s before) (handed_of s after) → ⊥
-unfailing s stock before after nothing asked ended =
+unfailing : {F D E K : Type 0} (s : ServiceStates F D E K) (served_data : ServedData) (before after : Services F D E K)
+    → NothingFailed s before after
+    → (s.door after.door).doorway.port ≡ Some served_data.port → EndedBy true (server_states_of s before) (server_states_of s after) → ⊥
+unfailing s served_data before after nothing asked ended =
     one_failed ended.files ended.clock ended.door ended.one
     (λ is. let none = ended.files_first is in absurd (cc))
-    (λ is. nothing.clock (risen ended.clock (s.clock before.clock).faults (s.clock after.clock).faults (ap (λ (c : ClockState). c.faults) ended.clock_state) is))
+    (λ is. nothing.clock (risen ended.clock (s.clock before.clock).faults (s.clock after.clock).faults
+    (ap (λ (c : ClockState). c.faults) ended.clock_state) is))
     (λ is. nothing.door (risen ended.door (s.door before.door).faults (s.door after.door).faults ended.door_count is))
 
-served_all : {F D E K : Type 0} (s : ServiceStates F D E K) (words : List (List ℕ)) (stock : Stock) (status : Status) (before after : Services F D E K)
-    → ServesAs s words status before after → NothingFailed s before after → HasListened stock status (handed_of s before) (handed_of s after)
-    → ServedAll s stock status before after
-served_all s words stock status before after serves nothing listened =
+served_all : {F D E K : Type 0} (s : ServiceStates F D E K) (words : List (List ℕ)) (served_data : ServedData)
+    (status : Status) (before after : Services F D E K)
+    → ServesAs s words status before after → NothingFailed s before after
+    → HasListened served_data status (server_states_of s before) (server_states_of s after)
+    → ServedAll s served_data status before after
+served_all s words served_data status before after serves nothing listened =
     elim listened.ends [
       | inl done ↦ record {
         ends = done;
@@ -108,22 +116,24 @@ served_all s words stock status before after serves nothing listened =
         over = serves.done done;
         passed = rw done at listened.passed;
       }
-      | inr failed ↦ absurd (unfailing s stock before after nothing listened.asked (rw failed at serves.fault))
+      | inr failed ↦ absurd (unfailing s served_data before after nothing listened.asked (rw failed at serves.fault))
     ]
 
 pub serves_completely : {F D E K : Type 0} (s : ServiceStates F D E K) → IsComplete s
 serves_completely s words status before after unasked serves nothing =
-    let expected = stock_of (s.files before.files).store.folder words in
+    let expected = served_data_of (s.files before.files).store.folder words in
     elim (serves.own_files nothing.observable) [
-      | inl refused ↦ by_refusal s words (IsTrue (s.files before.files).store.is_steady) expected status before after nothing.steady unasked serves refused
+      | inl refused ↦ by_refusal s words (IsTrue (s.files before.files).store.is_steady) expected status before after
+          nothing.steady unasked serves refused
       | inr listened ↦ inl (rw listened.1 (served_all s words listened.0 status before after serves nothing listened.2))
     ]
 
 -- ---- A server worked out by hand
 
 pier_named : book_of (file_of pier_lines) ≡ Ok pier_book
-    → stock_named (λ slot. (in_memory.files pier.files).store.folder) (record (bare Serve) { file = Some (codes "f") }) (codes "f") ≡ Ok pier_stock
-unfolding stock_named book_named table_named
+    → served_data_named (λ slot. (in_memory.files pier.files).store.folder)
+    (record (bare Serve) { file = Some (codes "f") }) (codes "f") ≡ Ok pier_data
+unfolding served_data_named book_named table_named
 pier_named is = rw is refl
 
 pub pier_asked : service_of pier_words ≡ Ok (record (bare Serve) { file = Some (codes "f") })
@@ -131,8 +141,8 @@ unfolding service_of question_of with_items with_item some_text
 pier_asked = refl
 
 pub pier_served : book_of (file_of pier_lines) ≡ Ok pier_book
-    → stock_of (in_memory.files pier.files).store.folder pier_words ≡ Ok pier_stock
-unfolding stock_from
+    → served_data_of (in_memory.files pier.files).store.folder pier_words ≡ Ok pier_data
+unfolding served_data_from
 pier_served is = rw pier_asked (pier_named is)
 
 one_below : ¬ (Rose 0 0)

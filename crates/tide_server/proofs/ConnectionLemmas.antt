@@ -14,7 +14,7 @@ use Rattle.tide_edge.specs.declared.piece.TheConstants.{PIECE}
 use Rattle.tide_server.specs.Conversations.{IsReadEnough}
 use Rattle.tide_server.specs.declared.limits.TheConstants.{LONGEST}
 use Rattle.http_rows.specs.Heads.{head_end, head_length}
-use Rattle.http_rows.specs.Rows.{Row, IsRow, is_settled}
+use Rattle.http_rows.specs.Rows.{ReplyRow, IsRow, is_settled}
 use Rattle.tide_server.specs.Serving.{IsEnough}
 use Rattle.tide_server.specs.Workings.Connections.{HasRead, IsRead, IsReadAs, read_as, read_to, with_latest}
 use Rattle.tide_server.proofs.PieceLemmas.{all_left, bytes_left, left_on}
@@ -38,7 +38,8 @@ append_last [] reply bytes = refl
 append_last (r ∷ []) reply bytes = refl
 append_last (r ∷ next ∷ more) reply bytes = ap (λ xs. r ∷ xs) (append_last (next ∷ more) reply bytes)
 
-few_by : (long : Bool) (request : List ℕ) (row : Row) → IsRow request row → is_settled row ≡ false → nat_le LONGEST (length request) ≡ long
+few_by : (long : Bool) (request : List ℕ) (row : ReplyRow) → IsRow request row → is_settled row ≡ false
+    → nat_le LONGEST (length request) ≡ long
     → length request < LONGEST
 few_by true request row is unsettled long =
     let reaches : LONGEST ≤ length request = grind (arith, nat_tests) in
@@ -47,16 +48,16 @@ few_by true request row is unsettled long =
 few_by false request row is unsettled long = grind (arith, nat_tests)
 
 -- bytes that don't determine the reply are fewer than the longest request has
-pub few : (request : List ℕ) (row : Row) → IsRow request row → is_settled row ≡ false → length request < LONGEST
+pub few : (request : List ℕ) (row : ReplyRow) → IsRow request row → is_settled row ≡ false → length request < LONGEST
 few request row is unsettled = few_by (nat_le LONGEST (length request)) request row is unsettled refl
 
-pub unsettled : (request : List ℕ) (row : Row) → IsRow request row → is_settled row ≡ false → ¬ (IsEnough request)
+pub unsettled : (request : List ℕ) (row : ReplyRow) → IsRow request row → is_settled row ≡ false → ¬ (IsEnough request)
 unsettled request row is none enough =
     let same : enough.0 ≡ row = one_row_at (head_end request) request enough.0 row enough.1 is in
-    let settled : IsTrue (is_settled row) = subst (λ (r : Row). IsTrue (is_settled r)) same enough.2 in
+    let settled : IsTrue (is_settled row) = subst (λ (r : ReplyRow). IsTrue (is_settled r)) same enough.2 in
     absurd (cc)
 
-unsettled_at : (row : Row) → IsRow [] row → is_settled row ≡ false
+unsettled_at : (row : ReplyRow) → IsRow [] row → is_settled row ≡ false
 unfolding head_length
 unsettled_at row is = ap is_settled is
 
@@ -92,26 +93,28 @@ with_open all latest = record { earlier = all.earlier; latest = latest }
 rest_of : List (List ℕ) → Traffic → Traffic
 rest_of left t = record { waiting = t.waiting; rest = left; replies = t.replies }
 
-same_rest : (tells : Bool) (t : Traffic) → t ≡ (if tells then record { waiting = t.waiting; rest = t.rest; replies = t.replies } else t)
+same_rest : (observable : Bool) (t : Traffic)
+    → t ≡ (if observable then record { waiting = t.waiting; rest = t.rest; replies = t.replies } else t)
 same_rest true t = refl
 same_rest false t = refl
 
-read_again : (tells : Bool) (left : List (List ℕ)) (count : ℕ) (t : Traffic)
-    → (if tells then record {
-      waiting = (if tells then rest_of left t else t).waiting;
-      rest = left_after count (if tells then rest_of left t else t).rest;
-      replies = (if tells then rest_of left t else t).replies;
-    } else (if tells then rest_of left t else t))
-    ≡ (if tells then rest_of (left_after count left) t else t)
+read_again : (observable : Bool) (left : List (List ℕ)) (count : ℕ) (t : Traffic)
+    → (if observable then record {
+      waiting = (if observable then rest_of left t else t).waiting;
+      rest = left_after count (if observable then rest_of left t else t).rest;
+      replies = (if observable then rest_of left t else t).replies;
+    } else (if observable then rest_of left t else t))
+    ≡ (if observable then rest_of (left_after count left) t else t)
 unfolding rest_of
 read_again true left count t = refl
 read_again false left count t = refl
 
-pub unread_again : (tells : Bool) (t : Traffic) → (if tells then t else t) ≡ t
+pub unread_again : (observable : Bool) (t : Traffic) → (if observable then t else t) ≡ t
 unread_again true t = refl
 unread_again false t = refl
 
-rest_by : (tells : Bool) (left : List (List ℕ)) (t : Traffic) → IsTrue tells → (if tells then rest_of left t else t).rest ≡ left
+rest_by : (observable : Bool) (left : List (List ℕ)) (t : Traffic) → IsTrue observable
+    → (if observable then rest_of left t else t).rest ≡ left
 unfolding rest_of
 rest_by true left t is = refl
 rest_by false left t is = absurd (cc)
@@ -137,11 +140,13 @@ pub still_open : (first now : DoorState) (request : List ℕ) (is_ended : Bool) 
     → now.doorway ≡ first.doorway
 still_open first now request is_ended so_far = ap (λ d. d.doorway) so_far.door
 
-still_tells : (first now : DoorState) (request : List ℕ) (is_ended : Bool) → ReadSoFar first request is_ended now → IsTrue first.is_observable
+still_observable : (first now : DoorState) (request : List ℕ) (is_ended : Bool) → ReadSoFar first request is_ended now
+    → IsTrue first.is_observable
     → IsTrue now.is_observable
-still_tells first now request is_ended so_far t = subst (λ (b : Bool). IsTrue b) (sym (ap (λ d. d.is_observable) so_far.door)) t
+still_observable first now request is_ended so_far t = subst (λ (b : Bool). IsTrue b) (sym (ap (λ d. d.is_observable) so_far.door)) t
 
-still_keeps : (first now : DoorState) (request : List ℕ) (is_ended : Bool) → ReadSoFar first request is_ended now → IsTrue first.keeps_pieces
+still_keeps : (first now : DoorState) (request : List ℕ) (is_ended : Bool) → ReadSoFar first request is_ended now
+    → IsTrue first.keeps_pieces
     → IsTrue now.keeps_pieces
 still_keeps first now request is_ended so_far k = subst (λ (b : Bool). IsTrue b) (sym (ap (λ d. d.keeps_pieces) so_far.door)) k
 
@@ -192,7 +197,7 @@ read_on first now after request next is_ended count so_far more = record {
             ap (left_after count) read.rest ∙ left_on (length request) count first.traffic.rest
             ∙ ap (λ n. left_after n first.traffic.rest) (sym more.longer);
         bytes =
-            more.bytes (still_tells first now request is_ended so_far t)
+            more.bytes (still_observable first now request is_ended so_far t)
             ∙ ap (λ xs. request ++ take count xs) (ap concat rest ∙ ap concat read.rest ∙ bytes_left (length request) first.traffic.rest)
             ∙ ap (λ xs. xs ++ take count (drop (length request) (concat first.traffic.rest))) read.bytes
             ∙ sym (take-add (length request) count (concat first.traffic.rest))
@@ -224,7 +229,7 @@ unfolding read_on
 all_read first now after request next count so_far more t none =
     let now_read = read_on first now after request next false count so_far more in
     let ended : concat so_far.left ≡ [] =
-    sym (ap concat (rest_now first now request false so_far t)) ∙ none (still_tells first now request false so_far t) in
+    sym (ap concat (rest_now first now request false so_far t)) ∙ none (still_observable first now request false so_far t) in
     let left : concat now_read.left ≡ [] = bytes_left count so_far.left ∙ ap (drop count) ended ∙ drop-nil count in record {
       rest = concat now_read.left;
       parts = parts_read first after next ((count == 0) || false) now_read t;
@@ -240,20 +245,21 @@ enough_read first now request is_ended so_far t enough =
 pub none_came : (bytes : List ℕ) → IsRead bytes [] → bytes ≡ []
 none_came bytes read = elim read.enough [ inl none ↦ read.parts ∙ none | inr e ↦ absurd (not_enough e) ]
 
-found_by : (ends settled : Bool) (first now after : DoorState) (request next : List ℕ) (count : ℕ) (row : Row)
+found_by : (ends settled : Bool) (first now after : DoorState) (request next : List ℕ) (count : ℕ) (row : ReplyRow)
     → ReadSoFar first request false now → OneMore now request next count after → (ends || settled) ≡ true
     → (ends ≡ true → IsTrue now.is_observable → concat now.traffic.rest ≡ []) → (settled ≡ true → IsTrue (is_settled row))
     → IsRow next row → IsTrue first.is_observable → IsRead (concat first.traffic.rest) next
 found_by true settled first now after request next count row so_far more is over enough row_is t =
     all_read first now after request next count so_far more t (λ u. over refl u)
 found_by false settled first now after request next count row so_far more is over enough row_is t =
-    enough_read first after next ((count == 0) || false) (read_on first now after request next false count so_far more) t (row, row_is, enough is)
+    enough_read first after next ((count == 0) || false)
+    (read_on first now after request next false count so_far more) t (row, row_is, enough is)
 
 is_none : (count : ℕ) → (count == 0) ≡ true → count ≡ 0
 is_none count is = grind (arith, nat_tests)
 
 -- the row of the bytes that were read, if reading has ended
-pub row_found : (first now after : DoorState) (request next : List ℕ) (count : ℕ) (row : Row)
+pub row_found : (first now after : DoorState) (request next : List ℕ) (count : ℕ) (row : ReplyRow)
     → ReadSoFar first request false now → OneMore now request next count after → (count == 0 || is_settled row) ≡ true
     → (IsTrue now.is_observable → (count ≡ 0) ↔ (concat now.traffic.rest ≡ [])) → ¬ (next ≡ []) → IsRow next row
     → IsTrue first.is_observable → IsReadAs (concat first.traffic.rest) (Some row)
@@ -279,13 +285,13 @@ still_open_after first now after request next count so_far more =
 abbrev pub HasEnded : Bool → List ℕ → Type 0
 HasEnded is_ended bytes = (is_ended ≡ true) ⊎ ((false ≡ true) ⊎ IsEnough bytes)
 
-over_by : (ends settled : Bool) (next : List ℕ) (row : Row) → (ends || settled) ≡ true → (settled ≡ true → IsTrue (is_settled row))
+over_by : (ends settled : Bool) (next : List ℕ) (row : ReplyRow) → (ends || settled) ≡ true → (settled ≡ true → IsTrue (is_settled row))
     → IsRow next row → HasEnded (ends || false) next
 over_by true settled next row is enough row_is = inl refl
 over_by false settled next row is enough row_is = inr (inr (row, row_is, enough is))
 
 -- a row ended the reading
-pub over_row : (count : ℕ) (next : List ℕ) (row : Row) → (count == 0 || is_settled row) ≡ true → IsRow next row
+pub over_row : (count : ℕ) (next : List ℕ) (row : ReplyRow) → (count == 0 || is_settled row) ≡ true → IsRow next row
     → HasEnded ((count == 0) || false) next
 over_row count next row is row_is = over_by (count == 0) (is_settled row) next row is (λ s. s) row_is
 
@@ -296,8 +302,8 @@ over_none count next none = rw none (inl refl)
 all_of : (bytes : List ℕ) → take (length bytes) bytes ≡ bytes
 all_of bytes = grind (arith, common_steps)
 
-front_of : (bytes more : List ℕ) → take (length bytes) (bytes ++ more) ≡ bytes
-front_of bytes more =
+prefix_of : (bytes more : List ℕ) → take (length bytes) (bytes ++ more) ≡ bytes
+prefix_of bytes more =
     let fits : length bytes ≤ length bytes = omega arith in take-append-le (length bytes) bytes more fits ∙ all_of bytes
 
 failed_enough : (request : List ℕ) → ¬ (IsEnough request) → IsReadEnough (read_as true request false)
@@ -313,7 +319,7 @@ read_enough : (now after : DoorState) (request next : List ℕ) (count : ℕ) �
 read_enough now after request next count waits more over = record {
   before = length request;
   waits =
-      let same : take (length request) next ≡ request = ap (take (length request)) more.came ∙ front_of request (take count more.room) in
+      let same : take (length request) next ≡ request = ap (take (length request)) more.came ∙ prefix_of request (take count more.room) in
       subst (λ (bs : List ℕ). ¬ (IsEnough bs)) (sym same) waits;
   one = let few = more.within in omega (arith, more.longer, few);
   until = over;
@@ -339,7 +345,8 @@ has_failed first now after request room failed so_far waits is = record {
 -- no more is read, since the bytes before the last read didn't determine the reply
 pub has_read : (first now after : DoorState) (request next : List ℕ) (count : ℕ) → ReadSoFar first request false now
     → ¬ (IsEnough request) → OneMore now request next count after → HasEnded ((count == 0) || false) next
-    → (IsTrue now.is_observable → IsTrue now.keeps_pieces → count ≤ length (first_or_empty now.traffic.rest)) → HasRead false next first after
+    → (IsTrue now.is_observable → IsTrue now.keeps_pieces → count ≤ length (first_or_empty now.traffic.rest))
+    → HasRead false next first after
 has_read first now after request next count so_far waits more over one = record {
   left = left_after count so_far.left;
   is_ended = (count == 0) || false;
@@ -347,7 +354,7 @@ has_read first now after request next count so_far waits more over one = record 
   enough = read_enough now after request next count waits more over;
   needed = λ t k.
       let few : count ≤ length (first_or_empty now.traffic.rest) =
-      one (still_tells first now request false so_far t) (still_keeps first now request false so_far k) in
+      one (still_observable first now request false so_far t) (still_keeps first now request false so_far k) in
       let there : count ≤ length (first_or_empty so_far.left) = rw (rest_now first now request false so_far t) at few in record {
         before = length request;
         all = length request + count;

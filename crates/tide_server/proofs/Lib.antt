@@ -9,4 +9,4 @@ pub mod ReplyLemmas
 pub mod SendingLemmas
 pub mod ServiceLemmas
 pub mod StepLemmas
-pub mod StockLemmas
+pub mod ServedDataLemmas

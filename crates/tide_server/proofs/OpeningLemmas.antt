@@ -20,24 +20,24 @@ use Rattle.tide_edge.specs.SinkStates.{SinkState, Wrote, WroteBoth, put}
 use Rattle.tide_edge.proofs.WritingLemmas.{put_none}
 use Rattle.tide_edge.specs.Whole.{ReadWithin, both, one_file}
 use Rattle.named_files.specs.declared.no_answer.NoAnswer.{NoAnswer}
-use Rattle.named_files.specs.declared.no_answer.NoAnswer.TheVariants.{Told}
+use Rattle.named_files.specs.declared.no_answer.NoAnswer.TheVariants.{Faulty}
 use Rattle.named_files.specs.NoAnswers.{source_of, line_of}
 use Rattle.named_files.specs.Readings.{Folders, allowed_for, limit_of}
-use Rattle.named_files.specs.Telling.{Tells}
-use Rattle.tide_server.specs.declared.stock.Stock.{Stock}
-use Rattle.tide_server.specs.Openings.{EndedBy, Handed, IsRefused, asks_another, files_asked, service_of, stock_by, stock_from, stock_named}
+use Rattle.named_files.specs.Reporting.{Reports}
+use Rattle.tide_server.specs.declared.served_data.ServedData.{ServedData}
+use Rattle.tide_server.specs.Openings.{EndedBy, ServerStates, IsRefused, asks_another, files_asked, service_of, served_data_by, served_data_from, served_data_named}
 
 -- ---- By the name of a file
 
-pub meets_named : (firm : Type 0) (folders : Folders) (question : Question) (name : List ℕ) (result : Result Stock NoAnswer)
-    → question.file ≡ Some name → Meets source_of firm (stock_named folders question name) result
-    → Meets source_of firm (stock_by folders question question.file) result
+pub meets_named : (firm : Type 0) (folders : Folders) (question : Question) (name : List ℕ) (result : Result ServedData NoAnswer)
+    → question.file ≡ Some name → Meets source_of firm (served_data_named folders question name) result
+    → Meets source_of firm (served_data_by folders question question.file) result
 meets_named firm folders question name result is meets =
-    let P : Option (List ℕ) → Type 0 = λ file. Meets source_of firm (stock_by folders question file) result in subst P (sym is) meets
+    let P : Option (List ℕ) → Type 0 = λ file. Meets source_of firm (served_data_by folders question file) result in subst P (sym is) meets
 
 pub meets_unnamed : (folders : Folders) (question : Question) → question.file ≡ None
-    → stock_by folders question question.file ≡ Err (Told (Ask (MissingKey keys.File)))
-meets_unnamed folders question is = ap (stock_by folders question) is
+    → served_data_by folders question question.file ≡ Err (Faulty (Ask (MissingKey keys.File)))
+meets_unnamed folders question is = ap (served_data_by folders question) is
 
 -- ---- The bytes that are read
 
@@ -62,7 +62,8 @@ pub wrote_one : (before after : SinkState) (failed : Bool) (text : List ℕ) →
 wrote_one before after failed text wrote = (before, false, failed, put_nothing before, wrote)
 
 -- one text, before nothing
-pub wrote_first : (before after : SinkState) (failed : Bool) (text : List ℕ) → Wrote before after failed text → WroteBoth before after text []
+pub wrote_first : (before after : SinkState) (failed : Bool) (text : List ℕ) → Wrote before after failed text
+    → WroteBoth before after text []
 wrote_first before after failed text wrote = (after, failed, false, wrote, put_nothing after)
 
 -- ---- The failures
@@ -70,7 +71,7 @@ wrote_first before after failed text wrote = (after, failed, false, wrote, put_n
 pub never : {G : Type 0} → false ≡ true → G
 never is = cc
 
-pub files_failed : (failed : Bool) (before after : Handed) → after.files.faults ≡ faults_after failed before.files.faults
+pub files_failed : (failed : Bool) (before after : ServerStates) → after.files.faults ≡ faults_after failed before.files.faults
     → before.door.doorway.port ≡ None → after.door ≡ before.door → after.clock ≡ before.clock → EndedBy failed before after
 files_failed true before after files unasked door clock = record {
   files = true;
@@ -80,7 +81,7 @@ files_failed true before after files unasked door clock = record {
   files_count = files;
   files_first = λ is. ap (λ d. d.doorway.port) door ∙ unasked;
   door_count = ap (λ d. d.faults) door;
-  door_tells = ap (λ d. d.is_observable) door;
+  door_observable = ap (λ d. d.is_observable) door;
   door_pieces = ap (λ d. d.keeps_pieces) door;
   given = before.clock.given;
   asked = before.clock.asked;
@@ -94,7 +95,7 @@ files_failed false before after files unasked door clock = record {
   files_count = files;
   files_first = λ is. never is;
   door_count = ap (λ d. d.faults) door;
-  door_tells = ap (λ d. d.is_observable) door;
+  door_observable = ap (λ d. d.is_observable) door;
   door_pieces = ap (λ d. d.keeps_pieces) door;
   given = before.clock.given;
   asked = before.clock.asked;
@@ -102,7 +103,7 @@ files_failed false before after files unasked door clock = record {
 }
 
 -- the files were read before, and they haven't failed
-pub ended_behind : (failed : Bool) (before after : Handed) (files : FilesState) → files.faults ≡ before.files.faults
+pub ended_behind : (failed : Bool) (before after : ServerStates) (files : FilesState) → files.faults ≡ before.files.faults
     → after.files ≡ files → EndedBy failed record before { files = files } after → EndedBy failed before after
 ended_behind failed before after files count same ended = record {
   files = ended.files;
@@ -112,7 +113,7 @@ ended_behind failed before after files count same ended = record {
   files_count = ended.files_count ∙ ap (faults_after ended.files) count;
   files_first = ended.files_first;
   door_count = ended.door_count;
-  door_tells = ended.door_tells;
+  door_observable = ended.door_observable;
   door_pieces = ended.door_pieces;
   given = ended.given;
   asked = ended.asked;
@@ -122,11 +123,11 @@ ended_behind failed before after files count same ended = record {
 -- ---- No connection was served
 
 -- the reason is reported
-pub refused_for : (firm : Type 0) (expected : Result Stock NoAnswer) (none : NoAnswer) (status : Status) (before after : Handed)
+pub refused_for : (firm : Type 0) (expected : Result ServedData NoAnswer) (none : NoAnswer) (status : Status) (before after : ServerStates)
     → Excuses (source_of none) firm expected none → after.door ≡ before.door → after.clock ≡ before.clock
-    → Tells none status before.err after.err → IsRefused firm expected status before after
-refused_for firm expected none status before after excused door clock told =
-    elim told [
+    → Reports none status before.err after.err → IsRefused firm expected status before after
+refused_for firm expected none status before after excused door clock reported =
+    elim reported [
       | inl t ↦ record {
         why = none;
         excused = excused;
@@ -148,11 +149,11 @@ refused_for firm expected none status before after excused door clock told =
     ]
 
 -- memory ran out
-pub refused_full : (firm : Type 0) (expected : Result Stock NoAnswer) (status : Status) (before after : Handed) (failed : Bool)
+pub refused_full : (firm : Type 0) (expected : Result ServedData NoAnswer) (status : Status) (before after : ServerStates) (failed : Bool)
     → status ≡ NoMemory → after.door ≡ before.door → after.clock ≡ before.clock
     → Wrote before.err after.err failed (codes "no memory\n") → IsRefused firm expected status before after
 refused_full firm expected status before after failed full door clock wrote = record {
-  why = Told (Refused refusals.NoMemory);
+  why = Faulty (Refused refusals.NoMemory);
   excused = tt;
   line = codes "no memory\n";
   said = inr (full, refl);
@@ -168,20 +169,21 @@ pub another_asked : (words : List (List ℕ)) → IsTrue (asks_another (pairs_of
 unfolding service_of
 another_asked words is = rw is refl
 
-another_stock : (folders : Folders) (words : List (List ℕ)) → service_of words ≡ Err (Ask UnknownCommand)
-    → stock_from folders words ≡ Err (Told (Ask UnknownCommand))
-unfolding stock_from
-another_stock folders words is = rw is refl
+another_data : (folders : Folders) (words : List (List ℕ)) → service_of words ≡ Err (Ask UnknownCommand)
+    → served_data_from folders words ≡ Err (Faulty (Ask UnknownCommand))
+unfolding served_data_from
+another_data folders words is = rw is refl
 
 -- no connection was served, since the arguments have another command
-pub refused_another : (firm : Type 0) (folders : Folders) (words : List (List ℕ)) (status : Status) (before after : Handed) (failed : Bool)
+pub refused_another : (firm : Type 0) (folders : Folders) (words : List (List ℕ)) (status : Status)
+    (before after : ServerStates) (failed : Bool)
     → IsTrue (asks_another (pairs_of words)) → status ≡ Words → after.door ≡ before.door → after.clock ≡ before.clock
     → Wrote before.err after.err failed (codes "words: unknown command\n")
-    → IsRefused firm (stock_from folders words) status before after
+    → IsRefused firm (served_data_from folders words) status before after
 unfolding ask_line fault_line_of
 refused_another firm folders words status before after failed another is door clock wrote = record {
-  why = Told (Ask UnknownCommand);
-  excused = another_stock folders words (another_asked words another);
+  why = Faulty (Ask UnknownCommand);
+  excused = another_data folders words (another_asked words another);
   line = codes "words: unknown command\n";
   said = inl (is, refl);
   wrote = wrote_one before.err after.err failed (codes "words: unknown command\n") wrote;

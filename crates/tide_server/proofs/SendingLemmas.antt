@@ -19,7 +19,7 @@ with_open all latest = record { earlier = all.earlier; latest = latest }
 appended : List ℕ → Traffic → Traffic
 appended text t = record { waiting = t.waiting; rest = t.rest; replies = append_to_last t.replies text }
 
-sent_nothing : (tells : Bool) (t : Traffic) → t ≡ (if tells then appended [] t else t)
+sent_nothing : (observable : Bool) (t : Traffic) → t ≡ (if observable then appended [] t else t)
 unfolding appended
 sent_nothing true t = ap (λ rs. record { waiting = t.waiting; rest = t.rest; replies = rs }) (sym (append_none t.replies))
 sent_nothing false t = refl
@@ -55,9 +55,9 @@ sent_none d =
     ∙ ap (λ l. with_traffic d (with_open d.connections l) d.line_faults (if d.is_observable then appended [] d.traffic else d.traffic))
     (opened_none d.connections.latest)
 
-sent_twice : (tells : Bool) (a b : List ℕ) (t : Traffic)
-    → (if tells then appended b (if tells then appended a t else t) else (if tells then appended a t else t))
-    ≡ (if tells then appended (a ++ b) t else t)
+sent_twice : (observable : Bool) (a b : List ℕ) (t : Traffic)
+    → (if observable then appended b (if observable then appended a t else t) else (if observable then appended a t else t))
+    ≡ (if observable then appended (a ++ b) t else t)
 unfolding appended
 sent_twice true a b t = ap (λ rs. record { waiting = t.waiting; rest = t.rest; replies = rs }) (append_twice t.replies a b)
 sent_twice false a b t = refl
@@ -66,7 +66,8 @@ sent_twice false a b t = refl
 sent_behind : (first : DoorState) (a b : List ℕ) (failed : Bool) → sent b failed (sent a false first) ≡ sent (a ++ b) failed first
 unfolding with_traffic with_open appended
 sent_behind first a b failed =
-    ap (with_traffic first (with_open first.connections (option_map (sending b failed) (option_map (sending a false) first.connections.latest)))
+    ap (with_traffic first
+    (with_open first.connections (option_map (sending b failed) (option_map (sending a false) first.connections.latest)))
     (faults_after failed first.line_faults)) (sent_twice first.is_observable a b first.traffic)
     ∙ ap (λ l. with_traffic first (with_open first.connections l) (faults_after failed first.line_faults)
     (if first.is_observable then appended (a ++ b) first.traffic else first.traffic)) (opened_twice failed first.connections.latest a b)
@@ -92,7 +93,8 @@ sent_failed first now after text at failed so_far is =
     (counted first.line_faults))
     (unread_again first.is_observable (if first.is_observable then appended a first.traffic else first.traffic))
     ∙ ap (λ l. with_traffic first (with_open first.connections l) (counted first.line_faults)
-    (if first.is_observable then appended a first.traffic else first.traffic)) (opened_failed first.connections.latest a (drop at text) failed)
+    (if first.is_observable then appended a first.traffic else first.traffic))
+    (opened_failed first.connections.latest a (drop at text) failed)
 
 -- ---- A text in two parts
 

@@ -11,7 +11,7 @@ use Rattle.tide_fault.specs.declared.status.Status.{Status}
 use Rattle.tide_fault.specs.declared.status.Status.TheVariants.{Done, ReadFault}
 use Rattle.tide_server.specs.declared.outage.Outage.{Outage}
 use Rattle.tide_server.specs.declared.outage.Outage.TheVariants as outages
-use Rattle.tide_server.specs.declared.stock.Stock.{Stock}
+use Rattle.tide_server.specs.declared.served_data.ServedData.{ServedData}
 use Rattle.tide_server.specs.Conversations.{HasServed}
 use Rattle.tide_server.specs.Openings.{EndedBy, notice_of}
 use Rattle.tide_server.specs.Serving.{Exchange, IsOver, Served, exchange}
@@ -23,24 +23,26 @@ use Rattle.tide_server.proofs.StepLemmas.{all_passed, nobody, none_passed}
 -- ---- The port is listened to
 
 -- the connections that were served
-pub record Serves (stock : Stock) (failed : Bool) (before after : Exchange) : Type 0 where
-  pub port : after.door.doorway.port ≡ Some stock.port
+pub record Serves (served_data : ServedData) (failed : Bool) (before after : Exchange) : Type 0 where
+  pub port : after.door.doorway.port ≡ Some served_data.port
   pub listens : after.door.doorway.listens ≡ true
   pub closed : after.door.doorway.is_open ≡ false
-  pub passed : HasServed stock failed before after
-  pub served : IsTrue before.door.is_observable → IsTrue before.clock.is_observable → Served stock failed before after
+  pub passed : HasServed served_data failed before after
+  pub served : IsTrue before.door.is_observable → IsTrue before.clock.is_observable → Served served_data failed before after
 
-pub served_done : (stock : Stock) (door door_after : DoorState) (err err_after : SinkState) (clock clock_after : ClockState) (failed : Bool)
-    → Serves stock false (exchange door clock) (exchange door_after clock_after) → IsKept false false (exchange door clock) (exchange door_after clock_after)
-    → IsOver door_after.doorway → Wrote err err_after failed (notice_of stock.port)
-    → Ended stock Done (unread door err clock) (unread door_after err_after clock_after)
-served_done stock door door_after err err_after clock clock_after failed serves kept is_over wrote = record {
+pub served_done : (served_data : ServedData) (door door_after : DoorState) (err err_after : SinkState)
+    (clock clock_after : ClockState) (failed : Bool)
+    → Serves served_data false (exchange door clock) (exchange door_after clock_after)
+    → IsKept false false (exchange door clock) (exchange door_after clock_after)
+    → IsOver door_after.doorway → Wrote err err_after failed (notice_of served_data.port)
+    → Ended served_data Done (unread door err clock) (unread door_after err_after clock_after)
+served_done served_data door door_after err err_after clock clock_after failed serves kept is_over wrote = record {
   listened = λ files left. record {
     asked = serves.port;
     ends = inl refl;
     passed = serves.passed;
     served = serves.served;
-    wrote = rw serves.listens (wrote_first err err_after failed (notice_of stock.port) wrote);
+    wrote = rw serves.listens (wrote_first err err_after failed (notice_of served_data.port) wrote);
   };
   done = λ is. is_over;
   closed = serves.closed;
@@ -52,7 +54,7 @@ served_done stock door door_after err err_after clock clock_after failed serves 
     files_count = same;
     files_first = λ is. never is;
     door_count = kept.faults;
-    door_tells = kept.is_observable;
+    door_observable = kept.is_observable;
     door_pieces = kept.pieces;
     given = kept.given;
     asked = kept.asked;
@@ -61,7 +63,8 @@ served_done stock door door_after err err_after clock clock_after failed serves 
 }
 
 -- the end by a failure of the port or of the clock
-by_outage : (outage : Outage) (door door_after : DoorState) (err err_after : SinkState) (clock clock_after : ClockState) (files left : FilesState)
+by_outage : (outage : Outage) (door door_after : DoorState) (err err_after : SinkState) (clock clock_after : ClockState)
+    (files left : FilesState)
     → IsKept (is_door outage) (is_clock outage) (exchange door clock) (exchange door_after clock_after)
     → left.faults ≡ files.faults
     → EndedBy true (with_files files (unread door err clock)) (with_files left (unread door_after err_after clock_after))
@@ -73,7 +76,7 @@ by_outage outages.Door door door_after err err_after clock clock_after files lef
   files_count = same;
   files_first = λ is. never is;
   door_count = kept.faults;
-  door_tells = kept.is_observable;
+  door_observable = kept.is_observable;
   door_pieces = kept.pieces;
   given = kept.given;
   asked = kept.asked;
@@ -87,37 +90,40 @@ by_outage outages.Clock door door_after err err_after clock clock_after files le
   files_count = same;
   files_first = λ is. never is;
   door_count = kept.faults;
-  door_tells = kept.is_observable;
+  door_observable = kept.is_observable;
   door_pieces = kept.pieces;
   given = kept.given;
   asked = kept.asked;
   clock_state = kept.clock;
 }
 
-pub served_failed : (stock : Stock) (outage : Outage) (door door_after : DoorState) (err between err_after : SinkState)
+pub served_failed : (served_data : ServedData) (outage : Outage) (door door_after : DoorState) (err between err_after : SinkState)
     (clock clock_after : ClockState) (failed also_failed : Bool)
-    → Serves stock true (exchange door clock) (exchange door_after clock_after)
+    → Serves served_data true (exchange door clock) (exchange door_after clock_after)
     → IsKept (is_door outage) (is_clock outage) (exchange door clock) (exchange door_after clock_after)
-    → Wrote err between failed (notice_of stock.port) → Wrote between err_after also_failed (codes "read fault\n")
-    → Ended stock ReadFault (unread door err clock) (unread door_after err_after clock_after)
-served_failed stock outage door door_after err between err_after clock clock_after failed also_failed serves kept first second = record {
-  listened = λ files left. record {
-    asked = serves.port;
-    ends = inr refl;
-    passed = serves.passed;
-    served = serves.served;
-    wrote = rw serves.listens (between, failed, also_failed, first, second);
-  };
-  done = λ is. absurd (cc);
-  closed = serves.closed;
-  ended = λ files left same. by_outage outage door door_after err err_after clock clock_after files left kept same;
-}
+    → Wrote err between failed (notice_of served_data.port) → Wrote between err_after also_failed (codes "read fault\n")
+    → Ended served_data ReadFault (unread door err clock) (unread door_after err_after clock_after)
+served_failed served_data outage door door_after err between err_after clock clock_after failed also_failed serves kept
+    first second = record {
+      listened = λ files left. record {
+        asked = serves.port;
+        ends = inr refl;
+        passed = serves.passed;
+        served = serves.served;
+        wrote = rw serves.listens (between, failed, also_failed, first, second);
+      };
+      done = λ is. absurd (cc);
+      closed = serves.closed;
+      ended = λ files left same. by_outage outage door door_after err err_after clock clock_after files left kept same;
+    }
 
 -- ---- The port was listened to
 
-same_served : {T : Type 0} (value : T) (stock : Stock) (failed : Bool) (port : ℕ) (door : DoorState) (clock : ClockState) (after : Exchange)
-    → Served stock failed (exchange (door_after_listen (Ok value) port door) clock) after → Served stock failed (exchange door clock) after
-same_served value stock failed port door clock after s = record {
+same_served : {T : Type 0} (value : T) (served_data : ServedData) (failed : Bool) (port : ℕ) (door : DoorState)
+    (clock : ClockState) (after : Exchange)
+    → Served served_data failed (exchange (door_after_listen (Ok value) port door) clock) after
+    → Served served_data failed (exchange door clock) after
+same_served value served_data failed port door clock after s = record {
   served = s.served;
   left = s.left;
   requests = s.requests;
@@ -131,9 +137,11 @@ same_served value stock failed port door clock after s = record {
   bytes = s.bytes;
 }
 
-same_passed : {T : Type 0} (value : T) (stock : Stock) (failed : Bool) (port : ℕ) (door : DoorState) (clock : ClockState) (after : Exchange)
-    → HasServed stock failed (exchange (door_after_listen (Ok value) port door) clock) after → HasServed stock failed (exchange door clock) after
-same_passed value stock failed port door clock after s = record {
+same_passed : {T : Type 0} (value : T) (served_data : ServedData) (failed : Bool) (port : ℕ) (door : DoorState)
+    (clock : ClockState) (after : Exchange)
+    → HasServed served_data failed (exchange (door_after_listen (Ok value) port door) clock) after
+    → HasServed served_data failed (exchange door clock) after
+same_passed value served_data failed port door clock after s = record {
   over = s.over;
   left = s.left;
   minutes = s.minutes;
@@ -145,19 +153,22 @@ same_passed value stock failed port door clock after s = record {
   ends = s.ends;
 }
 
-pub ended_listening : {T : Type 0} (value : T) (stock : Stock) (status : Status) (door opened door_after : DoorState) (err err_after : SinkState)
-    (clock clock_after : ClockState) → opened ≡ door_after_listen (Ok value) stock.port door
-    → Ended stock status (unread opened err clock) (unread door_after err_after clock_after)
-    → Ended stock status (unread door err clock) (unread door_after err_after clock_after)
-ended_listening value stock status door opened door_after err err_after clock clock_after is behind =
-    let E : DoorState → Type 0 = λ d. Ended stock status (unread d err clock) (unread door_after err_after clock_after) in
-    let e : E (door_after_listen (Ok value) stock.port door) = subst E is behind in record {
+pub ended_listening : {T : Type 0} (value : T) (served_data : ServedData) (status : Status)
+    (door opened door_after : DoorState) (err err_after : SinkState)
+    (clock clock_after : ClockState) → opened ≡ door_after_listen (Ok value) served_data.port door
+    → Ended served_data status (unread opened err clock) (unread door_after err_after clock_after)
+    → Ended served_data status (unread door err clock) (unread door_after err_after clock_after)
+ended_listening value served_data status door opened door_after err err_after clock clock_after is behind =
+    let E : DoorState → Type 0 = λ d. Ended served_data status (unread d err clock) (unread door_after err_after clock_after) in
+    let e : E (door_after_listen (Ok value) served_data.port door) = subst E is behind in record {
       listened = λ files left. record {
         asked = (e.listened files left).asked;
         ends = (e.listened files left).ends;
-        passed = same_passed value stock _ stock.port door clock (exchange door_after clock_after) (e.listened files left).passed;
+        passed = same_passed value served_data _ served_data.port door clock (exchange door_after clock_after)
+            (e.listened files left).passed;
         served = λ t k.
-            same_served value stock _ stock.port door clock (exchange door_after clock_after) ((e.listened files left).served t k);
+            same_served value served_data _ served_data.port door clock (exchange door_after clock_after)
+            ((e.listened files left).served t k);
         wrote = (e.listened files left).wrote;
       };
       done = e.done;
@@ -171,7 +182,7 @@ ended_listening value stock status door opened door_after err err_after clock cl
             files_count = by.files_count;
             files_first = by.files_first;
             door_count = by.door_count;
-            door_tells = by.door_tells;
+            door_observable = by.door_observable;
             door_pieces = by.door_pieces;
             given = by.given;
             asked = by.asked;
@@ -179,19 +190,22 @@ ended_listening value stock status door opened door_after err err_after clock cl
           };
     }
 
-unlistening : (T : Type 0) (stock : Stock) (failed_to : Failed) (door : DoorState) (err err_after : SinkState) (clock : ClockState) (failed : Bool)
+unlistening : (T : Type 0) (served_data : ServedData) (failed_to : Failed) (door : DoorState)
+    (err err_after : SinkState) (clock : ClockState) (failed : Bool)
     → Wrote err err_after failed (codes "read fault\n")
-    → Ended stock ReadFault (unread door err clock)
-    (unread (door_after_listen {T = T} (Err failed_to) stock.port door) err_after clock)
-unlistening T stock failed_to door err err_after clock failed wrote = record {
+    → Ended served_data ReadFault (unread door err clock)
+    (unread (door_after_listen {T = T} (Err failed_to) served_data.port door) err_after clock)
+unlistening T served_data failed_to door err err_after clock failed wrote = record {
   listened = λ files left. record {
     asked = refl;
     ends = inr refl;
     passed =
-        all_passed stock true (exchange door clock) (exchange door clock)
-        (exchange (door_after_listen {T = T} (Err failed_to) stock.port door) clock) (none_passed stock (exchange door clock)) refl refl;
+        all_passed served_data true (exchange door clock) (exchange door clock)
+        (exchange (door_after_listen {T = T} (Err failed_to) served_data.port door) clock)
+        (none_passed served_data (exchange door clock)) refl refl;
     served = λ t k.
-        nobody stock true (exchange door clock) (exchange (door_after_listen {T = T} (Err failed_to) stock.port door) clock) refl refl refl refl;
+        nobody served_data true (exchange door clock)
+        (exchange (door_after_listen {T = T} (Err failed_to) served_data.port door) clock) refl refl refl refl;
     wrote = wrote_one err err_after failed (codes "read fault\n") wrote;
   };
   done = λ is. absurd (cc);
@@ -204,7 +218,7 @@ unlistening T stock failed_to door err err_after clock failed wrote = record {
     files_count = same;
     files_first = λ is. never is;
     door_count = refl;
-    door_tells = refl;
+    door_observable = refl;
     door_pieces = refl;
     given = clock.given;
     asked = clock.asked;
@@ -212,10 +226,11 @@ unlistening T stock failed_to door err err_after clock failed wrote = record {
   };
 }
 
-pub ended_unlistening : (T : Type 0) (stock : Stock) (failed_to : Failed) (door door_after : DoorState) (err err_after : SinkState) (clock : ClockState)
-    (failed : Bool) → door_after ≡ door_after_listen {T = T} (Err failed_to) stock.port door
+pub ended_unlistening : (T : Type 0) (served_data : ServedData) (failed_to : Failed) (door door_after : DoorState)
+    (err err_after : SinkState) (clock : ClockState)
+    (failed : Bool) → door_after ≡ door_after_listen {T = T} (Err failed_to) served_data.port door
     → Wrote err err_after failed (codes "read fault\n")
-    → Ended stock ReadFault (unread door err clock) (unread door_after err_after clock)
-ended_unlistening T stock failed_to door door_after err err_after clock failed is wrote =
-    let E : DoorState → Type 0 = λ d. Ended stock ReadFault (unread door err clock) (unread d err_after clock) in
-    subst E (sym is) (unlistening T stock failed_to door err err_after clock failed wrote)
+    → Ended served_data ReadFault (unread door err clock) (unread door_after err_after clock)
+ended_unlistening T served_data failed_to door door_after err err_after clock failed is wrote =
+    let E : DoorState → Type 0 = λ d. Ended served_data ReadFault (unread door err clock) (unread d err_after clock) in
+    subst E (sym is) (unlistening T served_data failed_to door err err_after clock failed wrote)

@@ -14,7 +14,7 @@ use Rattle.tide_edge.specs.Faults.{counted, faults_after}
 use Rattle.tide_edge.specs.FileStates.{listed}
 use Rattle.tide_server.specs.declared.outage.Outage.{Outage}
 use Rattle.tide_server.specs.declared.outage.Outage.TheVariants as outages
-use Rattle.tide_server.specs.declared.stock.Stock.{Stock}
+use Rattle.tide_server.specs.declared.served_data.ServedData.{ServedData}
 use Rattle.tide_server.specs.Conversations.{AreServed, HasServed, IsServed}
 use Rattle.tide_server.specs.Serving.{Answers, AnswersUnlessCut, AreHeld, AsksUnlessCut, Conversation, Exchange, IsHeld, IsLastReadAsNeeded, IsReadAsNeeded, MayLeave, RoseBy, Served, clock_after_all, clock_failed, clock_with, exchange}
 use Rattle.tide_server.specs.Workings.Connections.{Closed, IsNextMinute, Talk, clock_given, talked}
@@ -34,26 +34,29 @@ next_of : (door : DoorState) → 0 < length door.traffic.waiting → IsNext door
 next_of door some =
     let next = next_by door.traffic.waiting some in record { request = next.0; more = next.1; waiting = next.2 }
 
-rest_by : (tells : Bool) (t : Traffic) (request : List (List ℕ)) (more : List (List (List ℕ))) → IsTrue tells
-    → t.waiting ≡ request ∷ more → (if tells then taken_by (Ok true) t else t).rest ≡ request
+rest_by : (observable : Bool) (t : Traffic) (request : List (List ℕ)) (more : List (List (List ℕ))) → IsTrue observable
+    → t.waiting ≡ request ∷ more → (if observable then taken_by (Ok true) t else t).rest ≡ request
 rest_by true t request more is next = ap first_or_empty next
 rest_by false t request more is next = absurd (cc)
 
 taken_rest : (first now : DoorState) (next : IsNext first) → IsTrue first.is_observable → now ≡ door_after_next (Ok true) first
     → now.traffic.rest ≡ next.request
-taken_rest first now next t is = ap (λ d. d.traffic.rest) is ∙ rest_by first.is_observable first.traffic next.request next.more t next.waiting
+taken_rest first now next t is =
+    ap (λ d. d.traffic.rest) is ∙ rest_by first.is_observable first.traffic next.request next.more t next.waiting
 
-tells_on : (before after : Bool) → after ≡ before → IsTrue before → IsTrue after
-tells_on before after same is = subst (λ (b : Bool). IsTrue b) (sym same) is
+observable_on : (before after : Bool) → after ≡ before → IsTrue before → IsTrue after
+observable_on before after same is = subst (λ (b : Bool). IsTrue b) (sym same) is
 
-pub served_next : (stock : Stock) (first now after : DoorState) (clock clock_now : ClockState)
+pub served_next : (served_data : ServedData) (first now after : DoorState) (clock clock_now : ClockState)
     → (IsTrue first.is_observable → 0 < length first.traffic.waiting) → now ≡ door_after_next (Ok true) first
-    → Closed false stock (exchange now clock) (exchange after clock_now) → ServedNext stock (exchange first clock) (exchange after clock_now)
-served_next stock first now after clock clock_now some is closes =
+    → Closed false served_data (exchange now clock) (exchange after clock_now)
+    → ServedNext served_data (exchange first clock) (exchange after clock_now)
+served_next served_data first now after clock clock_now some is closes =
     let went = closes.went in
-    let tells : IsTrue first.is_observable → IsTrue now.is_observable = λ t. tells_on first.is_observable now.is_observable (ap (λ d. d.is_observable) is) t in
+    let observable : IsTrue first.is_observable → IsTrue now.is_observable =
+    λ t. observable_on first.is_observable now.is_observable (ap (λ d. d.is_observable) is) t in
     let keeps : IsTrue first.keeps_pieces → IsTrue now.keeps_pieces =
-    λ k. tells_on first.keeps_pieces now.keeps_pieces (ap (λ d. d.keeps_pieces) is) k in record {
+    λ k. observable_on first.keeps_pieces now.keeps_pieces (ap (λ d. d.keeps_pieces) is) k in record {
       talk = went.talk;
       door = closes.door ∙ ap door_after_close (went.door ∙ ap (talked went.talk) is);
       clock = went.clock;
@@ -62,25 +65,27 @@ served_next stock first now after clock clock_now some is closes =
       next = λ t. next_of first (some t);
       held = λ t k. record {
         answered =
-            subst (λ (ps : List (List ℕ)). AnswersUnlessCut went.talk.is_cut (Answers stock (next_minute clock)) (concat ps) went.talk.reply)
-            (taken_rest first now (next_of first (some t)) t is) (went.answered (tells t) k);
+            subst (λ (ps : List (List ℕ)).
+            AnswersUnlessCut went.talk.is_cut (Answers served_data (next_minute clock)) (concat ps) went.talk.reply)
+            (taken_rest first now (next_of first (some t)) t is) (went.answered (observable t) k);
         asked =
             subst (λ (ps : List (List ℕ)). AsksUnlessCut went.talk.is_cut (concat ps) (is_some went.talk.minute))
-            (taken_rest first now (next_of first (some t)) t is) (went.asked (tells t));
+            (taken_rest first now (next_of first (some t)) t is) (went.asked (observable t));
       };
       needed = λ t k.
           subst (λ (ps : List (List ℕ)). IsReadAsNeeded ps went.talk.left) (taken_rest first now (next_of first (some t)) t is)
-          (went.needed (tells t) (keeps k));
+          (went.needed (observable t) (keeps k));
     }
 
-pub left_next : (stock : Stock) (first now after : DoorState) (clock clock_now : ClockState)
+pub left_next : (served_data : ServedData) (first now after : DoorState) (clock clock_now : ClockState)
     → (IsTrue first.is_observable → 0 < length first.traffic.waiting) → now ≡ door_after_next (Ok true) first
-    → Closed true stock (exchange now clock) (exchange after clock_now) → LeftNext (exchange first clock) (exchange after clock_now)
-left_next stock first now after clock clock_now some is closes =
+    → Closed true served_data (exchange now clock) (exchange after clock_now) → LeftNext (exchange first clock) (exchange after clock_now)
+left_next served_data first now after clock clock_now some is closes =
     let went = closes.went in
-    let tells : IsTrue first.is_observable → IsTrue now.is_observable = λ t. tells_on first.is_observable now.is_observable (ap (λ d. d.is_observable) is) t in
+    let observable : IsTrue first.is_observable → IsTrue now.is_observable =
+    λ t. observable_on first.is_observable now.is_observable (ap (λ d. d.is_observable) is) t in
     let keeps : IsTrue first.keeps_pieces → IsTrue now.keeps_pieces =
-    λ k. tells_on first.keeps_pieces now.keeps_pieces (ap (λ d. d.keeps_pieces) is) k in record {
+    λ k. observable_on first.keeps_pieces now.keeps_pieces (ap (λ d. d.keeps_pieces) is) k in record {
       left = went.left;
       connection = went.connection;
       door =
@@ -90,10 +95,10 @@ left_next stock first now after clock clock_now some is closes =
       clock = went.clock;
       unanswered = went.unanswered;
       next = λ t. next_of first (some t);
-      byte = λ t none. went.byte (tells t) (ap concat (taken_rest first now (next_of first (some t)) t is) ∙ none);
+      byte = λ t none. went.byte (observable t) (ap concat (taken_rest first now (next_of first (some t)) t is) ∙ none);
       needed = λ t k.
           subst (λ (ps : List (List ℕ)). IsReadAsNeeded ps went.left) (taken_rest first now (next_of first (some t)) t is)
-          (went.needed (tells t) (keeps k));
+          (went.needed (observable t) (keeps k));
     }
 
 with_all : DoorState → Doorway → ℕ → Traffic → DoorState
@@ -126,10 +131,10 @@ clock_asked (Some minute) before now after given asked so_far is =
     (given ++ minute ∷ [], counted asked, is ∙ ap (clock_after (Ok minute)) so_far)
 clock_asked None before now after given asked so_far is = (given, asked, is ∙ so_far)
 
-pub kept_on : (stock : Stock) (before now after : Exchange) → IsKept false false before now → ServedNext stock now after
+pub kept_on : (served_data : ServedData) (before now after : Exchange) → IsKept false false before now → ServedNext served_data now after
     → IsKept false false before after
 unfolding with_counts
-kept_on stock before now after kept step =
+kept_on served_data before now after kept step =
     let clock = clock_asked step.talk.minute before.clock now.clock after.clock kept.given kept.asked kept.clock step.clock in record {
       is_observable = ap (λ d. d.is_observable) step.door ∙ kept.is_observable;
       pieces = ap (λ d. d.keeps_pieces) step.door ∙ kept.pieces;
@@ -172,16 +177,16 @@ kept_over before now after kept step = record {
   clock = step.1 ∙ kept.clock;
 }
 
-pub kept_by : (stock : Stock) (outage : Outage) (before now after : Exchange) → IsKept false false before now
-    → StepBy (Err outage) stock now after → IsKept (is_door outage) (is_clock outage) before after
-kept_by stock outages.Door before now after kept step = kept_failed before now after kept step
-kept_by stock outages.Clock before now after kept step = kept_left before now after kept step
+pub kept_by : (served_data : ServedData) (outage : Outage) (before now after : Exchange) → IsKept false false before now
+    → StepBy (Err outage) served_data now after → IsKept (is_door outage) (is_clock outage) before after
+kept_by served_data outages.Door before now after kept step = kept_failed before now after kept step
+kept_by served_data outages.Clock before now after kept step = kept_left before now after kept step
 
 -- ---- Several steps
 
-pub none_served : (stock : Stock) (before : Exchange) → WereServed stock 0 before before
+pub none_served : (served_data : ServedData) (before : Exchange) → WereServed served_data 0 before before
 unfolding clock_after_all AreHeld
-none_served stock before = record {
+none_served served_data before = record {
   served = [];
   requests = refl;
   replies = sym (append-nil before.door.traffic.replies);
@@ -220,23 +225,23 @@ unfolding clock_after_all
 all_on [] c clock = refl
 all_on (first ∷ more) c clock = all_on more c (clock_with first.is_asked clock)
 
-held_on : (stock : Stock) (served : List Conversation) (c : Conversation) (clock : ClockState) → AreHeld stock clock served
-    → IsHeld stock (next_minute (clock_after_all served clock)) c → AreHeld stock clock (served ++ c ∷ [])
+held_on : (served_data : ServedData) (served : List Conversation) (c : Conversation) (clock : ClockState) → AreHeld served_data clock served
+    → IsHeld served_data (next_minute (clock_after_all served clock)) c → AreHeld served_data clock (served ++ c ∷ [])
 unfolding clock_after_all AreHeld
-held_on stock [] c clock so_far last = (last, tt)
-held_on stock (first ∷ more) c clock so_far last =
-    (so_far.0, held_on stock more c (clock_with first.is_asked clock) so_far.1 last)
+held_on served_data [] c clock so_far last = (last, tt)
+held_on served_data (first ∷ more) c clock so_far last =
+    (so_far.0, held_on served_data more c (clock_with first.is_asked clock) so_far.1 last)
 
 taken_traffic : Talk → Traffic → Traffic
 taken_traffic talk t =
     record { waiting = drop 1 t.waiting; rest = talk.left; replies = append_to_last (t.replies ++ [] ∷ []) talk.reply }
 
-traffic_by : (tells : Bool) (talk : Talk) (t : Traffic) → IsTrue tells
-    → (if tells then record {
-      waiting = (if tells then taken_by (Ok true) t else t).waiting;
+traffic_by : (observable : Bool) (talk : Talk) (t : Traffic) → IsTrue observable
+    → (if observable then record {
+      waiting = (if observable then taken_by (Ok true) t else t).waiting;
       rest = talk.left;
-      replies = append_to_last (if tells then taken_by (Ok true) t else t).replies talk.reply;
-    } else (if tells then taken_by (Ok true) t else t))
+      replies = append_to_last (if observable then taken_by (Ok true) t else t).replies talk.reply;
+    } else (if observable then taken_by (Ok true) t else t))
     ≡ taken_traffic talk t
 unfolding taken_traffic
 traffic_by true talk t is = refl
@@ -246,16 +251,18 @@ traffic_with : (talk : Talk) (before after : DoorState) → IsTrue before.is_obs
     → after.traffic ≡ taken_traffic talk before.traffic
 traffic_with talk before after t is = ap (λ d. d.traffic) is ∙ traffic_by before.is_observable talk before.traffic t
 
-pub more_served : (stock : Stock) (count : ℕ) (before now after : Exchange) → IsTrue before.door.is_observable → IsTrue before.clock.is_observable
-    → IsKept false false before now → WereServed stock count before now → ServedNext stock now after
-    → WereServed stock (count + 1) before after
+pub more_served : (served_data : ServedData) (count : ℕ) (before now after : Exchange)
+    → IsTrue before.door.is_observable → IsTrue before.clock.is_observable
+    → IsKept false false before now → WereServed served_data count before now → ServedNext served_data now after
+    → WereServed served_data (count + 1) before after
 unfolding taken_traffic
-more_served stock count before now after t k kept so_far step =
-    let tells : IsTrue now.door.is_observable = tells_on before.door.is_observable now.door.is_observable kept.is_observable t in
-    let clock_tells : IsTrue now.clock.is_observable = tells_on before.clock.is_observable now.clock.is_observable (ap (λ c. c.is_observable) kept.clock) k in
-    let next = step.next tells in
+more_served served_data count before now after t k kept so_far step =
+    let observable : IsTrue now.door.is_observable = observable_on before.door.is_observable now.door.is_observable kept.is_observable t in
+    let clock_observable : IsTrue now.clock.is_observable =
+    observable_on before.clock.is_observable now.clock.is_observable (ap (λ c. c.is_observable) kept.clock) k in
+    let next = step.next observable in
     let c = conversation next.request step.talk in
-    let traffic = traffic_with step.talk now.door after.door tells step.door in
+    let traffic = traffic_with step.talk now.door after.door observable step.door in
     let left : after.door.traffic.waiting ≡ next.more = ap (λ s. s.waiting) traffic ∙ ap (λ w. drop 1 w) next.waiting in record {
       served = so_far.served ++ c ∷ [];
       requests =
@@ -271,12 +278,12 @@ more_served stock count before now after t k kept so_far step =
           ∙ ap (λ rs. before.door.traffic.replies ++ rs) (sym (map-append (λ c. c.reply) so_far.served (c ∷ [])));
       counted = grind (arith, common_steps, so_far.counted);
       held =
-          held_on stock so_far.served c before.clock so_far.held
-          (subst (λ (clock : ClockState). IsHeld stock (next_minute clock) c) so_far.clock (step.held tells clock_tells));
+          held_on served_data so_far.served c before.clock so_far.held
+          (subst (λ (clock : ClockState). IsHeld served_data (next_minute clock) c) so_far.clock (step.held observable clock_observable));
       read = λ keeps.
-          let still : IsTrue now.door.keeps_pieces = tells_on before.door.keeps_pieces now.door.keeps_pieces kept.pieces keeps in
+          let still : IsTrue now.door.keeps_pieces = observable_on before.door.keeps_pieces now.door.keeps_pieces kept.pieces keeps in
           let needed : IsReadAsNeeded next.request after.door.traffic.rest =
-          subst (λ (ps : List (List ℕ)). IsReadAsNeeded next.request ps) (sym (ap (λ s. s.rest) traffic)) (step.needed tells still) in
+          subst (λ (ps : List (List ℕ)). IsReadAsNeeded next.request ps) (sym (ap (λ s. s.rest) traffic)) (step.needed observable still) in
           subst (λ (rs : List (List (List ℕ))). IsLastReadAsNeeded rs after.door.traffic.rest)
           (sym (map-append (λ c. c.request) so_far.served (c ∷ [])))
           (last_read (map (λ c. c.request) so_far.served) next.request after.door.traffic.rest needed);
@@ -286,7 +293,7 @@ more_served stock count before now after t k kept so_far step =
           step.talk.is_cut so_far.cut (ap (λ d. d.line_faults) step.door));
       clock =
           step.clock
-          ∙ given_next step.talk.minute now.clock (step.minute clock_tells)
+          ∙ given_next step.talk.minute now.clock (step.minute clock_observable)
           ∙ ap (clock_with (is_some step.talk.minute)) so_far.clock
           ∙ sym (all_on so_far.served c before.clock);
     }
@@ -300,10 +307,11 @@ none_left : (has_failed : Bool) → MayLeave has_failed []
 none_left false = refl
 none_left true = omega arith
 
-pub ended : (stock : Stock) (has_failed : Bool) (count : ℕ) (before now after : Exchange) → WereServed stock count before now
+pub ended : (served_data : ServedData) (has_failed : Bool) (count : ℕ) (before now after : Exchange)
+    → WereServed served_data count before now
     → after.door.traffic ≡ now.door.traffic → after.door.line_faults ≡ now.door.line_faults → after.clock ≡ now.clock
-    → after.door.doorway.taken ≡ count → Served stock has_failed before after
-ended stock has_failed count before now after so_far traffic lines clock all = record {
+    → after.door.doorway.taken ≡ count → Served served_data has_failed before after
+ended served_data has_failed count before now after so_far traffic lines clock all = record {
   served = so_far.served;
   left = [];
   requests =
@@ -323,14 +331,16 @@ ended stock has_failed count before now after so_far traffic lines clock all = r
   bytes = All-nil HasByte;
 }
 
-broken : (stock : Stock) (count : ℕ) (before now after : Exchange) → IsTrue before.door.is_observable → IsKept false false before now
-    → WereServed stock count before now → LeftNext now after → after.door.doorway.taken ≡ count + 1 → Served stock true before after
+broken : (served_data : ServedData) (count : ℕ) (before now after : Exchange) → IsTrue before.door.is_observable
+    → IsKept false false before now
+    → WereServed served_data count before now → LeftNext now after → after.door.doorway.taken ≡ count + 1
+    → Served served_data true before after
 unfolding taken_traffic
-broken stock count before now after t kept so_far step all =
-    let tells : IsTrue now.door.is_observable = tells_on before.door.is_observable now.door.is_observable kept.is_observable t in
-    let next = step.next tells in
+broken served_data count before now after t kept so_far step all =
+    let observable : IsTrue now.door.is_observable = observable_on before.door.is_observable now.door.is_observable kept.is_observable t in
+    let next = step.next observable in
     let talk : Talk = talk_of step.left [] false None step.connection in
-    let traffic = traffic_with talk now.door after.door tells step.door in
+    let traffic = traffic_with talk now.door after.door observable step.door in
     let left : after.door.traffic.waiting ≡ next.more = ap (λ s. s.waiting) traffic ∙ ap (λ w. drop 1 w) next.waiting in record {
       served = so_far.served;
       left = next.request ∷ [];
@@ -343,16 +353,16 @@ broken stock count before now after t kept so_far step all =
       counted = omega (arith, all, so_far.counted);
       held = so_far.held;
       read = λ keeps.
-          let still : IsTrue now.door.keeps_pieces = tells_on before.door.keeps_pieces now.door.keeps_pieces kept.pieces keeps in
+          let still : IsTrue now.door.keeps_pieces = observable_on before.door.keeps_pieces now.door.keeps_pieces kept.pieces keeps in
           let needed : IsReadAsNeeded next.request after.door.traffic.rest =
-          subst (λ (ps : List (List ℕ)). IsReadAsNeeded next.request ps) (sym (ap (λ s. s.rest) traffic)) (step.needed tells still) in
+          subst (λ (ps : List (List ℕ)). IsReadAsNeeded next.request ps) (sym (ap (λ s. s.rest) traffic)) (step.needed observable still) in
           last_read (map (λ c. c.request) so_far.served) next.request after.door.traffic.rest needed;
       cut =
           subst (λ (n : ℕ). RoseBy (count_by (λ c. c.is_cut) so_far.served) before.door.line_faults n)
           (sym (ap (λ d. d.line_faults) step.door)) so_far.cut;
       clock = step.clock ∙ ap clock_failed so_far.clock;
       last = omega arith;
-      bytes = All-push HasByte [] next.request (All-nil HasByte) (step.byte tells);
+      bytes = All-push HasByte [] next.request (All-nil HasByte) (step.byte observable);
     }
 
 counted_by : (last : Bool) (count : ℕ) → (count == 2 ^ 64 - 1) ≡ last → count < 2 ^ 64 - 1 → counted count ≡ count + 1
@@ -366,28 +376,29 @@ pub next_serving : (port count : ℕ) (after : Doorway) → count < 2 ^ 64 - 1 �
     → after ≡ serving port (count + 1)
 next_serving port count after few is = is ∙ ap (serving port) (counted_on count few)
 
-pub failed : (stock : Stock) (outage : Outage) (count : ℕ) (before now after : Exchange) → IsTrue before.door.is_observable → count < 2 ^ 64 - 1
-    → now.door.doorway.taken ≡ count → IsKept false false before now → WereServed stock count before now
-    → StepBy (Err outage) stock now after → Served stock true before after
-failed stock outages.Door count before now after t few taken kept so_far step =
-    ended stock true count before now after so_far (ap (λ d. d.traffic) step.0) (ap (λ d. d.line_faults) step.0) step.1
+pub failed : (served_data : ServedData) (outage : Outage) (count : ℕ) (before now after : Exchange)
+    → IsTrue before.door.is_observable → count < 2 ^ 64 - 1
+    → now.door.doorway.taken ≡ count → IsKept false false before now → WereServed served_data count before now
+    → StepBy (Err outage) served_data now after → Served served_data true before after
+failed served_data outages.Door count before now after t few taken kept so_far step =
+    ended served_data true count before now after so_far (ap (λ d. d.traffic) step.0) (ap (λ d. d.line_faults) step.0) step.1
     (ap (λ d. d.doorway.taken) step.0 ∙ taken)
-failed stock outages.Clock count before now after t few taken kept so_far step =
-    broken stock count before now after t kept so_far step
+failed served_data outages.Clock count before now after t few taken kept so_far step =
+    broken served_data count before now after t kept so_far step
     (ap (λ d. d.doorway.taken) step.door ∙ ap counted taken ∙ counted_on count few)
 
 -- no connection was served
-pub nobody : (stock : Stock) (has_failed : Bool) (before after : Exchange) → after.door.traffic ≡ before.door.traffic
+pub nobody : (served_data : ServedData) (has_failed : Bool) (before after : Exchange) → after.door.traffic ≡ before.door.traffic
     → after.door.line_faults ≡ before.door.line_faults → after.clock ≡ before.clock → after.door.doorway.taken ≡ 0
-    → Served stock has_failed before after
-nobody stock has_failed before after traffic lines clock none =
-    ended stock has_failed 0 before before after (none_served stock before) traffic lines clock none
+    → Served served_data has_failed before after
+nobody served_data has_failed before after traffic lines clock none =
+    ended served_data has_failed 0 before before after (none_served served_data before) traffic lines clock none
 
 -- ---- The connections
 
-pub none_passed : (stock : Stock) (before : Exchange) → HavePassed stock before before
+pub none_passed : (served_data : ServedData) (before : Exchange) → HavePassed served_data before before
 unfolding AreServed
-none_passed stock before = record {
+none_passed served_data before = record {
   over = [];
   minutes = [];
   connections = sym (append-nil (connections_of before.door.connections));
@@ -396,22 +407,23 @@ none_passed stock before = record {
   served = refl;
 }
 
-served_on : (stock : Stock) (over : List Connection) (minutes : List ℤ) (c : Connection) (minute : Option ℤ) → AreServed stock over minutes
-    → IsServed stock c minute → AreServed stock (over ++ c ∷ []) (minutes ++ listed minute)
+served_on : (served_data : ServedData) (over : List Connection) (minutes : List ℤ) (c : Connection) (minute : Option ℤ)
+    → AreServed served_data over minutes
+    → IsServed served_data c minute → AreServed served_data (over ++ c ∷ []) (minutes ++ listed minute)
 unfolding AreServed
-served_on stock [] minutes c minute so_far last = (
+served_on served_data [] minutes c minute so_far last = (
   minute,
   [],
   ap (λ ms. ms ++ listed minute) so_far ∙ sym (append-nil (listed minute)),
   last,
   refl,
 )
-served_on stock (first ∷ more) minutes c minute so_far last = (
+served_on served_data (first ∷ more) minutes c minute so_far last = (
   so_far.0,
   so_far.1 ++ listed minute,
   ap (λ ms. ms ++ listed minute) so_far.2 ∙ append_assoc (listed so_far.0) so_far.1 (listed minute),
   so_far.3,
-  served_on stock more so_far.1 c minute so_far.4 last,
+  served_on served_data more so_far.1 c minute so_far.4 last,
 )
 
 given_on : (minute : Option ℤ) (clock : ClockState) → (clock_given minute clock).given ≡ clock.given ++ listed minute
@@ -423,9 +435,10 @@ faults_on None clock = refl
 faults_on (Some minute) clock = refl
 
 -- the connections after one more
-pub passed_on : (stock : Stock) (before now after : Exchange) → HavePassed stock before now → ServedNext stock now after
-    → HavePassed stock before after
-passed_on stock before now after so_far step =
+pub passed_on : (served_data : ServedData) (before now after : Exchange) → HavePassed served_data before now
+    → ServedNext served_data now after
+    → HavePassed served_data before after
+passed_on served_data before now after so_far step =
     let c = step.talk.connection in
     let minute = step.talk.minute in record {
       over = so_far.over ++ c ∷ [];
@@ -440,13 +453,13 @@ passed_on stock before now after so_far step =
           ∙ ap (λ ms. ms ++ listed minute) so_far.given
           ∙ append_assoc before.clock.given so_far.minutes (listed minute);
       faults = ap (λ clock. clock.faults) step.clock ∙ faults_on minute now.clock ∙ so_far.faults;
-      served = served_on stock so_far.over so_far.minutes c minute so_far.served step.served;
+      served = served_on served_data so_far.over so_far.minutes c minute so_far.served step.served;
     }
 
 -- the connections, if port and clock are unchanged
-pub all_passed : (stock : Stock) (has_failed : Bool) (before now after : Exchange) → HavePassed stock before now
-    → after.door.connections ≡ now.door.connections → after.clock ≡ now.clock → HasServed stock has_failed before after
-all_passed stock has_failed before now after so_far door clock = record {
+pub all_passed : (served_data : ServedData) (has_failed : Bool) (before now after : Exchange) → HavePassed served_data before now
+    → after.door.connections ≡ now.door.connections → after.clock ≡ now.clock → HasServed served_data has_failed before after
+all_passed served_data has_failed before now after so_far door clock = record {
   over = so_far.over;
   left = None;
   minutes = so_far.minutes;
@@ -459,9 +472,9 @@ all_passed stock has_failed before now after so_far door clock = record {
   ends = λ is. absurd (cc);
 }
 
-left_passed : (stock : Stock) (before now after : Exchange) → HavePassed stock before now → LeftNext now after
-    → HasServed stock true before after
-left_passed stock before now after so_far step = record {
+left_passed : (served_data : ServedData) (before now after : Exchange) → HavePassed served_data before now → LeftNext now after
+    → HasServed served_data true before after
+left_passed served_data before now after so_far step = record {
   over = so_far.over;
   left = Some step.connection;
   minutes = so_far.minutes;
@@ -474,11 +487,11 @@ left_passed stock before now after so_far step = record {
   ends = λ is. refl;
 }
 
-pub failed_passed : (stock : Stock) (outage : Outage) (before now after : Exchange) → HavePassed stock before now
-    → StepBy (Err outage) stock now after → HasServed stock true before after
-failed_passed stock outages.Door before now after so_far step =
-    all_passed stock true before now after so_far (ap (λ d. d.connections) step.0) step.1
-failed_passed stock outages.Clock before now after so_far step = left_passed stock before now after so_far step
+pub failed_passed : (served_data : ServedData) (outage : Outage) (before now after : Exchange) → HavePassed served_data before now
+    → StepBy (Err outage) served_data now after → HasServed served_data true before after
+failed_passed served_data outages.Door before now after so_far step =
+    all_passed served_data true before now after so_far (ap (λ d. d.connections) step.0) step.1
+failed_passed served_data outages.Clock before now after so_far step = left_passed served_data before now after so_far step
 
 pub taken_fresh : (first now : DoorState) → now ≡ door_after_next (Ok true) first → now.connections.latest ≡ Some just_taken
 taken_fresh first now is = ap (λ d. d.connections.latest) is

@@ -6,9 +6,9 @@ use Rattle.named_files.specs.NoAnswers.{status_of}
 use Rattle.tide_edge.specs.Faults.{Rose}
 use Rattle.tide_fault.specs.declared.status.Status.{Status}
 use Rattle.tide_fault.specs.declared.status.Status.TheVariants.{Done, NoMemory}
-use Rattle.tide_server.specs.declared.stock.Stock.{Stock}
+use Rattle.tide_server.specs.declared.served_data.ServedData.{ServedData}
 use Rattle.tide_server.specs.Conversations.{HasServed}
-use Rattle.tide_server.specs.Openings.{stock_of}
+use Rattle.tide_server.specs.Openings.{served_data_of}
 use Rattle.tide_server.specs.Promises.{ServesAs, ServiceStates, Services}
 use Rattle.tide_server.specs.Serving.{IsOver, exchange}
 
@@ -22,12 +22,13 @@ pub record NothingFailed {F D E K : Type 0} (s : ServiceStates F D E K) (before 
 
 -- the server is done: it has listened at its port until no more connections came or the most were accepted,
 -- and each has a reply
-pub record ServedAll {F D E K : Type 0} (s : ServiceStates F D E K) (stock : Stock) (status : Status) (before after : Services F D E K)
+pub record ServedAll {F D E K : Type 0} (s : ServiceStates F D E K) (served_data : ServedData) (status : Status)
+    (before after : Services F D E K)
     : Type 0 where
   pub ends : status ≡ Done
-  pub port : (s.door after.door).doorway.port ≡ Some stock.port
+  pub port : (s.door after.door).doorway.port ≡ Some served_data.port
   pub over : IsOver (s.door after.door).doorway
-  pub passed : HasServed stock false (exchange (s.door before.door) (s.clock before.clock))
+  pub passed : HasServed served_data false (exchange (s.door before.door) (s.clock before.clock))
       (exchange (s.door after.door) (s.clock after.clock))
 
 -- the server ends with this status before it listens: port and clock are unchanged
@@ -37,9 +38,9 @@ pub record EndedBefore {F D E K : Type 0} (status is : Status) (before after : S
   pub clock : after.clock ≡ before.clock
 
 -- the server serves the expected data, or is refused with the status of the reason for which there is none
-abbrev pub EndsBy : {F D E K : Type 0} → ServiceStates F D E K → Result Stock NoAnswer → Status → Services F D E K → Services F D E K
+abbrev pub EndsBy : {F D E K : Type 0} → ServiceStates F D E K → Result ServedData NoAnswer → Status → Services F D E K → Services F D E K
     → Type 0
-EndsBy s (Ok stock) status before after = ServedAll s stock status before after
+EndsBy s (Ok served_data) status before after = ServedAll s served_data status before after
 EndsBy s (Err why) status before after = EndedBefore status (status_of why) before after
 
 -- A server that returns, over steady files and with a clock and a port that don't fail, ends by the data
@@ -48,4 +49,4 @@ EndsBy s (Err why) status before after = EndedBefore status (status_of why) befo
 abbrev pub IsComplete : {F D E K : Type 0} → ServiceStates F D E K → Type 0
 IsComplete {F} {D} {E} {K} s = (words : List (List ℕ)) (status : Status) (before after : Services F D E K) →
     (s.door before.door).doorway.port ≡ None → ServesAs s words status before after → NothingFailed s before after →
-    EndsBy s (stock_of (s.files before.files).store.folder words) status before after ⊎ EndedBefore status NoMemory before after
+    EndsBy s (served_data_of (s.files before.files).store.folder words) status before after ⊎ EndedBefore status NoMemory before after

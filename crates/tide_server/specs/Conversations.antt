@@ -1,11 +1,34 @@
 -- The bytes of each connection of a server: those that were read, the reply to them, and the minute of the
 -- reply (this project).
-use Rattle.std.specs.Prelude.{◌≡◌, ◌⊎◌, ◌≤◌, ◌+◌, ◌&&◌, not, ℕ, ℤ, Bool, true, false, IsTrue, List, [], ◌∷◌, ◌++◌, length, take, Option, Some, None, is_some}
+use Rattle.std.specs.Prelude.{
+  ◌≡◌,
+  ◌⊎◌,
+  ◌≤◌,
+  ◌+◌,
+  ◌&&◌,
+  not,
+  ℕ,
+  ℤ,
+  Bool,
+  true,
+  false,
+  IsTrue,
+  List,
+  [],
+  ◌∷◌,
+  ◌++◌,
+  length,
+  take,
+  Option,
+  Some,
+  None,
+  is_some,
+}
 use Rattle.tide_edge.specs.Doors.{Connection, connections_of}
 use Rattle.tide_edge.specs.Faults.{faults_after}
 use Rattle.tide_edge.specs.FileStates.{listed}
 use Rattle.tide_edge.specs.declared.piece.TheConstants.{PIECE}
-use Rattle.tide_server.specs.declared.stock.Stock.{Stock}
+use Rattle.tide_server.specs.declared.served_data.ServedData.{ServedData}
 use Rattle.tide_server.specs.Serving.{Answers, Exchange, IsEnough, has_byte}
 
 -- ---- One connection
@@ -34,15 +57,15 @@ pub record IsUnanswered (c : Connection) : Type 0 where
 
 -- a connection was answered at the minute that the clock returned for it; nothing was sent if the clock
 -- wasn't read
-abbrev pub IsAnswered : Stock → Connection → Option ℤ → Type 0
-IsAnswered stock c None = IsUnanswered c
-IsAnswered stock c (Some minute) = IsSent c.write_failed (Answers stock minute c.came) c.sent
+abbrev pub IsAnswered : ServedData → Connection → Option ℤ → Type 0
+IsAnswered served_data c None = IsUnanswered c
+IsAnswered served_data c (Some minute) = IsSent c.write_failed (Answers served_data minute c.came) c.sent
 
 -- a connection was read and answered
-pub record IsServed (stock : Stock) (c : Connection) (minute : Option ℤ) : Type 0 where
+pub record IsServed (served_data : ServedData) (c : Connection) (minute : Option ℤ) : Type 0 where
   pub read : IsReadEnough c
   pub asked : is_some minute ≡ reads_clock c
-  pub answered : IsAnswered stock c minute
+  pub answered : IsAnswered served_data c minute
 
 -- a connection for which the clock failed, and to which nothing was sent
 pub record IsLeft (c : Connection) : Type 0 where
@@ -53,10 +76,11 @@ pub record IsLeft (c : Connection) : Type 0 where
 -- ---- One after the other
 
 -- the connections were served in this order, at these minutes
-unfoldable pub AreServed : Stock → List Connection → List ℤ → Type 0
-AreServed stock [] minutes = minutes ≡ []
-AreServed stock (c ∷ more) minutes =
-    (minute : Option ℤ) × (later : List ℤ) × (minutes ≡ listed minute ++ later) × IsServed stock c minute × AreServed stock more later
+unfoldable pub AreServed : ServedData → List Connection → List ℤ → Type 0
+AreServed served_data [] minutes = minutes ≡ []
+AreServed served_data (c ∷ more) minutes =
+    (minute : Option ℤ) × (later : List ℤ) × (minutes ≡ listed minute ++ later) × IsServed served_data c minute
+    × AreServed served_data more later
 
 -- the connection for which the clock failed, if it did
 abbrev pub IsLast : Option Connection → Type 0
@@ -65,13 +89,13 @@ IsLast (Some c) = IsLeft c
 
 -- The connections of a port and the readings of a clock: the clock was read for nothing else, and failed
 -- exactly for the connection that was left without a reply, which is the last one.
-pub record HasServed (stock : Stock) (has_failed : Bool) (before after : Exchange) : Type 0 where
+pub record HasServed (served_data : ServedData) (has_failed : Bool) (before after : Exchange) : Type 0 where
   pub over : List Connection
   pub left : Option Connection
   pub minutes : List ℤ
   pub connections : connections_of after.door.connections ≡ connections_of before.door.connections ++ over ++ listed left
   pub given : after.clock.given ≡ before.clock.given ++ minutes
   pub clock_faults : after.clock.faults ≡ faults_after (is_some left) before.clock.faults
-  pub served : AreServed stock over minutes
+  pub served : AreServed served_data over minutes
   pub last : IsLast left
   pub ends : IsTrue (is_some left) → IsTrue has_failed

@@ -3,8 +3,8 @@ use Rattle.std.specs.Prelude.{◌≡◌, ◌⊎◌, ◌<◌, ◌-◌, ◌^◌, �
 use Rattle.std.specs.List.{concat}
 use Rattle.tide_edge.specs.Faults.{faults_after}
 use Rattle.tide_edge.specs.Memory.{HeldClock, HeldDoor, HeldFiles, HeldSink, clock_state, door_state, files_state, sink_state}
-use Rattle.tide_server.specs.declared.stock.Stock.{Stock}
-use Rattle.tide_server.specs.Openings.{Handed}
+use Rattle.tide_server.specs.declared.served_data.ServedData.{ServedData}
+use Rattle.tide_server.specs.Openings.{ServerStates}
 use Rattle.tide_server.specs.Serving.{Answers, MayLeave, RoseBy}
 
 -- the objects of a server in memory
@@ -15,8 +15,8 @@ pub record InMemory : Type 0 where
   pub clock : HeldClock
 
 -- the states of the objects of a server in memory
-abbrev pub handed_in : InMemory → Handed
-handed_in held = record {
+abbrev pub server_states_in : InMemory → ServerStates
+server_states_in held = record {
   files = files_state held.files;
   door = door_state held.door;
   err = sink_state held.err;
@@ -24,21 +24,21 @@ handed_in held = record {
 }
 
 -- each reply answers the bytes of its request
-abbrev pub AreAnswered : Stock → ℤ → List (List (List ℕ)) → List (List ℕ) → Type 0
-AreAnswered stock minute [] [] = Unit {0}
-AreAnswered stock minute [] (reply ∷ more) = ⊥
-AreAnswered stock minute (request ∷ requests) [] = ⊥
-AreAnswered stock minute (request ∷ requests) (reply ∷ more) =
-    Answers stock minute (concat request) reply × AreAnswered stock minute requests more
+abbrev pub AreAnswered : ServedData → ℤ → List (List (List ℕ)) → List (List ℕ) → Type 0
+AreAnswered served_data minute [] [] = Unit {0}
+AreAnswered served_data minute [] (reply ∷ more) = ⊥
+AreAnswered served_data minute (request ∷ requests) [] = ⊥
+AreAnswered served_data minute (request ∷ requests) (reply ∷ more) =
+    Answers served_data minute (concat request) reply × AreAnswered served_data minute requests more
 
 -- each reply answers the bytes of its request, except `failed` of them or fewer
-abbrev pub AreAnsweredBut : ℕ → Stock → ℤ → List (List (List ℕ)) → List (List ℕ) → Type 0
-AreAnsweredBut failed stock minute [] [] = Unit {0}
-AreAnsweredBut failed stock minute [] (reply ∷ more) = ⊥
-AreAnsweredBut failed stock minute (request ∷ requests) [] = ⊥
-AreAnsweredBut failed stock minute (request ∷ requests) (reply ∷ more) =
-    (Answers stock minute (concat request) reply × AreAnsweredBut failed stock minute requests more)
-    ⊎ ((fewer : ℕ) × (failed ≡ suc fewer) × AreAnsweredBut fewer stock minute requests more)
+abbrev pub AreAnsweredBut : ℕ → ServedData → ℤ → List (List (List ℕ)) → List (List ℕ) → Type 0
+AreAnsweredBut failed served_data minute [] [] = Unit {0}
+AreAnsweredBut failed served_data minute [] (reply ∷ more) = ⊥
+AreAnsweredBut failed served_data minute (request ∷ requests) [] = ⊥
+AreAnsweredBut failed served_data minute (request ∷ requests) (reply ∷ more) =
+    (Answers served_data minute (concat request) reply × AreAnsweredBut failed served_data minute requests more)
+    ⊎ ((fewer : ℕ) × (failed ≡ suc fewer) × AreAnsweredBut fewer served_data minute requests more)
 
 -- a connection was left without a reply
 abbrev pub is_left : List (List (List ℕ)) → Bool
@@ -49,7 +49,7 @@ is_left (request ∷ more) = true
 -- the clock the last one accepted was left: it has a byte, and its reply is empty. Unless a read or write
 -- has failed, each reply answers its request. Those that don't are at most as many as the count of such
 -- faults rose by, unless this count is saturated.
-pub record HasAnswered (stock : Stock) (has_failed : Bool) (before after : InMemory) : Type 0 where
+pub record HasAnswered (served_data : ServedData) (has_failed : Bool) (before after : InMemory) : Type 0 where
   pub requests : List (List (List ℕ))
   pub replies : List (List ℕ)
   pub left : List (List (List ℕ))
@@ -57,9 +57,9 @@ pub record HasAnswered (stock : Stock) (has_failed : Bool) (before after : InMem
   pub given : after.door.replies ≡ before.door.replies ++ replies ++ map (λ request. []) left
   pub each : length replies ≡ length requests
   pub answered : after.door.line_faults ≡ before.door.line_faults → before.door.line_faults < 2 ^ 64 - 1
-      → AreAnswered stock before.clock.minute requests replies
+      → AreAnswered served_data before.clock.minute requests replies
   pub unanswered : (failed : ℕ) × RoseBy failed before.door.line_faults after.door.line_faults
-      × AreAnsweredBut failed stock before.clock.minute requests replies
+      × AreAnsweredBut failed served_data before.clock.minute requests replies
   pub last : MayLeave has_failed left
   pub bytes : All (λ request. ¬ (concat request ≡ [])) left
   pub clock : after.clock.calls.faults ≡ faults_after (is_left left) before.clock.calls.faults

@@ -1,5 +1,28 @@
 -- The data that a server serves, and its end (this project).
-use Rattle.std.specs.Prelude.{◌≡◌, ◌⊎◌, ℕ, ℤ, Bool, false, IsTrue, not, if◌then◌else◌, List, [], ◌∷◌, ◌++◌, codes, count_by, decimal, Option, Some, None, Result, Ok, Err}
+use Rattle.std.specs.Prelude.{
+  ◌≡◌,
+  ◌⊎◌,
+  ℕ,
+  ℤ,
+  Bool,
+  false,
+  IsTrue,
+  not,
+  if◌then◌else◌,
+  List,
+  [],
+  ◌∷◌,
+  ◌++◌,
+  codes,
+  count_by,
+  decimal,
+  Option,
+  Some,
+  None,
+  Result,
+  Ok,
+  Err,
+}
 use Rattle.std.specs.Option.{option_map_or}
 use Rattle.std.specs.Str.{bytes_eq}
 use Rattle.decimal_text.specs.Expected.{◌>>=◌}
@@ -23,10 +46,10 @@ use Rattle.tide_edge.specs.FileStates.{FilesState, Folder}
 use Rattle.tide_edge.specs.SinkStates.{SinkState, Wrote, WroteBoth}
 use Rattle.tide_edge.specs.Whole.{Allowance, both, no_file}
 use Rattle.named_files.specs.declared.no_answer.NoAnswer.{NoAnswer}
-use Rattle.named_files.specs.declared.no_answer.NoAnswer.TheVariants.{Told}
-use Rattle.named_files.specs.NoAnswers.{told, status_of, line_of, source_of, is_read_fault}
+use Rattle.named_files.specs.declared.no_answer.NoAnswer.TheVariants.{Faulty}
+use Rattle.named_files.specs.NoAnswers.{faulty, status_of, line_of, source_of, is_read_fault}
 use Rattle.named_files.specs.Readings.{Folders, allowed_for, book_named, table_named}
-use Rattle.tide_server.specs.declared.stock.Stock.{Stock}
+use Rattle.tide_server.specs.declared.served_data.ServedData.{ServedData}
 use Rattle.tide_server.specs.Conversations.{HasServed}
 use Rattle.tide_server.specs.Serving.{Served, exchange}
 
@@ -52,26 +75,26 @@ service_of words = service_from (service_in (pairs_of words))
 -- ---- The files; the harmonics file has the name
 
 -- the data of a request
-unfoldable pub stock_named : Folders → Question → List ℕ → Result Stock NoAnswer
-stock_named folders question name = do
+unfoldable pub served_data_named : Folders → Question → List ℕ → Result ServedData NoAnswer
+served_data_named folders question name = do
   book ← book_named (folders slots.File) name
   table ← table_named (folders slots.Offsets) question.offsets
   Ok (record { book = book; table = table; port = question.port })
 
 -- the data of a request, which has to name a file
-abbrev pub stock_by : Folders → Question → Option (List ℕ) → Result Stock NoAnswer
-stock_by folders question None = Err (Told (Ask (MissingKey keys.File)))
-stock_by folders question (Some name) = stock_named folders question name
+abbrev pub served_data_by : Folders → Question → Option (List ℕ) → Result ServedData NoAnswer
+served_data_by folders question None = Err (Faulty (Ask (MissingKey keys.File)))
+served_data_by folders question (Some name) = served_data_named folders question name
 
 -- the data that the arguments name, for which each file is read from a folder of its own
-unfoldable pub stock_from : Folders → List (List ℕ) → Result Stock NoAnswer
-stock_from folders words = do
-  question ← told (service_of words)
-  stock_by folders question question.file
+unfoldable pub served_data_from : Folders → List (List ℕ) → Result ServedData NoAnswer
+served_data_from folders words = do
+  question ← faulty (service_of words)
+  served_data_by folders question question.file
 
 -- the data that the arguments name, over one folder
-abbrev pub stock_of : Folder → List (List ℕ) → Result Stock NoAnswer
-stock_of folder words = stock_from (λ slot. folder) words
+abbrev pub served_data_of : Folder → List (List ℕ) → Result ServedData NoAnswer
+served_data_of folder words = served_data_from (λ slot. folder) words
 
 -- the bytes that may be read of the files that the arguments name
 abbrev pub files_asked : Result Question Fault → Allowance
@@ -100,20 +123,20 @@ RefusesCommand status before after =
 -- ---- The end of a server
 
 -- the states of a server's objects
-pub record Handed : Type 0 where
+pub record ServerStates : Type 0 where
   pub files : FilesState
   pub door : DoorState
   pub err : SinkState
   pub clock : ClockState
 
 -- the states of a server's objects as one record
-abbrev pub handed : FilesState → DoorState → SinkState → ClockState → Handed
-handed files door err clock = record { files = files; door = door; err = err; clock = clock }
+abbrev pub server_states : FilesState → DoorState → SinkState → ClockState → ServerStates
+server_states files door err clock = record { files = files; door = door; err = err; clock = clock }
 
 -- No connection was served, since there is no data: `why` is the expected reason; out of memory says
 -- nothing, nor does a fault of reading if the files aren't steady. The port was not listened to, and the
 -- clock not read.
-pub record IsRefused (firm : Type 0) (expected : Result Stock NoAnswer) (status : Status) (before after : Handed) : Type 0 where
+pub record IsRefused (firm : Type 0) (expected : Result ServedData NoAnswer) (status : Status) (before after : ServerStates) : Type 0 where
   pub why : NoAnswer
   pub excused : Excuses (source_of why) firm expected why
   pub line : List ℕ
@@ -130,25 +153,26 @@ end_line _ = codes "read fault\n"
 -- The port was listened to, and connections were served until their end or a fault: the bytes of each, for
 -- any port and clock, and the requests that were answered, if port and clock are observable. The first line
 -- written is that of the port.
-pub record HasListened (stock : Stock) (status : Status) (before after : Handed) : Type 0 where
-  pub asked : after.door.doorway.port ≡ Some stock.port
+pub record HasListened (served_data : ServedData) (status : Status) (before after : ServerStates) : Type 0 where
+  pub asked : after.door.doorway.port ≡ Some served_data.port
   pub ends : (status ≡ Done) ⊎ (status ≡ ReadFault)
-  pub passed : HasServed stock (is_read_fault status) (exchange before.door before.clock) (exchange after.door after.clock)
+  pub passed : HasServed served_data (is_read_fault status) (exchange before.door before.clock) (exchange after.door after.clock)
   pub served : IsTrue before.door.is_observable → IsTrue before.clock.is_observable
-      → Served stock (is_read_fault status) (exchange before.door before.clock) (exchange after.door after.clock)
-  pub wrote : WroteBoth before.err after.err (notice_at stock.port after.door.doorway) (end_line status)
+      → Served served_data (is_read_fault status) (exchange before.door before.clock) (exchange after.door after.clock)
+  pub wrote : WroteBoth before.err after.err (notice_at served_data.port after.door.doorway) (end_line status)
 
 -- the server was refused, or has listened for the expected data
-abbrev pub EndsAs : Type 0 → Result Stock NoAnswer → Status → Handed → Handed → Type 0
+abbrev pub EndsAs : Type 0 → Result ServedData NoAnswer → Status → ServerStates → ServerStates → Type 0
 EndsAs firm expected status before after =
-    IsRefused firm expected status before after ⊎ ((stock : Stock) × (expected ≡ Ok stock) × HasListened stock status before after)
+    IsRefused firm expected status before after
+    ⊎ ((served_data : ServedData) × (expected ≡ Ok served_data) × HasListened served_data status before after)
 
 -- ---- The source of a fault of reading
 
 -- A server ends with a fault of reading exactly if the files, the clock or the port has failed, one of them
 -- and once: its count is one more, and the others are unchanged; the files only if the port wasn't listened
 -- to. Whether port and clock are observable is unchanged.
-pub record EndedBy (has_failed : Bool) (before after : Handed) : Type 0 where
+pub record EndedBy (has_failed : Bool) (before after : ServerStates) : Type 0 where
   pub files : Bool
   pub clock : Bool
   pub door : Bool
@@ -156,7 +180,7 @@ pub record EndedBy (has_failed : Bool) (before after : Handed) : Type 0 where
   pub files_count : after.files.faults ≡ faults_after files before.files.faults
   pub files_first : IsTrue files → after.door.doorway.port ≡ None
   pub door_count : after.door.faults ≡ faults_after door before.door.faults
-  pub door_tells : after.door.is_observable ≡ before.door.is_observable
+  pub door_observable : after.door.is_observable ≡ before.door.is_observable
   pub door_pieces : after.door.keeps_pieces ≡ before.door.keeps_pieces
   pub given : List ℤ
   pub asked : ℕ

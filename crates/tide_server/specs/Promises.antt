@@ -9,7 +9,18 @@ use Rattle.tide_edge.specs.SinkStates.{SinkState}
 use Rattle.tide_edge.specs.Whole.{ReadWithin}
 use Rattle.tide_fault.specs.declared.status.Status.{Status}
 use Rattle.tide_fault.specs.declared.status.Status.TheVariants.{Done}
-use Rattle.tide_server.specs.Openings.{EndedBy, EndsAs, Handed, RefusesCommand, TookNone, asks_another, files_asked, handed, service_of, stock_of}
+use Rattle.tide_server.specs.Openings.{
+  EndedBy,
+  EndsAs,
+  ServerStates,
+  RefusesCommand,
+  TookNone,
+  asks_another,
+  files_asked,
+  server_states,
+  service_of,
+  served_data_of,
+}
 use Rattle.tide_server.specs.Serving.{IsOver}
 use Rattle.tide_server.specs.Shown.{EndsAsShown}
 
@@ -32,12 +43,13 @@ pub record ServiceStates (F D E K : Type 0) : Type 0 where
   pub clock : K → ClockState
 
 -- the states of a server's objects as one record
-abbrev pub service_states : {F D E K : Type 0} → (F → FilesState) → (D → DoorState) → (E → SinkState) → (K → ClockState) → ServiceStates F D E K
+abbrev pub service_states : {F D E K : Type 0} → (F → FilesState) → (D → DoorState) → (E → SinkState) → (K → ClockState)
+    → ServiceStates F D E K
 service_states files door err clock = record { files = files; door = door; err = err; clock = clock }
 
 -- the states of a server's objects
-abbrev pub handed_of : {F D E K : Type 0} → ServiceStates F D E K → Services F D E K → Handed
-handed_of s o = handed (s.files o.files) (s.door o.door) (s.err o.err) (s.clock o.clock)
+abbrev pub server_states_of : {F D E K : Type 0} → ServiceStates F D E K → Services F D E K → ServerStates
+server_states_of s o = server_states (s.files o.files) (s.door o.door) (s.err o.err) (s.clock o.clock)
 
 -- The arguments were served. The fields:
 -- - `shown`: the server ends as by the data in the files that it opened, as far as their bytes were read;
@@ -47,15 +59,16 @@ handed_of s o = handed (s.files o.files) (s.door o.door) (s.err o.err) (s.clock 
 -- - `reads`, `reads_first`: the bytes that were read, all of them before the port was listened to.
 -- - All others: the cases in which the server is done, the source of a fault of reading, the cases in which
 --   files, port and clock are unchanged, and that no connection stays open.
-pub record ServesAs {F D E K : Type 0} (s : ServiceStates F D E K) (words : List (List ℕ)) (status : Status) (before after : Services F D E K)
+pub record ServesAs {F D E K : Type 0} (s : ServiceStates F D E K) (words : List (List ℕ)) (status : Status)
+    (before after : Services F D E K)
     : Type 0 where
-  pub shown : EndsAsShown words status (handed_of s before) (handed_of s after)
+  pub shown : EndsAsShown words status (server_states_of s before) (server_states_of s after)
   pub own_files : IsTrue (s.files before.files).store.is_observable
-      → EndsAs (IsTrue (s.files before.files).store.is_steady) (stock_of (s.files before.files).store.folder words) status
-      (handed_of s before) (handed_of s after)
+      → EndsAs (IsTrue (s.files before.files).store.is_steady) (served_data_of (s.files before.files).store.folder words) status
+      (server_states_of s before) (server_states_of s after)
   pub another : IsTrue (asks_another (pairs_of words)) → RefusesCommand status (s.err before.err) (s.err after.err)
   pub done : status ≡ Done → IsOver (s.door after.door).doorway
-  pub fault : EndedBy (is_read_fault status) (handed_of s before) (handed_of s after)
+  pub fault : EndedBy (is_read_fault status) (server_states_of s before) (server_states_of s after)
   pub reads : (failed : Bool) × ReadWithin (files_asked (service_of words)) failed (s.files before.files) (s.files after.files)
   pub reads_first : ¬ ((s.door after.door).doorway.port ≡ None) → (s.files after.files).faults ≡ (s.files before.files).faults
   pub unopened : ¬ (IsOk (service_of words)) → after.files ≡ before.files

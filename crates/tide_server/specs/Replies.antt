@@ -24,7 +24,7 @@ use Rattle.http_rows.specs.declared.code.Code.{Code}
 use Rattle.http_rows.specs.declared.code.Code.TheVariants as code
 use Rattle.tide_server.specs.Queries.{pairs_of}
 use Rattle.http_rows.specs.Responses.{response, rejection_of}
-use Rattle.http_rows.specs.Rows.{Row, rejects, asks, Asking, IsRow}
+use Rattle.http_rows.specs.Rows.{ReplyRow, rejects, asks, Asking, IsRow}
 
 -- a zone that is a file
 abbrev pub names_file : ZoneWord → Bool
@@ -65,10 +65,10 @@ unfoldable pub asking_reply : Book → List Offsets → ℤ → Asking → List 
 asking_reply book table minute asking = question_reply book table minute asking (question_of (pairs_of asking))
 
 -- the reply to a request by its row
-abbrev pub reply_of : Book → List Offsets → ℤ → Row → List ℕ
+abbrev pub reply_of : Book → List Offsets → ℤ → ReplyRow → List ℕ
 reply_of book table minute (rejects rejection bodiless) = rejection_of rejection bodiless
 reply_of book table minute (asks asking) = asking_reply book table minute asking
 
 -- the reply to the whole of a request
 abbrev pub IsReply : Book → List Offsets → ℤ → List ℕ → List ℕ → Type 0
-IsReply book table minute request reply = (row : Row) × IsRow request row × (reply ≡ reply_of book table minute row)
+IsReply book table minute request reply = (row : ReplyRow) × IsRow request row × (reply ≡ reply_of book table minute row)

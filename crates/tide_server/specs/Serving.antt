@@ -1,26 +1,51 @@
 -- The connections that were served, and their replies (this project).
-use Rattle.std.specs.Prelude.{◌≡◌, ◌⊎◌, ◌≤◌, ◌+◌, ◌-◌, ◌^◌, ℕ, ℤ, Bool, true, false, IsTrue, if◌then◌else◌, List, [], ◌∷◌, ◌++◌, length, map, take, All, count_by, None, Ok}
+use Rattle.std.specs.Prelude.{
+  ◌≡◌,
+  ◌⊎◌,
+  ◌≤◌,
+  ◌+◌,
+  ◌-◌,
+  ◌^◌,
+  ℕ,
+  ℤ,
+  Bool,
+  true,
+  false,
+  IsTrue,
+  if◌then◌else◌,
+  List,
+  [],
+  ◌∷◌,
+  ◌++◌,
+  length,
+  map,
+  take,
+  All,
+  count_by,
+  None,
+  Ok,
+}
 use Rattle.std.specs.List.{concat}
 use Rattle.tide_edge.specs.Clocks.{ClockState, clock_after, next_minute}
 use Rattle.tide_edge.specs.Doors.{Doorway, DoorState, first_or_empty, left_after}
 use Rattle.tide_edge.specs.Faults.{counted}
-use Rattle.tide_server.specs.declared.stock.Stock.{Stock}
+use Rattle.tide_server.specs.declared.served_data.ServedData.{ServedData}
 use Rattle.tide_server.specs.Replies.{IsReply}
 use Rattle.http_rows.specs.Responses.{fixed_of, unavailable_of}
-use Rattle.http_rows.specs.Rows.{Row, IsRow, is_settled}
+use Rattle.http_rows.specs.Rows.{ReplyRow, IsRow, is_settled}
 
 -- ---- One connection
 
 -- the reply that replaces another if memory runs out; a fixed one needs no memory
 abbrev pub IsUnavailable : List ℕ → List ℕ → Type 0
-IsUnavailable request reply = (row : Row) × IsRow request row × (fixed_of row ≡ None) × (reply ≡ unavailable_of row)
+IsUnavailable request reply = (row : ReplyRow) × IsRow request row × (fixed_of row ≡ None) × (reply ≡ unavailable_of row)
 
 -- the answer to a connection's bytes: nothing if there are none, and otherwise the reply to them or the one
 -- that replaces it
-abbrev pub Answers : Stock → ℤ → List ℕ → List ℕ → Type 0
-Answers stock minute [] reply = reply ≡ []
-Answers stock minute (b ∷ bytes) reply =
-    IsReply stock.book stock.table minute (b ∷ bytes) reply ⊎ IsUnavailable (b ∷ bytes) reply
+abbrev pub Answers : ServedData → ℤ → List ℕ → List ℕ → Type 0
+Answers served_data minute [] reply = reply ≡ []
+Answers served_data minute (b ∷ bytes) reply =
+    IsReply served_data.book served_data.table minute (b ∷ bytes) reply ⊎ IsUnavailable (b ∷ bytes) reply
 
 -- a reply answers the bytes; if a read or write of the connection failed, it is empty or a prefix of an
 -- answer
@@ -49,8 +74,8 @@ pub record Conversation : Type 0 where
   pub is_asked : Bool
 
 -- a connection that was answered at a minute
-pub record IsHeld (stock : Stock) (minute : ℤ) (c : Conversation) : Type 0 where
-  pub answered : AnswersUnlessCut c.is_cut (Answers stock minute) (concat c.request) c.reply
+pub record IsHeld (served_data : ServedData) (minute : ℤ) (c : Conversation) : Type 0 where
+  pub answered : AnswersUnlessCut c.is_cut (Answers served_data minute) (concat c.request) c.reply
   pub asked : AsksUnlessCut c.is_cut (concat c.request) c.is_asked
 
 -- ---- One after the other
@@ -69,15 +94,15 @@ clock_after_all [] clock = clock
 clock_after_all (c ∷ more) clock = clock_after_all more (clock_with c.is_asked clock)
 
 -- each connection was answered at the minute that the clock returns for it
-unfoldable pub AreHeld : Stock → ClockState → List Conversation → Type 0
-AreHeld stock clock [] = Unit {0}
-AreHeld stock clock (c ∷ more) = IsHeld stock (next_minute clock) c × AreHeld stock (clock_with c.is_asked clock) more
+unfoldable pub AreHeld : ServedData → ClockState → List Conversation → Type 0
+AreHeld served_data clock [] = Unit {0}
+AreHeld served_data clock (c ∷ more) = IsHeld served_data (next_minute clock) c × AreHeld served_data (clock_with c.is_asked clock) more
 
 -- ---- The bytes that are read
 
 -- the bytes so far determine the row of their request
 abbrev pub IsEnough : List ℕ → Type 0
-IsEnough request = (row : Row) × IsRow request row × IsTrue (is_settled row)
+IsEnough request = (row : ReplyRow) × IsRow request row × IsTrue (is_settled row)
 
 -- the pieces of a connection that are left: nothing was read after the bytes determined the reply; the
 -- bytes before the last read didn't, and this read returned no more than what was left of one piece
@@ -129,13 +154,13 @@ clock_at_end (request ∷ more) clock = clock_failed clock
 -- has failed, and it has a byte. The clock was read once for each connection that needs it, and for nothing
 -- else. If the port keeps the pieces that a client sends, the last connection was read no further than its
 -- reply needs.
-pub record Served (stock : Stock) (has_failed : Bool) (before after : Exchange) : Type 0 where
+pub record Served (served_data : ServedData) (has_failed : Bool) (before after : Exchange) : Type 0 where
   pub served : List Conversation
   pub left : List (List (List ℕ))
   pub requests : before.door.traffic.waiting ≡ map (λ c. c.request) served ++ left ++ after.door.traffic.waiting
   pub replies : after.door.traffic.replies ≡ before.door.traffic.replies ++ map (λ c. c.reply) served ++ map (λ request. []) left
   pub counted : after.door.doorway.taken ≡ length served + length left
-  pub held : AreHeld stock before.clock served
+  pub held : AreHeld served_data before.clock served
   pub read : IsTrue before.door.keeps_pieces
       → IsLastReadAsNeeded (map (λ c. c.request) served ++ left) after.door.traffic.rest
   pub cut : RoseBy (count_by (λ c. c.is_cut) served) before.door.line_faults after.door.line_faults

@@ -10,22 +10,22 @@ use Rattle.tide_fault.specs.declared.status.Status.TheVariants.{NoMemory}
 use Rattle.named_files.specs.declared.no_answer.NoAnswer.{NoAnswer}
 use Rattle.named_files.specs.Opened.{failing_file, folders_shown}
 use Rattle.named_files.specs.Readings.{Folders}
-use Rattle.tide_server.specs.declared.stock.Stock.{Stock}
-use Rattle.tide_server.specs.Openings.{EndsAs, Handed, service_of, stock_from}
+use Rattle.tide_server.specs.declared.served_data.ServedData.{ServedData}
+use Rattle.tide_server.specs.Openings.{EndsAs, ServerStates, service_of, served_data_from}
 
 -- the names of the files of a request to serve, up to the file that is the reason; the harmonics file has
 -- the name
-abbrev pub stock_names : List ℕ → Question → Option Slot → List (List ℕ)
-stock_names name question None = name ∷ listed question.offsets
-stock_names name question (Some slots.File) = name ∷ []
-stock_names name question (Some slots.Offsets) = name ∷ listed question.offsets
-stock_names name question (Some slots.Zone) = name ∷ listed question.offsets
-stock_names name question (Some slots.Certificate) = name ∷ listed question.offsets
+abbrev pub served_data_names : List ℕ → Question → Option Slot → List (List ℕ)
+served_data_names name question None = name ∷ listed question.offsets
+served_data_names name question (Some slots.File) = name ∷ []
+served_data_names name question (Some slots.Offsets) = name ∷ listed question.offsets
+served_data_names name question (Some slots.Zone) = name ∷ listed question.offsets
+served_data_names name question (Some slots.Certificate) = name ∷ listed question.offsets
 
 -- the names of the files of a request, which may name none
 abbrev pub names_by : Question → Option (List ℕ) → Option Slot → List (List ℕ)
 names_by question None why = []
-names_by question (Some name) why = stock_names name question why
+names_by question (Some name) why = served_data_names name question why
 
 -- the names of the files of the arguments
 abbrev pub names_served : Result Question Fault → Option Slot → List (List ℕ)
@@ -38,17 +38,17 @@ folders_by (Ok question) openings = folders_shown question openings
 folders_by (Err fault) openings = λ slot name. None
 
 -- the data of the arguments by the openings
-abbrev pub stock_by_openings : List (List ℕ) → List Opening → Result Stock NoAnswer
-stock_by_openings words openings = stock_from (folders_by (service_of words) openings) words
+abbrev pub served_data_by_openings : List (List ℕ) → List Opening → Result ServedData NoAnswer
+served_data_by_openings words openings = served_data_from (folders_by (service_of words) openings) words
 
 -- A server ends by the data of its arguments by what it opened. It opened the first of the files that the
 -- arguments name, in their order, each once; and unless memory ran out, none after the one that is the
 -- reason.
-pub record EndsAsShown (words : List (List ℕ)) (status : Status) (before after : Handed) : Type 0 where
+pub record EndsAsShown (words : List (List ℕ)) (status : Status) (before after : ServerStates) : Type 0 where
   pub openings : List Opening
   pub all : openings_of after.files.openings ≡ openings_of before.files.openings ++ openings
   pub unopened : List (List ℕ)
   pub names : names_served (service_of words) None ≡ map (λ o. o.name) openings ++ unopened
   pub last : ¬ (status ≡ NoMemory) → (behind : List (List ℕ))
-      × (names_served (service_of words) (failing_file (stock_by_openings words openings)) ≡ map (λ o. o.name) openings ++ behind)
-  pub ends : EndsAs (Unit {0}) (stock_by_openings words openings) status before after
+      × (names_served (service_of words) (failing_file (served_data_by_openings words openings)) ≡ map (λ o. o.name) openings ++ behind)
+  pub ends : EndsAs (Unit {0}) (served_data_by_openings words openings) status before after

@@ -3,10 +3,10 @@
 use Rattle.std.specs.Prelude.{ℕ, pos, List, [], ◌∷◌, codes}
 use Rattle.harmonics_text.specs.Worked.{file_of, pier_book, pier_lines}
 use Rattle.tide_edge.specs.Calls.{HeldCalls}
-use Rattle.tide_edge.specs.Doors.{no_connections, unasked}
+use Rattle.tide_edge.specs.Doors.{no_connections, not_listening}
 use Rattle.tide_edge.specs.FileStates.{no_openings}
 use Rattle.tide_edge.specs.Memory.{HeldClock, HeldDoor, HeldFiles, HeldSink, clock_state, door_state, files_state, sink_state}
-use Rattle.tide_server.specs.declared.stock.Stock.{Stock}
+use Rattle.tide_server.specs.declared.served_data.ServedData.{ServedData}
 use Rattle.tide_server.specs.Promises.{ServiceStates, Services, service_states, services}
 
 -- no call was made, and none is to fail
@@ -26,7 +26,7 @@ pier_files = record {
 -- a port at which no request waits
 abbrev pub quiet_door : HeldDoor
 quiet_door = record {
-  doorway = unasked;
+  doorway = not_listening;
   connections = no_connections;
   waiting = [];
   coming = [];
@@ -50,5 +50,5 @@ abbrev pub pier_words : List (List ℕ)
 pier_words = codes "serve" ∷ codes "file=f" ∷ []
 
 -- its data
-abbrev pub pier_stock : Stock
-pier_stock = record { book = pier_book; table = []; port = 8080 }
+abbrev pub pier_data : ServedData
+pier_data = record { book = pier_book; table = []; port = 8080 }

@@ -4,9 +4,9 @@ ghost use Rattle.std.specs.Prelude.{◌≡◌, Some, None, Ok, codes};
 ghost use Rattle.question.specs.declared.command.Command.{Command};
 ghost use Rattle.question.specs.Worked.{bare};
 ghost use Rattle.tide_server.specs.Completeness.{IsComplete, NothingFailed};
-ghost use Rattle.tide_server.specs.Openings.{service_of, stock_of};
+ghost use Rattle.tide_server.specs.Openings.{service_of, served_data_of};
 ghost use Rattle.tide_server.specs.Promises.{service_states};
-ghost use Rattle.tide_server.specs.Worked.{in_memory, pier, pier_stock, pier_words};
+ghost use Rattle.tide_server.specs.Worked.{in_memory, pier, pier_data, pier_words};
 
 use harmonics_text::worked_files;
 use tide_edge::{Clock, Door, Files, Sink};
@@ -20,8 +20,8 @@ pub fn servers_are_complete<F: Files, D: Door, E: Sink, K: Clock>()
 /// A server in memory: the data that it serves, and that nothing failed.
 pub fn worked_servers()
     ensures words { service_of pier_words ≡ Ok (record (bare Command.Serve) { file = Some (codes "f") }) }
-    ensures stock { stock_of (in_memory.files pier.files).store.folder pier_words ≡ Ok pier_stock }
-    ensures unasked { (in_memory.door pier.door).doorway.port ≡ None }
+    ensures served_data { served_data_of (in_memory.files pier.files).store.folder pier_words ≡ Ok pier_data }
+    ensures not_listening { (in_memory.door pier.door).doorway.port ≡ None }
     ensures nothing_failed { NothingFailed in_memory pier pier }
 {
     worked_files();

@@ -12,9 +12,11 @@ ghost use Rattle.http_rows.specs.Workings.Views.{IsAskingRow, row_seen};
 use crate::http_reply::asking_reply;
 use crate::request::Request;
 use crate::sent_text::send;
-use crate::stock::SoundStock;
+use crate::served_data::ValidServedData;
 use arrayvec::ArrayString;
-use http_rows::{Rejection, Response, Row, row_for, write_rejection, write_unavailable};
+use http_rows::{
+    ReplyRow, RequestRejection, Response, row_for, write_rejection, write_unavailable,
+};
 use std::alloc::Global;
 use tide_edge::{Clock, Door, Failed};
 
@@ -25,17 +27,17 @@ use tide_edge::{Clock, Door, Failed};
 /// [`Failed`] if the clock failed.
 pub(crate) fn serve_connection<D: Door, K: Clock>(
     alloc: Global,
-    stock: &SoundStock,
+    served_data: &ValidServedData,
     request: &mut Request,
     door: &mut D,
     clock: &mut K,
 ) -> Result<(), Failed>
     requires is_open { IsTrue (D.state door.old).doorway.is_open }
     requires fresh { (D.state door.old).connections.latest ≡ Some just_taken }
-    ensures { Closed (is_err result) stock.now
+    ensures { Closed (is_err result) served_data.now
         (exchange (D.state door.old) (K.state clock.old)) (exchange (D.state door.new) (K.state clock.new)) }
 {
-    let answered = answer_connection(alloc, stock, request, door, clock);
+    let answered = answer_connection(alloc, served_data, request, door, clock);
     door.close();
     answered
 }
@@ -44,14 +46,14 @@ pub(crate) fn serve_connection<D: Door, K: Clock>(
 // since a client may wait for its reply before it sends more. Then it replies.
 fn answer_connection<D: Door, K: Clock>(
     alloc: Global,
-    stock: &SoundStock,
+    served_data: &ValidServedData,
     request: &mut Request,
     door: &mut D,
     clock: &mut K,
 ) -> Result<(), Failed>
     requires is_open { IsTrue (D.state door.old).doorway.is_open }
     requires fresh { (D.state door.old).connections.latest ≡ Some just_taken }
-    ensures { WentBy (is_err result) stock.now
+    ensures { WentBy (is_err result) served_data.now
         (exchange (D.state door.old) (K.state clock.old)) (exchange (D.state door.new) (K.state clock.new)) }
 {
     request.clear();
@@ -65,14 +67,14 @@ fn answer_connection<D: Door, K: Clock>(
         }
         let row = row_for(bytes);
         if ends_reading(count, &row) {
-            return answer_row(alloc, stock, &row, door, clock);
+            return answer_row(alloc, served_data, &row, door, clock);
         }
     }
 }
 
 // Returns true if no more is to be read after a piece of `count` bytes, by the request `row` so
 // far.
-fn ends_reading(count: usize, row: &Row<'_>) -> bool
+fn ends_reading(count: usize, row: &ReplyRow<'_>) -> bool
     ensures { result ≡ (count == 0 || is_settled (row_seen row.now)) }
 {
     count == 0 || row.is_settled()
@@ -81,38 +83,44 @@ fn ends_reading(count: usize, row: &Row<'_>) -> bool
 // Replies to what was read of a connection, at the present minute.
 fn answer_row<D: Door, K: Clock>(
     alloc: Global,
-    stock: &SoundStock,
-    row: &Row<'_>,
+    served_data: &ValidServedData,
+    row: &ReplyRow<'_>,
     door: &mut D,
     clock: &mut K,
 ) -> Result<(), Failed>
     requires is_open { IsTrue (D.state door.old).doorway.is_open }
-    requires known { IsAskingRow (row_seen row.now) }
-    ensures { RowSent (is_err result) stock.now (row_seen row.now)
+    requires answered { IsAskingRow (row_seen row.now) }
+    ensures { RowSent (is_err result) served_data.now (row_seen row.now)
         (exchange (D.state door.old) (K.state clock.old)) (exchange (D.state door.new) (K.state clock.new)) }
 {
     let now = clock.minute()?;
-    let _ = send_reply(alloc, stock, row, now, door);
+    let _ = send_reply(alloc, served_data, row, now, door);
     Ok(())
 }
 
 // Sends the reply to a request, or the reply that replaces it if memory runs out.
 fn send_reply<D: Door>(
     alloc: Global,
-    stock: &SoundStock,
-    row: &Row<'_>,
+    served_data: &ValidServedData,
+    row: &ReplyRow<'_>,
     now: i64,
     door: &mut D,
 ) -> Result<(), Failed>
     requires is_open { IsTrue (D.state door.old).doorway.is_open }
-    requires known { IsAskingRow (row_seen row.now) }
+    requires answered { IsAskingRow (row_seen row.now) }
     requires now { IsClockMinute now }
-    ensures { (text : List ℕ) × Replies stock.now now (row_seen row.now) text
+    ensures { (text : List ℕ) × Replies served_data.now now (row_seen row.now) text
         × SentBy (is_err result) text (D.state door.old) (D.state door.new) }
 {
     match row {
-        Row::Rejects(rejection, bodiless) => send_rejection(*rejection, *bodiless, door),
-        Row::Asks(asking) => match asking_reply(alloc, &stock.book(), stock.table(), asking, now) {
+        ReplyRow::Rejects(rejection, bodiless) => send_rejection(*rejection, *bodiless, door),
+        ReplyRow::Asks(asking) => match asking_reply(
+            alloc,
+            &served_data.book(),
+            served_data.table(),
+            asking,
+            now,
+        ) {
             Ok(response) => send_response(&response, door),
             Err(_) => send_unavailable(asking.bodiless, door),
         },
@@ -130,7 +138,11 @@ fn send_response<D: Door>(response: &Response, door: &mut D) -> Result<(), Faile
 }
 
 /// Sends the fixed reply to a request that is `rejection`.
-fn send_rejection<D: Door>(rejection: Rejection, bodiless: bool, door: &mut D) -> Result<(), Failed>
+fn send_rejection<D: Door>(
+    rejection: RequestRejection,
+    bodiless: bool,
+    door: &mut D,
+) -> Result<(), Failed>
     requires { IsTrue (D.state door.old).doorway.is_open }
     ensures { SentBy (is_err result) (rejection_of rejection bodiless) (D.state door.old) (D.state door.new) }
 {

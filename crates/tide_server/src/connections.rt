@@ -9,7 +9,7 @@ ghost use Rattle.tide_server.specs.Workings.Steps.{IsKept, StepBy, is_clock_outa
 use crate::connection::serve_connection;
 use crate::outage::Outage;
 use crate::request::Request;
-use crate::stock::SoundStock;
+use crate::served_data::ValidServedData;
 use std::alloc::Global;
 use tide_edge::{Clock, Door};
 
@@ -19,26 +19,27 @@ use tide_edge::{Clock, Door};
 /// [`Outage`] if the port or the clock failed.
 pub(crate) fn serve_all<D: Door, K: Clock>(
     alloc: Global,
-    stock: &SoundStock,
+    served_data: &ValidServedData,
     request: &mut Request,
     door: &mut D,
     clock: &mut K,
 ) -> Result<(), Outage>
-    requires listens { (D.state door.old).doorway ≡ asked stock.now.port true }
-    ensures served { IsTrue (D.state door.old).is_observable → IsTrue (K.state clock.old).is_observable → Served stock.now (is_err result)
+    requires listens { (D.state door.old).doorway ≡ asked served_data.now.port true }
+    ensures served { IsTrue (D.state door.old).is_observable → IsTrue (K.state clock.old).is_observable
+        → Served served_data.now (is_err result)
         (exchange (D.state door.old) (K.state clock.old)) (exchange (D.state door.new) (K.state clock.new)) }
-    ensures passed { HasServed stock.now (is_err result)
+    ensures passed { HasServed served_data.now (is_err result)
         (exchange (D.state door.old) (K.state clock.old)) (exchange (D.state door.new) (K.state clock.new)) }
     ensures kept { IsKept (is_door_outage result) (is_clock_outage result)
         (exchange (D.state door.old) (K.state clock.old)) (exchange (D.state door.new) (K.state clock.new)) }
     ensures over { OnOk result (IsOver (D.state door.new).doorway) }
-    ensures port { (D.state door.new).doorway.port ≡ Some stock.now.port }
+    ensures port { (D.state door.new).doorway.port ≡ Some served_data.now.port }
     ensures listens { (D.state door.new).doorway.listens ≡ true }
     ensures closed { (D.state door.new).doorway.is_open ≡ false }
-    ensures unasked { (D.state door.new).doorway.taken ≡ 0 → clock.new ≡ clock.old }
+    ensures clock_unread { (D.state door.new).doorway.taken ≡ 0 → clock.new ≡ clock.old }
 {
     for _taken in 0..u64::MAX {
-        if !serve_next(alloc, stock, request, door, clock)? {
+        if !serve_next(alloc, served_data, request, door, clock)? {
             return Ok(());
         }
     }
@@ -48,23 +49,23 @@ pub(crate) fn serve_all<D: Door, K: Clock>(
 // Serves the next connection, and returns true if there was one.
 fn serve_next<D: Door, K: Clock>(
     alloc: Global,
-    stock: &SoundStock,
+    served_data: &ValidServedData,
     request: &mut Request,
     door: &mut D,
     clock: &mut K,
 ) -> Result<bool, Outage>
     requires listens { IsTrue (D.state door.old).doorway.listens }
     requires none_open { (D.state door.old).doorway.is_open ≡ false }
-    ensures steps { StepBy result stock.now
+    ensures steps { StepBy result served_data.now
         (exchange (D.state door.old) (K.state clock.old)) (exchange (D.state door.new) (K.state clock.new)) }
-    ensures unasked { (D.state door.new).doorway.taken ≡ 0 → clock.new ≡ clock.old }
+    ensures clock_unread { (D.state door.new).doorway.taken ≡ 0 → clock.new ≡ clock.old }
 {
     match door.next() {
         Ok(comes) => {
             if !comes {
                 return Ok(false);
             }
-            match serve_connection(alloc, stock, request, door, clock) {
+            match serve_connection(alloc, served_data, request, door, clock) {
                 Ok(()) => Ok(true),
                 Err(_) => Err(Outage::Clock),
             }

@@ -4,10 +4,10 @@ ghost use Rattle.std.specs.Prelude.{◌≡◌, ◌≤◌, false, length, IfOk};
 ghost use Rattle.harmonics_text.specs.Books.{IsBook};
 ghost use Rattle.question.specs.Asked.{IsZoneWord};
 ghost use Rattle.tide_answer.specs.Answers.{answered};
-ghost use Rattle.tide_fault.specs.Faults.{IsTold, wants_memory_of_refusal};
+ghost use Rattle.tide_fault.specs.Faults.{IsPrintable, refusal_is_out_of_memory};
 ghost use Rattle.tide_answer.specs.Givens.{IsGiven, given_seen};
 ghost use Rattle.tide_edge.specs.Clocks.{IsClockMinute};
-ghost use Rattle.question.specs.Questions.{wants_memory};
+ghost use Rattle.question.specs.Questions.{is_out_of_memory};
 ghost use Rattle.tide_server.specs.Replies.{IsReply, answer_reply, asking_reply, fault_reply, given_with, names_file, type_of, zone_of};
 ghost use Rattle.http_rows.specs.Responses.{rejection_of};
 ghost use Rattle.http_rows.specs.declared.limits.TheConstants.{MOST_BODY};
@@ -17,9 +17,9 @@ ghost use Rattle.zone_time.specs.Zones.{IsZone};
 use crate::query::pairs_of;
 use arrayvec::ArrayString;
 use decimal_text::Bytes;
-use harmonics_text::{Book, SoundBook};
-use http_rows::{Asking, Code, Rejection, Response, Row, row_for, write_rejection};
-use question::{AskFault, Layout, SoundQuestion, ZoneWord, read_question};
+use harmonics_text::{Book, ValidBook};
+use http_rows::{Asking, Code, ReplyRow, RequestRejection, Response, row_for, write_rejection};
+use question::{AskFault, Layout, ValidQuestion, ZoneWord, read_question};
 use station_table::OffsetTable;
 use std::alloc::{AllocError, Global};
 use tide_answer::{Fault, GivenView, Refusal, answer_valid, fault_line};
@@ -52,8 +52,8 @@ pub fn reply(
     ensures { IfOk result (IsReply book.now table.now now request.now) }
 {
     match row_for(request) {
-        Row::Rejects(rejection, bodiless) => rejection_reply(alloc, rejection, bodiless),
-        Row::Asks(asking) => whole_reply(alloc, &SoundBook::new(book), table, &asking, now),
+        ReplyRow::Rejects(rejection, bodiless) => rejection_reply(alloc, rejection, bodiless),
+        ReplyRow::Asks(asking) => whole_reply(alloc, &ValidBook::new(book), table, &asking, now),
     }
 }
 
@@ -63,7 +63,7 @@ pub fn reply(
 /// [`AllocError`] if memory runs out.
 fn whole_reply(
     alloc: Global,
-    book: &SoundBook<'_>,
+    book: &ValidBook<'_>,
     table: &OffsetTable,
     asking: &Asking<'_>,
     now: i64,
@@ -76,7 +76,11 @@ fn whole_reply(
 }
 
 /// Returns the fixed reply to a request that is `rejection`.
-fn rejection_reply(alloc: Global, rejection: Rejection, bodiless: bool) -> Result<Bytes, AllocError>
+fn rejection_reply(
+    alloc: Global,
+    rejection: RequestRejection,
+    bodiless: bool,
+) -> Result<Bytes, AllocError>
     ensures { IfOk result (λ bytes. bytes ≡ rejection_of rejection bodiless) }
 {
     let mut out = ArrayString::new();
@@ -91,7 +95,7 @@ fn rejection_reply(alloc: Global, rejection: Rejection, bodiless: bool) -> Resul
 #[tactic(auto, using(crate::proofs::QueryLemmas::query_names_no_file), unfolding(crate::specs::Replies::asking_reply, crate::specs::Replies::question_reply))]
 pub(crate) fn asking_reply(
     alloc: Global,
-    book: &SoundBook<'_>,
+    book: &ValidBook<'_>,
     table: &OffsetTable,
     asking: &Asking<'_>,
     now: i64,
@@ -103,11 +107,11 @@ pub(crate) fn asking_reply(
     let pairs = pairs_of(alloc, asking)?;
     match read_question(alloc, &pairs) {
         Ok(question) => {
-            let question = SoundQuestion::new(&question);
+            let question = ValidQuestion::new(&question);
             answer_reply(alloc, book, table, &question, asking, now)
         }
         Err(fault) => {
-            if wants_memory(fault) {
+            if is_out_of_memory(fault) {
                 return Err(AllocError);
             }
             fault_reply(
@@ -125,9 +129,9 @@ pub(crate) fn asking_reply(
 #[tactic(auto, unfolding(crate::specs::Replies::answer_reply))]
 fn answer_reply(
     alloc: Global,
-    book: &SoundBook<'_>,
+    book: &ValidBook<'_>,
     table: &OffsetTable,
-    question: &SoundQuestion<'_>,
+    question: &ValidQuestion<'_>,
     asking: &Asking<'_>,
     now: i64,
 ) -> Result<Response, AllocError>
@@ -145,7 +149,7 @@ fn answer_reply(
             Ok(Response::new(Code::Success, kind, answer.text, asking.bodiless))
         }
         Err(refusal) => {
-            if wants_memory_of_refusal(refusal) {
+            if refusal_is_out_of_memory(refusal) {
                 return Err(AllocError);
             }
             let fault = Fault::Refused(refusal);
@@ -187,7 +191,7 @@ fn zone_of(word: &ZoneWord) -> Zone
 /// Returns the content type of an answer in `layout`.
 fn type_of(layout: Layout) -> &'static str
     ensures text { result.now ≡ type_of layout }
-    ensures short { length result.now ≤ 10 }
+    ensures length_bound { length result.now ≤ 10 }
 {
     match layout {
         Layout::Plain => "text/plain",
@@ -196,15 +200,15 @@ fn type_of(layout: Layout) -> &'static str
 }
 
 /// Returns true if `fault` is that memory ran out.
-fn wants_memory(fault: AskFault) -> bool
-    ensures { result ≡ wants_memory fault }
+fn is_out_of_memory(fault: AskFault) -> bool
+    ensures { result ≡ is_out_of_memory fault }
 {
     matches!(fault, AskFault::NoMemory)
 }
 
 /// Returns true if `refusal` is that memory ran out.
-fn wants_memory_of_refusal(refusal: Refusal) -> bool
-    ensures { result ≡ wants_memory_of_refusal refusal }
+fn refusal_is_out_of_memory(refusal: Refusal) -> bool
+    ensures { result ≡ refusal_is_out_of_memory refusal }
 {
     matches!(refusal, Refusal::NoMemory)
 }
@@ -217,7 +221,7 @@ fn fault_reply(
     fault: &Fault,
     bodiless: bool,
 ) -> Result<Response, AllocError>
-    requires { IsTold table.now fault.now }
+    requires { IsPrintable table.now fault.now }
     ensures { IfOk result (λ response. response ≡ fault_reply code table.now fault.now bodiless) }
 {
     let line = fault_line(alloc, fault, table)?;

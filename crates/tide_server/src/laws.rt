@@ -11,27 +11,27 @@ ghost use Rattle.station_table.specs.declared.offsets.Offsets.{Offsets};
 ghost use Rattle.tide_server.specs.declared.limits.TheConstants.{LONGEST};
 ghost use Rattle.tide_edge.specs.Memory.{folder_of};
 ghost use Rattle.tide_fault.specs.declared.status.Status.{Status};
-ghost use Rattle.tide_server.specs.declared.stock.Stock.{Stock};
-ghost use Rattle.tide_server.specs.Laws.{HasAnswered, InMemory, handed_in};
-ghost use Rattle.tide_server.specs.Openings.{EndsAs, stock_of};
+ghost use Rattle.tide_server.specs.declared.served_data.ServedData.{ServedData};
+ghost use Rattle.tide_server.specs.Laws.{HasAnswered, InMemory, server_states_in};
+ghost use Rattle.tide_server.specs.Openings.{EndsAs, served_data_of};
 ghost use Rattle.tide_server.specs.Replies.{IsReply, names_file};
 ghost use Rattle.tide_server.specs.Responses.{fixed_of};
-ghost use Rattle.tide_server.specs.Rows.{Row, IsRow, is_settled};
+ghost use Rattle.tide_server.specs.Rows.{ReplyRow, IsRow, is_settled};
 
 /// A request has exactly one meaning, its row.
 pub fn one_row()
-    ensures { (request : List ℕ) (a b : Row) → IsRow request a → IsRow request b → a ≡ b }
+    ensures { (request : List ℕ) (a b : ReplyRow) → IsRow request a → IsRow request b → a ≡ b }
 {}
 
 /// The row of a request doesn't change with further bytes, if the bytes so far determine it.
 pub fn settled_rows_stay()
-    ensures { (request more : List ℕ) (row : Row)
+    ensures { (request more : List ℕ) (row : ReplyRow)
         → IsRow request row → IsTrue (is_settled row) → IsRow (request ++ more) row }
 {}
 
 /// The row of a request is determined by as many bytes as the longest request has.
 pub fn long_requests_are_settled()
-    ensures { (request : List ℕ) (row : Row) → IsRow request row → LONGEST ≤ length request → IsTrue (is_settled row) }
+    ensures { (request : List ℕ) (row : ReplyRow) → IsRow request row → LONGEST ≤ length request → IsTrue (is_settled row) }
 {}
 
 /// A request has exactly one reply.
@@ -42,14 +42,14 @@ pub fn one_reply()
 
 /// The reply to a request doesn't change with further bytes, if the bytes so far determine its row.
 pub fn settled_replies_stay()
-    ensures { (book : Book) (table : List Offsets) (minute : ℤ) (request more reply : List ℕ) (row : Row)
+    ensures { (book : Book) (table : List Offsets) (minute : ℤ) (request more reply : List ℕ) (row : ReplyRow)
         → IsRow request row → IsTrue (is_settled row)
         → IsReply book table minute request reply → IsReply book table minute (request ++ more) reply }
 {}
 
 /// The reply of a fixed row is the same over all harmonic constants.
 pub fn fixed_rows_reply()
-    ensures { (book : Book) (table : List Offsets) (minute : ℤ) (request reply : List ℕ) (row : Row)
+    ensures { (book : Book) (table : List Offsets) (minute : ℤ) (request reply : List ℕ) (row : ReplyRow)
         → IsRow request row → fixed_of row ≡ Some reply → IsReply book table minute request reply }
 {}
 
@@ -68,8 +68,8 @@ pub fn queries_name_no_file()
 pub fn serve_in_memory()
     ensures { (words : List (List ℕ)) (status : Status) (before after : InMemory)
         → before.door.doorway.port ≡ None → ¬ (after.door.doorway.port ≡ None)
-        → EndsAs (IsTrue (handed_in before).files.store.is_steady) (stock_of (folder_of before.files.files) words) status
-        (handed_in before) (handed_in after)
-        → (stock : Stock) × (stock_of (folder_of before.files.files) words ≡ Ok stock)
-        × HasAnswered stock (is_read_fault status) before after }
+        → EndsAs (IsTrue (server_states_in before).files.store.is_steady) (served_data_of (folder_of before.files.files) words) status
+        (server_states_in before) (server_states_in after)
+        → (served_data : ServedData) × (served_data_of (folder_of before.files.files) words ≡ Ok served_data)
+        × HasAnswered served_data (is_read_fault status) before after }
 {}

@@ -17,20 +17,21 @@ mod outage;
 mod query;
 mod request;
 mod sent_text;
+mod served_data;
+mod served_data_reading;
 mod service;
-mod stock;
-mod stock_reading;
 mod worked;
 
 pub use completeness::{servers_are_complete, worked_servers};
 pub use http_reply::reply;
 pub use http_rows::{
-    Code, Path, Rejection, enough, fixed_reply, unavailable_reply, worked_replies, worked_rows,
+    Code, Path, RequestRejection, enough, fixed_reply, unavailable_reply, worked_replies,
+    worked_rows,
 };
 pub use laws::{
     fixed_rows_reply, long_requests_are_settled, one_reply, one_row, queries_name_no_file,
     serve_in_memory, settled_replies_stay, settled_rows_stay,
 };
+pub use served_data::ServedData;
 pub use service::serve;
-pub use stock::Stock;
 pub use worked::{worked_answers, worked_queries};

@@ -62,7 +62,7 @@ impl Request {
     /// # Errors
     /// [`Failed`] if the read failed.
     pub(crate) fn read_more<D: Door>(&mut self, door: &mut D) -> Result<usize, Failed>
-        requires short { length self.old < LONGEST }
+        requires length_bound { length self.old < LONGEST }
         requires open { IsTrue (D.state door.old).doorway.is_open }
         ensures after { (room : List ℕ) × (D.state door.new ≡ door_after_read result room (D.state door.old))
             × IfOk result (λ count. self.new ≡ self.old ++ take count room) }
@@ -70,7 +70,8 @@ impl Request {
         ensures longer { IfOk result (λ count. length self.new ≡ length self.old + count) }
         ensures next_bytes { IsTrue (D.state door.old).is_observable
             → IfOk result (λ count. self.new ≡ self.old ++ take count (concat (D.state door.old).traffic.rest)) }
-        ensures end { IsTrue (D.state door.old).is_observable → IfOk result (λ count. (count ≡ 0) ↔ (concat (D.state door.old).traffic.rest ≡ [])) }
+        ensures end { IsTrue (D.state door.old).is_observable
+            → IfOk result (λ count. (count ≡ 0) ↔ (concat (D.state door.old).traffic.rest ≡ [])) }
         ensures within_piece { IsTrue (D.state door.old).is_observable → IsTrue (D.state door.old).keeps_pieces
             → IfOk result (λ count. count ≤ length (first_or_empty (D.state door.old).traffic.rest)) }
     {

@@ -7,7 +7,18 @@ ghost use Rattle.tide_edge.specs.SinkStates.{Wrote};
 ghost use Rattle.tide_edge.specs.Whole.{ReadWithin};
 ghost use Rattle.tide_fault.specs.declared.status.Status.{Status};
 ghost use Rattle.named_files.specs.NoAnswers.{is_read_fault};
-ghost use Rattle.tide_server.specs.Openings.{EndedBy, EndsAs, RefusesCommand, TookNone, asks_another, files_asked, handed, notice_of, service_of, stock_of};
+ghost use Rattle.tide_server.specs.Openings.{
+  EndedBy,
+  EndsAs,
+  RefusesCommand,
+  TookNone,
+  asks_another,
+  files_asked,
+  server_states,
+  notice_of,
+  service_of,
+  served_data_of,
+};
 ghost use Rattle.tide_server.specs.Promises.{ServesAs, service_states, services};
 ghost use Rattle.question.specs.Words.{pairs_of};
 ghost use Rattle.tide_server.specs.Serving.{IsOver};
@@ -16,12 +27,12 @@ ghost use Rattle.tide_server.specs.Workings.Ends.{Ended, unread};
 
 use crate::connections::serve_all;
 use crate::request::Request;
-use crate::stock::SoundStock;
-use crate::stock_reading::{names_another, read_stock};
+use crate::served_data::ValidServedData;
+use crate::served_data_reading::{names_another, read_served_data};
 use arrayvec::ArrayString;
 use decimal_text::Words;
 use itoa::Buffer;
-use named_files::{refuse, tell};
+use named_files::{refuse, report};
 use std::alloc::Global;
 use tide_edge::{Clock, Door, Files, Sink};
 use tide_fault::Status;
@@ -72,53 +83,53 @@ fn serve_words<F: Files, D: Door, E: Sink, K: Clock>(
 ) -> Status
     requires { (D.state door.old).doorway.port ≡ None }
     ensures own_files { IsTrue (F.state files.old).store.is_observable
-        → EndsAs (IsTrue (F.state files.old).store.is_steady) (stock_of (F.state files.old).store.folder words.now) result
-        (handed (F.state files.old) (D.state door.old) (E.state err.old) (K.state clock.old))
-        (handed (F.state files.new) (D.state door.new) (E.state err.new) (K.state clock.new)) }
+        → EndsAs (IsTrue (F.state files.old).store.is_steady) (served_data_of (F.state files.old).store.folder words.now) result
+        (server_states (F.state files.old) (D.state door.old) (E.state err.old) (K.state clock.old))
+        (server_states (F.state files.new) (D.state door.new) (E.state err.new) (K.state clock.new)) }
     ensures shown { EndsAsShown words.now result
-        (handed (F.state files.old) (D.state door.old) (E.state err.old) (K.state clock.old))
-        (handed (F.state files.new) (D.state door.new) (E.state err.new) (K.state clock.new)) }
+        (server_states (F.state files.old) (D.state door.old) (E.state err.old) (K.state clock.old))
+        (server_states (F.state files.new) (D.state door.new) (E.state err.new) (K.state clock.new)) }
     ensures another { IsTrue (asks_another (pairs_of words.now)) → RefusesCommand result (E.state err.old) (E.state err.new) }
     ensures done { result ≡ Status.Done → IsOver (D.state door.new).doorway }
     ensures read_fault { EndedBy (is_read_fault result)
-        (handed (F.state files.old) (D.state door.old) (E.state err.old) (K.state clock.old))
-        (handed (F.state files.new) (D.state door.new) (E.state err.new) (K.state clock.new)) }
+        (server_states (F.state files.old) (D.state door.old) (E.state err.old) (K.state clock.old))
+        (server_states (F.state files.new) (D.state door.new) (E.state err.new) (K.state clock.new)) }
     ensures read { (failed : Bool) × ReadWithin (files_asked (service_of words.now)) failed (F.state files.old) (F.state files.new) }
     ensures read_first { ¬ ((D.state door.new).doorway.port ≡ None) → (F.state files.new).faults ≡ (F.state files.old).faults }
     ensures unopened { ¬ (IsOk (service_of words.now)) → files.new ≡ files.old }
     ensures unlistened { (D.state door.new).doorway.port ≡ None → door.new ≡ door.old }
-    ensures unasked { TookNone (D.state door.new).doorway → clock.new ≡ clock.old }
+    ensures clock_unread { TookNone (D.state door.new).doorway → clock.new ≡ clock.old }
     ensures closed { ¬ ((D.state door.new).doorway.port ≡ None) → (D.state door.new).doorway.is_open ≡ false }
 {
     if names_another(words) {
         return refuse(err, Status::Words, b"words: unknown command\n");
     }
-    match read_stock(alloc, words, files) {
-        Ok(stock) => match Request::new(alloc) {
-            Ok(mut request) => serve_stock(alloc, &stock, &mut request, door, err, clock),
+    match read_served_data(alloc, words, files) {
+        Ok(served_data) => match Request::new(alloc) {
+            Ok(mut request) => serve_data(alloc, &served_data, &mut request, door, err, clock),
             Err(_) => refuse(err, Status::NoMemory, b"no memory\n"),
         },
-        Err(none) => tell(alloc, none, err),
+        Err(none) => report(alloc, none, err),
     }
 }
 
 // Listens, and serves each connection.
-fn serve_stock<D: Door, E: Sink, K: Clock>(
+fn serve_data<D: Door, E: Sink, K: Clock>(
     alloc: Global,
-    stock: &SoundStock,
+    served_data: &ValidServedData,
     request: &mut Request,
     door: &mut D,
     err: &mut E,
     clock: &mut K,
 ) -> Status
     requires unasked { (D.state door.old).doorway.port ≡ None }
-    ensures ended { Ended stock.now result
+    ensures ended { Ended served_data.now result
         (unread (D.state door.old) (E.state err.old) (K.state clock.old))
         (unread (D.state door.new) (E.state err.new) (K.state clock.new)) }
     ensures unasked { (D.state door.new).doorway.taken ≡ 0 → clock.new ≡ clock.old }
 {
-    match door.listen(stock.port()) {
-        Ok(()) => serve_open(alloc, stock, request, door, err, clock),
+    match door.listen(served_data.port()) {
+        Ok(()) => serve_open(alloc, served_data, request, door, err, clock),
         Err(_) => refuse(err, Status::ReadFault, b"read fault\n"),
     }
 }
@@ -126,27 +137,27 @@ fn serve_stock<D: Door, E: Sink, K: Clock>(
 // Serves each connection of the port, which is listened to.
 fn serve_open<D: Door, E: Sink, K: Clock>(
     alloc: Global,
-    stock: &SoundStock,
+    served_data: &ValidServedData,
     request: &mut Request,
     door: &mut D,
     err: &mut E,
     clock: &mut K,
 ) -> Status
-    requires listens { (D.state door.old).doorway ≡ asked stock.now.port true }
-    ensures ended { Ended stock.now result
+    requires listens { (D.state door.old).doorway ≡ asked served_data.now.port true }
+    ensures ended { Ended served_data.now result
         (unread (D.state door.old) (E.state err.old) (K.state clock.old))
         (unread (D.state door.new) (E.state err.new) (K.state clock.new)) }
-    ensures unasked { (D.state door.new).doorway.taken ≡ 0 → clock.new ≡ clock.old }
+    ensures clock_unread { (D.state door.new).doorway.taken ≡ 0 → clock.new ≡ clock.old }
 {
-    tell_port(stock.port(), err);
-    match serve_all(alloc, stock, request, door, clock) {
+    report_port(served_data.port(), err);
+    match serve_all(alloc, served_data, request, door, clock) {
         Ok(()) => Status::Done,
         Err(_) => refuse(err, Status::ReadFault, b"read fault\n"),
     }
 }
 
 // Prints the port at which the server listens.
-fn tell_port<E: Sink>(port: u16, err: &mut E)
+fn report_port<E: Sink>(port: u16, err: &mut E)
     ensures { (failed : Bool) × Wrote (E.state err.old) (E.state err.new) failed (notice_of port) }
 {
     let mut line = ArrayString::new();
@@ -168,7 +179,7 @@ fn write_notice(port: u16, line: &mut ArrayString<64>)
 fn push_port(port: u16, line: &mut ArrayString<64>)
     requires { array_string_len line.old + 40 ≤ 64 }
     ensures bytes { line.new.bytes ≡ line.old.bytes ++ decimal port }
-    ensures short { array_string_len line.new ≤ array_string_len line.old + 40 }
+    ensures length_bound { array_string_len line.new ≤ array_string_len line.old + 40 }
 {
     let mut buffer = Buffer::new();
     line.push_str(buffer.format(port));

@@ -26,12 +26,14 @@ unfolding year_at
 year_at-not_begun first_year n m h = cond-false _ n (year_at first_year n m) (lt_test _ m h)
 
 -- a later year of the run starts at least 365 days later
-pub start_of-later : (first_year : ℤ) (k j : ℕ) → pos 2 ≤ℤ first_year → k < j → (start_of first_year k +ℤ pos 525600) ≤ℤ start_of first_year j
+pub start_of-later : (first_year : ℤ) (k j : ℕ) → pos 2 ≤ℤ first_year → k < j
+    → (start_of first_year k +ℤ pos 525600) ≤ℤ start_of first_year j
 start_of-later first_year k j low h =
     year_start_of-later (first_year +ℤ pos k) (first_year +ℤ pos j) (omega (arith, signed_arith)) (omega (arith, signed_arith))
 
 -- the last year that has begun is the one whose next year hasn't
-pub year_at-is : (first_year : ℤ) (n : ℕ) (m : ℤ) (k : ℕ) → pos 2 ≤ℤ first_year → k < n → start_of first_year k ≤ℤ m → (m <ℤ start_of first_year (suc k)) ⊎ (suc k ≡ n) → year_at first_year n m ≡ k
+pub year_at-is : (first_year : ℤ) (n : ℕ) (m : ℤ) (k : ℕ) → pos 2 ≤ℤ first_year → k < n → start_of first_year k ≤ℤ m
+    → (m <ℤ start_of first_year (suc k)) ⊎ (suc k ≡ n) → year_at first_year n m ≡ k
 year_at-is first_year zero m k low h begun ongoing = absurd (omega arith)
 year_at-is first_year (suc n) m k low h begun ongoing =
     elim (cases_eq k n) [
@@ -50,7 +52,8 @@ pub record IsYearAt (first_year : ℤ) (n : ℕ) (m : ℤ) (k : ℕ) : Type 0 wh
   pub ongoing : (m <ℤ start_of first_year (suc k)) ⊎ (suc k ≡ n)
 
 -- the calendar's year of a minute of the domain isn't before the first year
-pub first_by_calendar : (first_year : ℤ) (years : ℕ) (m y : ℤ) → AreYears first_year years → InDomain first_year years m → IsYear y → m <ℤ year_start_of (y +ℤ pos 1) → first_year ≤ℤ y
+pub first_by_calendar : (first_year : ℤ) (years : ℕ) (m y : ℤ) → AreYears first_year years → InDomain first_year years m
+    → IsYear y → m <ℤ year_start_of (y +ℤ pos 1) → first_year ≤ℤ y
 first_by_calendar first_year years m y are domain reach ongoing =
     by_lt_z y first_year
     (λ lt. let steps = year_start_of_mono (y +ℤ pos 1) first_year (omega (arith, signed_arith)) (omega (arith, signed_arith)) in
@@ -58,7 +61,9 @@ first_by_calendar first_year years m y are domain reach ongoing =
     (λ ge. ge)
 
 -- the year among the run is d years after the first, or the last
-pub year_at-calendar : (first_year : ℤ) (years : ℕ) (m y : ℤ) (d k : ℕ) → AreYears first_year years → first_year +ℤ pos d ≡ y → IsYear y → year_start_of y ≤ℤ m → m <ℤ year_start_of (y +ℤ pos 1) → k ≡ min d (years - 1) → year_at first_year years m ≡ k
+pub year_at-calendar : (first_year : ℤ) (years : ℕ) (m y : ℤ) (d k : ℕ) → AreYears first_year years
+    → first_year +ℤ pos d ≡ y → IsYear y → year_start_of y ≤ℤ m → m <ℤ year_start_of (y +ℤ pos 1)
+    → k ≡ min d (years - 1) → year_at first_year years m ≡ k
 year_at-calendar first_year years m y d k are there reach begun ongoing e =
     let low = are.least in
     let some = are.some in
@@ -86,39 +91,46 @@ abbrev pub IsBeforeEnd : ℤ → ℕ → ℤ → ℕ → Type 0
 IsBeforeEnd first_year years m k =
     (years ≤ suc k) ⊎ ((m -ℤ start_of first_year (suc k)) ≤ℤ negsuc 59)
 
-past_start_test : (first_year m : ℤ) (k : ℕ) → IsPastStart first_year m k → nat_lt 0 k && int_lt (m -ℤ start_of first_year k) (pos 60) ≡ false
+past_start_test : (first_year m : ℤ) (k : ℕ) → IsPastStart first_year m k
+    → nat_lt 0 k && int_lt (m -ℤ start_of first_year k) (pos 60) ≡ false
 past_start_test first_year m k h =
     elim h [
       | inl e ↦ and_left _ _ (le-ltb 0 k (omega arith))
       | inr far ↦ and_right _ _ (above_test (m -ℤ start_of first_year k) (pos 60) far)
     ]
 
-before_end_test : (first_year : ℤ) (years : ℕ) (m : ℤ) (k : ℕ) → IsBeforeEnd first_year years m k → nat_lt (suc k) years && int_lt (negsuc 59) (m -ℤ start_of first_year (suc k)) ≡ false
+before_end_test : (first_year : ℤ) (years : ℕ) (m : ℤ) (k : ℕ) → IsBeforeEnd first_year years m k
+    → nat_lt (suc k) years && int_lt (negsuc 59) (m -ℤ start_of first_year (suc k)) ≡ false
 before_end_test first_year years m k h =
     elim h [
       | inl last ↦ and_left _ _ (le-ltb (suc k) years last)
       | inr far ↦ and_right _ _ (above_test (negsuc 59) (m -ℤ start_of first_year (suc k)) far)
     ]
 
-pub place_in-start : (first_year : ℤ) (years : ℕ) (m : ℤ) (k : ℕ) → 0 < k → (m -ℤ start_of first_year k) <ℤ pos 60 → place_in first_year years m k ≡ Blend k (m -ℤ start_of first_year k)
+pub place_in-start : (first_year : ℤ) (years : ℕ) (m : ℤ) (k : ℕ) → 0 < k → (m -ℤ start_of first_year k) <ℤ pos 60
+    → place_in first_year years m k ≡ Blend k (m -ℤ start_of first_year k)
 unfolding place_in
-place_in-start first_year years m k some near =
-    cond-true _ _ _ (and_from _ _ (lt-ltb 0 k some) (below_test (m -ℤ start_of first_year k) (pos 60) near))
+place_in-start first_year years m k some in_range =
+    cond-true _ _ _ (and_from _ _ (lt-ltb 0 k some) (below_test (m -ℤ start_of first_year k) (pos 60) in_range))
 
-pub place_in-end : (first_year : ℤ) (years : ℕ) (m : ℤ) (k : ℕ) → IsPastStart first_year m k → suc k < years → negsuc 59 <ℤ (m -ℤ start_of first_year (suc k)) → place_in first_year years m k ≡ Blend (suc k) (m -ℤ start_of first_year (suc k))
+pub place_in-end : (first_year : ℤ) (years : ℕ) (m : ℤ) (k : ℕ) → IsPastStart first_year m k → suc k < years
+    → negsuc 59 <ℤ (m -ℤ start_of first_year (suc k))
+    → place_in first_year years m k ≡ Blend (suc k) (m -ℤ start_of first_year (suc k))
 unfolding place_in
-place_in-end first_year years m k past inner near =
+place_in-end first_year years m k past inner in_range =
     cond-false _ _ _ (past_start_test first_year m k past)
-    ∙ cond-true _ _ _ (and_from _ _ (lt-ltb (suc k) years inner) (below_test (negsuc 59) (m -ℤ start_of first_year (suc k)) near))
+    ∙ cond-true _ _ _ (and_from _ _ (lt-ltb (suc k) years inner) (below_test (negsuc 59) (m -ℤ start_of first_year (suc k)) in_range))
 
-pub place_in-plain : (first_year : ℤ) (years : ℕ) (m : ℤ) (k : ℕ) → IsPastStart first_year m k → IsBeforeEnd first_year years m k → place_in first_year years m k ≡ Plain k
+pub place_in-plain : (first_year : ℤ) (years : ℕ) (m : ℤ) (k : ℕ) → IsPastStart first_year m k
+    → IsBeforeEnd first_year years m k → place_in first_year years m k ≡ Plain k
 unfolding place_in
 place_in-plain first_year years m k past before =
     cond-false _ _ _ (past_start_test first_year m k past)
     ∙ cond-false _ _ _ (before_end_test first_year years m k before)
 
 -- the year among the run, by its bounds
-pub year_at-bounds : (first_year : ℤ) (n : ℕ) (m : ℤ) → 1 ≤ n → year_start_of first_year ≤ℤ m → IsYearAt first_year n m (year_at first_year n m)
+pub year_at-bounds : (first_year : ℤ) (n : ℕ) (m : ℤ) → 1 ≤ n → year_start_of first_year ≤ℤ m
+    → IsYearAt first_year n m (year_at first_year n m)
 year_at-bounds first_year zero m some low = absurd (omega arith)
 year_at-bounds first_year (suc n) m some low =
     by_lt_z m (start_of first_year n)
@@ -138,7 +150,9 @@ year_at-bounds first_year (suc n) m some low =
     (record { among = omega arith; begun = begun; ongoing = inr refl }))
 
 -- a minute in a blend is in the year that starts there, or in the one before
-pub blend_year : (first_year : ℤ) (years : ℕ) (m : ℤ) (k j : ℕ) (x : ℤ) → pos 2 ≤ℤ first_year → IsYearAt first_year years m k → IsInBlend first_year years m j x → ((j ≡ k) × (pos 0 ≤ℤ x)) ⊎ ((j ≡ suc k) × (x <ℤ pos 0))
+pub blend_year : (first_year : ℤ) (years : ℕ) (m : ℤ) (k j : ℕ) (x : ℤ) → pos 2 ≤ℤ first_year
+    → IsYearAt first_year years m k → IsInBlend first_year years m j x
+    → ((j ≡ k) × (pos 0 ≤ℤ x)) ⊎ ((j ≡ suc k) × (x <ℤ pos 0))
 blend_year first_year years m k j x low at blend =
     let begun = at.begun in
     let distance = blend.distance in
@@ -159,7 +173,8 @@ blend_year first_year years m k j x low at blend =
       ]
     ]
 
-year_of_place : (first_year : ℤ) (years : ℕ) (m : ℤ) (k : ℕ) → InDomain first_year years m → IsYearAt first_year years m k → IsInYear first_year years m k
+year_of_place : (first_year : ℤ) (years : ℕ) (m : ℤ) (k : ℕ) → InDomain first_year years m
+    → IsYearAt first_year years m k → IsInYear first_year years m k
 year_of_place first_year years m k domain at =
     let most = domain.most in
     record {
@@ -172,7 +187,9 @@ year_of_place first_year years m k domain at =
       ];
     }
 
-no_blend : (first_year : ℤ) (years : ℕ) (m : ℤ) (k : ℕ) → pos 2 ≤ℤ first_year → IsYearAt first_year years m k → IsPastStart first_year m k → IsBeforeEnd first_year years m k → (j : ℕ) (x : ℤ) → ¬ IsInBlend first_year years m j x
+no_blend : (first_year : ℤ) (years : ℕ) (m : ℤ) (k : ℕ) → pos 2 ≤ℤ first_year → IsYearAt first_year years m k
+    → IsPastStart first_year m k → IsBeforeEnd first_year years m k → (j : ℕ) (x : ℤ)
+    → ¬ IsInBlend first_year years m j x
 no_blend first_year years m k low at past before j x blend =
     let distance = blend.distance in
     let above = blend.above in
@@ -189,14 +206,15 @@ no_blend first_year years m k low at past before j x blend =
 start_cases : (first_year m : ℤ) (k : ℕ) → IsPastStart first_year m k ⊎ ((0 < k) × ((m -ℤ start_of first_year k) <ℤ pos 60))
 start_cases first_year m k =
     elim (cases_lt 0 k) [
-      | inl some ↦ by_lt_z (m -ℤ start_of first_year k) (pos 60) (λ near. inr (some, near)) (λ far. inl (inr far))
+      | inl some ↦ by_lt_z (m -ℤ start_of first_year k) (pos 60) (λ in_range. inr (some, in_range)) (λ far. inl (inr far))
       | inr none ↦ inl (inl (omega arith))
     ]
 
-end_cases : (first_year : ℤ) (years : ℕ) (m : ℤ) (k : ℕ) → IsBeforeEnd first_year years m k ⊎ ((suc k < years) × (negsuc 59 <ℤ (m -ℤ start_of first_year (suc k))))
+end_cases : (first_year : ℤ) (years : ℕ) (m : ℤ) (k : ℕ)
+    → IsBeforeEnd first_year years m k ⊎ ((suc k < years) × (negsuc 59 <ℤ (m -ℤ start_of first_year (suc k))))
 end_cases first_year years m k =
     elim (cases_lt (suc k) years) [
-      | inl inner ↦ by_lt_z (negsuc 59) (m -ℤ start_of first_year (suc k)) (λ near. inr (inner, near)) (λ far. inl (inr far))
+      | inl inner ↦ by_lt_z (negsuc 59) (m -ℤ start_of first_year (suc k)) (λ in_range. inr (inner, in_range)) (λ far. inl (inr far))
       | inr last ↦ inl (inl last)
     ]
 
@@ -205,7 +223,8 @@ not_begun first_year years m k inner at =
     elim at.ongoing [ inl before ↦ before | inr last ↦ absurd (omega arith) ]
 
 -- the computed position meets the rule
-place_in-rule : (first_year : ℤ) (years : ℕ) (m : ℤ) (k : ℕ) → pos 2 ≤ℤ first_year → InDomain first_year years m → IsYearAt first_year years m k → IsPlaceOf first_year years m (place_in first_year years m k)
+place_in-rule : (first_year : ℤ) (years : ℕ) (m : ℤ) (k : ℕ) → pos 2 ≤ℤ first_year → InDomain first_year years m
+    → IsYearAt first_year years m k → IsPlaceOf first_year years m (place_in first_year years m k)
 place_in-rule first_year years m k low domain at =
     let begun = at.begun in
     elim (start_cases first_year m k) [
@@ -232,13 +251,15 @@ place_in-rule first_year years m k low domain at =
       ]
     ]
 
-pub place_of-rule : (first_year : ℤ) (years : ℕ) (m : ℤ) → AreYears first_year years → InDomain first_year years m → IsPlaceOf first_year years m (place_of first_year years m)
+pub place_of-rule : (first_year : ℤ) (years : ℕ) (m : ℤ) → AreYears first_year years → InDomain first_year years m
+    → IsPlaceOf first_year years m (place_of first_year years m)
 unfolding place_of
 place_of-rule first_year years m are domain =
     place_in-rule first_year years m (year_at first_year years m) are.least domain (year_at-bounds first_year years m are.some domain.least)
 
 -- no other position meets the rule
-place_in-blend : (first_year : ℤ) (years : ℕ) (m : ℤ) (k j : ℕ) (x : ℤ) → pos 2 ≤ℤ first_year → IsYearAt first_year years m k → IsInBlend first_year years m j x → Blend j x ≡ place_in first_year years m k
+place_in-blend : (first_year : ℤ) (years : ℕ) (m : ℤ) (k j : ℕ) (x : ℤ) → pos 2 ≤ℤ first_year
+    → IsYearAt first_year years m k → IsInBlend first_year years m j x → Blend j x ≡ place_in first_year years m k
 place_in-blend first_year years m k j x low at blend =
     let distance = blend.distance in
     let above = blend.above in
@@ -256,30 +277,32 @@ place_in-blend first_year years m k j x low at blend =
           cc)
     ]
 
-plain_start : (first_year : ℤ) (years : ℕ) (m : ℤ) (k : ℕ) → IsYearAt first_year years m k → ((j : ℕ) (x : ℤ) → ¬ IsInBlend first_year years m j x) → IsPastStart first_year m k
+plain_start : (first_year : ℤ) (years : ℕ) (m : ℤ) (k : ℕ) → IsYearAt first_year years m k
+    → ((j : ℕ) (x : ℤ) → ¬ IsInBlend first_year years m j x) → IsPastStart first_year m k
 plain_start first_year years m k at none =
     let begun = at.begun in
     elim (start_cases first_year m k) [
       | inl past ↦ past
-      | inr near ↦ absurd (none k (m -ℤ start_of first_year k) (record {
-        later = near.0;
+      | inr in_range ↦ absurd (none k (m -ℤ start_of first_year k) (record {
+        later = in_range.0;
         inner = at.among;
         distance = refl;
         above = omega (arith, signed_arith);
-        below = near.1;
+        below = in_range.1;
       }))
     ]
 
-plain_end : (first_year : ℤ) (years : ℕ) (m : ℤ) (k : ℕ) → IsYearAt first_year years m k → ((j : ℕ) (x : ℤ) → ¬ IsInBlend first_year years m j x) → IsBeforeEnd first_year years m k
+plain_end : (first_year : ℤ) (years : ℕ) (m : ℤ) (k : ℕ) → IsYearAt first_year years m k
+    → ((j : ℕ) (x : ℤ) → ¬ IsInBlend first_year years m j x) → IsBeforeEnd first_year years m k
 plain_end first_year years m k at none =
     elim (end_cases first_year years m k) [
       | inl before ↦ before
-      | inr near ↦ (let before = not_begun first_year years m k near.0 at in
+      | inr in_range ↦ (let before = not_begun first_year years m k in_range.0 at in
           absurd (none (suc k) (m -ℤ start_of first_year (suc k)) (record {
             later = omega arith;
-            inner = near.0;
+            inner = in_range.0;
             distance = refl;
-            above = near.1;
+            above = in_range.1;
             below = omega (arith, signed_arith);
           })))
     ]
@@ -291,7 +314,8 @@ year_of first_year years m j year = record {
   ongoing = elim year.ongoing [ inl before ↦ inl before | inr last ↦ inr last.0 ];
 }
 
-pub place_of-only : (first_year : ℤ) (years : ℕ) (m : ℤ) → AreYears first_year years → InDomain first_year years m → (p : Place) → IsPlaceOf first_year years m p → p ≡ place_of first_year years m
+pub place_of-only : (first_year : ℤ) (years : ℕ) (m : ℤ) → AreYears first_year years → InDomain first_year years m
+    → (p : Place) → IsPlaceOf first_year years m p → p ≡ place_of first_year years m
 unfolding place_of
 place_of-only first_year years m are domain (Plain j) rule =
     let at = year_of first_year years m j rule.0 in
@@ -299,10 +323,12 @@ place_of-only first_year years m are domain (Plain j) rule =
     rw same
     (sym (place_in-plain first_year years m j (plain_start first_year years m j at rule.1) (plain_end first_year years m j at rule.1)))
 place_of-only first_year years m are domain (Blend j x) rule =
-    place_in-blend first_year years m (year_at first_year years m) j x are.least (year_at-bounds first_year years m are.some domain.least) rule
+    place_in-blend first_year years m (year_at first_year years m) j x are.least
+    (year_at-bounds first_year years m are.some domain.least) rule
 
 -- minutes of a domain are less than 4,000,000,000 in size
-pub domain_small : (first_year : ℤ) (years : ℕ) (m : ℤ) → AreYears first_year years → InDomain first_year years m → unsigned_abs m ≤ 4000000000
+pub domain_small : (first_year : ℤ) (years : ℕ) (m : ℤ) → AreYears first_year years → InDomain first_year years m
+    → unsigned_abs m ≤ 4000000000
 domain_small first_year years m are domain =
     let least = are.least in
     let most = are.most in
@@ -320,7 +346,9 @@ IsNearest m k n =
     ⊎ ((pos 720 ≤ℤ int_rem_euclid m (pos 1440)) × (n ≡ suc k))
 
 -- a minute in any blend is in the blend of the nearer new year
-nearest_blend : (first_year : ℤ) (years : ℕ) (m : ℤ) (k n j : ℕ) (x z : ℤ) → pos 2 ≤ℤ first_year → IsYearAt first_year years m k → IsNearest m k n → x ≡ m -ℤ start_of first_year n → IsInBlend first_year years m j z → (0 < n) × (n < years) × (negsuc 59 <ℤ x) × (x <ℤ pos 60)
+nearest_blend : (first_year : ℤ) (years : ℕ) (m : ℤ) (k n j : ℕ) (x z : ℤ) → pos 2 ≤ℤ first_year
+    → IsYearAt first_year years m k → IsNearest m k n → x ≡ m -ℤ start_of first_year n
+    → IsInBlend first_year years m j z → (0 < n) × (n < years) × (negsuc 59 <ℤ x) × (x <ℤ pos 60)
 nearest_blend first_year years m k n j x z low at nearest distance blend =
     let above = blend.above in
     let below = blend.below in
@@ -334,7 +362,10 @@ nearest_blend first_year years m k n j x z low at nearest distance blend =
     (rw same blend.later, rw same blend.inner, rw x_is above, rw x_is below)
 
 -- if the nearer new year has no blend, the minute is plain
-pub nearest_plain : (first_year : ℤ) (years : ℕ) (m : ℤ) (n : ℕ) (x : ℤ) → AreYears first_year years → InDomain first_year years m → IsNearest m (year_at first_year years m) n → x ≡ m -ℤ start_of first_year n → ¬ ((0 < n) × (n < years) × (negsuc 59 <ℤ x) × (x <ℤ pos 60)) → IsPlaceOf first_year years m (Plain (year_at first_year years m))
+pub nearest_plain : (first_year : ℤ) (years : ℕ) (m : ℤ) (n : ℕ) (x : ℤ) → AreYears first_year years
+    → InDomain first_year years m → IsNearest m (year_at first_year years m) n → x ≡ m -ℤ start_of first_year n
+    → ¬ ((0 < n) × (n < years) × (negsuc 59 <ℤ x) × (x <ℤ pos 60))
+    → IsPlaceOf first_year years m (Plain (year_at first_year years m))
 nearest_plain first_year years m n x are domain nearest distance none =
     let k = year_at first_year years m in
     let at = year_at-bounds first_year years m are.some domain.least in

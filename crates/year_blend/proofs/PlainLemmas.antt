@@ -8,15 +8,18 @@ use Rattle.year_blend.specs.Places.{AreYears, InDomain, IsInBlend, IsInYear, IsP
 use Rattle.year_blend.proofs.YearLemmas.{year_start_of_size}
 use Rattle.year_blend.proofs.PlaceLemmas.{start_of-later, place_of-rule, place_of-only}
 
-pub plain_end_of-inner : (first_year : ℤ) (years year : ℕ) → suc year < years → plain_end_of first_year years year ≡ start_of first_year (suc year) -ℤ pos 60
+pub plain_end_of-inner : (first_year : ℤ) (years year : ℕ) → suc year < years
+    → plain_end_of first_year years year ≡ start_of first_year (suc year) -ℤ pos 60
 unfolding plain_end_of
 plain_end_of-inner first_year years year h = cond-true (nat_lt (suc year) years) _ _ (lt-ltb (suc year) years h)
 
-pub plain_end_of-last : (first_year : ℤ) (years year : ℕ) → years ≤ suc year → plain_end_of first_year years year ≡ start_of first_year (suc year)
+pub plain_end_of-last : (first_year : ℤ) (years year : ℕ) → years ≤ suc year
+    → plain_end_of first_year years year ≡ start_of first_year (suc year)
 unfolding plain_end_of
 plain_end_of-last first_year years year h = cond-false (nat_lt (suc year) years) _ _ (le-ltb (suc year) years h)
 
-pub next_start_size : (first_year : ℤ) (years year : ℕ) → AreYears first_year years → year < years → unsigned_abs (start_of first_year (suc year)) < 4000000000
+pub next_start_size : (first_year : ℤ) (years year : ℕ) → AreYears first_year years → year < years
+    → unsigned_abs (start_of first_year (suc year)) < 4000000000
 next_start_size first_year years year are one_of =
     let least = are.least in
     let most = are.most in
@@ -24,10 +27,12 @@ next_start_size first_year years year are one_of =
     year_start_of_size (first_year +ℤ pos (suc year)) (record { least = omega (arith, signed_arith); most = omega (arith, signed_arith) })
 
 -- the last year's end is the domain's
-last_start : (first_year : ℤ) (years year : ℕ) → year < years → years ≤ suc year → start_of first_year years ≡ start_of first_year (suc year)
+last_start : (first_year : ℤ) (years year : ℕ) → year < years → years ≤ suc year
+    → start_of first_year years ≡ start_of first_year (suc year)
 last_start first_year years year one_of last = ap (start_of first_year) (let e : years ≡ suc year = omega arith in e)
 
-end_within : (first_year : ℤ) (years year : ℕ) → pos 2 ≤ℤ first_year → year < years → plain_end_of first_year years year ≤ℤ start_of first_year years
+end_within : (first_year : ℤ) (years year : ℕ) → pos 2 ≤ℤ first_year → year < years
+    → plain_end_of first_year years year ≤ℤ start_of first_year years
 end_within first_year years year low one_of =
     elim (cases_lt (suc year) years) [
       | inl inner ↦ (let steps = start_of-later first_year (suc year) years low inner in
@@ -40,7 +45,8 @@ end_within first_year years year low one_of =
 abbrev IsPlain : ℤ → ℕ → ℤ → ℕ → Type 0
 IsPlain first_year years m year = IsPlaceOf first_year years m (Plain year)
 
-plain_rule : (first_year : ℤ) (years : ℕ) (m : ℤ) (year : ℕ) → AreYears first_year years → InDomain first_year years m → place_of first_year years m ≡ Plain year → IsPlain first_year years m year
+plain_rule : (first_year : ℤ) (years : ℕ) (m : ℤ) (year : ℕ) → AreYears first_year years → InDomain first_year years m
+    → place_of first_year years m ≡ Plain year → IsPlain first_year years m year
 plain_rule first_year years m year are domain plain = rw plain at (place_of-rule first_year years m are domain)
 
 until : (first_year : ℤ) (years : ℕ) (m : ℤ) (year : ℕ) → IsPlain first_year years m year → m ≤ℤ plain_end_of first_year years year
@@ -49,11 +55,11 @@ until first_year years m year rule =
       | inl inner ↦ rw (plain_end_of-inner first_year years year inner)
           (elim rule.0.ongoing [
             | inl before ↦ by_lt_z (negsuc 59) (m -ℤ start_of first_year (suc year))
-                (λ near. absurd (rule.1 (suc year) (m -ℤ start_of first_year (suc year)) (record {
+                (λ in_range. absurd (rule.1 (suc year) (m -ℤ start_of first_year (suc year)) (record {
                   later = omega arith;
                   inner = inner;
                   distance = refl;
-                  above = near;
+                  above = in_range;
                   below = omega (arith, signed_arith);
                 })))
                 (λ far. omega (arith, signed_arith))
@@ -67,12 +73,14 @@ until first_year years m year rule =
           ]))
     ]
 
-pub plain_until : (first_year : ℤ) (years : ℕ) (m : ℤ) (year : ℕ) → AreYears first_year years → InDomain first_year years m → place_of first_year years m ≡ Plain year → m ≤ℤ plain_end_of first_year years year
+pub plain_until : (first_year : ℤ) (years : ℕ) (m : ℤ) (year : ℕ) → AreYears first_year years
+    → InDomain first_year years m → place_of first_year years m ≡ Plain year → m ≤ℤ plain_end_of first_year years year
 plain_until first_year years m year are domain plain =
     until first_year years m year (plain_rule first_year years m year are domain plain)
 
 -- a later minute of the part is of the same year
-still_in_year : (first_year : ℤ) (years : ℕ) (m later : ℤ) (year : ℕ) → IsInYear first_year years m year → m ≤ℤ later → later ≤ℤ plain_end_of first_year years year → IsInYear first_year years later year
+still_in_year : (first_year : ℤ) (years : ℕ) (m later : ℤ) (year : ℕ) → IsInYear first_year years m year → m ≤ℤ later
+    → later ≤ℤ plain_end_of first_year years year → IsInYear first_year years later year
 still_in_year first_year years m later year inside onward within =
     let begun = inside.begun in
     record {
@@ -90,7 +98,9 @@ still_in_year first_year years m later year inside onward within =
     }
 
 -- a later minute of the part is in no blend
-still_no_blend : (first_year : ℤ) (years : ℕ) (m later : ℤ) (year : ℕ) → pos 2 ≤ℤ first_year → IsPlain first_year years m year → m ≤ℤ later → later ≤ℤ plain_end_of first_year years year → (other : ℕ) (x : ℤ) → ¬ IsInBlend first_year years later other x
+still_no_blend : (first_year : ℤ) (years : ℕ) (m later : ℤ) (year : ℕ) → pos 2 ≤ℤ first_year
+    → IsPlain first_year years m year → m ≤ℤ later → later ≤ℤ plain_end_of first_year years year → (other : ℕ) (x : ℤ)
+    → ¬ IsInBlend first_year years later other x
 still_no_blend first_year years m later year low rule onward within other x blend =
     let distance = blend.distance in
     let above = blend.above in
@@ -116,13 +126,18 @@ still_no_blend first_year years m later year low rule onward within other x blen
       ]
     ]
 
-pub plain_rest : (first_year : ℤ) (years : ℕ) (m later : ℤ) (year : ℕ) → AreYears first_year years → InDomain first_year years m → place_of first_year years m ≡ Plain year → m ≤ℤ later → later ≤ℤ plain_end_of first_year years year → InDomain first_year years later × (place_of first_year years later ≡ Plain year)
+pub plain_rest : (first_year : ℤ) (years : ℕ) (m later : ℤ) (year : ℕ) → AreYears first_year years
+    → InDomain first_year years m → place_of first_year years m ≡ Plain year → m ≤ℤ later
+    → later ≤ℤ plain_end_of first_year years year
+    → InDomain first_year years later × (place_of first_year years later ≡ Plain year)
 plain_rest first_year years m later year are domain plain onward within =
     let rule = plain_rule first_year years m year are domain plain in
     let from = domain.least in
     let end = end_within first_year years year are.least rule.0.one_of in
     let inside : InDomain first_year years later = record { least = omega (arith, signed_arith); most = omega (arith, signed_arith) } in
-    let there : IsPlain first_year years later year =
-    (still_in_year first_year years m later year rule.0 onward within, still_no_blend first_year years m later year are.least rule onward within)
+    let there : IsPlain first_year years later year = (
+      still_in_year first_year years m later year rule.0 onward within,
+      still_no_blend first_year years m later year are.least rule onward within,
+    )
     in
     (inside, sym (place_of-only first_year years later are inside (Plain year) there))

@@ -18,7 +18,8 @@ days_in_year_cases : (y : ℤ) → (days_in_year y ≡ 365) ⊎ (days_in_year y 
 days_in_year_cases y = grind arith
 
 -- the next year starts 365 or 366 days later
-pub year_length : (y : ℤ) → pos 2 ≤ℤ y → (year_start_of (y +ℤ pos 1) -ℤ year_start_of y ≡ pos 525600) ⊎ (year_start_of (y +ℤ pos 1) -ℤ year_start_of y ≡ pos 527040)
+pub year_length : (y : ℤ) → pos 2 ≤ℤ y → (year_start_of (y +ℤ pos 1) -ℤ year_start_of y ≡ pos 525600)
+    ⊎ (year_start_of (y +ℤ pos 1) -ℤ year_start_of y ≡ pos 527040)
 year_length y low =
     let next = day_count-next_year y (y +ℤ pos 1) (omega (arith, signed_arith)) refl in
     let here = year_start_of-day_count y in
@@ -31,7 +32,14 @@ year_length y low =
 -- a later year starts at least 365 days later
 pub year_start_of-later : (y later : ℤ) → neg_ℤ (pos 10000) ≤ℤ y → y <ℤ later → (year_start_of y +ℤ pos 525600) ≤ℤ year_start_of later
 year_start_of-later y later low h =
-    omega (arith, signed_arith, year_start_of-day_count y, year_start_of-day_count later, day_count-later_year y later low h, days_in_year_bounds y)
+    omega (
+      arith,
+      signed_arith,
+      year_start_of-day_count y,
+      year_start_of-day_count later,
+      day_count-later_year y later low h,
+      days_in_year_bounds y,
+    )
 
 day_count-first : day_count (pos 2) 1 1 ≡ 3653156
 day_count-first = day_count-early (pos 2) 10001 1 1 refl (omega arith) (omega arith) (omega arith)
@@ -67,7 +75,14 @@ year_start_of_high y low high =
 
 pub year_start_of_size : (y : ℤ) → IsYearInReach y → unsigned_abs (year_start_of y) < 4000000000
 year_start_of_size y reach =
-    omega (arith, signed_arith, one_part (year_start_of y), year_start_of-day_count y, day_count_low y reach.least, day_count_high y reach.least reach.most)
+    omega (
+      arith,
+      signed_arith,
+      one_part (year_start_of y),
+      year_start_of-day_count y,
+      day_count_low y reach.least,
+      day_count_high y reach.least reach.most,
+    )
 
 -- less than an hour after a year's start the minute is of the first day, and before it of the last
 pub young_day : (y m x : ℤ) → x ≡ m -ℤ year_start_of y → pos 0 ≤ℤ x → x <ℤ pos 60 → int_rem_euclid m (pos 1440) <ℤ pos 720

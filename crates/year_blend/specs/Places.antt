@@ -1,6 +1,26 @@
 -- The minutes of a run of years: the plain part of each year, and the blends at the new years between
 -- them (this project).
-use Rattle.std.specs.Prelude.{◌≡◌, ℕ, zero, suc, ◌<◌, ◌≤◌, ℤ, pos, negsuc, ◌+ℤ◌, ◌-ℤ◌, ◌≤ℤ◌, ◌<ℤ◌, int_le, int_lt, nat_lt, ◌&&◌, ◌⊎◌, if◌then◌else◌}
+use Rattle.std.specs.Prelude.{
+  ◌≡◌,
+  ℕ,
+  zero,
+  suc,
+  ◌<◌,
+  ◌≤◌,
+  ℤ,
+  pos,
+  negsuc,
+  ◌+ℤ◌,
+  ◌-ℤ◌,
+  ◌≤ℤ◌,
+  ◌<ℤ◌,
+  int_le,
+  int_lt,
+  nat_lt,
+  ◌&&◌,
+  ◌⊎◌,
+  if◌then◌else◌,
+}
 use Rattle.year_blend.specs.declared.parts.Place.{Place}
 use Rattle.year_blend.specs.declared.parts.Place.TheVariants.{Plain, Blend}
 use Rattle.year_blend.specs.Years.{year_start_of}

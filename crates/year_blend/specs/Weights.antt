@@ -7,7 +7,7 @@ abbrev pub total_weight : ℕ
 total_weight = 4147200000
 
 -- x is a number of minutes from the new year, at most an hour
-pub record IsNearNewYear (x : ℤ) : Type 0 where
+pub record IsWithinHourOfNewYear (x : ℤ) : Type 0 where
   pub least : negsuc 59 ≤ℤ x
   pub most : x ≤ℤ pos 60
 

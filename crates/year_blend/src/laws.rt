@@ -8,7 +8,7 @@ ghost use Rattle.year_blend.specs.Places.{AreYears, InDomain, IsPlaceOf, place_o
 ghost use Rattle.year_blend.specs.declared.parts.Stretch.{Stretch};
 ghost use Rattle.year_blend.specs.declared.spanning.TheConstants.{LONGEST_SPAN};
 ghost use Rattle.year_blend.specs.Stretches.{IsStretchOf, stretch_of};
-ghost use Rattle.year_blend.specs.Weights.{weight_of, weight_slope_of, total_weight, IsNearNewYear};
+ghost use Rattle.year_blend.specs.Weights.{weight_of, weight_slope_of, total_weight, IsWithinHourOfNewYear};
 
 /// Proves that consecutive years start 365 or 366 days apart, from the year 2 to the year 9300.
 pub fn year_lengths()
@@ -49,10 +49,12 @@ pub fn unique_stretches()
 
 /// Proves bounds on the weight and its slope over a blend, and on the change of each in a minute.
 pub fn weight_steps()
-    ensures weight { (x : ℤ) → IsNearNewYear x → (pos 0 ≤ℤ weight_of x) × (weight_of x ≤ℤ pos total_weight) }
-    ensures slope { (x : ℤ) → IsNearNewYear x → (pos 0 ≤ℤ weight_slope_of x) × (weight_slope_of x ≤ℤ pos 64800000) }
-    ensures weight_step { (x : ℤ) → IsNearNewYear x → x <ℤ pos 60 → unsigned_abs (weight_of (x +ℤ pos 1) -ℤ weight_of x) ≤ 64800000 }
-    ensures slope_step { (x : ℤ) → IsNearNewYear x → x <ℤ pos 60 → unsigned_abs (weight_slope_of (x +ℤ pos 1) -ℤ weight_slope_of x) ≤ 1663000 }
+    ensures weight { (x : ℤ) → IsWithinHourOfNewYear x → (pos 0 ≤ℤ weight_of x) × (weight_of x ≤ℤ pos total_weight) }
+    ensures slope { (x : ℤ) → IsWithinHourOfNewYear x → (pos 0 ≤ℤ weight_slope_of x) × (weight_slope_of x ≤ℤ pos 64800000) }
+    ensures weight_step { (x : ℤ) → IsWithinHourOfNewYear x → x <ℤ pos 60
+        → unsigned_abs (weight_of (x +ℤ pos 1) -ℤ weight_of x) ≤ 64800000 }
+    ensures slope_step { (x : ℤ) → IsWithinHourOfNewYear x → x <ℤ pos 60
+        → unsigned_abs (weight_slope_of (x +ℤ pos 1) -ℤ weight_slope_of x) ≤ 1663000 }
 {}
 
 /// Proves the positions of minutes among three years from 1999 on: at both ends, and about a new year.

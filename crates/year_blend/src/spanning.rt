@@ -18,7 +18,7 @@ pub fn stretch(first_year: i32, years: u32, m: i64, n: u32) -> Stretch
     requires years { AreYears first_year years }
     requires first { InDomain first_year years m }
     requires last { InDomain first_year years (m +ℤ pos n) }
-    requires short { n ≤ LONGEST_SPAN }
+    requires length_bound { n ≤ LONGEST_SPAN }
     ensures value { result ≡ stretch_of first_year years m n }
     ensures rule { IsStretchOf first_year years m n result }
 {

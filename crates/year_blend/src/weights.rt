@@ -1,7 +1,7 @@
 //! The weight of the later year in a blend.
 
 ghost use Rattle.std.specs.Prelude.{◌≡◌, ◌≤◌, pos, ◌-ℤ◌, ◌≤ℤ◌};
-ghost use Rattle.year_blend.specs.Weights.{weight_of, weight_slope_of, total_weight, IsNearNewYear};
+ghost use Rattle.year_blend.specs.Weights.{weight_of, weight_slope_of, total_weight, IsWithinHourOfNewYear};
 
 /// The sum of the weights of both years.
 pub const TOTAL_WEIGHT: i64 = 4_147_200_000;
@@ -9,7 +9,7 @@ pub const TOTAL_WEIGHT: i64 = 4_147_200_000;
 /// Returns the weight of the later year `x` minutes from the new year, from 0 to [`TOTAL_WEIGHT`]; `x` is
 /// from -60 to 60.
 pub fn weight(x: i64) -> i64
-    requires { IsNearNewYear x }
+    requires { IsWithinHourOfNewYear x }
     ensures value { result ≡ weight_of x }
     ensures least { pos 0 ≤ℤ result }
     ensures most { result ≤ℤ pos total_weight }
@@ -20,7 +20,7 @@ pub fn weight(x: i64) -> i64
 /// Returns the change of the weight a minute, `x` minutes from the new year, from 0 to 64,800,000; `x` is
 /// from -60 to 60.
 pub fn weight_slope(x: i64) -> i64
-    requires { IsNearNewYear x }
+    requires { IsWithinHourOfNewYear x }
     ensures value { result ≡ weight_slope_of x }
     ensures least { pos 0 ≤ℤ result }
     ensures most { result ≤ℤ pos 64800000 }

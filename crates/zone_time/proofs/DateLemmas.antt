@@ -20,7 +20,8 @@ pub record IsDateAt (d : CalendarDate) (count : ℕ) : Type 0 where
   pub counted : day_count (pos d.year) d.month d.day ≡ count
 
 -- a day of the month whose first has `before` days before it
-in_month : (y m days count : ℕ) → y ≤ 9999 → 1 ≤ m → m ≤ 12 → days < days_in_month (pos y) m → day_count (pos y) m 1 + days ≡ count → IsDateAt (record { year = y; month = m; day = days + 1 }) count
+in_month : (y m days count : ℕ) → y ≤ 9999 → 1 ≤ m → m ≤ 12 → days < days_in_month (pos y) m
+    → day_count (pos y) m 1 + days ≡ count → IsDateAt (record { year = y; month = m; day = days + 1 }) count
 in_month y m days count year low high h e = record {
   year = year;
   low_month = low;
@@ -33,29 +34,38 @@ in_month y m days count year low high h e = record {
 december : (y : ℕ) → day_count (pos y) 12 1 + days_in_month (pos y) 12 ≡ day_count (pos y) 1 1 + days_in_year (pos y)
 december y = omega (arith, day_count-last_of_year (pos y), day_count-day (pos y) 12 1 31 (omega arith) (omega arith))
 
-from_month : (more y m days count : ℕ) → y ≤ 9999 → 1 ≤ m → m + more ≡ 12 → day_count (pos y) m 1 + days ≡ count → count < day_count (pos y) 1 1 + days_in_year (pos y) → IsDateAt (date_from_month more y m days) count
+from_month : (more y m days count : ℕ) → y ≤ 9999 → 1 ≤ m → m + more ≡ 12 → day_count (pos y) m 1 + days ≡ count
+    → count < day_count (pos y) 1 1 + days_in_year (pos y) → IsDateAt (date_from_month more y m days) count
 unfolding date_from_month
 from_month zero y m days count year low high e h =
     let last : m ≡ 12 = omega arith in
     let before : days < days_in_month (pos y) m = rw last (omega (arith, december y, rw last at e)) in
     in_month y m days count year low (omega arith) before e
 from_month (suc more) y m days count year low high e h =
-    elim (nat_lt days (days_in_month (pos y) m)) as (λ v. nat_lt days (days_in_month (pos y) m) ≡ v → IsDateAt (elim v [ true ↦ record { year = y; month = m; day = days + 1 } | false ↦ date_from_month more y (m + 1) (days - days_in_month (pos y) m) ]) count) [
+    elim (nat_lt days (days_in_month (pos y) m)) as (λ v. nat_lt days (days_in_month (pos y) m) ≡ v → IsDateAt (elim v
+    [ true ↦ record { year = y; month = m; day = days + 1 } | false ↦ date_from_month more y (m + 1) (days - days_in_month (pos y) m) ])
+    count) [
       | true ↦ λ is. in_month y m days count year low (omega arith) (ltb-true _ _ is) e
       | false ↦ λ is. from_month more y (m + 1) (days - days_in_month (pos y) m) count year (omega arith) (omega arith)
           (omega (arith, ltb-false _ _ is, day_count-next_month (pos y) m low)) h
     ] refl
 
-from_year : (more y days count : ℕ) → y + more ≡ 9999 → day_count (pos y) 1 1 + days ≡ count → count < 7304850 → IsDateAt (date_from_year more y days) count
+from_year : (more y days count : ℕ) → y + more ≡ 9999 → day_count (pos y) 1 1 + days ≡ count → count < 7304850
+    → IsDateAt (date_from_year more y days) count
 unfolding date_from_year
 from_year zero y days count high e h =
     from_month 11 y 1 days count (omega arith) (omega arith) refl e
     (omega (arith, day_count-next_year (pos y) (pos 10000) (omega (arith, signed_arith)) (omega (arith, signed_arith)), day_count-end))
 from_year (suc more) y days count high e h =
-    elim (nat_lt days (days_in_year (pos y))) as (λ v. nat_lt days (days_in_year (pos y)) ≡ v → IsDateAt (elim v [ true ↦ date_from_month 11 y 1 days | false ↦ date_from_year more (y + 1) (days - days_in_year (pos y)) ]) count) [
+    elim (nat_lt days (days_in_year (pos y))) as (λ v. nat_lt days (days_in_year (pos y)) ≡ v → IsDateAt (elim v
+    [ true ↦ date_from_month 11 y 1 days | false ↦ date_from_year more (y + 1) (days - days_in_year (pos y)) ]) count) [
       | true ↦ λ is. from_month 11 y 1 days count (omega arith) (omega arith) refl e (omega (arith, ltb-true _ _ is))
       | false ↦ λ is. from_year more (y + 1) (days - days_in_year (pos y)) count (omega arith)
-          (omega (arith, ltb-false _ _ is, day_count-next_year (pos y) (pos (y + 1)) (omega (arith, signed_arith)) (omega (arith, signed_arith)))) h
+          (omega (
+            arith,
+            ltb-false _ _ is,
+            day_count-next_year (pos y) (pos (y + 1)) (omega (arith, signed_arith)) (omega (arith, signed_arith)),
+          )) h
     ] refl
 
 day_count-year_zero : day_count (pos 0) 1 1 ≡ 3652425
@@ -85,8 +95,16 @@ date_of_is day h =
     }
 
 -- a date of the library with a day number has the parts of the day number's date
-pub date_with_day : (d : Date) (day : ℤ) → IsDay day → epoch_day d ≡ day → (d.year ≡ pos (date_of day).year) × (d.month ≡ (date_of day).month) × (d.day ≡ (date_of day).day)
+pub date_with_day : (d : Date) (day : ℤ) → IsDay day → epoch_day d ≡ day
+    → (d.year ≡ pos (date_of day).year) × (d.month ≡ (date_of day).month) × (d.day ≡ (date_of day).day)
 date_with_day d day h e =
     let is = date_of_is day h in
-    let same : Date = record { year = pos (date_of day).year; month = (date_of day).month; day = (date_of day).day; year_in = is.civil.0; month_in = is.civil.1; day_in = is.civil.2 } in
+    let same : Date = record {
+      year = pos (date_of day).year;
+      month = (date_of day).month;
+      day = (date_of day).day;
+      year_in = is.civil.0;
+      month_in = is.civil.1;
+      day_in = is.civil.2;
+    } in
     epoch_day_injective d same (e ∙ sym is.number)

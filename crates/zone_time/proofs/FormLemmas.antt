@@ -21,9 +21,12 @@ digits_spelled b c tens ones =
     rw (first, second)
 
 abbrev pub IsSpelled : List ℕ → Type 0
-IsSpelled t = has_form t ≡ true → (spelled (pair_at t 0) (pair_at t 2) (pair_at t 5) (pair_at t 8) (pair_at t 11) (pair_at t 14) ≡ t) × (pair_at t 2 < 100)
+IsSpelled t = has_form t ≡ true
+    → (spelled (pair_at t 0) (pair_at t 2) (pair_at t 5) (pair_at t 8) (pair_at t 11) (pair_at t 14) ≡ t)
+    × (pair_at t 2 < 100)
 
-of_bytes : (b0 b1 b2 b3 b4 b5 b6 b7 b8 b9 b10 b11 b12 b13 b14 b15 b16 : ℕ) → IsSpelled (b0 ∷ b1 ∷ b2 ∷ b3 ∷ b4 ∷ b5 ∷ b6 ∷ b7 ∷ b8 ∷ b9 ∷ b10 ∷ b11 ∷ b12 ∷ b13 ∷ b14 ∷ b15 ∷ b16 ∷ [])
+of_bytes : (b0 b1 b2 b3 b4 b5 b6 b7 b8 b9 b10 b11 b12 b13 b14 b15 b16 : ℕ)
+    → IsSpelled (b0 ∷ b1 ∷ b2 ∷ b3 ∷ b4 ∷ b5 ∷ b6 ∷ b7 ∷ b8 ∷ b9 ∷ b10 ∷ b11 ∷ b12 ∷ b13 ∷ b14 ∷ b15 ∷ b16 ∷ [])
 unfolding has_form spelled
 of_bytes b0 b1 b2 b3 b4 b5 b6 b7 b8 b9 b10 b11 b12 b13 b14 b15 b16 h =
     let s0 = and_parts _ _ h in
@@ -42,10 +45,25 @@ of_bytes b0 b1 b2 b3 b4 b5 b6 b7 b8 b9 b10 b11 b12 b13 b14 b15 b16 h =
     let s13 = and_parts _ _ s12.1 in
     let s14 = and_parts _ _ s13.1 in
     let s15 = and_parts _ _ s14.1 in
-    let s16 = and_parts _ _ s15.1 in
-    (rw (digits_spelled b0 b1 s0.0 s1.0, digits_spelled b2 b3 s2.0 s3.0, eqb-true b4 45 s4.0, digits_spelled b5 b6 s5.0 s6.0, eqb-true b7 45 s7.0, digits_spelled b8 b9 s8.0 s9.0, eqb-true b10 84 s10.0, digits_spelled b11 b12 s11.0 s12.0, eqb-true b13 58 s13.0, digits_spelled b14 b15 s14.0 s15.0, eqb-true b16 90 s16.0), digits_small b2 b3 s2.0 s3.0)
+    let s16 = and_parts _ _ s15.1 in (
+      rw (
+        digits_spelled b0 b1 s0.0 s1.0,
+        digits_spelled b2 b3 s2.0 s3.0,
+        eqb-true b4 45 s4.0,
+        digits_spelled b5 b6 s5.0 s6.0,
+        eqb-true b7 45 s7.0,
+        digits_spelled b8 b9 s8.0 s9.0,
+        eqb-true b10 84 s10.0,
+        digits_spelled b11 b12 s11.0 s12.0,
+        eqb-true b13 58 s13.0,
+        digits_spelled b14 b15 s14.0 s15.0,
+        eqb-true b16 90 s16.0,
+      ),
+      digits_small b2 b3 s2.0 s3.0,
+    )
 
-first_of_more : (n : ℕ) (P : List ℕ → Type 0) → ((b : ℕ) (rest : List ℕ) → length rest ≡ n → P (b ∷ rest)) → (t : List ℕ) → length t ≡ suc n → P t
+first_of_more : (n : ℕ) (P : List ℕ → Type 0) → ((b : ℕ) (rest : List ℕ) → length rest ≡ n → P (b ∷ rest))
+    → (t : List ℕ) → length t ≡ suc n → P t
 first_of_more n P step [] h = absurd (omega arith)
 first_of_more n P step (b ∷ rest) h = step b rest (omega arith)
 
@@ -71,8 +89,11 @@ of_length =
     first_of_more 3 (λ t. IsSpelled (b0 ∷ b1 ∷ b2 ∷ b3 ∷ b4 ∷ b5 ∷ b6 ∷ b7 ∷ b8 ∷ b9 ∷ b10 ∷ b11 ∷ b12 ∷ t)) (λ b13 t13 l13.
     first_of_more 2 (λ t. IsSpelled (b0 ∷ b1 ∷ b2 ∷ b3 ∷ b4 ∷ b5 ∷ b6 ∷ b7 ∷ b8 ∷ b9 ∷ b10 ∷ b11 ∷ b12 ∷ b13 ∷ t)) (λ b14 t14 l14.
     first_of_more 1 (λ t. IsSpelled (b0 ∷ b1 ∷ b2 ∷ b3 ∷ b4 ∷ b5 ∷ b6 ∷ b7 ∷ b8 ∷ b9 ∷ b10 ∷ b11 ∷ b12 ∷ b13 ∷ b14 ∷ t)) (λ b15 t15 l15.
-    first_of_more 0 (λ t. IsSpelled (b0 ∷ b1 ∷ b2 ∷ b3 ∷ b4 ∷ b5 ∷ b6 ∷ b7 ∷ b8 ∷ b9 ∷ b10 ∷ b11 ∷ b12 ∷ b13 ∷ b14 ∷ b15 ∷ t)) (λ b16 t16 l16.
-    none_of_zero (λ t. IsSpelled (b0 ∷ b1 ∷ b2 ∷ b3 ∷ b4 ∷ b5 ∷ b6 ∷ b7 ∷ b8 ∷ b9 ∷ b10 ∷ b11 ∷ b12 ∷ b13 ∷ b14 ∷ b15 ∷ b16 ∷ t)) (of_bytes b0 b1 b2 b3 b4 b5 b6 b7 b8 b9 b10 b11 b12 b13 b14 b15 b16) t16 l16) t15 l15) t14 l14) t13 l13) t12 l12) t11 l11) t10 l10) t9 l9) t8 l8) t7 l7) t6 l6) t5 l5) t4 l4) t3 l3) t2 l2) t1 l1) t0 l0)
+    first_of_more 0 (λ t. IsSpelled (b0 ∷ b1 ∷ b2 ∷ b3 ∷ b4 ∷ b5 ∷ b6 ∷ b7 ∷ b8 ∷ b9 ∷ b10 ∷ b11 ∷ b12 ∷ b13 ∷ b14 ∷ b15 ∷ t))
+    (λ b16 t16 l16.
+    none_of_zero (λ t. IsSpelled (b0 ∷ b1 ∷ b2 ∷ b3 ∷ b4 ∷ b5 ∷ b6 ∷ b7 ∷ b8 ∷ b9 ∷ b10 ∷ b11 ∷ b12 ∷ b13 ∷ b14 ∷ b15 ∷ b16 ∷ t))
+    (of_bytes b0 b1 b2 b3 b4 b5 b6 b7 b8 b9 b10 b11 b12 b13 b14 b15 b16) t16 l16) t15 l15) t14 l14) t13 l13) t12
+    l12) t11 l11) t10 l10) t9 l9) t8 l8) t7 l7) t6 l6) t5 l5) t4 l4) t3 l3) t2 l2) t1 l1) t0 l0)
 
 pub has_form-spelled : (t : List ℕ) → IsSpelled t
 unfolding has_form

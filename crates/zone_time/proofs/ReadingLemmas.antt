@@ -27,24 +27,37 @@ moment_of-names text m e =
 is_date-civil : (y m d : ℕ) → is_date y m d ≡ true → (1 ≤ y) × (y ≤ 9999) × (1 ≤ m) × (m ≤ 12) × (1 ≤ d) × (d ≤ days_in_month (pos y) m)
 is_date-civil y m d h =
     let day = and_parts _ _ h in let month = and_parts _ _ day.0 in
-    let years = and_parts _ _ month.0 in let months = and_parts _ _ month.1 in let days = and_parts _ _ day.1 in
-    (leb-true 1 y years.0, leb-true y 9999 years.1, leb-true 1 m months.0, leb-true m 12 months.1, leb-true 1 d days.0, leb-true d (days_in_month (pos y) m) days.1)
+    let years = and_parts _ _ month.0 in let months = and_parts _ _ month.1 in let days = and_parts _ _ day.1 in (
+      leb-true 1 y years.0,
+      leb-true y 9999 years.1,
+      leb-true 1 m months.0,
+      leb-true m 12 months.1,
+      leb-true 1 d days.0,
+      leb-true d (days_in_month (pos y) m) days.1,
+    )
 
 -- no year before the year 1 has such a date
 from_year_one : (y m d : ℕ) → 1 ≤ y → 1 ≤ d → 3652791 ≤ day_count (pos y) m d
 from_year_one zero m d low day = absurd (omega arith)
 from_year_one (suc zero) m d low day = omega (arith, year_one, day_count-day_of_year (pos 1) m d day)
 from_year_one (suc (suc y)) m d low day =
-    omega (arith, year_one, day_count-day_of_year (pos (suc (suc y))) m d day, day_count-later_year (pos 1) (pos (suc (suc y))) (omega (arith, signed_arith)) (omega (arith, signed_arith)))
+    omega (
+      arith,
+      year_one,
+      day_count-day_of_year (pos (suc (suc y))) m d day,
+      day_count-later_year (pos 1) (pos (suc (suc y))) (omega (arith, signed_arith)) (omega (arith, signed_arith)),
+    )
 
 -- a moment by its date and its time of day
-text_of_parts : (m : ℤ) (y mo d h n : ℕ) → IsCivilDate (pos y) mo d → 1 ≤ y → h ≤ 23 → n ≤ 59 → days_from_civil (pos y) mo d *ℤ pos 1440 +ℤ pos (60 * h + n) ≡ m
+text_of_parts : (m : ℤ) (y mo d h n : ℕ) → IsCivilDate (pos y) mo d → 1 ≤ y → h ≤ 23 → n ≤ 59
+    → days_from_civil (pos y) mo d *ℤ pos 1440 +ℤ pos (60 * h + n) ≡ m
     → IsMoment m × (moment_text m ≡ spelled (y / 100) (y % 100) mo d h n)
 text_of_parts m y mo d h n civil low hour minute e =
     let early = from_year_one y mo d low civil.2.0 in
     let late = day_count_bounds (pos y) mo d civil in
     let count = days_from_civil-day_count (pos y) mo d in
-    let within : IsDay (days_from_civil (pos y) mo d) = record { first = omega (arith, signed_arith, early, count); last = omega (arith, signed_arith, late, count) } in
+    let within : IsDay (days_from_civil (pos y) mo d) =
+    record { first = omega (arith, signed_arith, early, count); last = omega (arith, signed_arith, late, count) } in
     let it : Date = record { year = pos y; month = mo; day = d; year_in = civil.0; month_in = civil.1; day_in = civil.2 } in
     let date = date_with_day it (days_from_civil (pos y) mo d) within refl in
     let time = day_and_minute m in
@@ -65,7 +78,8 @@ moment_text-moment_of text m e =
     let last = and_parts _ _ names.0 in let time = and_parts _ _ last.0 in let form = and_parts _ _ time.0 in
     let date = is_date-civil (year_at text) (pair_at text 5) (pair_at text 8) form.1 in
     let spelled_by = has_form-spelled text form.0 in
-    let civil : IsCivilDate (pos (year_at text)) (pair_at text 5) (pair_at text 8) = (omega (arith, signed_arith, date), (date.2, date.3), (date.4, date.5)) in
+    let civil : IsCivilDate (pos (year_at text)) (pair_at text 5) (pair_at text 8) =
+    (omega (arith, signed_arith, date), (date.2, date.3), (date.4, date.5)) in
     let made = text_of_parts m (year_at text) (pair_at text 5) (pair_at text 8) (pair_at text 11) (pair_at text 14) civil date.0
     (leb-true (pair_at text 11) 23 time.1) (leb-true (pair_at text 14) 59 last.1) names.1 in
     let century : year_at text / 100 ≡ pair_at text 0 = omega (arith, spelled_by.1) in

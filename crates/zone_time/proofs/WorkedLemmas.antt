@@ -16,7 +16,8 @@ daylight_2000 : daylight_of eastern_daylight (pos 2000) (negsuc 17999) ≡ (pos 
 unfolding daylight_of rule_moment jiff_tz_rules_on_literals
 daylight_2000 = refl
 
-year_is : (k count : ℕ) → k ≤ 20000 → nat_le (days_of_years k) count ≡ true → nat_lt count (days_of_years (suc k)) ≡ true → years_within 20000 count ≡ k
+year_is : (k count : ℕ) → k ≤ 20000 → nat_le (days_of_years k) count ≡ true
+    → nat_lt count (days_of_years (suc k)) ≡ true → years_within 20000 count ≡ k
 year_is k count most low high =
     years_within_is 20000 k count most (grind (arith, nat_tests)) (grind (arith, nat_tests))
 

@@ -33,25 +33,32 @@ rule_moment-rule_nanos : (year : ℤ) (d : DayTime) (ahead : ℤ) → rule_momen
 unfolding rule_moment rule_nanos
 rule_moment-rule_nanos year d ahead = refl
 
-daylight_of-utc_window : (d : Dst) (year : ℤ) (standard : Offset) → daylight_of (dst_view d) year standard.seconds ≡ utc_window d year standard
+daylight_of-utc_window : (d : Dst) (year : ℤ) (standard : Offset)
+    → daylight_of (dst_view d) year standard.seconds ≡ utc_window d year standard
 unfolding daylight_of utc_window rule_moment rule_nanos
 daylight_of-utc_window d year standard = refl
 
-rule_type_by-info : (tz : TimeZone) (dst : Option Dst) (n : ℤ) → rule_type_by (tz_view tz) (option_map dst_view dst) n ≡ info_view (match_some (dst_at_by tz.std_offset dst n) (Posix.std_info tz) Posix.dst_info)
+rule_type_by-info : (tz : TimeZone) (dst : Option Dst) (n : ℤ) → rule_type_by (tz_view tz) (option_map dst_view dst) n
+    ≡ info_view (match_some (dst_at_by tz.std_offset dst n) (Posix.std_info tz) Posix.dst_info)
 rule_type_by-info tz None n = refl
 rule_type_by-info tz (Some d) n =
     rw (daylight_of-utc_window d (year_of_nanos n) tz.std_offset)
-    (elim (in_window (utc_window d (year_of_nanos n) tz.std_offset) n) as (λ v. cond v (record { seconds = d.offset.seconds; dst = Yes; name = abbreviation_text d.abbrev }) (standard_time (tz_view tz)) ≡ info_view (match_some (cond v (Some d) None) (Posix.std_info tz) Posix.dst_info)) [ true ↦ refl | false ↦ refl ])
+    (elim (in_window (utc_window d (year_of_nanos n) tz.std_offset) n)
+    as (λ v. cond v (record { seconds = d.offset.seconds; dst = Yes; name = abbreviation_text d.abbrev }) (standard_time (tz_view tz))
+    ≡ info_view (match_some (cond v (Some d) None) (Posix.std_info tz) Posix.dst_info)) [ true ↦ refl | false ↦ refl ])
 
-pub rule_type-info_at : (tz : TimeZone) (second : ℤ) → rule_type (tz_view tz) second ≡ info_view (Posix.info_at tz (nanos_of_seconds second))
+pub rule_type-info_at : (tz : TimeZone) (second : ℤ)
+    → rule_type (tz_view tz) second ≡ info_view (Posix.info_at tz (nanos_of_seconds second))
 unfolding rule_type
 rule_type-info_at tz second = rule_type_by-info tz tz.dst (nanos_of_seconds second)
 
 info_at-offset : (tz : TimeZone) (n : ℤ) → (Posix.info_at tz n).offset ≡ Posix.offset_at tz n
 info_at-offset tz n =
-    elim (Posix.dst_at tz n) as (λ o. (match_some o (Posix.std_info tz) Posix.dst_info).offset ≡ match_some o tz.std_offset (λ d. d.offset)) [ None ↦ refl | Some d ↦ refl ]
+    elim (Posix.dst_at tz n) as (λ o. (match_some o (Posix.std_info tz) Posix.dst_info).offset
+    ≡ match_some o tz.std_offset (λ d. d.offset)) [ None ↦ refl | Some d ↦ refl ]
 
-rule_type-seconds : (tz : TimeZone) (second : ℤ) → (rule_type (tz_view tz) second).seconds ≡ (Posix.offset_at tz (nanos_of_seconds second)).seconds
+rule_type-seconds : (tz : TimeZone) (second : ℤ)
+    → (rule_type (tz_view tz) second).seconds ≡ (Posix.offset_at tz (nanos_of_seconds second)).seconds
 rule_type-seconds tz second =
     ap (λ t. t.seconds) (rule_type-info_at tz second) ∙ ap (λ o. o.seconds) (info_at-offset tz (nanos_of_seconds second))
 
@@ -63,7 +70,8 @@ rows_by second rows = prefix_len (λ t. int_le t.second second) rows
 abbrev type_after : LocalTimeType → List Transition → Transition → ℕ → LocalTimeType
 type_after first rows none count = cond (count == 0) first (get_or rows (count - 1) none).after
 
-type_after-cons : (first : LocalTimeType) (row : Transition) (rows : List Transition) (none : Transition) (count : ℕ) → type_after first (row ∷ rows) none (1 + count) ≡ type_after row.after rows none count
+type_after-cons : (first : LocalTimeType) (row : Transition) (rows : List Transition) (none : Transition) (count : ℕ)
+    → type_after first (row ∷ rows) none (1 + count) ≡ type_after row.after rows none count
 type_after-cons first row rows none zero = refl
 type_after-cons first row rows none (suc count) =
     let more : (1 + suc count == 0) ≡ false = grind (arith, nat_tests) in
@@ -74,7 +82,8 @@ type_after-cons first row rows none (suc count) =
 
 ahead_after-rows : (o : Option TimeZone) (first : LocalTimeType) (rows : List Transition) (none : Transition) (second : ℤ)
     → ahead_after (option_map tz_view o) first.offset.seconds (map transition_text rows) second
-    ≡ (match_some (cond (rows_by second rows == length rows) o None) (type_after first rows none (rows_by second rows)).offset (λ tz. Posix.offset_at tz (nanos_of_seconds second))).seconds
+    ≡ (match_some (cond (rows_by second rows == length rows) o None) (type_after first rows none (rows_by second rows)).offset
+    (λ tz. Posix.offset_at tz (nanos_of_seconds second))).seconds
 unfolding ahead_after
 ahead_after-rows None first [] none second = refl
 ahead_after-rows (Some tz) first [] none second = rule_type-seconds tz second
@@ -82,8 +91,10 @@ ahead_after-rows o first (row ∷ rows) none second =
     let count = rows_by second rows in
     let whole : (1 + count == suc (length rows)) ≡ (count == length rows) = grind (arith, nat_tests) in
     let some : (0 == suc (length rows)) ≡ false = grind (arith, nat_tests) in
-    elim (int_le row.second second) as (λ v. cond v (ahead_after (option_map tz_view o) row.after.offset.seconds (map transition_text rows) second) first.offset.seconds
-    ≡ (match_some (cond (cond v (1 + count) 0 == suc (length rows)) o None) (type_after first (row ∷ rows) none (cond v (1 + count) 0)).offset (λ tz. Posix.offset_at tz (nanos_of_seconds second))).seconds) [
+    elim (int_le row.second second)
+    as (λ v. cond v (ahead_after (option_map tz_view o) row.after.offset.seconds (map transition_text rows) second) first.offset.seconds
+    ≡ (match_some (cond (cond v (1 + count) 0 == suc (length rows)) o None) (type_after first (row ∷ rows) none
+    (cond v (1 + count) 0)).offset (λ tz. Posix.offset_at tz (nanos_of_seconds second))).seconds) [
       | true ↦ rw (whole, type_after-cons first row rows none count) (ahead_after-rows o row.after rows none second)
       | false ↦ rw some
     ]
@@ -91,7 +102,8 @@ ahead_after-rows o first (row ∷ rows) none second =
 floor_second-nanos : (second : ℤ) → floor_second (nanos_of_seconds second) ≡ second
 floor_second-nanos second = omega (arith, signed_arith)
 
-pub seconds_ahead-offset_at : (z : Tzif) (second : ℤ) → seconds_ahead (tzif_view z) second ≡ (Table.offset_at z (nanos_of_seconds second)).seconds
+pub seconds_ahead-offset_at : (z : Tzif) (second : ℤ)
+    → seconds_ahead (tzif_view z) second ≡ (Table.offset_at z (nanos_of_seconds second)).seconds
 seconds_ahead-offset_at z second =
     let whole : vec_len z.transitions ≡ length z.transitions.items = z.transitions.ok.0 in
     rw (floor_second-nanos second, whole) (ahead_after-rows z.posix_tz z.first z.transitions.items (Table.no_transition z) second)

@@ -42,10 +42,13 @@ same_type-Decides a b = (
 )
 
 row-Decides : (tz : TimeZone) (row : TransitionText) → Decides (same_type (rule_type (tz_view tz) row.second) row.after) (RowAgrees tz row)
-row-Decides tz row = rw (rule_type-info_at tz row.second) (same_type-Decides (info_view (info_at tz (nanos_of_seconds row.second))) row.after)
+row-Decides tz row = rw (rule_type-info_at tz row.second)
+    (same_type-Decides (info_view (info_at tz (nanos_of_seconds row.second))) row.after)
 
 -- the last of two rows or more is that of the rows after the first
-last_of_more : (row next : TransitionText) (rows : List TransitionText) → get_or (row ∷ next ∷ rows) (length (row ∷ next ∷ rows) - 1) no_row ≡ get_or (next ∷ rows) (length (next ∷ rows) - 1) no_row
+last_of_more : (row next : TransitionText) (rows : List TransitionText)
+    → get_or (row ∷ next ∷ rows) (length (row ∷ next ∷ rows) - 1) no_row
+    ≡ get_or (next ∷ rows) (length (next ∷ rows) - 1) no_row
 last_of_more row next rows =
     let first : suc (suc (length rows)) - 1 ≡ suc (length rows) = omega arith in
     let second : suc (length rows) - 1 ≡ length rows = omega arith in
@@ -65,7 +68,8 @@ goes_on-Decides tz (row ∷ next ∷ rows) =
       λ agrees. rest.1 (λ some. rw last at (agrees (omega arith))),
     )
 
-consistent_by : (o : Option TimeZone) (rows : List TransitionText) → IfSome o (λ tz. FooterAgrees rows tz) → match_some (option_map tz_view o) true (λ rule. goes_on rule rows) ≡ true
+consistent_by : (o : Option TimeZone) (rows : List TransitionText) → IfSome o (λ tz. FooterAgrees rows tz)
+    → match_some (option_map tz_view o) true (λ rule. goes_on rule rows) ≡ true
 consistent_by None rows h = refl
 consistent_by (Some tz) rows h = (goes_on-Decides tz rows).1 h
 
@@ -77,7 +81,8 @@ pub zone_of-read : (bytes : List ℕ) (z : Tzif) → read_tzif bytes ≡ Ok (tzi
 unfolding zone_of
 zone_of-read bytes z read agrees = rw (read, is_consistent-tzif_view z agrees)
 
-inconsistent : (text : TzifText) (rule : TimeZone) → text.rule ≡ Some (tz_view rule) → (FooterAgrees text.transitions rule → ⊥) → is_consistent text ≡ false
+inconsistent : (text : TzifText) (rule : TimeZone) → text.rule ≡ Some (tz_view rule)
+    → (FooterAgrees text.transitions rule → ⊥) → is_consistent text ≡ false
 unfolding is_consistent
 inconsistent text rule is disagrees =
     rw is (elim (goes_on (tz_view rule) text.transitions) as (λ v. goes_on (tz_view rule) text.transitions ≡ v → v ≡ false) [

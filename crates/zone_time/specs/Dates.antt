@@ -1,6 +1,28 @@
 -- The dates of day numbers, and dates and times of day as text (the Gregorian calendar of ISO 8601, and
 -- its extended format).
-use Rattle.std.specs.Prelude.{ℕ, zero, suc, ◌+◌, ◌-◌, ◌/◌, ◌%◌, ℤ, pos, negsuc, ◌+ℤ◌, ◌≤ℤ◌, unsigned_abs, true, false, nat_lt, List, [], ◌∷◌, ◌++◌, codes}
+use Rattle.std.specs.Prelude.{
+  ℕ,
+  zero,
+  suc,
+  ◌+◌,
+  ◌-◌,
+  ◌/◌,
+  ◌%◌,
+  ℤ,
+  pos,
+  negsuc,
+  ◌+ℤ◌,
+  ◌≤ℤ◌,
+  unsigned_abs,
+  true,
+  false,
+  nat_lt,
+  List,
+  [],
+  ◌∷◌,
+  ◌++◌,
+  codes,
+}
 use Rattle.jiff_core.specs.Calendar.{days_in_month, days_in_year}
 
 -- a date of the years from 0 on

@@ -1,5 +1,30 @@
 -- Moments as text: the date and the time of universal time to the minute (ISO 8601, extended format).
-use Rattle.std.specs.Prelude.{ℕ, ◌+◌, ◌-◌, ◌*◌, ℤ, pos, negsuc, ◌+ℤ◌, ◌*ℤ◌, ◌≤ℤ◌, unsigned_abs, Bool, nat_le, ◌==◌, ◌&&◌, if◌then◌else◌, Option, Some, None, List, ◌++◌, codes, length, slice_index}
+use Rattle.std.specs.Prelude.{
+  ℕ,
+  ◌+◌,
+  ◌-◌,
+  ◌*◌,
+  ℤ,
+  pos,
+  negsuc,
+  ◌+ℤ◌,
+  ◌*ℤ◌,
+  ◌≤ℤ◌,
+  unsigned_abs,
+  Bool,
+  nat_le,
+  ◌==◌,
+  ◌&&◌,
+  if◌then◌else◌,
+  Option,
+  Some,
+  None,
+  List,
+  ◌++◌,
+  codes,
+  length,
+  slice_index,
+}
 use Rattle.std.specs.List.{list_all, zip}
 use Rattle.std.specs.Int.{int_div_euclid, int_rem_euclid}
 use Rattle.std.specs.Char.{is_ascii_digit}

@@ -1,6 +1,26 @@
 -- The clock of a zone file: a table of changes, and the rule of a footer after the last of them (RFC
 -- 9636, with the terms of `jiff` for a table and for POSIX's TZ rules).
-use Rattle.std.specs.Prelude.{ℤ, pos, ◌+ℤ◌, ◌-ℤ◌, ◌*ℤ◌, int_le, int_lt, Bool, true, not, ◌&&◌, ◌||◌, if◌then◌else◌, List, [], ◌∷◌, Option, Some, None}
+use Rattle.std.specs.Prelude.{
+  ℤ,
+  pos,
+  ◌+ℤ◌,
+  ◌-ℤ◌,
+  ◌*ℤ◌,
+  int_le,
+  int_lt,
+  Bool,
+  true,
+  not,
+  ◌&&◌,
+  ◌||◌,
+  if◌then◌else◌,
+  List,
+  [],
+  ◌∷◌,
+  Option,
+  Some,
+  None,
+}
 use Rattle.std.specs.Int.{int_div_euclid}
 use Rattle.std.specs.Ordering.{int_eq}
 use Rattle.std.specs.Str.{bytes_eq}
@@ -9,7 +29,17 @@ use Rattle.jiff_tz.specs.declared.info.Dst.{Dst}
 use Rattle.jiff_tz.specs.declared.info.Dst.TheVariants.{Yes, No}
 use Rattle.jiff_tz.specs.declared.posix.Day.{Day}
 use Rattle.jiff_tz.specs.Flag.{is_dst}
-use Rattle.jiff_tz.specs.PosixRule.{match_some, clamp_to, nanos_per_day, first_nanosecond, last_nanosecond, rule_day, in_window, saturating_add, int_same}
+use Rattle.jiff_tz.specs.PosixRule.{
+  match_some,
+  clamp_to,
+  nanos_per_day,
+  first_nanosecond,
+  last_nanosecond,
+  rule_day,
+  in_window,
+  saturating_add,
+  int_same,
+}
 use Rattle.jiff_tz.specs.PosixText.{DstText, TzText}
 use Rattle.jiff_tz.specs.TzifReader.{TzifText}
 use Rattle.jiff_tz.specs.TzifText.{TypeText, TransitionText}

@@ -1,6 +1,24 @@
 -- Zones, and the local times that their clocks show (this project; zone files by `jiff`'s reader of RFC
 -- 9636).
-use Rattle.std.specs.Prelude.{ℕ, ◌≤◌, ℤ, pos, negsuc, ◌+ℤ◌, ◌-ℤ◌, ◌≤ℤ◌, unsigned_abs, Bool, true, false, if◌then◌else◌, List, Result, Ok, Err}
+use Rattle.std.specs.Prelude.{
+  ℕ,
+  ◌≤◌,
+  ℤ,
+  pos,
+  negsuc,
+  ◌+ℤ◌,
+  ◌-ℤ◌,
+  ◌≤ℤ◌,
+  unsigned_abs,
+  Bool,
+  true,
+  false,
+  if◌then◌else◌,
+  List,
+  Result,
+  Ok,
+  Err,
+}
 use Rattle.jiff_core.specs.declared.error.TzifFault.{TzifFault}
 use Rattle.jiff_tz.specs.TzifReader.{TzifText, read_tzif}
 use Rattle.zone_time.specs.declared.local.Local.{Local}
@@ -34,9 +52,9 @@ local_in (Fixed ahead) minute = record { minute = minute +ℤ ahead; label = Min
 local_in (File file) minute = local_at minute (clock_minute file minute)
 
 -- a fault is out of memory
-abbrev pub wants_memory : ZoneFault → Bool
-wants_memory NoMemory = true
-wants_memory BadZone = false
+abbrev pub is_out_of_memory : ZoneFault → Bool
+is_out_of_memory NoMemory = true
+is_out_of_memory BadZone = false
 
 -- the zone of a file that was read, if its rule continues its table
 abbrev pub zone_from : Result TzifText TzifFault → Result Zone ZoneFault

@@ -15,7 +15,7 @@ pub fn write_local<const N: usize>(local: &Local, out: &mut ArrayString<N>)
     requires local { IsLocal local.now }
     requires room { array_string_len out.old + 23 ≤ N }
     ensures bytes { out.new.bytes ≡ out.old.bytes ++ local_text local.now }
-    ensures short { array_string_len out.new ≤ array_string_len out.old + 23 }
+    ensures length_bound { array_string_len out.new ≤ array_string_len out.old + 23 }
 {
     write_time(local.minute, out);
     out.push(' ');
@@ -41,7 +41,7 @@ fn write_label<const N: usize>(label: Label, out: &mut ArrayString<N>)
     requires label { IsLabel label }
     requires room { array_string_len out.old + 6 ≤ N }
     ensures bytes { out.new.bytes ≡ out.old.bytes ++ label_text label }
-    ensures short { array_string_len out.new ≤ array_string_len out.old + 6 }
+    ensures length_bound { array_string_len out.new ≤ array_string_len out.old + 6 }
 {
     match label {
         Label::Utc => out.push_str("UTC"),

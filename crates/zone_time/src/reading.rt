@@ -22,7 +22,7 @@ const FORM: &[u8] = b"0000-00-00T00:00Z";
 pub fn read_moment(text: &[u8]) -> Option<i64>
     ensures { result ≡ moment_of text.now }
 {
-    if !is_in_form(text) {
+    if !has_moment_form(text) {
         return None;
     }
     let year = 100 * pair(text, 0) + pair(text, 2);
@@ -36,19 +36,21 @@ pub fn read_moment(text: &[u8]) -> Option<i64>
 }
 
 #[tactic(auto, unfolding(crate::specs::Moments::has_form))]
-fn is_in_form(text: &[u8]) -> bool
+fn has_moment_form(text: &[u8]) -> bool
     ensures { result ≡ has_form text.now }
 {
-    text.len() == FORM.len() && fits_form(text)
+    text.len() == FORM.len() && all_bytes_fit(text)
 }
 
-fn fits_form(text: &[u8]) -> bool
+fn all_bytes_fit(text: &[u8]) -> bool
     ensures { result ≡ list_all (λ (b, wanted). fits b wanted) (zip text.now FORM.now) }
 {
-    text.iter().zip(FORM).all(|(b, wanted)| is_fit(*b, *wanted))
+    text.iter()
+        .zip(FORM)
+        .all(|(b, wanted)| byte_fits(*b, *wanted))
 }
 
-fn is_fit(byte: u8, wanted: u8) -> bool
+fn byte_fits(byte: u8, wanted: u8) -> bool
     ensures { result ≡ fits byte wanted }
 {
     if wanted == b'0' {

@@ -75,7 +75,8 @@ pub fn worked_clocks()
 pub fn worked_zone_files()
     ensures consistent { is_consistent (new_york_to (pos 941954400)) ≡ true }
     ensures inconsistent { is_consistent (new_york_to (pos 941349600)) ≡ false }
-    ensures hour_ahead { zone_of hour_ahead ≡ Ok (Zone.File (record { version = 0; first = record { seconds = pos 3600; dst = No; name = codes "CET" }; transitions = []; rule = None })) }
+    ensures hour_ahead { zone_of hour_ahead ≡ Ok (Zone.File
+        (record { version = 0; first = record { seconds = pos 3600; dst = No; name = codes "CET" }; transitions = []; rule = None })) }
     ensures cut_short { zone_of (take 53 hour_ahead) ≡ Err ZoneFault.BadZone }
     ensures empty { zone_of [] ≡ Err ZoneFault.BadZone }
 {}

@@ -74,7 +74,7 @@ fn minute_shown(minute: i64, ahead: i32) -> i64
     requires minute { InZoneYears minute }
     requires ahead { IsWithin 93599 ahead }
     ensures value { result ≡ int_div_euclid ((minute *ℤ pos 60) +ℤ ahead) (pos 60) }
-    ensures near { IsWithin 1560 (result -ℤ minute) }
+    ensures in_range { IsWithin 1560 (result -ℤ minute) }
 {
     let second = minute * 60 + i64::from(ahead);
     second.div_euclid(60)
@@ -83,7 +83,7 @@ fn minute_shown(minute: i64, ahead: i32) -> i64
 // Returns the local time of a clock that shows the minute `shown` at `minute`.
 fn local_showing(minute: i64, shown: i64) -> Local
     requires minute { InZoneYears minute }
-    requires near { IsWithin 1560 (shown -ℤ minute) }
+    requires in_range { IsWithin 1560 (shown -ℤ minute) }
     ensures exact { result ≡ local_at minute shown }
     ensures written { IsLocal result }
 {
@@ -95,7 +95,7 @@ fn local_showing(minute: i64, shown: i64) -> Local
 
 fn minutes_ahead(minute: i64, shown: i64) -> i32
     requires minute { InZoneYears minute }
-    requires near { IsWithin 1560 (shown -ℤ minute) }
+    requires in_range { IsWithin 1560 (shown -ℤ minute) }
     ensures value { result ≡ shown -ℤ minute }
 {
     (shown - minute) as i32

@@ -1,8 +1,8 @@
 //! Reading zone files.
 
 ghost use Rattle.std.specs.Prelude.{IfOk};
-ghost use Rattle.decimal_text.specs.Expected.{Gives};
-ghost use Rattle.zone_time.specs.Zones.{IsZone, wants_memory, zone_of};
+ghost use Rattle.decimal_text.specs.Expected.{ReturnsUnless};
+ghost use Rattle.zone_time.specs.Zones.{IsZone, is_out_of_memory, zone_of};
 
 use crate::zone::Zone;
 use crate::zone_fault::ZoneFault;
@@ -25,7 +25,7 @@ use std::alloc::Global;
 /// ```
 #[tactic(auto, unfolding(crate::specs::Zones::zone_of))]
 pub fn read_zone(alloc: Global, bytes: &[u8]) -> Result<Zone, ZoneFault>
-    ensures exact { Gives wants_memory (zone_of bytes.now) result }
+    ensures exact { ReturnsUnless is_out_of_memory (zone_of bytes.now) result }
     ensures zone { IfOk result IsZone }
 {
     match Tzif::parse(alloc, None, bytes) {

@@ -48,7 +48,7 @@ impl Case {
     }
 
     /// Returns the answer's text, or the line of its refusal.
-    pub fn told(&self, alloc: Global) -> Result<Bytes, Fail>
+    pub fn printed(&self, alloc: Global) -> Result<Bytes, Fail>
         requires book { IsBook self.now.book }
         requires question { IsAsked self.now.question }
         requires given { IsGiven self.now.given }

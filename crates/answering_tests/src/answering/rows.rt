@@ -9,19 +9,28 @@ use tide_answer::Refusal;
 pub const ANSWERS: &[(&str, &str)] = &[
     (
         "predict|file=f|station=Pier|begin=2000-01-10T00:00Z|end=2000-01-11T00:00Z",
-        "Pier\n2000-01-10 06:00 UTC      -1.00 feet  Low Tide\n2000-01-10 11:59 UTC       1.00 feet  High Tide\n2000-01-10 18:00 UTC      -1.00 feet  Low Tide\n2000-01-10 23:59 UTC       1.00 feet  High Tide\n",
+        "Pier\n2000-01-10 06:00 UTC      -1.00 feet  Low Tide\n2000-01-10 11:59 UTC       1.00 feet  High Tide\n\
+        2000-01-10 18:00 UTC      -1.00 feet  Low Tide\n2000-01-10 23:59 UTC       1.00 feet  High Tide\n",
     ),
     (
         "predict|file=f|station=Dock|begin=2000-01-10T00:00Z|end=2000-01-11T00:00Z",
-        "Dock\n2000-01-10 00:29 UTC       1.20 feet  High Tide\n2000-01-10 05:50 UTC      -0.90 feet  Low Tide\n2000-01-10 12:29 UTC       1.20 feet  High Tide\n2000-01-10 17:50 UTC      -0.90 feet  Low Tide\n",
+        "Dock\n2000-01-10 00:29 UTC       1.20 feet  High Tide\n2000-01-10 05:50 UTC      -0.90 feet  Low Tide\n\
+        2000-01-10 12:29 UTC       1.20 feet  High Tide\n2000-01-10 17:50 UTC      -0.90 feet  Low Tide\n",
     ),
     (
         "predict|file=f|station=Gate|begin=2000-01-10T00:00Z|end=2000-01-11T00:00Z",
-        "Gate\n2000-01-10 00:29 UTC       1.20 knots  Max Flood\n2000-01-10 02:54 UTC       0.01 knots  Slack Ebb Begins\n2000-01-10 05:50 UTC      -0.90 knots  Max Ebb\n2000-01-10 09:05 UTC       0.00 knots  Slack Flood Begins\n2000-01-10 12:29 UTC       1.20 knots  Max Flood\n2000-01-10 14:54 UTC       0.01 knots  Slack Ebb Begins\n2000-01-10 17:50 UTC      -0.90 knots  Max Ebb\n2000-01-10 21:05 UTC       0.00 knots  Slack Flood Begins\n",
+        "Gate\n2000-01-10 00:29 UTC       1.20 knots  Max Flood\n\
+        2000-01-10 02:54 UTC       0.01 knots  Slack Ebb Begins\n2000-01-10 05:50 UTC      -0.90 knots  Max Ebb\n\
+        2000-01-10 09:05 UTC       0.00 knots  Slack Flood Begins\n2000-01-10 12:29 UTC       1.20 knots  Max Flood\n\
+        2000-01-10 14:54 UTC       0.01 knots  Slack Ebb Begins\n2000-01-10 17:50 UTC      -0.90 knots  Max Ebb\n\
+        2000-01-10 21:05 UTC       0.00 knots  Slack Flood Begins\n",
     ),
     (
         "predict|file=f|station=Outer|begin=2000-01-10T00:00Z|end=2000-01-11T00:00Z|mark=1.5",
-        "Outer\n2000-01-10 00:29 UTC       2.50 feet  High Tide\n2000-01-10 02:29 UTC       1.52 feet  Mark Falling\n2000-01-10 06:30 UTC      -1.50 feet  Low Tide\n2000-01-10 10:30 UTC       1.50 feet  Mark Rising\n2000-01-10 12:29 UTC       2.50 feet  High Tide\n2000-01-10 14:29 UTC       1.52 feet  Mark Falling\n2000-01-10 18:30 UTC      -1.50 feet  Low Tide\n2000-01-10 22:30 UTC       1.50 feet  Mark Rising\n",
+        "Outer\n2000-01-10 00:29 UTC       2.50 feet  High Tide\n2000-01-10 02:29 UTC       1.52 feet  Mark Falling\n\
+        2000-01-10 06:30 UTC      -1.50 feet  Low Tide\n2000-01-10 10:30 UTC       1.50 feet  Mark Rising\n\
+        2000-01-10 12:29 UTC       2.50 feet  High Tide\n2000-01-10 14:29 UTC       1.52 feet  Mark Falling\n\
+        2000-01-10 18:30 UTC      -1.50 feet  Low Tide\n2000-01-10 22:30 UTC       1.50 feet  Mark Rising\n",
     ),
     (
         "predict|file=f|station=Flow|begin=2000-01-10T00:00Z|end=2000-01-10T07:00Z",
@@ -45,7 +54,8 @@ pub const ANSWERS: &[(&str, &str)] = &[
     ),
     (
         "certify|file=f|station=Flow|begin=2000-01-10T02:59Z|end=2000-01-10T03:01Z",
-        "tide certificate 2\nstation Flow\nbegin 2000-01-10T02:59Z\nend 2000-01-10T03:01Z\nmark none\ntrack turn\nq 2\ntrack slack\nt ebb 8727\ns\ndone\n",
+        "tide certificate 2\nstation Flow\nbegin 2000-01-10T02:59Z\nend 2000-01-10T03:01Z\nmark none\ntrack turn\nq 2\n\
+        track slack\nt ebb 8727\ns\ndone\n",
     ),
     (
         "certify|file=f|station=Outer|begin=2000-01-10T00:30Z|end=2000-01-10T00:38Z",
@@ -57,7 +67,8 @@ pub const ANSWERS: &[(&str, &str)] = &[
     ),
     (
         "heights|file=f|station=Pier|begin=2000-01-10T00:00Z|end=2000-01-10T00:01Z|step=1|layout=csv",
-        "station,moment,local,level,units\nPier,2000-01-10T00:00Z,2000-01-10 00:00,1.000000,feet\nPier,2000-01-10T00:01Z,2000-01-10 00:01,0.999962,feet\n",
+        "station,moment,local,level,units\nPier,2000-01-10T00:00Z,2000-01-10 00:00,1.000000,feet\n\
+        Pier,2000-01-10T00:01Z,2000-01-10 00:01,0.999962,feet\n",
     ),
     (
         "calendar|file=f|station=Pier|begin=2000-01-10T00:00Z|end=2000-01-11T00:00Z",
@@ -65,7 +76,9 @@ pub const ANSWERS: &[(&str, &str)] = &[
     ),
     (
         "clock|file=f|station=Pier",
-        "Pier\nNow 2000-01-10 03:00 UTC       0.00 feet  Falling\n2000-01-10 06:00 UTC      -1.00 feet  Low Tide\n2000-01-10 11:59 UTC       1.00 feet  High Tide\n2000-01-10 18:00 UTC      -1.00 feet  Low Tide\n2000-01-10 23:59 UTC       1.00 feet  High Tide\n",
+        "Pier\nNow 2000-01-10 03:00 UTC       0.00 feet  Falling\n2000-01-10 06:00 UTC      -1.00 feet  Low Tide\n\
+        2000-01-10 11:59 UTC       1.00 feet  High Tide\n2000-01-10 18:00 UTC      -1.00 feet  Low Tide\n\
+        2000-01-10 23:59 UTC       1.00 feet  High Tide\n",
     ),
     (
         "stations|file=f",
@@ -130,7 +143,8 @@ pub const ANSWERS: &[(&str, &str)] = &[
     ),
     (
         "peak|file=f|station=Outer|begin=2000-01-10T00:29Z|end=2000-01-10T00:31Z",
-        "peak certificate 1\nstation Outer\nbegin 2000-01-10T00:29Z\nend 2000-01-10T00:31Z\nat 2000-01-10T00:00Z\nvalue 4147200000000000000000000000000\nm\nm\ndone\n",
+        "peak certificate 1\nstation Outer\nbegin 2000-01-10T00:29Z\nend 2000-01-10T00:31Z\nat 2000-01-10T00:00Z\n\
+        value 4147200000000000000000000000000\nm\nm\ndone\n",
     ),
     (
         "about|file=f|station=Dock",
@@ -149,7 +163,8 @@ pub const VERDICTS: &[(&str, &str)] = &[
         "Accepted\nPier\n",
     ),
     (
-        "tide certificate 1\nstation Pier\nbegin 2000-01-10T00:00Z\nend 2000-01-10T00:08Z\nmark none\ntrack turn\ns\ns\ns\ns\ns\ns\ns\ns\ndone\n",
+        "tide certificate 1\nstation Pier\nbegin 2000-01-10T00:00Z\nend 2000-01-10T00:08Z\nmark none\ntrack turn\ns\n\
+        s\ns\ns\ns\ns\ns\ns\ndone\n",
         "Accepted\nPier\n",
     ),
     (
@@ -161,7 +176,8 @@ pub const VERDICTS: &[(&str, &str)] = &[
         "Rejected: track turn: cells cover 7 of 8 minutes\n",
     ),
     (
-        "tide certificate 2\nstation Pier\nbegin 2000-01-10T00:00Z\nend 2000-01-10T00:08Z\nmark none\ntrack turn\ns\ns\nq 2\nq 4\ntrack slack\ndone\n",
+        "tide certificate 2\nstation Pier\nbegin 2000-01-10T00:00Z\nend 2000-01-10T00:08Z\nmark none\ntrack turn\ns\n\
+        s\nq 2\nq 4\ntrack slack\ndone\n",
         "Rejected: slack track not wanted\n",
     ),
     (
@@ -177,7 +193,8 @@ pub const VERDICTS: &[(&str, &str)] = &[
         "Rejected: slack track wanted\n",
     ),
     (
-        "tide certificate 2\nstation Flow\nbegin 2000-01-10T02:59Z\nend 2000-01-10T03:01Z\nmark none\ntrack turn\nq 2\ntrack slack\nt ebb 8727\ns\ndone\n",
+        "tide certificate 2\nstation Flow\nbegin 2000-01-10T02:59Z\nend 2000-01-10T03:01Z\nmark none\ntrack turn\nq 2\n\
+        track slack\nt ebb 8727\ns\ndone\n",
         "Accepted\nFlow\n2000-01-10 02:59 UTC       0.01 knots  Slack Ebb Begins\n",
     ),
     (
@@ -205,47 +222,58 @@ pub const VERDICTS: &[(&str, &str)] = &[
 // A certificate of a highest water, and the answer to it.
 pub const PEAK_VERDICTS: &[(&str, &str)] = &[
     (
-        "peak certificate 1\nstation Pier\nbegin 2000-01-10T00:00Z\nend 2000-01-10T00:24Z\nat 2000-01-10T00:00Z\nvalue 4147200000000000000000000000000\nm\nm\nm\nm\nm\nm\nm\nm\nm\nm\nm\nm\nm\nm\nm\nm\nu 2\nu 3\nu 3\ndone\n",
+        "peak certificate 1\nstation Pier\nbegin 2000-01-10T00:00Z\nend 2000-01-10T00:24Z\nat 2000-01-10T00:00Z\n\
+        value 4147200000000000000000000000000\nm\nm\nm\nm\nm\nm\nm\nm\nm\nm\nm\nm\nm\nm\nm\nm\nu 2\nu 3\nu 3\ndone\n",
         "Accepted\nPier\nHighest 2000-01-10 00:00 UTC       1.00 feet\n",
     ),
     (
-        "peak certificate 1\nstation Pier\nbegin 2000-01-10T00:00Z\nend 2000-01-10T00:04Z\nat 2000-01-10T00:00Z\nvalue 4147200000000000000000000000000\nm\nm\nm\nm\ndone\n",
+        "peak certificate 1\nstation Pier\nbegin 2000-01-10T00:00Z\nend 2000-01-10T00:04Z\nat 2000-01-10T00:00Z\n\
+        value 4147200000000000000000000000000\nm\nm\nm\nm\ndone\n",
         "Accepted\nPier\nHighest 2000-01-10 00:00 UTC       1.00 feet\n",
     ),
     (
-        "peak certificate 1\nstation Outer\nbegin 2000-01-10T00:30Z\nend 2000-01-10T00:34Z\nat 2000-01-10T00:00Z\nvalue 4147200000000000000000000000000\nm\nm\nm\nm\ndone\n",
+        "peak certificate 1\nstation Outer\nbegin 2000-01-10T00:30Z\nend 2000-01-10T00:34Z\nat 2000-01-10T00:00Z\n\
+        value 4147200000000000000000000000000\nm\nm\nm\nm\ndone\n",
         "Accepted\nOuter\nHighest 2000-01-10 00:30 UTC       2.50 feet\n",
     ),
     (
-        "peak certificate 1\nstation Pier\nbegin 2000-01-10T00:00Z\nend 2000-01-10T00:04Z\nat 2000-01-10T00:00Z\nvalue 4147200000000000000000000000000\nu 1024\nu 1024\ndone\n",
+        "peak certificate 1\nstation Pier\nbegin 2000-01-10T00:00Z\nend 2000-01-10T00:04Z\nat 2000-01-10T00:00Z\n\
+        value 4147200000000000000000000000000\nu 1024\nu 1024\ndone\n",
         "Rejected: cells cover 2048 of 4 minutes\n",
     ),
     (
-        "peak certificate 1\nstation Pier\nbegin 2000-01-10T00:00Z\nend 2000-01-10T00:04Z\nat 2000-01-10T00:04Z\nvalue 4147200000000000000000000000000\nm\nm\nm\nm\ndone\n",
+        "peak certificate 1\nstation Pier\nbegin 2000-01-10T00:00Z\nend 2000-01-10T00:04Z\nat 2000-01-10T00:04Z\n\
+        value 4147200000000000000000000000000\nm\nm\nm\nm\ndone\n",
         "Rejected: at outside the span\n",
     ),
     (
-        "peak certificate 1\nstation Pier\nbegin 2000-01-10T00:00Z\nend 2000-01-10T00:04Z\nat 2000-01-10T00:00Z\nvalue 4147200000000000000000000000000\nm\nm\nu 2\ndone\n",
+        "peak certificate 1\nstation Pier\nbegin 2000-01-10T00:00Z\nend 2000-01-10T00:04Z\nat 2000-01-10T00:00Z\n\
+        value 4147200000000000000000000000000\nm\nm\nu 2\ndone\n",
         "Rejected: cell 3 is not under\n",
     ),
     (
-        "peak certificate 1\nstation Pier\nbegin 2000-01-10T00:00Z\nend 2000-01-10T00:04Z\nat 2000-01-10T00:01Z\nvalue 4147042074624000000000000000000\nm\nm\nm\nm\ndone\n",
+        "peak certificate 1\nstation Pier\nbegin 2000-01-10T00:00Z\nend 2000-01-10T00:04Z\nat 2000-01-10T00:01Z\n\
+        value 4147042074624000000000000000000\nm\nm\nm\nm\ndone\n",
         "Rejected: cell 1 is above\n",
     ),
     (
-        "peak certificate 1\nstation Pier\nbegin 2000-01-10T00:00Z\nend 2000-01-10T00:04Z\nat 2000-01-10T00:00Z\nvalue -9999999999999999999999999999999999999\nm\nm\nm\nm\ndone\n",
+        "peak certificate 1\nstation Pier\nbegin 2000-01-10T00:00Z\nend 2000-01-10T00:04Z\nat 2000-01-10T00:00Z\n\
+        value -9999999999999999999999999999999999999\nm\nm\nm\nm\ndone\n",
         "Rejected: value -9999999999999999999999999999999999999, computed 4147200000000000000000000000000\n",
     ),
     (
-        "peak certificate 1\nstation Pier\nbegin 2000-01-10T00:00Z\nend 2000-01-10T00:04Z\nat 2000-01-10T00:00Z\nvalue 10000000000000000000000000000000000000\nm\nm\nm\nm\ndone\n",
+        "peak certificate 1\nstation Pier\nbegin 2000-01-10T00:00Z\nend 2000-01-10T00:04Z\nat 2000-01-10T00:00Z\n\
+        value 10000000000000000000000000000000000000\nm\nm\nm\nm\ndone\n",
         "certificate: line 6\n",
     ),
     (
-        "peak certificate 1\nstation Pier\nbegin 2000-01-10T00:00Z\nend 2000-01-10T00:00Z\nat 2000-01-10T00:00Z\nvalue 4147200000000000000000000000000\nm\nm\nm\nm\ndone\n",
+        "peak certificate 1\nstation Pier\nbegin 2000-01-10T00:00Z\nend 2000-01-10T00:00Z\nat 2000-01-10T00:00Z\n\
+        value 4147200000000000000000000000000\nm\nm\nm\nm\ndone\n",
         "refused: empty span\n",
     ),
     (
-        "peak certificate 1\nstation Dock\nbegin 2000-01-10T00:00Z\nend 2000-01-10T00:04Z\nat 2000-01-10T00:00Z\nvalue 4147200000000000000000000000000\nm\nm\nm\nm\ndone\n",
+        "peak certificate 1\nstation Dock\nbegin 2000-01-10T00:00Z\nend 2000-01-10T00:04Z\nat 2000-01-10T00:00Z\n\
+        value 4147200000000000000000000000000\nm\nm\nm\nm\ndone\n",
         "refused: level not here\n",
     ),
     ("tide certificate 2\n", "certificate: line 1\n"),

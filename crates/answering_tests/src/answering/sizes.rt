@@ -66,8 +66,8 @@ fn harbour_case(alloc: Global, line: &str, certificate: &[u8]) -> Result<Case, F
 }
 
 // Returns the answer's text, or the line of its refusal.
-fn told(alloc: Global, line: &str, certificate: &[u8]) -> Result<Bytes, Fail> {
-    harbour_case(alloc, line, certificate)?.told(alloc)
+fn printed(alloc: Global, line: &str, certificate: &[u8]) -> Result<Bytes, Fail> {
+    harbour_case(alloc, line, certificate)?.printed(alloc)
 }
 
 // Returns the text that is written as it is found.
@@ -88,19 +88,19 @@ const LINES: &[(&str, &str, usize)] = &[
 ];
 
 #[test]
-fn a_year_of_ten_constituents_is_told(rt: HostRuntime) -> Result<(), Fail> {
+fn a_year_of_ten_constituents_is_printed(rt: HostRuntime) -> Result<(), Fail> {
     let alloc = rt.alloc();
     for &(command, more, lines) in LINES {
         let mut line = line_of(alloc, command, YEAR)?;
         line.push_str(more)?;
-        let text = told(alloc, line.as_str(), b"")?;
+        let text = printed(alloc, line.as_str(), b"")?;
         assert_eq!(rt;
             text.as_slice().iter().filter(|b| **b == b'\n').count(),
             lines
         );
     }
     let clock = line_of(alloc, "clock", "")?;
-    assert!(rt; !told(alloc, clock.as_str(), b"")?.as_slice().is_empty());
+    assert!(rt; !printed(alloc, clock.as_str(), b"")?.as_slice().is_empty());
     Ok(())
 }
 
@@ -120,14 +120,14 @@ const LOST_LINE: &str = "refused: no reference \
     zzzzzzzzzzzzzzzzzzzzzzzzzzzzzzzzzzzzzzzzzzzzzzzzzzzzzzzzzzzzzzzzzzzzzzzzzzzzzzzz\n";
 
 #[test]
-fn the_longest_reference_is_told(rt: HostRuntime) -> Result<(), Fail> {
+fn the_longest_reference_is_printed(rt: HostRuntime) -> Result<(), Fail> {
     let alloc = rt.alloc();
     let book = harbour(alloc)?;
     let table = read_offsets(alloc, LOST)?;
     let line =
         "predict|file=f|offsets=o|station=Dock|begin=2000-01-01T00:00Z|end=2000-01-02T00:00Z";
-    let told = Case::new(alloc, book, table, line, b"")?.told(alloc)?;
-    assert_eq!(rt; told.as_slice(), LOST_LINE.as_bytes());
+    let printed = Case::new(alloc, book, table, line, b"")?.printed(alloc)?;
+    assert_eq!(rt; printed.as_slice(), LOST_LINE.as_bytes());
     Ok(())
 }
 
@@ -145,9 +145,9 @@ fn a_year_of_ten_constituents_is_certified(rt: HostRuntime) -> Result<(), Fail> 
         "certify",
         "|mark=6|begin=2000-01-01T00:00Z|end=2001-01-01T00:00Z",
     )?;
-    let listing = told(alloc, predict.as_str(), b"")?;
-    let certificate = told(alloc, certify.as_str(), b"")?;
-    let accepted = told(alloc, "check|file=f|certificate=c", certificate.as_slice())?;
+    let listing = printed(alloc, predict.as_str(), b"")?;
+    let certificate = printed(alloc, certify.as_str(), b"")?;
+    let accepted = printed(alloc, "check|file=f|certificate=c", certificate.as_slice())?;
     assert!(rt; listing.as_slice().len() > 100_000);
     assert!(rt; accepted.as_slice().starts_with(b"Accepted\n"));
     assert!(rt; accepted.as_slice().ends_with(listing.as_slice()));

@@ -8,24 +8,24 @@ use Rattle.zone_time.specs.Dates.{IsDay, date_text}
 use Rattle.calendar_sheet.specs.Calendars.{day_in, days_through, entry_in, events_on}
 
 -- a date, by its day number, with events
-pub record Page : Type 0 where
+pub record CalendarPage : Type 0 where
   pub day : ℤ
   pub events : List Event
 
 -- a date without events
-abbrev pub empty_page : ℤ → Page
+abbrev pub empty_page : ℤ → CalendarPage
 empty_page day = record { day = day; events = [] }
 
 -- a date with those of the events that are on it
-abbrev pub page_of : Zone → List Event → ℤ → Page
+abbrev pub page_of : Zone → List Event → ℤ → CalendarPage
 page_of zone events day = record { day = day; events = events_on zone events day }
 
 -- each date from the first day to the last, with the events on it
-abbrev pub pages_of : Zone → List Event → ℤ → ℤ → List Page
+abbrev pub pages_of : Zone → List Event → ℤ → ℤ → List CalendarPage
 pages_of zone events first last = map (page_of zone events) (days_through first last)
 
 -- the line of a date with its events
-abbrev pub line_of_page : Zone → Units → Page → List ℕ
+abbrev pub line_of_page : Zone → Units → CalendarPage → List ℕ
 line_of_page zone units page = date_text page.day ++ flat_map (entry_in zone units) page.events ++ codes "\n"
 
 -- a range of days that have a date

@@ -1,5 +1,29 @@
 -- The meaning of a line, read from its bytes: the inverse of the lines' text (this project).
-use Rattle.std.specs.Prelude.{ℕ, zero, suc, ℤ, pos, negsuc, unsigned_abs, ◌==◌, nat_lt, nat_le, Bool, ◌&&◌, if◌then◌else◌, List, length, take, drop, Option, Some, None, option_and_then, codes, slice_index}
+use Rattle.std.specs.Prelude.{
+  ℕ,
+  zero,
+  suc,
+  ℤ,
+  pos,
+  negsuc,
+  unsigned_abs,
+  ◌==◌,
+  nat_lt,
+  nat_le,
+  Bool,
+  ◌&&◌,
+  if◌then◌else◌,
+  List,
+  length,
+  take,
+  drop,
+  Option,
+  Some,
+  None,
+  option_and_then,
+  codes,
+  slice_index,
+}
 use Rattle.std.specs.List.{list_all}
 use Rattle.std.specs.Option.{option_map, option_or}
 use Rattle.std.specs.Str.{bytes_eq, is_utf8}
@@ -14,7 +38,7 @@ use Rattle.zone_time.specs.Moments.{moment_of}
 use Rattle.cert_text.specs.declared.track_name.TrackName.{TrackName}
 use Rattle.cert_text.specs.declared.track_name.TrackName.TheVariants.{Turn, Slack, Mark}
 use Rattle.cert_text.specs.declared.numbers.TheConstants.{LEVEL_DIGITS}
-use Rattle.cert_text.specs.Lines.{front_of}
+use Rattle.cert_text.specs.Lines.{prefix_of}
 
 -- what follows the prefix `word` of a line
 unfoldable pub after : List ℕ → List ℕ → Option (List ℕ)
@@ -81,8 +105,9 @@ unfoldable pub quiet_of : List ℕ → Option Cell
 quiet_of line = option_and_then quiet_for (option_and_then (size_of LEVEL_DIGITS) (after (codes "q ") line))
 
 -- the cell of a line with an event of a kind
-unfoldable pub turn_of : Kind → List ℕ → Option Cell
-turn_of kind line = option_map (λ level. cells.Turn kind level) (option_and_then (number_of LEVEL_DIGITS) (after (front_of kind) line))
+unfoldable pub event_cell_of : Kind → List ℕ → Option Cell
+event_cell_of kind line =
+    option_map (λ level. cells.Turn kind level) (option_and_then (number_of LEVEL_DIGITS) (after (prefix_of kind) line))
 
 -- the first kind of a track's events
 abbrev pub first_kind : TrackName → Kind
@@ -100,4 +125,4 @@ second_kind Mark = MarkFalling
 unfoldable pub cell_of : TrackName → List ℕ → Option Cell
 cell_of track line =
     if bytes_eq line (codes "s") then Some cells.Still
-    else option_or (quiet_of line) (option_or (turn_of (first_kind track) line) (turn_of (second_kind track) line))
+    else option_or (quiet_of line) (option_or (event_cell_of (first_kind track) line) (event_cell_of (second_kind track) line))

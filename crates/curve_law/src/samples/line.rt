@@ -13,8 +13,8 @@ pub struct Line {
     falls: bool,
     rate: i64,
     asked: u64,
-    ghost near: { unsigned_abs start ≤ 10 ^ 12 },
-    ghost gentle: { pos 1 ≤ℤ rate },
+    ghost in_range: { unsigned_abs start ≤ 10 ^ 12 },
+    ghost at_least_one: { pos 1 ≤ℤ rate },
     ghost small: { rate ≤ℤ pos (10 ^ 12) },
 }
 
@@ -23,8 +23,8 @@ impl Line {
 
     /// Returns the line through `start` at minute 0, not yet evaluated.
     pub fn new(start: i64, falls: bool, rate: i64) -> Line
-        requires near { unsigned_abs start ≤ 10 ^ 12 }
-        requires gentle { pos 1 ≤ℤ rate }
+        requires in_range { unsigned_abs start ≤ 10 ^ 12 }
+        requires at_least_one { pos 1 ≤ℤ rate }
         requires small { rate ≤ℤ pos (10 ^ 12) }
         ensures { ⟦<Line as Curve>⟧.state result ≡ record { facts = line_facts start falls rate; count = 0 } }
     {
@@ -43,7 +43,7 @@ impl Curve for Line {
 
     ghost state = { λ l. record { facts = line_facts l.start l.falls l.rate; count = l.asked } };
 
-    ghost lawful = { λ l. line-lawful l.start l.falls l.rate l.near l.gentle l.small };
+    ghost lawful = { λ l. line-lawful l.start l.falls l.rate l.in_range l.at_least_one l.small };
 
     ghost narrow = { λ _. one_is_narrow };
 
@@ -62,12 +62,12 @@ impl Curve for Line {
         height(self.start, self.falls, m) as i128
     }
 
-    fn near_value(&mut self, m: i64) -> i128 {
+    fn approximate_value(&mut self, m: i64) -> i128 {
         self.asked += 1;
         height(self.start, self.falls, m) as i128 + 1
     }
 
-    fn exact_value(&self, m: i64, _near_value: i128) -> i128 {
+    fn exact_value(&self, m: i64, _approximate_value: i128) -> i128 {
         height(self.start, self.falls, m) as i128
     }
 

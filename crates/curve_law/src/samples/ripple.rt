@@ -49,12 +49,12 @@ impl Curve for Ripple {
         wave(m)
     }
 
-    fn near_value(&mut self, _m: i64) -> i128 {
+    fn approximate_value(&mut self, _m: i64) -> i128 {
         self.asked += 1;
         0
     }
 
-    fn exact_value(&self, m: i64, _near_value: i128) -> i128 {
+    fn exact_value(&self, m: i64, _approximate_value: i128) -> i128 {
         wave(m)
     }
 

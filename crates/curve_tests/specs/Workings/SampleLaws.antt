@@ -3,7 +3,7 @@ use Rattle.std.specs.Prelude.{◌≡◌, ℕ, ◌^◌, ◌<◌, ◌≤◌, ℤ, 
 use Rattle.std.specs.Int.{int_max}
 use Rattle.std.proofs.Common.{arith}
 use Rattle.std.proofs.lemmas.Int.{ints}
-use Rattle.curve_law.specs.Meaning.{IsNearValue, IsLawful}
+use Rattle.curve_law.specs.Meaning.{IsApproximateValue, IsLawful}
 use Rattle.curve_law.specs.CurveStates.{CurveFacts}
 use Rattle.highest_water.specs.Samples.{hill, hills}
 
@@ -15,8 +15,9 @@ hills_facts at top other_at other_top rate = record {
   error = 0;
 }
 
-hill-value : (at top m : ℤ) → unsigned_abs at ≤ 10 ^ 12 → unsigned_abs top ≤ 10 ^ 12 → unsigned_abs m ≤ 10 ^ 6 → unsigned_abs (hill at top m) ≤ 10 ^ 13
-hill-value at top m near low minute = omega (arith, ints)
+hill-value : (at top m : ℤ) → unsigned_abs at ≤ 10 ^ 12 → unsigned_abs top ≤ 10 ^ 12 → unsigned_abs m ≤ 10 ^ 6
+    → unsigned_abs (hill at top m) ≤ 10 ^ 13
+hill-value at top m in_range low minute = omega (arith, ints)
 
 hill-step : (at top m : ℤ) → unsigned_abs (hill at top (m +ℤ pos 1) -ℤ hill at top m) ≤ 1
 hill-step at top m = omega (arith, ints)
@@ -28,32 +29,42 @@ max-step : (x y v w : ℤ) → unsigned_abs (x -ℤ v) ≤ 1 → unsigned_abs (y
 max-step x y v w first second = grind (arith, ints)
 
 below-rate : (n : ℕ) (rate : ℤ) → n ≤ 1 → pos 1 ≤ℤ rate → pos n ≤ℤ rate
-below-rate n rate few gentle = omega (arith, ints)
+below-rate n rate few at_least_one = omega (arith, ints)
 
-hills-step : (at top other_at other_top rate m : ℤ) → pos 1 ≤ℤ rate → pos (unsigned_abs (int_max (hill at top (m +ℤ pos 1)) (hill other_at other_top (m +ℤ pos 1)) -ℤ int_max (hill at top m) (hill other_at other_top m))) ≤ℤ rate
-hills-step at top other_at other_top rate m gentle =
-    below-rate _ rate (max-step (hill at top (m +ℤ pos 1)) (hill other_at other_top (m +ℤ pos 1)) (hill at top m) (hill other_at other_top m) (hill-step at top m) (hill-step other_at other_top m)) gentle
+hills-step : (at top other_at other_top rate m : ℤ) → pos 1 ≤ℤ rate
+    → pos (unsigned_abs (int_max (hill at top (m +ℤ pos 1)) (hill other_at other_top (m +ℤ pos 1))
+    -ℤ int_max (hill at top m) (hill other_at other_top m))) ≤ℤ rate
+hills-step at top other_at other_top rate m at_least_one =
+    below-rate _ rate (max-step (hill at top (m +ℤ pos 1)) (hill other_at other_top (m +ℤ pos 1)) (hill at top m)
+    (hill other_at other_top m) (hill-step at top m) (hill-step other_at other_top m)) at_least_one
 
 same_rate : (r s : ℤ) → Some r ≡ Some s → r ≡ s
 same_rate r s e = cc
 
-pub hills-lawful : (at top other_at other_top rate : ℤ) → unsigned_abs at ≤ 10 ^ 12 → unsigned_abs top ≤ 10 ^ 12 → unsigned_abs other_at ≤ 10 ^ 12 → unsigned_abs other_top ≤ 10 ^ 12 → pos 1 ≤ℤ rate → rate ≤ℤ pos (10 ^ 12) → IsLawful (hills at top other_at other_top rate)
-hills-lawful at top other_at other_top rate near low other_near other_low gentle small = record {
+pub hills-lawful : (at top other_at other_top rate : ℤ) → unsigned_abs at ≤ 10 ^ 12 → unsigned_abs top ≤ 10 ^ 12
+    → unsigned_abs other_at ≤ 10 ^ 12 → unsigned_abs other_top ≤ 10 ^ 12 → pos 1 ≤ℤ rate → rate ≤ℤ pos (10 ^ 12)
+    → IsLawful (hills at top other_at other_top rate)
+hills-lawful at top other_at other_top rate in_range low other_in_range other_low at_least_one small = record {
   forward = omega (arith, ints);
   early = omega (arith, ints);
   late = omega (arith, ints);
   values = λ m minute.
       let first = minute.first in let last = minute.last in
-      max-value (hill at top m) (hill other_at other_top m) (hill-value at top m near low (omega (arith, ints))) (hill-value other_at other_top m other_near other_low (omega (arith, ints)));
-  rates = λ a n told cell is.
-      let same = same_rate rate told is in
-      record { small = omega (arith, ints); steps = λ k few. rw (← same) (hills-step at top other_at other_top rate (a +ℤ pos k) gentle) };
+      max-value (hill at top m) (hill other_at other_top m) (hill-value at top m in_range low (omega (arith, ints)))
+      (hill-value other_at other_top m other_in_range other_low (omega (arith, ints)));
+  rates = λ a n stated cell is.
+      let same = same_rate rate stated is in
+      record {
+        small = omega (arith, ints);
+        steps = λ k few. rw (← same) (hills-step at top other_at other_top rate (a +ℤ pos k) at_least_one);
+      };
 }
 
 no_gap : (v : ℤ) → unsigned_abs (v -ℤ v) ≤ 0
 no_gap v = omega (arith, ints)
 
-pub hills-close : (at top other_at other_top rate m : ℤ) → IsNearValue (hills at top other_at other_top rate) 0 m ((hills at top other_at other_top rate).track.value m)
+pub hills-close : (at top other_at other_top rate m : ℤ) → IsApproximateValue (hills at top other_at other_top rate) 0 m
+    ((hills at top other_at other_top rate).track.value m)
 hills-close at top other_at other_top rate m = no_gap (int_max (hill at top m) (hill other_at other_top m))
 
 pub none_is_narrow : 0 ≤ 10 ^ 36

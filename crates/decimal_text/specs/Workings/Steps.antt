@@ -4,7 +4,7 @@ use Rattle.decimal_text.specs.declared.steps.Steps.{Steps}
 
 -- the digits read so far are the number n; `count` of them are of the fraction, `extra` of these after
 -- the last place
-pub record Stands (places count n : ℕ) (s : Steps) : Type 0 where
+pub record DigitsInvariant (places count n : ℕ) (s : Steps) : Type 0 where
   pub extra : ℕ
   pub counted : count + s.left ≡ places + extra
   pub one_side : (extra ≡ 0) ⊎ (s.left ≡ 0)

@@ -11,7 +11,7 @@ pub struct FileCase {
     pub words: &'static str,
     pub clock_fails: u64,
     pub status: u8,
-    pub line_told: &'static str,
+    pub line_printed: &'static str,
 }
 
 pub const OFFSETS: &str =
@@ -41,7 +41,7 @@ const CASE: FileCase = FileCase {
     words: OFFSETS,
     clock_fails: 0,
     status: 6,
-    line_told: "read fault\n",
+    line_printed: "read fault\n",
 };
 
 pub const FILE_CASES: &[FileCase] = &[
@@ -51,25 +51,25 @@ pub const FILE_CASES: &[FileCase] = &[
         line: 9,
         text: "2",
         status: 3,
-        line_told: "file: line 9: years differ (6)\n",
+        line_printed: "file: line 9: years differ (6)\n",
         ..CASE
     },
     FileCase {
         offsets: Some(""),
         status: 3,
-        line_told: "offsets: row 1: bad header (1)\n",
+        line_printed: "offsets: row 1: bad header (1)\n",
         ..CASE
     },
     FileCase {
         offsets: Some(SHORT),
         status: 3,
-        line_told: "offsets: row 2: field count (2)\n",
+        line_printed: "offsets: row 2: field count (2)\n",
         ..CASE
     },
     FileCase {
         offsets: Some(TABLE),
         status: 4,
-        line_told: "refused: no reference Nowhere\n",
+        line_printed: "refused: no reference Nowhere\n",
         ..CASE
     },
     FileCase {
@@ -80,7 +80,7 @@ pub const FILE_CASES: &[FileCase] = &[
         zone: Some("no zone"),
         words: ZONE,
         status: 3,
-        line_told: "zone: bad zone file\n",
+        line_printed: "zone: bad zone file\n",
         ..CASE
     },
     // the table is read before the zone
@@ -88,7 +88,7 @@ pub const FILE_CASES: &[FileCase] = &[
         offsets: Some(SHORT),
         words: BOTH,
         status: 3,
-        line_told: "offsets: row 2: field count (2)\n",
+        line_printed: "offsets: row 2: field count (2)\n",
         ..CASE
     },
     FileCase {

@@ -81,7 +81,7 @@ fn a_report_has_its_sheets(rt: HostRuntime) -> Result<(), Fail> {
 #[test]
 fn a_report_is_refused_in_its_order(rt: HostRuntime) -> Result<(), Fail> {
     let alloc = rt.alloc();
-    for (line, text, sheets, fails, status, out, told) in [
+    for (line, text, sheets, fails, status, out, printed) in [
         (
             0,
             "",
@@ -158,7 +158,7 @@ fn a_report_is_refused_in_its_order(rt: HostRuntime) -> Result<(), Fail> {
             false,
             fails,
         )?;
-        assert_outcome(&rt, &outcome, status, out, told);
+        assert_outcome(&rt, &outcome, status, out, printed);
     }
     Ok(())
 }

@@ -1,7 +1,7 @@
 -- The events still to come from one search. No public clause cites this.
 use Rattle.std.specs.Prelude.{◌≡◌, ℕ, ◌+◌, ◌^◌, ◌<◌, true, false, List, [], ◌∷◌, ◌++◌, All, length, Option, Some, None}
 use Rattle.curve_law.specs.declared.event.Event.{Event}
-use Rattle.curve_law.specs.Cells.{event_in, turns}
+use Rattle.curve_law.specs.Cells.{event_in, cell_events}
 use Rattle.interval_search.specs.declared.found.Found.{Found}
 use Rattle.interval_search.specs.Looking.{Looking}
 use Rattle.event_list.specs.declared.leading.Leading.{Leading}
@@ -12,7 +12,7 @@ use Rattle.event_list.specs.Merging.{Merging, Waiting, minute_of, cells_of, wait
 -- the events in the cells that a search has left
 abbrev pub events_ahead : {C : Type 0} → Option (Looking C) → List Event
 events_ahead None = []
-events_ahead (Some search) = turns search.at search.left
+events_ahead (Some search) = cell_events search.at search.left
 
 -- the number of cells that a search has left
 abbrev pub cells_ahead : {C : Type 0} → Option (Looking C) → ℕ
@@ -36,9 +36,9 @@ FindsNext old (Some found) new =
     × (searched_by old ≡ searched_past (event_in found.at found.cell) new)
 
 -- the result is the first event left; if there is none, no cell is left afterwards
-abbrev pub GivesEvent : {C : Type 0} → Option (Looking C) → Option Event → Option (Looking C) → Type 0
-GivesEvent old None new = (events_ahead old ≡ []) × (events_ahead new ≡ []) × (cells_ahead new ≡ 0)
-GivesEvent old (Some event) new = events_ahead old ≡ event ∷ events_ahead new
+abbrev pub ReturnsEvent : {C : Type 0} → Option (Looking C) → Option Event → Option (Looking C) → Type 0
+ReturnsEvent old None new = (events_ahead old ≡ []) × (events_ahead new ≡ []) × (cells_ahead new ≡ 0)
+ReturnsEvent old (Some event) new = events_ahead old ≡ event ∷ events_ahead new
 
 -- a list's first event
 abbrev pub first_of : List Event → Option Event
@@ -65,7 +65,7 @@ pub record Strand : Type 0 where
   pub all : ℕ
 
 -- the invariant of the three tracks of a merge
-pub record Stands (t s m : Strand) : Type 0 where
+pub record MergeInvariant (t s m : Strand) : Type 0 where
   pub turn : IsAscending t.left
   pub slack : IsAscending s.left
   pub mark : IsAscending m.left

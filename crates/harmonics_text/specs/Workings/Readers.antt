@@ -1,11 +1,31 @@
 -- The states of reading in pieces: the state between two pieces, and the effect of further bytes. They
 -- are proved to result in the faults of Pieces.antt and the book of Reading.antt (this project).
-use Rattle.std.specs.Prelude.{◌≡◌, ℕ, ◌+◌, ◌≤◌, Bool, false, if◌then◌else◌, List, [], ◌∷◌, ◌++◌, length, codes, Option, Some, None, Result, Ok, Err}
+use Rattle.std.specs.Prelude.{
+  ◌≡◌,
+  ℕ,
+  ◌+◌,
+  ◌≤◌,
+  Bool,
+  false,
+  if◌then◌else◌,
+  List,
+  [],
+  ◌∷◌,
+  ◌++◌,
+  length,
+  codes,
+  Option,
+  Some,
+  None,
+  Result,
+  Ok,
+  Err,
+}
 use Rattle.std.specs.List.{list_any}
 use Rattle.decimal_text.specs.Expected.{◌>>=◌}
 use Rattle.harmonics_text.specs.declared.book.Book.{Book}
-use Rattle.harmonics_text.specs.declared.draft.Draft.{Draft}
-use Rattle.harmonics_text.specs.declared.draft.Draft.TheVariants as drafts
+use Rattle.harmonics_text.specs.declared.book_parser.BookParser.{BookParser}
+use Rattle.harmonics_text.specs.declared.book_parser.BookParser.TheVariants as parsing
 use Rattle.harmonics_text.specs.declared.progress.Progress.{Progress}
 use Rattle.harmonics_text.specs.declared.fault.Why.{Why}
 use Rattle.harmonics_text.specs.declared.fault.Why.TheVariants.{CutShort, LineTooLong}
@@ -15,7 +35,7 @@ use Rattle.harmonics_text.specs.declared.fault.BookFault.TheVariants as faults
 use Rattle.harmonics_text.specs.Lines.{is_lf, is_comment, is_too_long, is_filled}
 use Rattle.harmonics_text.specs.Reading.{At}
 use Rattle.harmonics_text.specs.Pieces.{ended_lines, pending_line}
-use Rattle.harmonics_text.specs.Workings.Drafts.{IsDraft, after_line, book_in}
+use Rattle.harmonics_text.specs.Workings.BookParsing.{IsBookParser, after_line, book_in}
 use Rattle.decimal_text.specs.declared.limits.TheConstants.{MOST_BYTES}
 
 -- the bytes contain an LF
@@ -24,12 +44,12 @@ has_lf bytes = list_any is_lf bytes
 
 -- the invariant between two pieces
 pub record IsProgress (p : Progress) : Type 0 where
-  pub draft : IsDraft p.draft
+  pub parser : IsBookParser p.parser
   pub pending : has_lf p.pending ≡ false
 
 -- the state before any byte
 abbrev pub nothing_read : Progress
-nothing_read = record { draft = drafts.Count; number = 1; pending = [] }
+nothing_read = record { parser = parsing.Count; number = 1; pending = [] }
 
 -- a rule's value, or its fault at line n
 abbrev pub on_line : {A : Type 0} → ℕ → Result A Why → Result A At
@@ -41,16 +61,16 @@ abbrev pub held : List ℕ → Result (List ℕ) Why
 held line = if is_comment line then Ok (codes "#") else if is_too_long line then Err LineTooLong else Ok line
 
 -- the state with the kept bytes of such a line
-unfoldable pub with_pending : Draft → ℕ → List ℕ → Result Progress At
-with_pending d n line = on_line n (held line) >>= λ begun. Ok (record { draft = d; number = n; pending = begun })
+unfoldable pub with_pending : BookParser → ℕ → List ℕ → Result Progress At
+with_pending d n line = on_line n (held line) >>= λ begun. Ok (record { parser = d; number = n; pending = begun })
 
 -- the parser state after lines that have ended
-unfoldable pub after_lines : Draft → ℕ → List (List ℕ) → Result Draft At
+unfoldable pub after_lines : BookParser → ℕ → List (List ℕ) → Result BookParser At
 after_lines d n [] = Ok d
 after_lines d n (line ∷ lines) = on_line n (after_line d line) >>= λ e. after_lines e (n + 1) lines
 
 -- the state after bytes that begin at the begin of a line
-unfoldable pub with_bytes : Draft → ℕ → List ℕ → Result Progress At
+unfoldable pub with_bytes : BookParser → ℕ → List ℕ → Result Progress At
 with_bytes d n bytes = after_lines d n (ended_lines bytes) >>= λ e. with_pending e (n + length (ended_lines bytes)) (pending_line bytes)
 
 -- the book, or CutShort at the line after the last
@@ -61,8 +81,8 @@ finished n None = Err (record { line = n; why = CutShort })
 -- the result at the end of the file; the last line needs no LF
 unfoldable pub ended : Progress → Result Book At
 ended p =
-    if is_filled p.pending then (on_line p.number (after_line p.draft p.pending) >>= λ d. finished (p.number + 1) (book_in d))
-    else finished p.number (book_in p.draft)
+    if is_filled p.pending then (on_line p.number (after_line p.parser p.pending) >>= λ d. finished (p.number + 1) (book_in d))
+    else finished p.number (book_in p.parser)
 
 -- A returned error is the fault of the definition, unless it is out of memory.
 abbrev pub FailsAt : {Y : Type 0} → BookFault → Result Y At → Type 0
@@ -70,9 +90,9 @@ FailsAt NoMemory read = Unit {0}
 FailsAt (faults.At line why) read = read ≡ Err (record { line = line; why = why })
 
 -- A result is that of the definition, unless it is out of memory.
-abbrev pub GivesAt : {Y : Type 0} → Result Y BookFault → Result Y At → Type 0
-GivesAt (Ok y) read = read ≡ Ok y
-GivesAt (Err e) read = FailsAt e read
+abbrev pub ReturnsAt : {Y : Type 0} → Result Y BookFault → Result Y At → Type 0
+ReturnsAt (Ok y) read = read ≡ Ok y
+ReturnsAt (Err e) read = FailsAt e read
 
 -- ---- The reader
 
@@ -83,7 +103,7 @@ reached p (Some fault) = Err fault
 
 -- the state or fault is that of all bytes so far
 abbrev pub Reads : Result Progress BookFault → List ℕ → Type 0
-Reads progress bytes = GivesAt progress (with_bytes drafts.Count 1 bytes)
+Reads progress bytes = ReturnsAt progress (with_bytes parsing.Count 1 bytes)
 
 -- the invariant of a reader
 pub record IsReader (progress : Result Progress BookFault) (bytes : List ℕ) : Type 0 where
@@ -92,5 +112,5 @@ pub record IsReader (progress : Result Progress BookFault) (bytes : List ℕ) : 
 
 -- the state or fault after one more piece; a fault is unchanged
 abbrev pub ReadsOn : Result Progress BookFault → List ℕ → Result Progress BookFault → Type 0
-ReadsOn (Ok p) piece after = GivesAt after (with_bytes p.draft p.number (p.pending ++ piece))
+ReadsOn (Ok p) piece after = ReturnsAt after (with_bytes p.parser p.number (p.pending ++ piece))
 ReadsOn (Err fault) piece after = after ≡ Err fault

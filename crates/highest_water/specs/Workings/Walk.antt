@@ -1,12 +1,33 @@
 -- The pieces ahead of a walk over a span. No public clause cites this.
-use Rattle.std.specs.Prelude.{◌≡◌, ℕ, ◌+◌, ◌^◌, ◌≤◌, ℤ, pos, ◌+ℤ◌, ◌≤ℤ◌, false, true, List, [], ◌∷◌, ◌++◌, length, Option, Some, None, if◌then◌else◌}
+use Rattle.std.specs.Prelude.{
+  ◌≡◌,
+  ℕ,
+  ◌+◌,
+  ◌^◌,
+  ◌≤◌,
+  ℤ,
+  pos,
+  ◌+ℤ◌,
+  ◌≤ℤ◌,
+  false,
+  true,
+  List,
+  [],
+  ◌∷◌,
+  ◌++◌,
+  length,
+  Option,
+  Some,
+  None,
+  if◌then◌else◌,
+}
 use Rattle.curve_law.specs.declared.point.Point.{Point}
 use Rattle.curve_law.specs.Meaning.{Meaning}
 use Rattle.curve_law.specs.CurveStates.{CurveState}
 use Rattle.interval_search.specs.Workings.Ahead.{minutes_to, ArePieces}
 use Rattle.highest_water.specs.declared.peak_cell.PeakCell.{PeakCell}
 use Rattle.highest_water.specs.declared.peak_cell.PeakCell.TheVariants.{Under, Single}
-use Rattle.highest_water.specs.declared.walk.Found.{Found}
+use Rattle.highest_water.specs.declared.walk.LocatedCell.{LocatedCell}
 use Rattle.highest_water.specs.declared.walk.Walk.{Walk}
 use Rattle.highest_water.specs.Peaks.{is_higher}
 use Rattle.highest_water.specs.Covers.{minutes_of, is_under, peak_split, peak_cover}
@@ -23,7 +44,7 @@ cells_ahead c highest end a (p ∷ ps) =
     peak_split c highest.minute highest.value a (minutes_to a p.minute) ++ cells_ahead c highest end p.minute ps
 
 -- the invariant of a walk at a point, with the ends of the pieces ahead, the nearest one first
-pub record Stands (s : CurveState) (end : ℤ) (at : Point) (ahead : List Point) : Type 0 where
+pub record WalkInvariant (s : CurveState) (end : ℤ) (at : Point) (ahead : List Point) : Type 0 where
   pub value : at.value ≡ s.facts.meaning.track.value at.minute
   pub first : s.facts.meaning.first ≤ℤ at.minute
   pub last : end ≤ℤ s.facts.meaning.last
@@ -37,7 +58,7 @@ IsRight c highest a Single = Unit {0}
 
 -- a step of a walk: it returns the first of the cells ahead and goes to its end, or returns none if none is
 -- ahead
-abbrev pub StepsTo : Meaning → Point → Walk → Option Found → Walk → Type 0
+abbrev pub StepsTo : Meaning → Point → Walk → Option LocatedCell → Walk → Type 0
 StepsTo c highest old None new =
     (old.at.minute ≡ old.end) × (old.waiting ≡ []) × (cells_ahead c highest old.end old.at.minute old.waiting ≡ [])
 StepsTo c highest old (Some found) new =
@@ -58,5 +79,5 @@ raised_at highest point (Under n) = highest
 raised_at highest point Single = higher_of highest point
 
 -- the highest point after one more cell
-abbrev pub raised_by : Point → Found → Point
+abbrev pub raised_by : Point → LocatedCell → Point
 raised_by highest found = raised_at highest found.at found.cell

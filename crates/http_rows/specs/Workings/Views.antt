@@ -6,9 +6,9 @@ use Rattle.http_rows.specs.Rows as rows
 use Rattle.http_rows.specs.declared.asked.Asking.{Asking}
 use Rattle.http_rows.specs.declared.head.Head.{Head}
 use Rattle.http_rows.specs.declared.head.Occurs.{Occurs}
-use Rattle.http_rows.specs.declared.row.Row.{Row}
+use Rattle.http_rows.specs.declared.reply_row.ReplyRow.{ReplyRow}
 use Rattle.http_rows.specs.declared.limits.TheConstants.{MOST_BODY}
-use Rattle.http_rows.specs.declared.row.Row.TheVariants.{Rejects, Asks}
+use Rattle.http_rows.specs.declared.reply_row.ReplyRow.TheVariants.{Rejects, Asks}
 
 abbrev pub occurs_seen : Occurs → heads.Occurs
 occurs_seen o = record { count = o.count; first = o.first.now }
@@ -26,7 +26,7 @@ head_seen h = record {
 abbrev pub asking_seen : Asking → rows.Asking
 asking_seen a = record { path = text_of a.path; query = a.query.now; body = a.body.now; bodiless = a.bodiless }
 
-abbrev pub row_seen : Row → rows.Row
+abbrev pub row_seen : ReplyRow → rows.ReplyRow
 row_seen (Rejects rejection bodiless) = rows.rejects rejection bodiless
 row_seen (Asks asking) = rows.asks (asking_seen asking)
 
@@ -35,6 +35,6 @@ abbrev pub IsAsking : rows.Asking → Type 0
 IsAsking a = length a.body ≤ MOST_BODY
 
 -- the body of a row's request is within the limit
-abbrev pub IsAskingRow : rows.Row → Type 0
+abbrev pub IsAskingRow : rows.ReplyRow → Type 0
 IsAskingRow (rows.rejects rejection bodiless) = Unit {0}
 IsAskingRow (rows.asks asking) = IsAsking asking

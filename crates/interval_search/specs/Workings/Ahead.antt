@@ -1,6 +1,30 @@
 -- The pieces that a search has still to reach. Public clauses cite this only for the parts that other
 -- searches use.
-use Rattle.std.specs.Prelude.{◌≡◌, ℕ, ◌+◌, ◌-◌, ◌*◌, ◌^◌, ◌≤◌, ℤ, pos, ◌+ℤ◌, ◌-ℤ◌, ◌≤ℤ◌, ◌<ℤ◌, unsigned_abs, false, List, [], ◌∷◌, ◌++◌, length, Option, Some, None}
+use Rattle.std.specs.Prelude.{
+  ◌≡◌,
+  ℕ,
+  ◌+◌,
+  ◌-◌,
+  ◌*◌,
+  ◌^◌,
+  ◌≤◌,
+  ℤ,
+  pos,
+  ◌+ℤ◌,
+  ◌-ℤ◌,
+  ◌≤ℤ◌,
+  ◌<ℤ◌,
+  unsigned_abs,
+  false,
+  List,
+  [],
+  ◌∷◌,
+  ◌++◌,
+  length,
+  Option,
+  Some,
+  None,
+}
 use Rattle.curve_law.specs.declared.cell.Cell.{Cell}
 use Rattle.curve_law.specs.declared.quiet.TheConstants.{MOST_MINUTES}
 use Rattle.curve_law.specs.Meaning.{Meaning}
@@ -38,7 +62,8 @@ cells_ahead c end a (p ∷ ps) = split c a (minutes_to a p.minute) ++ cells_ahea
 unfoldable pub ArePieces : (ℤ → ℤ) → ℤ → ℤ → List Point → Type 0
 ArePieces values end a [] = a ≤ℤ end
 ArePieces values end a (p ∷ ps) =
-    (a <ℤ p.minute) × (minutes_to a p.minute * 2 ^ length ps ≤ MOST_MINUTES) × (p.value ≡ values p.minute) × ArePieces values end p.minute ps
+    (a <ℤ p.minute) × (minutes_to a p.minute * 2 ^ length ps ≤ MOST_MINUTES) × (p.value ≡ values p.minute)
+    × ArePieces values end p.minute ps
 
 -- a bound on the evaluations until all cells are returned, and one more for each pending point
 abbrev pub IsFew : ℕ → ℕ → ℕ → Type 0
@@ -46,7 +71,7 @@ IsFew count cells points = count + cells ≤ points + (2 ^ 62 + 2 ^ 61 + 1)
 
 -- the invariant of a search: the point that it has reached, and the ends of the pieces after it, the
 -- nearest first
-pub record Stands (s : CurveState) (end : ℤ) (at : Point) (ahead : List Point) : Type 0 where
+pub record SearchInvariant (s : CurveState) (end : ℤ) (at : Point) (ahead : List Point) : Type 0 where
   pub value : at.value ≡ s.facts.approximate at.minute
   pub first : s.facts.meaning.first ≤ℤ at.minute
   pub last : end ≤ℤ s.facts.meaning.last

@@ -6,7 +6,7 @@ use Rattle.question.specs.declared.fault.AskFault.{AskFault}
 use Rattle.question.specs.declared.key.Key.{Key}
 use Rattle.question.specs.declared.pairs.Item.{Item}
 use Rattle.question.specs.Keys.{name_of}
-use Rattle.question.specs.Questions.{Said, wants_memory}
+use Rattle.question.specs.Questions.{Said, is_out_of_memory}
 
 -- the text that items give to a key after an earlier one: the last item with the key counts
 abbrev pub text_after : List Item → Key → Option (List ℕ) → Option (List ℕ)
@@ -18,6 +18,6 @@ abbrev pub said_by : List Item → Said
 said_by items k = text_after items k None
 
 -- the expected result is the texts so far, or the fault is excused
-abbrev pub GivesSaid : Result Said AskFault → Said → Result (Unit {0}) AskFault → Type 0
-GivesSaid expected said (Ok done) = expected ≡ Ok said
-GivesSaid expected said (Err fault) = Excused (wants_memory fault) expected fault
+abbrev pub ReturnsSaid : Result Said AskFault → Said → Result (Unit {0}) AskFault → Type 0
+ReturnsSaid expected said (Ok done) = expected ≡ Ok said
+ReturnsSaid expected said (Err fault) = Excused (is_out_of_memory fault) expected fault

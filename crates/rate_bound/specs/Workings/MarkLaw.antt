@@ -1,5 +1,30 @@
 -- The curve of the level less a mark is lawful.
-use Rattle.std.proofs.Common.{◌≡◌, ℕ, zero, suc, ◌+◌, ◌-◌, ◌*◌, ◌^◌, ◌<◌, ◌≤◌, length, Bool, Some, sym, ap, ◌∙◌, arith, ℤ, pos, ◌+ℤ◌, ◌-ℤ◌, ◌*ℤ◌, ◌≤ℤ◌, ◌<ℤ◌}
+use Rattle.std.proofs.Common.{
+  ◌≡◌,
+  ℕ,
+  zero,
+  suc,
+  ◌+◌,
+  ◌-◌,
+  ◌*◌,
+  ◌^◌,
+  ◌<◌,
+  ◌≤◌,
+  length,
+  Bool,
+  Some,
+  sym,
+  ap,
+  ◌∙◌,
+  arith,
+  ℤ,
+  pos,
+  ◌+ℤ◌,
+  ◌-ℤ◌,
+  ◌*ℤ◌,
+  ◌≤ℤ◌,
+  ◌<ℤ◌,
+}
 use Rattle.std.specs.Prelude.{unsigned_abs}
 use Rattle.std.proofs.lemmas.Int.{ints}
 use Rattle.std.proofs.lemmas.Nat.{mul-le}
@@ -8,9 +33,9 @@ use Rattle.curve_law.specs.declared.quiet.TheConstants.{MOST_MINUTES}
 use Rattle.station_curve.specs.Waves.{Tide, amount_of}
 use Rattle.station_curve.specs.Sums.{near_of}
 use Rattle.station_curve.specs.Levels.{waves_in, level_of}
-use Rattle.station_curve.specs.Limits.{IsGentle}
+use Rattle.station_curve.specs.Limits.{IsWithinLimits}
 use Rattle.station_curve.proofs.Gaps.{scaled_gap}
-use Rattle.station_curve.proofs.Gentle.{gentle_sums}
+use Rattle.station_curve.proofs.WithinLimits.{sums_within_limits}
 use Rattle.station_curve.proofs.Products.{abs_times, abs_plus, abs_minus, abs_within, abs_span, pos_abs}
 use Rattle.year_blend.specs.declared.parts.Stretch.{Stretch}
 use Rattle.year_blend.specs.declared.parts.Stretch.TheVariants.{Within, Across}
@@ -40,22 +65,29 @@ times_of times plus mark scale =
     let least = scale.times_least in
     record { size = abs_within times 1 (10 ^ 8) least scale.times_most; same = pos_abs times (omega (arith, ints)) }
 
-mark_step : (times plus mark here there : ℤ) (most : ℕ) (rate : ℤ) → IsTimes times → unsigned_abs (there -ℤ here) ≤ most → times *ℤ pos most ≡ rate → pos (unsigned_abs (over_mark times plus mark there -ℤ over_mark times plus mark here)) ≤ℤ rate
+mark_step : (times plus mark here there : ℤ) (most : ℕ) (rate : ℤ) → IsTimes times → unsigned_abs (there -ℤ here) ≤ most
+    → times *ℤ pos most ≡ rate
+    → pos (unsigned_abs (over_mark times plus mark there -ℤ over_mark times plus mark here)) ≤ℤ rate
 mark_step times plus mark here there most rate is gap same =
     let scaled = scaled_gap times there here most gap in
     let raised = pos (10 ^ 6 * total_weight * 10 ^ 9) *ℤ (plus -ℤ mark) in
     let all : pos (unsigned_abs times * most) ≡ rate = ap (λ t. t *ℤ pos most) is.same ∙ same in
     rw (same_mark (times *ℤ there) (times *ℤ here) raised, sym all) (omega (arith, ints, scaled))
 
-rate_small : (times : ℤ) (most : ℕ) (rate : ℤ) → IsTimes times → most ≤ 2 * 10 ^ 26 → times *ℤ pos most ≡ rate → (rate *ℤ pos MOST_MINUTES) <ℤ pos (5 * 10 ^ 37)
+rate_small : (times : ℤ) (most : ℕ) (rate : ℤ) → IsTimes times → most ≤ 2 * 10 ^ 26 → times *ℤ pos most ≡ rate
+    → (rate *ℤ pos MOST_MINUTES) <ℤ pos (5 * 10 ^ 37)
 rate_small times most rate is small same =
     let all : pos (unsigned_abs times * most) ≡ rate = ap (λ t. t *ℤ pos most) is.same ∙ same in
     let product = mul-le (unsigned_abs times) most (10 ^ 8) (2 * 10 ^ 26) is.size small in
     rw (sym all) (omega (arith, ints, product))
 
-rate_within : (version : Version) (tide : Tide) (times plus mark : ℤ) (slack : Bool) (a : ℤ) (n year : ℕ) (rate : ℤ) → IsGentle tide → IsScale times plus mark → IsSpan tide a n → IsFound tide.first_year (length tide.years) a n (Within year) → times *ℤ (pos total_weight *ℤ (tide_sums tide year).near) ≡ rate → IsRate (mark_meaning version tide times plus mark slack) a n rate
-rate_within version tide times plus mark slack a n year rate gentle scale span found is =
-    let near : near_of (waves_in tide year) ≤ 3 * 10 ^ 15 = (gentle_sums tide year gentle).near in
+rate_within : (version : Version) (tide : Tide) (times plus mark : ℤ) (slack : Bool) (a : ℤ) (n year : ℕ) (rate : ℤ)
+    → IsWithinLimits tide → IsScale times plus mark → IsSpan tide a n
+    → IsFound tide.first_year (length tide.years) a n (Within year)
+    → times *ℤ (pos total_weight *ℤ (tide_sums tide year).near) ≡ rate
+    → IsRate (mark_meaning version tide times plus mark slack) a n rate
+rate_within version tide times plus mark slack a n year rate within_limits scale span found is =
+    let near : near_of (waves_in tide year) ≤ 3 * 10 ^ 15 = (sums_within_limits tide year within_limits).near in
     let t = times_of times plus mark scale in
     let most = total_weight * near_of (waves_in tide year) in
     record {
@@ -64,66 +96,87 @@ rate_within version tide times plus mark slack a n year rate gentle scale span f
           (plain_level_gap tide (a +ℤ pos k) year (plain_step tide a n year k span found below)) is;
     }
 
-bound_small : (first second more less : ℕ) (high : ℕ) → high ≤ 3 * 10 ^ 15 → more ≤ 10 ^ 9 → less ≤ 10 ^ 9 → total_weight * high + 64800000 * (10 ^ 9 * (more + less)) ≤ 2 * 10 ^ 26
+bound_small : (first second more less : ℕ) (high : ℕ) → high ≤ 3 * 10 ^ 15 → more ≤ 10 ^ 9 → less ≤ 10 ^ 9
+    → total_weight * high + 64800000 * (10 ^ 9 * (more + less)) ≤ 2 * 10 ^ 26
 bound_small first second more less high small one other = omega (arith, small, one, other)
 
-rate_across : (version : Version) (tide : Tide) (times plus mark : ℤ) (slack : Bool) (a : ℤ) (n year : ℕ) (rate : ℤ) → IsGentle tide → IsScale times plus mark → IsSpan tide a n → IsFound tide.first_year (length tide.years) a n (Across year) → times *ℤ blended_level_rate (tide_sums tide (year - 1)) (tide_sums tide year) ≡ rate → IsRate (mark_meaning version tide times plus mark slack) a n rate
-rate_across version tide times plus mark slack a n zero rate gentle scale span found is = absurd (omega (arith, found.later))
-rate_across version tide times plus mark slack a n (suc k) rate gentle scale span found is =
+rate_across : (version : Version) (tide : Tide) (times plus mark : ℤ) (slack : Bool) (a : ℤ) (n year : ℕ) (rate : ℤ)
+    → IsWithinLimits tide → IsScale times plus mark → IsSpan tide a n
+    → IsFound tide.first_year (length tide.years) a n (Across year)
+    → times *ℤ blended_level_rate (tide_sums tide (year - 1)) (tide_sums tide year) ≡ rate
+    → IsRate (mark_meaning version tide times plus mark slack) a n rate
+rate_across version tide times plus mark slack a n zero rate within_limits scale span found is = absurd (omega (arith, found.later))
+rate_across version tide times plus mark slack a n (suc k) rate within_limits scale span found is =
     let before : suc k - 1 ≡ k = omega arith in
-    let earlier = gentle_sums tide k gentle in
-    let later = gentle_sums tide (suc k) gentle in
+    let earlier = sums_within_limits tide k within_limits in
+    let later = sums_within_limits tide (suc k) within_limits in
     let near : near_of (waves_in tide k) ≤ 3 * 10 ^ 15 = earlier.near in
     let next : near_of (waves_in tide (suc k)) ≤ 3 * 10 ^ 15 = later.near in
     let t = times_of times plus mark scale in
     let same : times *ℤ pos (level_bound tide k) ≡ rate =
     ap (λ z. times *ℤ z) (sym (blended_level_rate-pos (waves_in tide k) (waves_in tide (suc k)))) ∙ rw before at is in
     record {
-      small = rate_small times (level_bound tide k) rate t (bound_small 0 0 (amount_of (waves_in tide (suc k))) (amount_of (waves_in tide k)) _ (omega (arith, near, next)) later.amount earlier.amount) same;
-      steps = λ i below. mark_step times plus mark (level_of tide (a +ℤ pos i)) (level_of tide ((a +ℤ pos i) +ℤ pos 1)) (level_bound tide k) rate t
+      small = rate_small times (level_bound tide k) rate t (bound_small 0 0 (amount_of (waves_in tide (suc k)))
+          (amount_of (waves_in tide k)) _ (omega (arith, near, next)) later.amount earlier.amount) same;
+      steps = λ i below. mark_step times plus mark (level_of tide (a +ℤ pos i)) (level_of tide ((a +ℤ pos i) +ℤ pos 1))
+          (level_bound tide k) rate t
           (over_level_gap tide (a +ℤ pos i) k (step_over tide a n k i span.are span.first span.last span.short found below)) same;
     }
 
-rate_in : (version : Version) (tide : Tide) (times plus mark : ℤ) (slack : Bool) (a : ℤ) (n : ℕ) (rate : ℤ) (s : Stretch) → IsGentle tide → IsScale times plus mark → IsSpan tide a n → IsFound tide.first_year (length tide.years) a n s → level_rate_in version times (tide_sums tide) s ≡ Some rate → IsRate (mark_meaning version tide times plus mark slack) a n rate
-rate_in version tide times plus mark slack a n rate (Within year) gentle scale span found is = rate_within version tide times plus mark slack a n year rate gentle scale span found (some-same _ rate is)
-rate_in First tide times plus mark slack a n rate (Across year) gentle scale span found is = cc
-rate_in Second tide times plus mark slack a n rate (Across year) gentle scale span found is = rate_across Second tide times plus mark slack a n year rate gentle scale span found (some-same _ rate is)
+rate_in : (version : Version) (tide : Tide) (times plus mark : ℤ) (slack : Bool) (a : ℤ) (n : ℕ) (rate : ℤ)
+    (s : Stretch) → IsWithinLimits tide → IsScale times plus mark → IsSpan tide a n
+    → IsFound tide.first_year (length tide.years) a n s → level_rate_in version times (tide_sums tide) s ≡ Some rate
+    → IsRate (mark_meaning version tide times plus mark slack) a n rate
+rate_in version tide times plus mark slack a n rate (Within year) within_limits scale span found is =
+    rate_within version tide times plus mark slack a n year rate within_limits scale span found (some-same _ rate is)
+rate_in First tide times plus mark slack a n rate (Across year) within_limits scale span found is = cc
+rate_in Second tide times plus mark slack a n rate (Across year) within_limits scale span found is =
+    rate_across Second tide times plus mark slack a n year rate within_limits scale span found (some-same _ rate is)
 
-mark_rate : (version : Version) (tide : Tide) (times plus mark : ℤ) (slack : Bool) (a : ℤ) (n : ℕ) (rate : ℤ) → IsGentle tide → IsScale times plus mark → IsCell (mark_meaning version tide times plus mark slack) a n → level_rate_of version times tide a n ≡ Some rate → IsRate (mark_meaning version tide times plus mark slack) a n rate
+mark_rate : (version : Version) (tide : Tide) (times plus mark : ℤ) (slack : Bool) (a : ℤ) (n : ℕ) (rate : ℤ)
+    → IsWithinLimits tide → IsScale times plus mark → IsCell (mark_meaning version tide times plus mark slack) a n
+    → level_rate_of version times tide a n ≡ Some rate
+    → IsRate (mark_meaning version tide times plus mark slack) a n rate
 unfolding level_rate_of
-mark_rate version tide times plus mark slack a n rate gentle scale cell is =
+mark_rate version tide times plus mark slack a n rate within_limits scale cell is =
     let first = cell.first in
     let last = cell.last in
     let span : IsSpan tide a n = record {
-      are = gentle.years;
+      are = within_limits.years;
       first = record { least = first; most = omega (arith, ints) };
       last = record { least = omega (arith, ints); most = last };
       short = cell.few;
     } in
-    rate_in version tide times plus mark slack a n rate _ gentle scale span (stretch_of-found tide.first_year (length tide.years) a n span.are span.first span.last) is
+    rate_in version tide times plus mark slack a n rate _ within_limits scale span
+    (stretch_of-found tide.first_year (length tide.years) a n span.are span.first span.last) is
 
 -- a level less a mark is below its limit
-pub mark_small : (times plus mark level : ℤ) → IsScale times plus mark → unsigned_abs level ≤ total_weight * (11 * 10 ^ 18) → unsigned_abs (over_mark times plus mark level) < 5 * 10 ^ 36
+pub mark_small : (times plus mark level : ℤ) → IsScale times plus mark
+    → unsigned_abs level ≤ total_weight * (11 * 10 ^ 18) → unsigned_abs (over_mark times plus mark level) < 5 * 10 ^ 36
 mark_small times plus mark level scale small =
     let t = times_of times plus mark scale in
     let added = abs_span plus 9999999999 scale.plus_least scale.plus_most in
     let marked = abs_span mark 9999999999 scale.mark_least scale.mark_most in
     let apart = abs_minus plus mark (10 ^ 10) (10 ^ 10) added marked in
     let scaled = abs_times times level (10 ^ 8) (total_weight * (11 * 10 ^ 18)) t.size small in
-    let raised = abs_times (pos (10 ^ 6 * total_weight * 10 ^ 9)) (plus -ℤ mark) (10 ^ 6 * total_weight * 10 ^ 9) (2 * 10 ^ 10) (omega arith) (omega (arith, apart)) in
-    let all = abs_plus (times *ℤ level) (pos (10 ^ 6 * total_weight * 10 ^ 9) *ℤ (plus -ℤ mark)) (10 ^ 8 * (total_weight * (11 * 10 ^ 18))) (10 ^ 6 * total_weight * 10 ^ 9 * (2 * 10 ^ 10)) scaled raised in
+    let raised = abs_times (pos (10 ^ 6 * total_weight * 10 ^ 9)) (plus -ℤ mark) (10 ^ 6 * total_weight * 10 ^ 9)
+    (2 * 10 ^ 10) (omega arith) (omega (arith, apart)) in
+    let all = abs_plus (times *ℤ level) (pos (10 ^ 6 * total_weight * 10 ^ 9) *ℤ (plus -ℤ mark))
+    (10 ^ 8 * (total_weight * (11 * 10 ^ 18))) (10 ^ 6 * total_weight * 10 ^ 9 * (2 * 10 ^ 10)) scaled raised in
     omega (arith, all)
 
 -- the curve of the level less a mark meets the law of a curve
-pub mark_lawful : (version : Version) (tide : Tide) (times plus mark : ℤ) (slack : Bool) → IsGentle tide → IsScale times plus mark → IsLawful (mark_meaning version tide times plus mark slack)
-mark_lawful version tide times plus mark slack gentle scale =
-    let ends = are_ends tide.first_year (length tide.years) gentle.years in
+pub mark_lawful : (version : Version) (tide : Tide) (times plus mark : ℤ) (slack : Bool) → IsWithinLimits tide
+    → IsScale times plus mark → IsLawful (mark_meaning version tide times plus mark slack)
+mark_lawful version tide times plus mark slack within_limits scale =
+    let ends = are_ends tide.first_year (length tide.years) within_limits.years in
     record {
       forward = ends.forward;
       early = ends.early;
       late = ends.late;
       values = λ m at.
-          let small = mark_small times plus mark (level_of tide m) scale (level_small tide m gentle (record { least = at.first; most = at.last })) in
+          let small = mark_small times plus mark (level_of tide m) scale
+          (level_small tide m within_limits (record { least = at.first; most = at.last })) in
           omega (arith, small);
-      rates = λ a n rate cell is. mark_rate version tide times plus mark slack a n rate gentle scale cell is;
+      rates = λ a n rate cell is. mark_rate version tide times plus mark slack a n rate within_limits scale cell is;
     }

@@ -2,18 +2,18 @@
 use Rattle.std.proofs.Common.{◌*◌, ◌^◌, ◌≤◌, ℕ, ℤ, pos, ◌-ℤ◌, ◌*ℤ◌, unsigned_abs, length, Bool, refl, arith}
 use Rattle.std.proofs.lemmas.Int.{ints}
 use Rattle.std.proofs.lemmas.Nat.{mul-le}
-use Rattle.curve_law.specs.Meaning.{IsMinute, IsNearValue}
+use Rattle.curve_law.specs.Meaning.{IsMinute, IsApproximateValue}
 use Rattle.year_blend.specs.Places.{InDomain}
 use Rattle.year_blend.specs.Weights.{total_weight}
 use Rattle.year_blend.proofs.PlaceLemmas.{place_of-rule}
 use Rattle.station_curve.specs.Waves.{Tide, amount_of, steepness_of}
 use Rattle.station_curve.specs.Levels.{place_in_tide, level_of}
-use Rattle.station_curve.specs.Near.{near_level_of, near_slope_of}
-use Rattle.station_curve.specs.Workings.Nearness.{IsNearPlace}
+use Rattle.station_curve.specs.Approximate.{approximate_level_of, approximate_slope_of}
+use Rattle.station_curve.specs.Workings.NumberRanges.{IsPlaceInRange}
 use Rattle.station_curve.proofs.Gaps.{scaled_gap}
-use Rattle.station_curve.proofs.Near.{near_place}
-use Rattle.station_curve.proofs.Nearly.{level_near, slope_near}
-use Rattle.station_curve.specs.Limits.{IsGentle}
+use Rattle.station_curve.proofs.InRange.{in_range_place}
+use Rattle.station_curve.proofs.Approximating.{level_approximate, slope_approximate}
+use Rattle.station_curve.specs.Limits.{IsWithinLimits}
 use Rattle.station_curve.specs.Errors.{level_error_of, slope_error_of}
 use Rattle.station_curve.proofs.GreatestYear.{greatest-most}
 use Rattle.rate_bound.specs.declared.version.Version.{Version}
@@ -22,17 +22,18 @@ use Rattle.rate_bound.specs.Scale.{IsScale}
 use Rattle.rate_bound.specs.Workings.MarkLaw.{same_mark}
 
 -- the error of a slope is small enough
-pub slope_narrow : (tide : Tide) → IsGentle tide → slope_error_of tide ≤ 10 ^ 36
+pub slope_narrow : (tide : Tide) → IsWithinLimits tide → slope_error_of tide ≤ 10 ^ 36
 unfolding slope_error_of
-slope_narrow tide gentle =
-    let most = greatest-most steepness_of tide.years (10 ^ 17) gentle.steepnesses in
+slope_narrow tide within_limits =
+    let most = greatest-most steepness_of tide.years (10 ^ 17) within_limits.steepnesses in
     omega (arith, most)
 
 -- the error of a scaled level is small enough
-pub level_narrow : (tide : Tide) (times plus mark : ℤ) → IsGentle tide → IsScale times plus mark → unsigned_abs times * level_error_of tide ≤ 10 ^ 36
+pub level_narrow : (tide : Tide) (times plus mark : ℤ) → IsWithinLimits tide → IsScale times plus mark
+    → unsigned_abs times * level_error_of tide ≤ 10 ^ 36
 unfolding level_error_of
-level_narrow tide times plus mark gentle scale =
-    let most = greatest-most amount_of tide.years (10 ^ 9) gentle.amounts in
+level_narrow tide times plus mark within_limits scale =
+    let most = greatest-most amount_of tide.years (10 ^ 9) within_limits.amounts in
     let least = scale.times_least in
     let greatest = scale.times_most in
     let few : unsigned_abs times ≤ 10 ^ 8 = omega (arith, ints) in
@@ -40,25 +41,32 @@ level_narrow tide times plus mark gentle scale =
     let product = mul-le (unsigned_abs times) (level_error_of tide) (10 ^ 8) (10 ^ 24) few error in
     omega (arith, product)
 
-place_near : (tide : Tide) (m : ℤ) → IsGentle tide → InDomain tide.first_year (length tide.years) m → IsNearPlace tide.first_year (length tide.years) m (place_in_tide tide m)
-place_near tide m gentle domain =
-    near_place tide.first_year (length tide.years) m (place_in_tide tide m) gentle.years.least (place_of-rule tide.first_year (length tide.years) m gentle.years domain)
+place_in_range : (tide : Tide) (m : ℤ) → IsWithinLimits tide → InDomain tide.first_year (length tide.years) m
+    → IsPlaceInRange tide.first_year (length tide.years) m (place_in_tide tide m)
+place_in_range tide m within_limits domain =
+    in_range_place tide.first_year (length tide.years) m (place_in_tide tide m) within_limits.years.least
+    (place_of-rule tide.first_year (length tide.years) m within_limits.years domain)
 
 -- an approximate slope is within its error
-pub slope_close : (version : Version) (tide : Tide) (m : ℤ) → IsGentle tide → IsMinute (turn_meaning version tide) m
-    → IsNearValue (turn_meaning version tide) (slope_error_of tide) m (near_slope_of tide m)
-slope_close version tide m gentle at =
-    slope_near tide m (place_in_tide tide m) refl (place_near tide m gentle (record { least = at.first; most = at.last }))
+pub slope_close : (version : Version) (tide : Tide) (m : ℤ) → IsWithinLimits tide → IsMinute (turn_meaning version tide) m
+    → IsApproximateValue (turn_meaning version tide) (slope_error_of tide) m (approximate_slope_of tide m)
+slope_close version tide m within_limits at =
+    slope_approximate tide m (place_in_tide tide m) refl (place_in_range tide m within_limits (record { least = at.first; most = at.last }))
 
 -- an approximate level, scaled and less a mark, is within the scaled error
-near-mark : (times plus mark near level : ℤ) (error : ℕ) → unsigned_abs (near -ℤ level) ≤ error → unsigned_abs (over_mark times plus mark near -ℤ over_mark times plus mark level) ≤ unsigned_abs times * error
-near-mark times plus mark near level error close =
+approximate-mark : (times plus mark approximate level : ℤ) (error : ℕ) → unsigned_abs (approximate -ℤ level) ≤ error
+    → unsigned_abs (over_mark times plus mark approximate -ℤ over_mark times plus mark level)
+    ≤ unsigned_abs times * error
+approximate-mark times plus mark approximate level error close =
     let raised = pos (10 ^ 6 * total_weight * 10 ^ 9) *ℤ (plus -ℤ mark) in
-    rw (same_mark (times *ℤ near) (times *ℤ level) raised) (scaled_gap times near level error close)
+    rw (same_mark (times *ℤ approximate) (times *ℤ level) raised) (scaled_gap times approximate level error close)
 
 -- an approximate level less a mark is within its error
-pub level_close : (version : Version) (tide : Tide) (times plus mark : ℤ) (slack : Bool) (m : ℤ) → IsGentle tide → IsMinute (mark_meaning version tide times plus mark slack) m
-    → IsNearValue (mark_meaning version tide times plus mark slack) (unsigned_abs times * level_error_of tide) m (over_mark times plus mark (near_level_of tide m))
-level_close version tide times plus mark slack m gentle at =
-    near-mark times plus mark (near_level_of tide m) (level_of tide m) (level_error_of tide)
-    (level_near tide m (place_in_tide tide m) refl (place_near tide m gentle (record { least = at.first; most = at.last })))
+pub level_close : (version : Version) (tide : Tide) (times plus mark : ℤ) (slack : Bool) (m : ℤ) → IsWithinLimits tide
+    → IsMinute (mark_meaning version tide times plus mark slack) m
+    → IsApproximateValue (mark_meaning version tide times plus mark slack) (unsigned_abs times * level_error_of tide) m
+    (over_mark times plus mark (approximate_level_of tide m))
+level_close version tide times plus mark slack m within_limits at =
+    approximate-mark times plus mark (approximate_level_of tide m) (level_of tide m) (level_error_of tide)
+    (level_approximate tide m (place_in_tide tide m) refl
+    (place_in_range tide m within_limits (record { least = at.first; most = at.last })))

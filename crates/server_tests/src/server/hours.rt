@@ -23,7 +23,13 @@ impl Clock for HourClock {
     ghost use Rattle.std.specs.Prelude.{◌≡◌, ◌+◌, ◌*◌, true, min, pos};
     ghost use Rattle.tide_edge.specs.Clocks.{ClockState};
 
-    ghost state = { λ c. record { is_observable = true; minute_at = (λ n. pos (15791160 + 60 * min n 24)); given = c.given.minutes; asked = c.asked; faults = 0 } };
+    ghost state = { λ c. record {
+      is_observable = true;
+      minute_at = (λ n. pos (15791160 + 60 * min n 24));
+      given = c.given.minutes;
+      asked = c.asked;
+      faults = 0;
+    } };
 
     fn minute(&mut self) -> Result<i64, Failed> {
         self.asked = self.asked.saturating_add(1);

@@ -60,7 +60,9 @@ const READ: &[(&str, &str, &str, &str)] = &[
         "/clock?station=Pier&zone=%2B05:30",
         "200 OK",
         "text/plain",
-        "Pier\nNow 2000-01-10 08:30 +05:30       0.00 feet  Falling\n2000-01-10 11:30 +05:30      -1.00 feet  Low Tide\n2000-01-10 17:29 +05:30       1.00 feet  High Tide\n2000-01-10 23:30 +05:30      -1.00 feet  Low Tide\n2000-01-11 05:29 +05:30       1.00 feet  High Tide\n",
+        "Pier\nNow 2000-01-10 08:30 +05:30       0.00 feet  Falling\n\
+        2000-01-10 11:30 +05:30      -1.00 feet  Low Tide\n2000-01-10 17:29 +05:30       1.00 feet  High Tide\n\
+        2000-01-10 23:30 +05:30      -1.00 feet  Low Tide\n2000-01-11 05:29 +05:30       1.00 feet  High Tide\n",
     ),
     (
         "/predict?station=Pier&begin=2000-01-10T23:59Z&end=2000-01-11T00:00Z&zone=+05:30",
@@ -96,7 +98,9 @@ const READ: &[(&str, &str, &str, &str)] = &[
         "/clock?station=Pier",
         "200 OK",
         "text/plain",
-        "Pier\nNow 2000-01-10 03:00 UTC       0.00 feet  Falling\n2000-01-10 06:00 UTC      -1.00 feet  Low Tide\n2000-01-10 11:59 UTC       1.00 feet  High Tide\n2000-01-10 18:00 UTC      -1.00 feet  Low Tide\n2000-01-10 23:59 UTC       1.00 feet  High Tide\n",
+        "Pier\nNow 2000-01-10 03:00 UTC       0.00 feet  Falling\n2000-01-10 06:00 UTC      -1.00 feet  Low Tide\n\
+        2000-01-10 11:59 UTC       1.00 feet  High Tide\n2000-01-10 18:00 UTC      -1.00 feet  Low Tide\n\
+        2000-01-10 23:59 UTC       1.00 feet  High Tide\n",
     ),
     (
         "/clock?station=Nobody",

@@ -36,13 +36,16 @@ const BAD: &str =
     "HTTP/1.1 400 Bad Request\r\nContent-Type: text/plain; charset=utf-8\r\nContent-Length: 12\r\nConnection: close\r\n\r\nbad request\n";
 
 const TOO_LARGE: &str =
-    "HTTP/1.1 413 Content Too Large\r\nContent-Type: text/plain; charset=utf-8\r\nContent-Length: 18\r\nConnection: close\r\n\r\ncontent too large\n";
+    "HTTP/1.1 413 Content Too Large\r\nContent-Type: text/plain; charset=utf-8\r\nContent-Length: 18\r\n\
+    Connection: close\r\n\r\ncontent too large\n";
 
 const FIELDS_TOO_LARGE: &str =
-    "HTTP/1.1 431 Request Header Fields Too Large\r\nContent-Type: text/plain; charset=utf-8\r\nContent-Length: 24\r\nConnection: close\r\n\r\nheader fields too large\n";
+    "HTTP/1.1 431 Request Header Fields Too Large\r\nContent-Type: text/plain; charset=utf-8\r\nContent-Length: 24\r\n\
+    Connection: close\r\n\r\nheader fields too large\n";
 
 const NO_CERTIFICATE: &str =
-    "HTTP/1.1 422 Unprocessable Content\r\nContent-Type: text/plain; charset=utf-8\r\nContent-Length: 20\r\nConnection: close\r\n\r\ncertificate: line 1\n";
+    "HTTP/1.1 422 Unprocessable Content\r\nContent-Type: text/plain; charset=utf-8\r\nContent-Length: 20\r\n\
+    Connection: close\r\n\r\ncertificate: line 1\n";
 
 const NOTICE: &str = "http://127.0.0.1:8080/\n";
 
@@ -297,10 +300,10 @@ fn a_failed_call_ends_what_it_is_of(rt: HostRuntime) -> Result<(), Fail> {
         Coming::Whole(LOST),
         Coming::Whole(LOST),
     ];
-    for &(fails, status, told, replies) in FAILING {
+    for &(fails, status, printed, replies) in FAILING {
         let outcome = serve_over(alloc, ASKED, &requests, 4096, fails)?;
         assert_eq!(rt; outcome.status, status, "{fails:?}");
-        assert_eq!(rt; outcome.err.bytes(), told.as_bytes(), "{fails:?}");
+        assert_eq!(rt; outcome.err.bytes(), printed.as_bytes(), "{fails:?}");
         for (i, reply) in replies.iter().enumerate() {
             assert_reply(&rt, &outcome, i as u64, Some(reply));
         }
@@ -352,12 +355,12 @@ const REFUSED: &[(&str, u8, &str)] = &[
 ];
 
 #[test]
-fn what_keeps_the_server_from_serving_is_told(rt: HostRuntime) -> Result<(), Fail> {
+fn what_keeps_the_server_from_serving_is_printed(rt: HostRuntime) -> Result<(), Fail> {
     let alloc = rt.alloc();
-    for &(line, status, told) in REFUSED {
+    for &(line, status, printed) in REFUSED {
         let outcome = serve_over(alloc, line, &[Coming::Whole(LOST)], 4096, NONE)?;
         assert_eq!(rt; outcome.status.number(), status, "{line}");
-        assert_eq!(rt; outcome.err.bytes(), told.as_bytes(), "{line}");
+        assert_eq!(rt; outcome.err.bytes(), printed.as_bytes(), "{line}");
         assert_reply(&rt, &outcome, 0, None);
     }
     Ok(())

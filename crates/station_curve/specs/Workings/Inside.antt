@@ -5,7 +5,7 @@ use Rattle.station_curve.specs.declared.years.Year.{Year}
 use Rattle.station_curve.specs.declared.curve.StationCurve.TheInside.{Inside}
 use Rattle.station_curve.specs.Waves.{Tide, amount_of, steepness_of}
 use Rattle.station_curve.specs.Errors.{greatest_of}
-use Rattle.station_curve.specs.Limits.{IsGentle}
+use Rattle.station_curve.specs.Limits.{IsWithinLimits}
 use Rattle.station_curve.specs.Sums.{sums_of}
 
 -- the tide of the curve's years
@@ -14,9 +14,10 @@ tide_in s = record { first_year = s.first_year; datum = s.datum; years = map (λ
 
 -- the invariant of a station's curve
 pub record IsReady (s : Inside) : Type 0 where
-  pub gentle : IsGentle (tide_in s)
+  pub within_limits : IsWithinLimits (tide_in s)
   pub starts : (k : ℕ) (d : Year) → k < length s.years.items → (slice_index_or s.years.items k d).start ≡ start_of s.first_year k
   pub ends : (k : ℕ) (d : Year) → k < length s.years.items → (slice_index_or s.years.items k d).end ≡ start_of s.first_year (suc k)
-  pub sums : (k : ℕ) (d : Year) → k < length s.years.items → (slice_index_or s.years.items k d).sums ≡ sums_of (slice_index_or s.years.items k d).waves.items
+  pub sums : (k : ℕ) (d : Year) → k < length s.years.items
+      → (slice_index_or s.years.items k d).sums ≡ sums_of (slice_index_or s.years.items k d).waves.items
   pub amount : s.greatest.amount ≡ pos (greatest_of amount_of (tide_in s).years)
   pub steepness : s.greatest.steepness ≡ pos (greatest_of steepness_of (tide_in s).years)

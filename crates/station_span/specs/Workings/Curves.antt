@@ -8,14 +8,14 @@ use Rattle.event_list.specs.Shifts.{HasOffsets, widened_of}
 use Rattle.rate_bound.specs.declared.version.Version.{Version}
 use Rattle.rate_bound.specs.declared.version.Version.TheVariants.{Second}
 use Rattle.rate_bound.specs.Meanings.{turn_meaning}
-use Rattle.station_curve.specs.Limits.{IsGentle}
+use Rattle.station_curve.specs.Limits.{IsWithinLimits}
 use Rattle.station_curve.specs.Waves.{Tide}
 use Rattle.year_blend.specs.Places.{AreYears, InDomain}
 use Rattle.station_span.specs.declared.asked.Asked.{Asked}
 use Rattle.station_span.specs.Workings.Tides.{SiteTide}
 use Rattle.station_span.specs.Sites.{span_limit}
-use Rattle.station_span.specs.Workings.Spans.{HasLevels, IsBeside, IsNearSpan}
-use Rattle.station_span.specs.Workings.Telling.{tide_slack, tide_mark}
+use Rattle.station_span.specs.Workings.Spans.{HasLevels, IsBeside, IsSpanInRange}
+use Rattle.station_span.specs.Workings.TrackMeanings.{tide_slack, tide_mark}
 
 -- the curves that are followed, as those by every constituent of the harmonics file
 unfoldable pub followed_tide : Version → SiteTide → Option ℤ → Followed
@@ -44,13 +44,13 @@ InTide tide minute = InDomain tide.first_year (length tide.years) minute
 pub record IsReady (asked : Asked) (found : SiteTide) : Type 0 where
   pub offsets : HasOffsets found.basis
   pub levels : HasLevels found.units
-  pub gentle : IsGentle found.curve
+  pub within_limits : IsWithinLimits found.curve
   pub years : AreYears found.curve.first_year (length found.curve.years)
   pub forward : asked.begin ≤ℤ asked.end
   pub few : (asked.end -ℤ asked.begin) ≤ℤ span_limit
   pub begins : InTide found.curve (widened_of found.basis asked.begin asked.end).begin
   pub ends : InTide found.curve (widened_of found.basis asked.begin asked.end).end
-  pub near : IsNearSpan (widened_of found.basis asked.begin asked.end)
+  pub in_range : IsSpanInRange (widened_of found.basis asked.begin asked.end)
   pub beside : IsBeside asked.begin asked.end (widened_of found.basis asked.begin asked.end)
   pub mark : ForSome asked.mark (λ level. unsigned_abs level ≤ 10000000000)
 

@@ -18,6 +18,6 @@ abbrev pub tide_with : Basis → Station → Tide → SiteTide
 tide_with basis station curve = record { basis = basis; units = station.units; curve = curve }
 
 -- the curve predicts the station over the minutes that are evaluated
-abbrev pub IsSound : Reach → Book → Asked → Basis → Station → Tide → Type 0
-IsSound reach book asked basis station curve =
+abbrev pub IsValid : Reach → Book → Asked → Basis → Station → Tide → Type 0
+IsValid reach book asked basis station curve =
     IsFound reach book asked (site_with basis station) (tide_with basis station curve)

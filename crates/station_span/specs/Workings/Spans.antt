@@ -6,7 +6,7 @@ use Rattle.harmonics_text.specs.declared.book.Book.{Book}
 use Rattle.harmonics_text.specs.declared.book.Units.{Units}
 use Rattle.harmonics_text.specs.declared.book.Units.TheVariants.{Feet, Meters, Knots, KnotsSquared}
 use Rattle.station_curve.specs.Curves.{PredictsOver}
-use Rattle.station_curve.specs.Limits.{IsGentle}
+use Rattle.station_curve.specs.Limits.{IsWithinLimits}
 use Rattle.station_table.specs.declared.basis.Basis.{Basis}
 use Rattle.station_table.specs.Bases.{IsBasis, is_equal}
 use Rattle.year_blend.specs.Places.{AreYears, InDomain}
@@ -17,13 +17,13 @@ use Rattle.station_span.specs.Workings.Tides.{SiteTide}
 use Rattle.station_span.specs.Sites.{Site, lacks_minute, reached, span_limit}
 
 -- a span and a mark in the range that a request, a certificate or a clock can name
-pub record IsNear (asked : Asked) : Type 0 where
+pub record IsInRange (asked : Asked) : Type 0 where
   pub begin : unsigned_abs asked.begin ≤ 20000000000
   pub end : unsigned_abs asked.end ≤ 20000000000
   pub mark : ForSome asked.mark (λ level. unsigned_abs level ≤ 10000000000)
 
 -- a span that isn't backward, and whose minutes are in range
-pub record IsNearSpan (s : Span) : Type 0 where
+pub record IsSpanInRange (s : Span) : Type 0 where
   pub forward : s.begin ≤ℤ s.end
   pub begin : unsigned_abs s.begin ≤ 100000000000
   pub end : unsigned_abs s.end ≤ 100000000000
@@ -43,7 +43,7 @@ pub record IsReached (reach : Reach) (book : Book) (basis : Basis) (begin end : 
   pub forward : begin ≤ℤ end
   pub begins : InDomain book.first_year book.years (reached reach basis begin end).begin
   pub ends : InDomain book.first_year book.years (reached reach basis begin end).end
-  pub near : IsNearSpan (reached reach basis begin end)
+  pub in_range : IsSpanInRange (reached reach basis begin end)
   pub beside : IsBeside begin end (reached reach basis begin end)
   pub some : lacks_minute reach begin end ≡ false
 
@@ -72,13 +72,13 @@ PredictsReached reach book asked site found =
 -- a tide that predicts a station over the minutes that are needed
 pub record IsFound (reach : Reach) (book : Book) (asked : Asked) (site : Site) (found : SiteTide) : Type 0 where
   pub basis : found.basis ≡ site.basis
-  pub sound : IsBasis (length book.stations) found.basis
+  pub valid : IsBasis (length book.stations) found.basis
   pub units : found.units ≡ site.station.units
   pub levels : HasLevels found.units
   pub predicts : PredictsReached reach book asked site found
-  pub gentle : IsGentle found.curve
+  pub within_limits : IsWithinLimits found.curve
   pub years : AreYears book.first_year book.years
   pub span : IsReached reach book found.basis asked.begin asked.end
   pub few : (asked.end -ℤ asked.begin) ≤ℤ span_limit
   pub mark : ForSome asked.mark (λ level. IsTrue (is_equal found.basis))
-  pub near : IsNear asked
+  pub in_range : IsInRange asked

@@ -1,14 +1,25 @@
 -- The state of reading the records of a text.
 use Rattle.std.specs.Prelude.{◌≡◌, ℕ, ◌<◌, List, [], ◌∷◌, Option, Some, Result, Ok, Err}
 use Rattle.std.specs.Borrow.{Bor}
-use Rattle.csv.specs.Reading.{Ready, Reached, default_config, owned_rows_left, owned_rows_reader, reader_config, reader_state, reader_trim, source_of, strip_bom}
+use Rattle.csv.specs.Reading.{
+  Ready,
+  Reached,
+  default_config,
+  owned_rows_left,
+  owned_rows_reader,
+  reader_config,
+  reader_state,
+  reader_trim,
+  source_of,
+  strip_bom,
+}
 use Rattle.csv.specs.declared.iter.ByteRecordsIntoIter.{ByteRecordsIntoIter}
 use Rattle.csv.specs.declared.parser.State.TheVariants as st
 use Rattle.csv.specs.declared.reader.Trim.TheVariants as trim
 use Rattle.decimal_text.specs.Expected.{Excused}
 use Rattle.station_table.specs.declared.fault.OffsetFault.{OffsetFault}
 use Rattle.station_table.specs.declared.header.Header.{Header}
-use Rattle.station_table.specs.Reasons.{wants_memory}
+use Rattle.station_table.specs.Reasons.{is_out_of_memory}
 use Rattle.station_table.specs.Table.{header_of, table_of}
 
 -- the iterator over the records of borrowed bytes
@@ -23,7 +34,7 @@ held bytes = Some bytes.now
 pub record HasGiven (text : List ℕ) (rows : List (List (List ℕ))) (records : Records) : Type 0 where
   pub trim : reader_trim (owned_rows_reader records) ≡ trim.None
   pub ready : Ready (owned_rows_reader records)
-  pub turns : 0 < owned_rows_left records
+  pub rows_left : 0 < owned_rows_left records
   pub config : reader_config (owned_rows_reader records) ≡ default_config
   pub rest : List ℕ
   pub source : source_of held (owned_rows_reader records) ≡ Some rest
@@ -36,6 +47,6 @@ pub record HasHeader (text : List ℕ) (header : Header) (records : Records) : T
   pub first : header_of names ≡ Ok header
 
 -- the result is the text's header, or the fault of its table
-abbrev pub GivesHeader : List ℕ → Records → Result Header OffsetFault → Type 0
-GivesHeader text records (Ok header) = HasHeader text header records
-GivesHeader text records (Err fault) = Excused (wants_memory fault) (table_of text) fault
+abbrev pub ReturnsHeader : List ℕ → Records → Result Header OffsetFault → Type 0
+ReturnsHeader text records (Ok header) = HasHeader text header records
+ReturnsHeader text records (Err fault) = Excused (is_out_of_memory fault) (table_of text) fault

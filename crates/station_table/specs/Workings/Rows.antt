@@ -2,10 +2,10 @@
 use Rattle.std.specs.Prelude.{◌≡◌, Result, Ok, Err}
 use Rattle.station_table.specs.declared.fault.OffsetWhy.{OffsetWhy}
 use Rattle.station_table.specs.declared.offsets.Offsets.{Offsets}
-use Rattle.station_table.specs.declared.row.Row.{Row}
+use Rattle.station_table.specs.declared.borrowed_offsets.BorrowedOffsets.{BorrowedOffsets}
 
 -- the station that a row represents
-abbrev pub offsets_in : Row → Offsets
+abbrev pub offsets_in : BorrowedOffsets → Offsets
 offsets_in r = record { name = r.name.now; reference = r.reference.now; high = r.high; low = r.low; slack = r.slack }
 
 -- a result, seen by `view`, is that of the rule

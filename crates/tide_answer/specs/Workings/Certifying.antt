@@ -13,7 +13,7 @@ use Rattle.tide_fault.specs.declared.refusal.Refusal.{Refusal}
 use Rattle.station_cells.specs.declared.rejection.Rejection.{Rejection}
 use Rattle.tide_answer.specs.declared.text.Answer.{Answer}
 use Rattle.tide_answer.specs.Answers.{judged, version_of}
-use Rattle.tide_answer.specs.Asking.{asked_in}
+use Rattle.tide_answer.specs.Asking.{asked_by_certificate}
 use Rattle.station_span.specs.Following.{followed_by}
 use Rattle.station_cells.specs.Rejections.{rejection_of}
 use Rattle.station_span.specs.Sites.{Site, site_in}
@@ -37,5 +37,5 @@ rejection_in book site cert =
 -- the answer to a certificate that was read
 unfoldable pub judged_in : Book → List Offsets → Certificate → Zone → Result Answer Refusal
 judged_in book table cert zone = do
-  site ← site_in Events book table cert.station (asked_in cert)
+  site ← site_in Events book table cert.station (asked_by_certificate cert)
   Ok (judged book site cert zone (rejection_in book site cert))

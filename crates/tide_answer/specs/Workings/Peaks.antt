@@ -10,7 +10,7 @@ use Rattle.station_span.specs.Peaks.{highest_site, highest_verdict}
 use Rattle.tide_fault.specs.declared.refusal.Refusal.{Refusal}
 use Rattle.tide_answer.specs.declared.text.Answer.{Answer}
 use Rattle.tide_answer.specs.Answers.{peak_judged}
-use Rattle.tide_answer.specs.Asking.{asked_of_peak}
+use Rattle.tide_answer.specs.Asking.{asked_by_peak_certificate}
 
 -- the certificate of a highest water
 abbrev pub peak_certificate_in : List ℕ → Asked → Peak → PeakCertificate
@@ -19,5 +19,5 @@ peak_certificate_in name asked peak = record { station = name; begin = asked.beg
 -- the answer to a certificate of a highest water that was read
 unfoldable pub peak_judged_in : Book → List Offsets → PeakCertificate → Result Answer Refusal
 peak_judged_in book table cert = do
-  site ← highest_site book table cert.station (asked_of_peak cert)
-  Ok (peak_judged book site cert (highest_verdict book site (asked_of_peak cert) cert.peak))
+  site ← highest_site book table cert.station (asked_by_peak_certificate cert)
+  Ok (peak_judged book site cert (highest_verdict book site (asked_by_peak_certificate cert) cert.peak))

@@ -13,7 +13,7 @@ use Rattle.zone_time.specs.Zones.{IsZone}
 use Rattle.station_span.specs.declared.asked.Asked.{Asked}
 use Rattle.tide_answer.specs.declared.form.Form.{Form}
 use Rattle.tide_answer.specs.declared.form.Form.TheVariants.{Listing, Certificate}
-use Rattle.station_span.specs.declared.found.Found.{Found}
+use Rattle.station_span.specs.declared.found_station.FoundStation.{FoundStation}
 use Rattle.station_span.specs.declared.reach.Reach.TheVariants.{Events}
 use Rattle.station_span.specs.Following.{cells_of, events_of}
 use Rattle.station_span.specs.Sites.{Site}
@@ -34,7 +34,7 @@ stream_answer form book site name asked zone =
     record { text = stream_text form book site name asked zone; rejected = false; cells = cells_of book site asked }
 
 -- the answer of a form for a station that was found
-abbrev pub stream_of : Form → Found → List ℕ → Zone → Answer
+abbrev pub stream_of : Form → FoundStation → List ℕ → Zone → Answer
 stream_of form found name zone = stream_answer form found.origin.book (site_of found) name found.asked zone
 
 -- the form of the answers of a command
@@ -43,7 +43,7 @@ form_of Certify = Certificate
 form_of _ = Listing
 
 -- the premises for writing an answer as it is found
-pub record IsStream (found : Found) (name : List ℕ) (zone : Zone) : Type 0 where
+pub record IsStream (found : FoundStation) (name : List ℕ) (zone : Zone) : Type 0 where
   pub reach : found.reach ≡ Events
   pub moments : AreMoments found.asked
   pub named : IsStationName name

@@ -2,13 +2,13 @@
 use Rattle.std.specs.Prelude.{◌≡◌, ◌<◌, ℕ, ℤ, ◌⊎◌, Bool, true, false, IsTrue, List, [], ◌++◌, length, take, Option, Some, None, is_some, Ok}
 use Rattle.std.specs.List.{concat}
 use Rattle.tide_edge.specs.Clocks.{ClockState, clock_after, next_minute}
-use Rattle.tide_edge.specs.Doors.{Connection, Connections, DoorState, append_to_last, change_latest, door_after_close, told_traffic}
+use Rattle.tide_edge.specs.Doors.{Connection, Connections, DoorState, append_to_last, change_latest, door_after_close, observed_traffic}
 use Rattle.tide_edge.specs.Faults.{faults_after}
-use Rattle.tide_server.specs.declared.stock.Stock.{Stock}
+use Rattle.tide_server.specs.declared.served_data.ServedData.{ServedData}
 use Rattle.tide_server.specs.Conversations.{IsReadEnough, IsServed, IsLeft}
 use Rattle.http_rows.specs.Responses.{fixed_of, unavailable_of}
 use Rattle.tide_server.specs.Replies.{reply_of}
-use Rattle.http_rows.specs.Rows.{Row, IsRow}
+use Rattle.http_rows.specs.Rows.{ReplyRow, IsRow}
 use Rattle.tide_server.specs.Serving.{Answers, AnswersUnlessCut, AsksUnlessCut, Exchange, IsEnough, IsReadAsNeeded, clock_failed}
 
 -- ---- Reading
@@ -27,7 +27,7 @@ read_as failed bytes ended =
 abbrev pub read_to : List (List ℕ) → Connection → Bool → DoorState → DoorState
 read_to left connection failed d = record d {
   connections = with_latest connection d.connections;
-  traffic = told_traffic (λ t. record { waiting = t.waiting; rest = left; replies = t.replies }) d;
+  traffic = observed_traffic (λ t. record { waiting = t.waiting; rest = left; replies = t.replies }) d;
   line_faults = faults_after failed d.line_faults;
 }
 
@@ -38,7 +38,7 @@ pub record IsRead (bytes request : List ℕ) : Type 0 where
   pub enough : (rest ≡ []) ⊎ IsEnough request
 
 -- the row of the bytes that were read; a connection without a byte has none
-abbrev pub IsReadAs : List ℕ → Option Row → Type 0
+abbrev pub IsReadAs : List ℕ → Option ReplyRow → Type 0
 IsReadAs bytes None = bytes ≡ []
 IsReadAs bytes (Some row) = (request : List ℕ) × IsRead bytes request × ¬ (request ≡ []) × IsRow request row
 
@@ -61,7 +61,7 @@ sending text true connection = record connection { sent = connection.sent ++ tex
 abbrev pub sent : List ℕ → Bool → DoorState → DoorState
 sent text failed d = record d {
   connections = change_latest (sending text failed) d.connections;
-  traffic = told_traffic (λ t. record { waiting = t.waiting; rest = t.rest; replies = append_to_last t.replies text }) d;
+  traffic = observed_traffic (λ t. record { waiting = t.waiting; rest = t.rest; replies = append_to_last t.replies text }) d;
   line_faults = faults_after failed d.line_faults;
 }
 
@@ -71,18 +71,18 @@ SentBy false text before after = after ≡ sent text false before
 SentBy true text before after = (count : ℕ) × (count < length text) × (after ≡ sent (take count text) true before)
 
 -- the reply of a row, or the one that replaces it if it isn't fixed
-abbrev pub Replies : Stock → ℤ → Row → List ℕ → Type 0
-Replies stock minute row text =
-    (text ≡ reply_of stock.book stock.table minute row) ⊎ ((fixed_of row ≡ None) × (text ≡ unavailable_of row))
+abbrev pub Replies : ServedData → ℤ → ReplyRow → List ℕ → Type 0
+Replies served_data minute row text =
+    (text ≡ reply_of served_data.book served_data.table minute row) ⊎ ((fixed_of row ≡ None) × (text ≡ unavailable_of row))
 
 -- The reply of a row was sent, at the minute that the clock returned; or the clock has failed, and nothing
 -- was sent.
-abbrev pub RowSent : Bool → Stock → Row → Exchange → Exchange → Type 0
-RowSent false stock row before after =
+abbrev pub RowSent : Bool → ServedData → ReplyRow → Exchange → Exchange → Type 0
+RowSent false served_data row before after =
     (text : List ℕ) × (failed : Bool) × (minute : ℤ)
-    × (IsTrue before.clock.is_observable → minute ≡ next_minute before.clock) × Replies stock minute row text
+    × (IsTrue before.clock.is_observable → minute ≡ next_minute before.clock) × Replies served_data minute row text
     × SentBy failed text before.door after.door × (after.clock ≡ clock_after (Ok minute) before.clock)
-RowSent true stock row before after = (after.door ≡ before.door) × (after.clock ≡ clock_failed before.clock)
+RowSent true served_data row before after = (after.door ≡ before.door) × (after.clock ≡ clock_failed before.clock)
 
 -- ---- The whole connection
 
@@ -109,19 +109,19 @@ pub record Talk : Type 0 where
 abbrev pub talked : Talk → DoorState → DoorState
 talked talk d = record d {
   connections = with_latest talk.connection d.connections;
-  traffic = told_traffic (λ t. record { waiting = t.waiting; rest = talk.left; replies = append_to_last t.replies talk.reply }) d;
+  traffic = observed_traffic (λ t. record { waiting = t.waiting; rest = talk.left; replies = append_to_last t.replies talk.reply }) d;
   line_faults = faults_after talk.is_cut d.line_faults;
 }
 
 -- the open connection was read and answered
-pub record Went (stock : Stock) (before after : Exchange) : Type 0 where
+pub record Went (served_data : ServedData) (before after : Exchange) : Type 0 where
   pub talk : Talk
   pub door : after.door ≡ talked talk before.door
   pub clock : after.clock ≡ clock_given talk.minute before.clock
   pub minute : IsTrue before.clock.is_observable → IsNextMinute talk.minute (next_minute before.clock)
-  pub served : IsServed stock talk.connection talk.minute
+  pub served : IsServed served_data talk.connection talk.minute
   pub answered : IsTrue before.door.is_observable → IsTrue before.clock.is_observable
-      → AnswersUnlessCut talk.is_cut (Answers stock (next_minute before.clock)) (concat before.door.traffic.rest) talk.reply
+      → AnswersUnlessCut talk.is_cut (Answers served_data (next_minute before.clock)) (concat before.door.traffic.rest) talk.reply
   pub asked : IsTrue before.door.is_observable → AsksUnlessCut talk.is_cut (concat before.door.traffic.rest) (is_some talk.minute)
   pub needed : IsTrue before.door.is_observable → IsTrue before.door.keeps_pieces → IsReadAsNeeded before.door.traffic.rest talk.left
 
@@ -136,12 +136,12 @@ pub record Stopped (before after : Exchange) : Type 0 where
   pub needed : IsTrue before.door.is_observable → IsTrue before.door.keeps_pieces → IsReadAsNeeded before.door.traffic.rest left
 
 -- one of the two, by whether the clock has failed
-abbrev pub WentBy : Bool → Stock → Exchange → Exchange → Type 0
-WentBy false stock before after = Went stock before after
-WentBy true stock before after = Stopped before after
+abbrev pub WentBy : Bool → ServedData → Exchange → Exchange → Type 0
+WentBy false served_data before after = Went served_data before after
+WentBy true served_data before after = Stopped before after
 
 -- one of the two, and the connection was closed
-pub record Closed (failed : Bool) (stock : Stock) (before after : Exchange) : Type 0 where
+pub record Closed (failed : Bool) (served_data : ServedData) (before after : Exchange) : Type 0 where
   pub still : DoorState
-  pub went : WentBy failed stock before record { door = still; clock = after.clock }
+  pub went : WentBy failed served_data before record { door = still; clock = after.clock }
   pub door : after.door ≡ door_after_close still

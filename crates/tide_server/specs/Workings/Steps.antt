@@ -1,14 +1,45 @@
 -- One connection after the other, a step at a time.
-use Rattle.std.specs.Prelude.{◌≡◌, ℕ, ℤ, Bool, true, false, IsTrue, List, [], ◌∷◌, ◌++◌, length, map, count_by, Some, None, is_some, Result, Ok, Err}
+use Rattle.std.specs.Prelude.{
+  ◌≡◌,
+  ℕ,
+  ℤ,
+  Bool,
+  true,
+  false,
+  IsTrue,
+  List,
+  [],
+  ◌∷◌,
+  ◌++◌,
+  length,
+  map,
+  count_by,
+  Some,
+  None,
+  is_some,
+  Result,
+  Ok,
+  Err,
+}
 use Rattle.std.specs.List.{concat}
 use Rattle.tide_edge.specs.Clocks.{next_minute}
 use Rattle.tide_edge.specs.Doors.{Connection, Doorway, DoorState, after_next, connections_of, door_after_close, door_after_next}
 use Rattle.tide_edge.specs.Faults.{counted, faults_after}
 use Rattle.tide_server.specs.declared.outage.Outage.{Outage}
 use Rattle.tide_server.specs.declared.outage.Outage.TheVariants as outages
-use Rattle.tide_server.specs.declared.stock.Stock.{Stock}
+use Rattle.tide_server.specs.declared.served_data.ServedData.{ServedData}
 use Rattle.tide_server.specs.Conversations.{AreServed, IsLeft, IsServed}
-use Rattle.tide_server.specs.Serving.{AreHeld, Conversation, Exchange, IsHeld, IsLastReadAsNeeded, IsReadAsNeeded, RoseBy, clock_after_all, clock_failed}
+use Rattle.tide_server.specs.Serving.{
+  AreHeld,
+  Conversation,
+  Exchange,
+  IsHeld,
+  IsLastReadAsNeeded,
+  IsReadAsNeeded,
+  RoseBy,
+  clock_after_all,
+  clock_failed,
+}
 use Rattle.tide_server.specs.Workings.Connections.{IsNextMinute, Talk, clock_given, talked}
 
 -- the port failed
@@ -49,15 +80,15 @@ pub record IsNext (door : DoorState) : Type 0 where
   pub waiting : door.traffic.waiting ≡ request ∷ more
 
 -- the next connection was served
-pub record ServedNext (stock : Stock) (before after : Exchange) : Type 0 where
+pub record ServedNext (served_data : ServedData) (before after : Exchange) : Type 0 where
   pub talk : Talk
   pub door : after.door ≡ door_with talk before.door
   pub clock : after.clock ≡ clock_given talk.minute before.clock
   pub minute : IsTrue before.clock.is_observable → IsNextMinute talk.minute (next_minute before.clock)
-  pub served : IsServed stock talk.connection talk.minute
+  pub served : IsServed served_data talk.connection talk.minute
   pub next : IsTrue before.door.is_observable → IsNext before.door
   pub held : (door : IsTrue before.door.is_observable) → IsTrue before.clock.is_observable
-      → IsHeld stock (next_minute before.clock) (conversation (next door).request talk)
+      → IsHeld served_data (next_minute before.clock) (conversation (next door).request talk)
   pub needed : (door : IsTrue before.door.is_observable) → IsTrue before.door.keeps_pieces → IsReadAsNeeded (next door).request talk.left
 
 -- the next connection was accepted, has a byte and got no reply, since the clock has failed
@@ -81,11 +112,11 @@ abbrev pub door_failed : DoorState → DoorState
 door_failed d = record d { faults = counted d.faults }
 
 -- one step: the next connection was served, or none came, or the port or the clock failed
-abbrev pub StepBy : Result Bool Outage → Stock → Exchange → Exchange → Type 0
-StepBy (Ok true) stock before after = ServedNext stock before after
-StepBy (Ok false) stock before after = (after.door ≡ door_at_end before.door) × (after.clock ≡ before.clock)
-StepBy (Err outages.Door) stock before after = (after.door ≡ door_failed before.door) × (after.clock ≡ before.clock)
-StepBy (Err outages.Clock) stock before after = LeftNext before after
+abbrev pub StepBy : Result Bool Outage → ServedData → Exchange → Exchange → Type 0
+StepBy (Ok true) served_data before after = ServedNext served_data before after
+StepBy (Ok false) served_data before after = (after.door ≡ door_at_end before.door) × (after.clock ≡ before.clock)
+StepBy (Err outages.Door) served_data before after = (after.door ≡ door_failed before.door) × (after.clock ≡ before.clock)
+StepBy (Err outages.Clock) served_data before after = LeftNext before after
 
 -- ---- Several steps
 
@@ -104,21 +135,21 @@ pub record IsKept (door_failed clock_failed : Bool) (before after : Exchange) : 
   pub clock : after.clock ≡ record before.clock { given = given; asked = asked; faults = faults_after clock_failed before.clock.faults }
 
 -- this many connections were served
-pub record WereServed (stock : Stock) (count : ℕ) (before after : Exchange) : Type 0 where
+pub record WereServed (served_data : ServedData) (count : ℕ) (before after : Exchange) : Type 0 where
   pub served : List Conversation
   pub requests : before.door.traffic.waiting ≡ map (λ c. c.request) served ++ after.door.traffic.waiting
   pub replies : after.door.traffic.replies ≡ before.door.traffic.replies ++ map (λ c. c.reply) served
   pub counted : count ≡ length served
-  pub held : AreHeld stock before.clock served
+  pub held : AreHeld served_data before.clock served
   pub read : IsTrue before.door.keeps_pieces → IsLastReadAsNeeded (map (λ c. c.request) served) after.door.traffic.rest
   pub cut : RoseBy (count_by (λ c. c.is_cut) served) before.door.line_faults after.door.line_faults
   pub clock : after.clock ≡ clock_after_all served before.clock
 
 -- these connections were served so far, at these minutes
-pub record HavePassed (stock : Stock) (before after : Exchange) : Type 0 where
+pub record HavePassed (served_data : ServedData) (before after : Exchange) : Type 0 where
   pub over : List Connection
   pub minutes : List ℤ
   pub connections : connections_of after.door.connections ≡ connections_of before.door.connections ++ over
   pub given : after.clock.given ≡ before.clock.given ++ minutes
   pub faults : after.clock.faults ≡ before.clock.faults
-  pub served : AreServed stock over minutes
+  pub served : AreServed served_data over minutes

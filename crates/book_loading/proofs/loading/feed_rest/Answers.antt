@@ -44,7 +44,8 @@ returns-in_err-count-clause-came g c =
       false,
       at.openings.1,
       ap (λ s. s.openings) c.in_err-count.ensures.after ∙ at.openings.2,
-      failed_meets c.args.limit c.loop-count.reader _ _ (cut_came c.args.limit at.openings.0 c.loop-count.reader.bytes (rw (← at.counted) at.within)) c.from_residual.ensures.1,
+      failed_meets c.args.limit c.loop-count.reader _ _ (cut_came c.args.limit at.openings.0 c.loop-count.reader.bytes
+          (rw (← at.counted) at.within)) c.from_residual.ensures.1,
     )
 
 pub returns-then-count-eq0-clause-came : goal.returns-then-count-eq0-clause-came

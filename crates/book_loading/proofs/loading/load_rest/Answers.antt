@@ -33,7 +33,8 @@ pub returns-in_err-book-clause-own : goal.returns-in_err-book-clause-own
 returns-in_err-book-clause-own g c =
     λ t. let p = err_from_is_err_and c.from_residual-in_err-book.result c.from_residual-in_err-book.ensures.1 in
     rw (p.1, p.2)
-    (excuses_form c.args.limit _ (Some (g.F.Files.state c.args.files.now).rest) _ _ (c.in_ok-fed.ensures.whole t) c.in_err-book.ensures.exact)
+    (excuses_form c.args.limit _ (Some (g.F.Files.state c.args.files.now).rest) _ _
+    (c.in_ok-fed.ensures.whole t) c.in_err-book.ensures.exact)
 
 pub returns-in_err-book-clause-came : goal.returns-in_err-book-clause-came
 returns-in_err-book-clause-came g c =
@@ -53,7 +54,8 @@ returns-in_err-book-clause-came g c =
 
 pub returns-clause-own : goal.returns-clause-own
 returns-clause-own g c =
-    λ t. loaded_whole c.args.limit (Some (g.F.Files.state c.args.files.now).rest) _ _ (c.in_ok-fed.ensures.whole t) c.in_ok-book.ensures.exact
+    λ t. loaded_whole c.args.limit (Some (g.F.Files.state c.args.files.now).rest) _ _
+    (c.in_ok-fed.ensures.whole t) c.in_ok-book.ensures.exact
 
 pub returns-clause-came : goal.returns-clause-came
 returns-clause-came g c =

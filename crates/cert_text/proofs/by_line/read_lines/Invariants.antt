@@ -6,8 +6,8 @@ use Rattle.cert_text.proofs.by_line.read_lines.Given as goal
 abbrev pub invariant-loop-line : goal.invariant-loop-line
 invariant-loop-line g l = record {
   few : l.number + length l.rest ≤ MOST_BYTES + 1;
-  so_far : read_from g.D.LineDraft.draft_after g.D.LineDraft.said l.draft l.number (pieces l.rest)
-      ≡ read_from g.D.LineDraft.draft_after g.D.LineDraft.said l.fn.draft 1 (pieces l.bytes);
+  so_far : read_from g.D.LineParser.parser_after g.D.LineParser.said l.parser l.number (pieces l.rest)
+      ≡ read_from g.D.LineParser.parser_after g.D.LineParser.said l.fn.parser 1 (pieces l.bytes);
 }
 
 abbrev pub decreases-loop-line : goal.decreases-loop-line

@@ -7,5 +7,5 @@ returns-clause-parts c = joined-parts
 pub returns-clause-cell : goal.returns-clause-cell
 returns-clause-cell c = cell_short
 
-pub returns-clause-short : goal.returns-clause-short
-returns-clause-short c = text_short
+pub returns-clause-length_bound : goal.returns-clause-length_bound
+returns-clause-length_bound c = text_short

@@ -6,10 +6,12 @@ use Rattle.cert_text.proofs.line_writing.push_number.Goals as goal
 
 pub push_str-requires : goal.push_str-requires
 push_str-requires c =
-    let short : length c.format.result.now ≤ 15 = rw (c.format.ensures.text, to_z-of_z w64 c.args.number c.ranges.number) (length-signed c.args.number c.requires.size) in
+    let short : length c.format.result.now ≤ 15 =
+    rw (c.format.ensures.text, to_z-of_z w64 c.args.number c.ranges.number) (length-signed c.args.number c.requires.size) in
     (lit< tt, omega (arith, short, c.requires.room))
 
-pub returns-clause-short : goal.returns-clause-short
-returns-clause-short c =
-    let short : length c.format.result.now ≤ 15 = rw (c.format.ensures.text, to_z-of_z w64 c.args.number c.ranges.number) (length-signed c.args.number c.requires.size) in
+pub returns-clause-length_bound : goal.returns-clause-length_bound
+returns-clause-length_bound c =
+    let short : length c.format.result.now ≤ 15 =
+    rw (c.format.ensures.text, to_z-of_z w64 c.args.number c.ranges.number) (length-signed c.args.number c.requires.size) in
     omega (arith, short, c.push_str.ensures.len)

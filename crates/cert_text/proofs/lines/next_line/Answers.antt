@@ -7,4 +7,5 @@ returns-in-None-clause-exact c = pieces_none c.args.bytes.now (sym c.in-None.ens
 
 pub returns-in-Some-clause-exact : goal.returns-in-Some-clause-exact
 returns-in-Some-clause-exact c =
-    pieces_some c.args.bytes.now _ c.split_at.result.1.now _ c.in-Some.end (sym c.in-Some.ensures) c.split_at.ensures.front c.split_at.ensures.back c.split_at-in-Some.ensures.back
+    pieces_some c.args.bytes.now _ c.split_at.result.1.now _ c.in-Some.end
+    (sym c.in-Some.ensures) c.split_at.ensures.front c.split_at.ensures.back c.split_at-in-Some.ensures.back

@@ -16,6 +16,7 @@ pub returns-in_ok-size_of-in-None-clause-value : goal.returns-in_ok-size_of-in-N
 unfolding number_of
 returns-in_ok-size_of-in-None-clause-value c =
     let small = within c.args.most _ c.requires c.in_ok-size_of-in-None.ensures.small in
-    let none : after (codes "-") c.args.text.now ≡ None = ap (λ w. after w c.args.text.now) (sym c.as_slice.ensures) ∙ sym c.in-None.ensures in
+    let none : after (codes "-") c.args.text.now ≡ None =
+    ap (λ w. after w c.args.text.now) (sym c.as_slice.ensures) ∙ sym c.in-None.ensures in
     let size : size_of c.args.most c.args.text.now ≡ Some c.in_ok-size_of-in-None.field-0 = sym c.in_ok-size_of-in-None.ensures.value in
     rw (none, size) (ap Some (omega (arith, ints, small)))

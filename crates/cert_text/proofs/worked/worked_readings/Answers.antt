@@ -14,9 +14,9 @@ use Rattle.cert_text.specs.Worked.{pier, pier_lines}
 use Rattle.cert_text.proofs.LineLemmas.{plain_name}
 use Rattle.cert_text.proofs.ReadingLemmas.{certificate_of-text}
 use Rattle.decimal_text.specs.Digits.{digits_of}
-use Rattle.cert_text.specs.Workings.LineReading.{after, size_of, number_of, version_of, station_of, moment_after, mark_of, quiet_of, turn_of, cell_of}
+use Rattle.cert_text.specs.Workings.LineReading.{after, size_of, number_of, version_of, station_of, moment_after, mark_of, quiet_of, event_cell_of, cell_of}
 use Rattle.cert_text.specs.ByLine.{read_from}
-use Rattle.cert_text.specs.Workings.Drafts.{next}
+use Rattle.cert_text.specs.Workings.CertificateParsing.{next}
 use Rattle.cert_text.specs.Readings.{certificate_of}
 use Rattle.cert_text.proofs.worked.worked_readings.Goals as goal
 
@@ -37,28 +37,34 @@ pier_is = record {
 }
 
 pier_text : certificate_text pier ≡ joined pier_lines
-unfolding digits two_digits date_text clock_text date_of date_from_year date_from_month moment_text track_word title_of station_line_of begin_line_of end_line_of mark_line_of heading_of cell_line_of last_line certificate_text
+unfolding digits two_digits date_text clock_text date_of date_from_year date_from_month moment_text track_word title_of
+    station_line_of begin_line_of end_line_of mark_line_of heading_of cell_line_of last_line certificate_text
 pier_text = refl
 
 pub returns-clause-pier : goal.returns-clause-pier
 returns-clause-pier c = sym (ap certificate_of pier_text) ∙ certificate_of-text pier pier_is
 
 pub returns-clause-changed : goal.returns-clause-changed
-unfolding encode chars is_utf8 moment_of has_form kind_word after digits_of size_of number_of version_of station_of moment_after mark_of quiet_of turn_of cell_of next read_from certificate_of
+unfolding encode chars is_utf8 moment_of has_form kind_word after digits_of size_of number_of version_of station_of
+    moment_after mark_of quiet_of event_cell_of cell_of next read_from certificate_of
 returns-clause-changed c = refl
 
 pub returns-clause-empty : goal.returns-clause-empty
-unfolding encode chars is_utf8 moment_of has_form kind_word after digits_of size_of number_of version_of station_of moment_after mark_of quiet_of turn_of cell_of next read_from certificate_of
+unfolding encode chars is_utf8 moment_of has_form kind_word after digits_of size_of number_of version_of station_of
+    moment_after mark_of quiet_of event_cell_of cell_of next read_from certificate_of
 returns-clause-empty c = refl
 
 pub returns-clause-not_done : goal.returns-clause-not_done
-unfolding encode chars is_utf8 moment_of has_form kind_word after digits_of size_of number_of version_of station_of moment_after mark_of quiet_of turn_of cell_of next read_from certificate_of
+unfolding encode chars is_utf8 moment_of has_form kind_word after digits_of size_of number_of version_of station_of
+    moment_after mark_of quiet_of event_cell_of cell_of next read_from certificate_of
 returns-clause-not_done c = refl
 
 pub returns-clause-no_lf : goal.returns-clause-no_lf
-unfolding encode chars is_utf8 moment_of has_form kind_word after digits_of size_of number_of version_of station_of moment_after mark_of quiet_of turn_of cell_of next read_from certificate_of
+unfolding encode chars is_utf8 moment_of has_form kind_word after digits_of size_of number_of version_of station_of
+    moment_after mark_of quiet_of event_cell_of cell_of next read_from certificate_of
 returns-clause-no_lf c = refl
 
 pub returns-clause-more : goal.returns-clause-more
-unfolding encode chars is_utf8 moment_of has_form kind_word after digits_of size_of number_of version_of station_of moment_after mark_of quiet_of turn_of cell_of next read_from certificate_of
+unfolding encode chars is_utf8 moment_of has_form kind_word after digits_of size_of number_of version_of station_of
+    moment_after mark_of quiet_of event_cell_of cell_of next read_from certificate_of
 returns-clause-more c = refl

@@ -18,13 +18,20 @@ use Rattle.tide_answer.specs.Answers.{answered, asks_name, on_clock}
 use Rattle.command_laws.proofs.clock.worked_clock.Goals as goal
 
 pub returns-clause-met : goal.returns-clause-met
-unfolding answered asks_name on_clock site_in site_at span_in lacks_minute length_in basis_of basis_in curve_of first_fault year_fault tide_of waves_of rounded_of year_start_of days_from_civil day_count days_of_years days_of_months
+unfolding answered asks_name on_clock site_in site_at span_in lacks_minute length_in basis_of basis_in curve_of
+    first_fault year_fault tide_of waves_of rounded_of year_start_of days_from_civil day_count days_of_years
+    days_of_months
 returns-clause-met c = refl
 
 pub returns-clause-rises : goal.returns-clause-rises
-unfolding predicted_level predicted_millionths predicted_slope predicted_year_level predicted_year_slope rounded_of place_of place_in year_at weight_of weight_slope_of year_start_of days_from_civil day_count days_of_years days_of_months icos_of isin_of half_of quarter_of scaled_between sine_at correction sines
+unfolding predicted_level predicted_millionths predicted_slope predicted_year_level predicted_year_slope rounded_of
+    place_of place_in year_at weight_of weight_slope_of year_start_of days_from_civil day_count days_of_years
+    days_of_months icos_of isin_of half_of quarter_of scaled_between sine_at correction sines
 returns-clause-rises c = refl
 
 pub returns-clause-high : goal.returns-clause-high
-unfolding events_of followed_by station_events plain_list minutes ordered with_event predicted_level predicted_millionths predicted_slope predicted_year_level predicted_year_slope rounded_of place_of place_in year_at weight_of weight_slope_of year_start_of days_from_civil day_count days_of_years days_of_months icos_of isin_of half_of quarter_of scaled_between sine_at correction sines
+unfolding events_of followed_by station_events plain_list minutes ordered with_event predicted_level
+    predicted_millionths predicted_slope predicted_year_level predicted_year_slope rounded_of place_of place_in year_at
+    weight_of weight_slope_of year_start_of days_from_civil day_count days_of_years days_of_months icos_of isin_of
+    half_of quarter_of scaled_between sine_at correction sines
 returns-clause-high c = refl

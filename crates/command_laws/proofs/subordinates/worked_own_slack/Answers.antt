@@ -14,9 +14,15 @@ use Rattle.year_blend.specs.Years.{year_start_of}
 use Rattle.command_laws.proofs.subordinates.worked_own_slack.Goals as goal
 
 pub returns-clause-own : goal.returns-clause-own
-unfolding events_of followed_by station_events plain_list minutes ordered with_event predicted_level predicted_millionths predicted_slope predicted_year_level predicted_year_slope rounded_of place_of place_in year_at weight_of weight_slope_of year_start_of days_from_civil day_count days_of_years days_of_months icos_of isin_of half_of quarter_of scaled_between sine_at correction sines
+unfolding events_of followed_by station_events plain_list minutes ordered with_event predicted_level
+    predicted_millionths predicted_slope predicted_year_level predicted_year_slope rounded_of place_of place_in year_at
+    weight_of weight_slope_of year_start_of days_from_civil day_count days_of_years days_of_months icos_of isin_of
+    half_of quarter_of scaled_between sine_at correction sines
 returns-clause-own c = refl
 
 pub returns-clause-none : goal.returns-clause-none
-unfolding events_of followed_by station_events plain_list minutes ordered with_event predicted_level predicted_millionths predicted_slope predicted_year_level predicted_year_slope rounded_of place_of place_in year_at weight_of weight_slope_of year_start_of days_from_civil day_count days_of_years days_of_months icos_of isin_of half_of quarter_of scaled_between sine_at correction sines
+unfolding events_of followed_by station_events plain_list minutes ordered with_event predicted_level
+    predicted_millionths predicted_slope predicted_year_level predicted_year_slope rounded_of place_of place_in year_at
+    weight_of weight_slope_of year_start_of days_from_civil day_count days_of_years days_of_months icos_of isin_of
+    half_of quarter_of scaled_between sine_at correction sines
 returns-clause-none c = refl

@@ -15,11 +15,14 @@ use Rattle.station_curve.specs.Curves.{curve_of, first_fault, tide_of, waves_of,
 use Rattle.station_span.specs.Sites.{lacks_minute, length_in, site_at, site_in, span_in}
 use Rattle.station_table.specs.Bases.{basis_in, basis_of, basis_over}
 use Rattle.tide_answer.specs.Answers.{answered, asks_span, predicted}
-use Rattle.tide_answer.specs.Asking.{asked_by}
+use Rattle.tide_answer.specs.Asking.{asked_by_question}
 use Rattle.command_laws.proofs.subordinates.worked_steps.Goals as goal
 
 pub returns-clause-first : goal.returns-clause-first
-unfolding events_of followed_by station_events plain_list minutes ordered with_event predicted_level predicted_millionths predicted_slope predicted_year_level predicted_year_slope rounded_of place_of place_in year_at weight_of weight_slope_of year_start_of days_from_civil day_count days_of_years days_of_months icos_of isin_of half_of quarter_of scaled_between sine_at correction sines
+unfolding events_of followed_by station_events plain_list minutes ordered with_event predicted_level
+    predicted_millionths predicted_slope predicted_year_level predicted_year_slope rounded_of place_of place_in year_at
+    weight_of weight_slope_of year_start_of days_from_civil day_count days_of_years days_of_months icos_of isin_of
+    half_of quarter_of scaled_between sine_at correction sines
 returns-clause-first c = refl
 
 pub returns-clause-second : goal.returns-clause-second
@@ -27,7 +30,10 @@ unfolding ordered with_event rounded_of
 returns-clause-second c = refl
 
 pub returns-clause-listed : goal.returns-clause-listed
-unfolding events_of followed_by station_events plain_list minutes ordered with_event predicted_level predicted_millionths predicted_slope predicted_year_level predicted_year_slope rounded_of place_of place_in year_at weight_of weight_slope_of year_start_of days_from_civil day_count days_of_years days_of_months icos_of isin_of half_of quarter_of scaled_between sine_at correction sines
+unfolding events_of followed_by station_events plain_list minutes ordered with_event predicted_level
+    predicted_millionths predicted_slope predicted_year_level predicted_year_slope rounded_of place_of place_in year_at
+    weight_of weight_slope_of year_start_of days_from_civil day_count days_of_years days_of_months icos_of isin_of
+    half_of quarter_of scaled_between sine_at correction sines
 returns-clause-listed c = refl
 
 pub returns-clause-found : goal.returns-clause-found
@@ -35,9 +41,13 @@ unfolding basis_of basis_in basis_over
 returns-clause-found c = refl
 
 pub returns-clause-met : goal.returns-clause-met
-unfolding answered asks_span asked_by predicted site_in site_at span_in lacks_minute length_in basis_of basis_in basis_over curve_of first_fault year_fault tide_of waves_of rounded_of year_start_of days_from_civil day_count days_of_years days_of_months
+unfolding answered asks_span asked_by_question predicted site_in site_at span_in lacks_minute length_in basis_of
+    basis_in basis_over curve_of first_fault year_fault tide_of waves_of rounded_of year_start_of days_from_civil
+    day_count days_of_years days_of_months
 returns-clause-met c = refl
 
 pub returns-clause-first_met : goal.returns-clause-first_met
-unfolding answered asks_span asked_by predicted site_in site_at span_in lacks_minute length_in basis_of basis_in basis_over curve_of first_fault year_fault tide_of waves_of rounded_of year_start_of days_from_civil day_count days_of_years days_of_months
+unfolding answered asks_span asked_by_question predicted site_in site_at span_in lacks_minute length_in basis_of
+    basis_in basis_over curve_of first_fault year_fault tide_of waves_of rounded_of year_start_of days_from_civil
+    day_count days_of_years days_of_months
 returns-clause-first_met c = refl

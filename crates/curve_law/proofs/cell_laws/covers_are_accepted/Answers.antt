@@ -6,8 +6,8 @@ use Rattle.curve_law.proofs.cell_laws.covers_are_accepted.Goals as goal
 pub returns-clause-minutes : goal.returns-clause-minutes
 returns-clause-minutes c = cover-minutes
 
-pub returns-clause-few : goal.returns-clause-few
-returns-clause-few c = cover-few
+pub returns-clause-count_bound : goal.returns-clause-count_bound
+returns-clause-count_bound c = cover-few
 
 pub returns-clause-accepted : goal.returns-clause-accepted
 returns-clause-accepted c = cover-accepted

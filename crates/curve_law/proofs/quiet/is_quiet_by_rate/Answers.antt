@@ -10,15 +10,16 @@ returns-then-n-lt2 g c = is_quiet-length (g.C.Curve.state c.args.curve.now).fact
 pub keeps_side-requires-clause-positive : goal.keeps_side-requires-clause-positive
 keeps_side-requires-clause-positive g c =
     let fits : FitsSigned w64 c.args.a = c.ranges.a in
-    let told = simp to_z-of_z at c.in-Some.ensures in
-    let p = rate-positive (g.C.Curve.state c.args.curve.now).facts.meaning c.args.a c.args.n c.in-Some.rate (g.met.C.Curve.lawful c.args.curve.now) c.requires.span (omega arith) (omega arith) told in
+    let decided = simp to_z-of_z at c.in-Some.ensures in
+    let p = rate-positive (g.C.Curve.state c.args.curve.now).facts.meaning c.args.a c.args.n c.in-Some.rate
+    (g.met.C.Curve.lawful c.args.curve.now) c.requires.span (omega arith) (omega arith) decided in
     omega (arith, ints)
 
 pub returns-in-Some : goal.returns-in-Some
 returns-in-Some g c =
     let fits : FitsSigned w64 c.args.a = c.ranges.a in
-    let told = simp to_z-of_z at c.in-Some.ensures in
-    let same = is_quiet-rate (g.C.Curve.state c.args.curve.now).facts.meaning c.args.a c.args.n _ (omega arith) (omega arith) told in
+    let decided = simp to_z-of_z at c.in-Some.ensures in
+    let same = is_quiet-rate (g.C.Curve.state c.args.curve.now).facts.meaning c.args.a c.args.n _ (omega arith) (omega arith) decided in
     let rate : FitsSigned w128 c.in-Some.rate = search rules in
     let value : FitsSigned w128 c.args.value = c.ranges.value in
     let end_value : FitsSigned w128 c.args.end_value = c.ranges.end_value in
@@ -28,5 +29,5 @@ returns-in-Some g c =
 pub returns-in-None : goal.returns-in-None
 returns-in-None g c =
     let fits : FitsSigned w64 c.args.a = c.ranges.a in
-    let told = simp to_z-of_z at c.in-None.ensures in
-    no_rate-quiet (g.C.Curve.state c.args.curve.now).facts.meaning c.args.a c.args.n (omega arith) (omega arith) told
+    let decided = simp to_z-of_z at c.in-None.ensures in
+    no_rate-quiet (g.C.Curve.state c.args.curve.now).facts.meaning c.args.a c.args.n (omega arith) (omega arith) decided

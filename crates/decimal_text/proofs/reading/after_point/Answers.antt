@@ -9,7 +9,8 @@ returns-then-is_empty c = after_point_none c.args.rest.now (eqb-true _ _ cc)
 pub returns-then-first-eq46 : goal.returns-then-first-eq46
 returns-then-first-eq46 c =
     let some : length c.args.rest.now ≡ 0 → ⊥ = eqb-false _ _ cc in
-    rw c.split_at.ensures.back (after_point_some c.args.rest.now (omega (arith, some)) (rw c.split_at.ensures.front at c.if-first-eq46.true))
+    rw c.split_at.ensures.back
+    (after_point_some c.args.rest.now (omega (arith, some)) (rw c.split_at.ensures.front at c.if-first-eq46.true))
 
 pub returns-else-first-eq46 : goal.returns-else-first-eq46
 returns-else-first-eq46 c =

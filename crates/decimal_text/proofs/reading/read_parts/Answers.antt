@@ -20,7 +20,8 @@ returns-then-whole-gt-MOST_WHOLE_DIGITS-clause-exact c =
 
 pub returns-then-not-steps-clause-exact : goal.returns-then-not-steps-clause-exact
 returns-then-not-steps-clause-exact c =
-    scaled_fine c.args.places c.args.value _ c.in-Some.steps c.if-whole-gt-MOST_WHOLE_DIGITS.false (c.requires.whole c.if-whole-gt-MOST_WHOLE_DIGITS.false) c.in-Some.ensures.1 c.if-not-steps.true
+    scaled_fine c.args.places c.args.value _ c.in-Some.steps c.if-whole-gt-MOST_WHOLE_DIGITS.false
+    (c.requires.whole c.if-whole-gt-MOST_WHOLE_DIGITS.false) c.in-Some.ensures.1 c.if-not-steps.true
     ∙ reads_scaled c.args.places c.args.negative c.args.whole.now c.args.fraction.now c.in-Some.ensures.0 cc
 
 pub returns-then-negative-clause-exact : goal.returns-then-negative-clause-exact
@@ -29,7 +30,8 @@ returns-then-negative-clause-exact c =
     let is : to_z w128 (of_z w128 (pos 0 -ℤ to_z w128 c.total-size.result)) ≡ neg_ℤ (pos size) =
     omega (arith, ints, c.total-size.ensures.value, c.total-size.ensures.small) in
     ap Ok (is ∙ sym (signed_true c.args.negative size c.if-negative.true))
-    ∙ scaled_exact c.args.places c.args.value _ c.in-Some.steps c.if-whole-gt-MOST_WHOLE_DIGITS.false (c.requires.whole c.if-whole-gt-MOST_WHOLE_DIGITS.false) c.in-Some.ensures.1 c.if-not-steps.false
+    ∙ scaled_exact c.args.places c.args.value _ c.in-Some.steps c.if-whole-gt-MOST_WHOLE_DIGITS.false
+    (c.requires.whole c.if-whole-gt-MOST_WHOLE_DIGITS.false) c.in-Some.ensures.1 c.if-not-steps.false
     ∙ reads_scaled c.args.places c.args.negative c.args.whole.now c.args.fraction.now c.in-Some.ensures.0 cc
 
 pub returns-else-negative-clause-exact : goal.returns-else-negative-clause-exact
@@ -38,5 +40,6 @@ returns-else-negative-clause-exact c =
     let is : to_z w128 c.total-size.result ≡ pos size =
     omega (arith, ints, c.total-size.ensures.value, c.total-size.ensures.small) in
     ap Ok (is ∙ sym (signed_false c.args.negative size c.if-negative.false))
-    ∙ scaled_exact c.args.places c.args.value _ c.in-Some.steps c.if-whole-gt-MOST_WHOLE_DIGITS.false (c.requires.whole c.if-whole-gt-MOST_WHOLE_DIGITS.false) c.in-Some.ensures.1 c.if-not-steps.false
+    ∙ scaled_exact c.args.places c.args.value _ c.in-Some.steps c.if-whole-gt-MOST_WHOLE_DIGITS.false
+    (c.requires.whole c.if-whole-gt-MOST_WHOLE_DIGITS.false) c.in-Some.ensures.1 c.if-not-steps.false
     ∙ reads_scaled c.args.places c.args.negative c.args.whole.now c.args.fraction.now c.in-Some.ensures.0 cc

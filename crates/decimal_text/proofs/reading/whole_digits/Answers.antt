@@ -37,11 +37,14 @@ loop-count-preserved c =
     record {
       digits = below_more _ n c.loop-count.invariant.digits is_digit;
       value = elim c.if-count-lt-MOST_WHOLE_DIGITS.branch [
-        | then-count-lt-MOST_WHOLE_DIGITS w ↦ λ few. omega (arith, w.value-is, w.from.ensures, digit, more, c.loop-count.invariant.value (omega arith))
+        | then-count-lt-MOST_WHOLE_DIGITS w ↦
+            λ few. omega (arith, w.value-is, w.from.ensures, digit, more, c.loop-count.invariant.value (omega arith))
         | else-count-lt-MOST_WHOLE_DIGITS w ↦ λ few. absurd (omega arith)
       ];
       small = elim c.if-count-lt-MOST_WHOLE_DIGITS.branch [
-        | then-count-lt-MOST_WHOLE_DIGITS w ↦ rw w.value-is (small_push n c.loop-count.value w.from.result w.if-count-lt-MOST_WHOLE_DIGITS.true (omega (arith, c.if-not-is_ascii_digit.ensures, w.from.ensures)) c.loop-count.invariant.small)
+        | then-count-lt-MOST_WHOLE_DIGITS w ↦
+            rw w.value-is (small_push n c.loop-count.value w.from.result w.if-count-lt-MOST_WHOLE_DIGITS.true
+            (omega (arith, c.if-not-is_ascii_digit.ensures, w.from.ensures)) c.loop-count.invariant.small)
         | else-count-lt-MOST_WHOLE_DIGITS w ↦ rw w.value-is (small_stays n c.loop-count.value (omega arith) c.loop-count.invariant.small)
       ];
     }
@@ -49,14 +52,16 @@ loop-count-preserved c =
 pub returns-clause-count : goal.returns-clause-count
 returns-clause-count c =
     let body = c.args.body.now in
-    length-whole body (length body) (omega arith) (whole_is body (length body) (omega arith) (λ k h. c.loop-count.invariant.digits k (omega arith)) (λ h. absurd (omega arith)))
+    length-whole body (length body) (omega arith) (whole_is body (length body) (omega arith)
+    (λ k h. c.loop-count.invariant.digits k (omega arith)) (λ h. absurd (omega arith)))
 
 pub returns-clause-value : goal.returns-clause-value
 returns-clause-value c few =
     let body = c.args.body.now in
     let all : c.loop-count.count ≡ length body = omega arith in
     c.loop-count.invariant.value (omega arith) ∙ ap (λ k. digits_value 10 (take k body)) all
-    ∙ ap (digits_value 10) (sym (whole_is body (length body) (omega arith) (λ k h. c.loop-count.invariant.digits k (omega arith)) (λ h. absurd (omega arith))))
+    ∙ ap (digits_value 10)
+    (sym (whole_is body (length body) (omega arith) (λ k h. c.loop-count.invariant.digits k (omega arith)) (λ h. absurd (omega arith))))
 
 pub returns-clause-small : goal.returns-clause-small
 returns-clause-small c = eighteen c.loop-count.count c.loop-count.value c.loop-count.invariant.small

@@ -8,7 +8,8 @@ nonzero_div-size c = omega (arith, c.pow.ensures, ten_up (c.loop-place.place - 1
 
 pub loop-place-preserved : goal.loop-place-preserved
 loop-place-preserved c = record {
-  written = rw c.push_digit.ensures.bytes (push_next c.loop-place.out.bytes c.loop-place.place c.args.size c.pow.result c.loop-place-test.true c.pow.ensures ∙ c.loop-place.invariant.written);
+  written = rw c.push_digit.ensures.bytes (push_next c.loop-place.out.bytes c.loop-place.place c.args.size c.pow.result
+      c.loop-place-test.true c.pow.ensures ∙ c.loop-place.invariant.written);
   room = rw c.push_digit.ensures.bytes (simp length-append (omega arith));
 }
 

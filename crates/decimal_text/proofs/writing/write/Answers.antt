@@ -12,7 +12,8 @@ nonzero_div-size c = omega (arith, c.pow.ensures, ten_up c.args.places)
 pub push_fraction-requires-clause-room : goal.push_fraction-requires-clause-room
 push_fraction-requires-clause-room c =
     let size = c.unsigned_abs-size.result in
-    let whole : length c.format.result.now ≤ 19 - c.args.places = rw (c.format.ensures.text, c.pow.ensures) (whole_short size c.args.places (omega arith) c.requires.few) in
+    let whole : length c.format.result.now ≤ 19 - c.args.places = rw (c.format.ensures.text, c.pow.ensures)
+    (whole_short size c.args.places (omega arith) c.requires.count_bound) in
     let same = to_z-of_z w64 c.args.value c.ranges.value in
     let minus = minus_short c.args.value in
     rw (c.push_str.ensures.bytes, rw same at c.push_minus.ensures, c.requires.empty) (simp length-append (omega (arith, whole, minus)))
@@ -22,7 +23,8 @@ returns-clause-exact c =
     let same = to_z-of_z w64 c.args.value c.ranges.value in
     let minus = rw same at c.push_minus.ensures in
     let size = rw same at c.unsigned_abs-size.ensures.value in
-    written _ _ _ _ _ c.args.value _ _ c.args.places c.requires.empty minus size c.pow.ensures c.format.ensures.text c.push_str.ensures.bytes c.push_fraction.ensures
+    written _ _ _ _ _ c.args.value _ _ c.args.places c.requires.empty minus size c.pow.ensures c.format.ensures.text
+    c.push_str.ensures.bytes c.push_fraction.ensures
 
 pub returns-clause-reads_back : goal.returns-clause-reads_back
 returns-clause-reads_back c few =

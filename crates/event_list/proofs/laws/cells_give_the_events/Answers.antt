@@ -7,8 +7,8 @@ returns-clause-accepted c = shifted-events
 pub returns-clause-covers : goal.returns-clause-covers
 returns-clause-covers c = covers-accepted
 
-pub returns-clause-few : goal.returns-clause-few
-returns-clause-few c = count-few
+pub returns-clause-count_bound : goal.returns-clause-count_bound
+returns-clause-count_bound c = count-few
 
 pub returns-clause-exact : goal.returns-clause-exact
 returns-clause-exact c = covers-shifted

@@ -6,4 +6,14 @@ use Rattle.event_list.proofs.merging.merged.Goals as goal
 pub returns : goal.returns
 returns c =
     let begin = to_z-of_z w64 c.args.begin c.ranges.begin in
-    rw (merged-parts c.args.begin c.args.tracks.now, c.from_vec.ensures, c.in_order.ensures, c.in_ok-add_followed_events-2.ensures, c.in_ok-add_followed_events.ensures, c.in_ok-add_track_events.ensures, c.new-events.ensures.items, begin, append_assoc)
+    rw (
+      merged-parts c.args.begin c.args.tracks.now,
+      c.from_vec.ensures,
+      c.in_order.ensures,
+      c.in_ok-add_followed_events-2.ensures,
+      c.in_ok-add_followed_events.ensures,
+      c.in_ok-add_track_events.ensures,
+      c.new-events.ensures.items,
+      begin,
+      append_assoc,
+    )

@@ -6,5 +6,6 @@ use Rattle.event_list.proofs.rank.in_order.Goals as goal
 
 pub returns : goal.returns
 returns c =
-    let sorted = c.sort_unstable_by_key.ensures.sorted (λ e. record { 0 = e.minute; 1 = place_of e.kind; 2 = e.level }) (answers_always _ _ _ (λ f a r g h. search rules)) in
+    let sorted = c.sort_unstable_by_key.ensures.sorted (λ e. record { 0 = e.minute; 1 = place_of e.kind; 2 = e.level })
+    (answers_always _ _ _ (λ f a r g h. search rules)) in
     sorted-is _ _ c.sort_unstable_by_key.ensures.permutation sorted

@@ -19,10 +19,12 @@ loop-event-preserved c =
     let at = c.loop-event.event-index in
     elim c.if-is_within.branch [
       | then-is_within+in_ok-push w ↦
-          let more = moved-kept c.args.basis.now begin end events at none c.moved-event.result c.loop-event-test.true c.moved-event.ensures (sym c.is_within.ensures ∙ w.if-is_within.true) in
+          let more = moved-kept c.args.basis.now begin end events at none c.moved-event.result c.loop-event-test.true
+          c.moved-event.ensures (sym c.is_within.ensures ∙ w.if-is_within.true) in
           rw (w.kept-is, w.in_ok-push.ensures.items, append_assoc, ← more) c.loop-event.invariant
       | else-is_within w ↦
-          let more = moved-dropped c.args.basis.now begin end events at none c.moved-event.result c.loop-event-test.true c.moved-event.ensures (sym c.is_within.ensures ∙ w.if-is_within.false) in
+          let more = moved-dropped c.args.basis.now begin end events at none c.moved-event.result c.loop-event-test.true
+          c.moved-event.ensures (sym c.is_within.ensures ∙ w.if-is_within.false) in
           rw (w.kept-is, ← more) c.loop-event.invariant
     ]
 
@@ -31,6 +33,7 @@ unfolding shifted_of
 returns c =
     let begin = to_z-of_z w64 c.args.begin c.ranges.begin in
     let end = to_z-of_z w64 c.args.end c.ranges.end in
-    let done = moved-done c.args.basis.now c.args.begin c.args.end c.as_slice-event-items.result.now c.loop-event.event-index c.loop-event-test.false in
+    let done = moved-done c.args.basis.now c.args.begin c.args.end c.as_slice-event-items.result.now
+    c.loop-event.event-index c.loop-event-test.false in
     let kept = rw (begin, end, done, append-nil, c.as_slice-event-items.ensures) at c.loop-event.invariant in
     rw (c.from_vec.ensures, c.in_order.ensures, kept)

@@ -1,5 +1,5 @@
 use Rattle.std.proofs.Common.{◌≡◌, ◌++◌, pos, ◌+ℤ◌, drop}
-use Rattle.curve_law.specs.Cells.{all_minutes, turns}
+use Rattle.curve_law.specs.Cells.{all_minutes, cell_events}
 use Rattle.event_list.proofs.turning.add_track_events.Given as goal
 
 -- the events so far and those of the cells left are all events
@@ -8,5 +8,5 @@ invariant-loop-cell l =
     let left = drop l.cell-index l.cell-items in
     record {
       minute : l.at +ℤ pos (all_minutes left) ≡ l.begin +ℤ pos (all_minutes l.cell-items);
-      events : l.events.items ++ turns l.at left ≡ l.fn.events.items ++ turns l.begin l.cell-items;
+      events : l.events.items ++ cell_events l.at left ≡ l.fn.events.items ++ cell_events l.begin l.cell-items;
     }

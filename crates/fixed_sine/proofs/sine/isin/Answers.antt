@@ -11,4 +11,5 @@ returns-then-place-lt-HALF-clause-value c =
 pub returns-else-place-lt-HALF-clause-value : goal.returns-else-place-lt-HALF-clause-value
 returns-else-place-lt-HALF-clause-value c =
     let place = to_z-of_z w64 c.args.p c.ranges.p in
-    isin_of-second_sign _ c.half-else-place-lt-HALF.result (rw place at c.if-place-lt-HALF.false) c.half-else-place-lt-HALF.ensures.size (rw place at c.half-else-place-lt-HALF.ensures.value)
+    isin_of-second_sign _ c.half-else-place-lt-HALF.result (rw place at c.if-place-lt-HALF.false)
+    c.half-else-place-lt-HALF.ensures.size (rw place at c.half-else-place-lt-HALF.ensures.value)

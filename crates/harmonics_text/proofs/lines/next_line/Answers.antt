@@ -7,4 +7,5 @@ returns-in_err-end-clause-exact c = rw c.from_residual.ensures (line_none c.args
 
 pub returns-clause-exact : goal.returns-clause-exact
 returns-clause-exact c =
-    line_some c.args.bytes.now _ c.split_at.result.1.now _ c.in_ok-end.end (sym c.in_ok-end.ensures) c.split_at.ensures.front c.split_at.ensures.back c.split_at-2.ensures.back
+    line_some c.args.bytes.now _ c.split_at.result.1.now _ c.in_ok-end.end
+    (sym c.in_ok-end.ensures) c.split_at.ensures.front c.split_at.ensures.back c.split_at-2.ensures.back

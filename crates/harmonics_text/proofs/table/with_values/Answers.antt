@@ -5,17 +5,23 @@ use Rattle.harmonics_text.proofs.table.with_values.Goals as goal
 
 pub returns-then-left-eq0 : goal.returns-then-left-eq0
 returns-then-left-eq0 c =
-    values_full c.args.scale c.args.table c.args.text.now c.loop-token.left c.loop-token.values c.loop-token.rest.now c.in-Some.token.now c.in-Some.after.now c.loop-token.invariant c.in-Some.ensures.exact c.if-left-eq0.true
+    values_full c.args.scale c.args.table c.args.text.now c.loop-token.left c.loop-token.values c.loop-token.rest.now
+    c.in-Some.token.now c.in-Some.after.now c.loop-token.invariant c.in-Some.ensures.exact c.if-left-eq0.true
 
 pub returns-in_err-push_number : goal.returns-in_err-push_number
 returns-in_err-push_number c =
     let p = err_from_is_err_and c.from_residual.result c.from_residual.ensures.1 in
-    rw (p.1, p.2) (values_fails c.args.scale c.args.table c.args.text.now c.loop-token.left c.loop-token.values c.loop-token.rest.now c.in-Some.token.now c.in-Some.after.now c.in_err-push_number.field-0.0 c.loop-token.invariant c.in-Some.ensures.exact (omega arith) c.in_err-push_number.ensures)
+    rw (p.1, p.2) (values_fails c.args.scale c.args.table c.args.text.now c.loop-token.left c.loop-token.values
+    c.loop-token.rest.now c.in-Some.token.now c.in-Some.after.now c.in_err-push_number.field-0.0
+    c.loop-token.invariant c.in-Some.ensures.exact (omega arith) c.in_err-push_number.ensures)
 
 pub loop-token-preserved : goal.loop-token-preserved
 loop-token-preserved c =
-    values_goes_on c.args.scale c.args.table c.args.text.now c.loop-token.left c.loop-token.values c.push_number.new.values c.loop-token.rest.now c.in-Some.token.now c.in-Some.after.now c.loop-token.invariant c.in-Some.ensures.exact (omega arith) c.in_ok-push_number.ensures
+    values_goes_on c.args.scale c.args.table c.args.text.now c.loop-token.left c.loop-token.values
+    c.push_number.new.values c.loop-token.rest.now c.in-Some.token.now c.in-Some.after.now c.loop-token.invariant
+    c.in-Some.ensures.exact (omega arith) c.in_ok-push_number.ensures
 
 pub returns : goal.returns
 returns c =
-    rw c.next_place.ensures (values_end c.args.scale c.args.table c.args.text.now c.loop-token.left c.loop-token.values c.loop-token.rest.now c.loop-token.invariant c.in_default.ensures.exact)
+    rw c.next_place.ensures (values_end c.args.scale c.args.table c.args.text.now c.loop-token.left c.loop-token.values
+    c.loop-token.rest.now c.loop-token.invariant c.in_default.ensures.exact)

@@ -9,28 +9,49 @@ use Rattle.highest_water.proofs.checking.check_peak.Goals as goal
 
 pub returns-then-covered-wanted-clause-verdict : goal.returns-then-covered-wanted-clause-verdict
 returns-then-covered-wanted-clause-verdict g c =
-    let between : IsBetween (g.C.Curve.state c.args.curve.now).facts.meaning c.args.begin c.args.end = record { lawful = g.met.C.Curve.lawful c.args.curve.now; forward = c.requires.forward; first = c.requires.first; last = c.requires.last } in
+    let between : IsBetween (g.C.Curve.state c.args.curve.now).facts.meaning c.args.begin c.args.end = record {
+      lawful = g.met.C.Curve.lawful c.args.curve.now;
+      forward = c.requires.forward;
+      first = c.requires.first;
+      last = c.requires.last;
+    } in
     wrong-length _ _ _ _ c.args.peak.now between (rw c.as_slice.ensures at c.covered_by-covered.ensures) c.if-covered-wanted.true
 
 pub returns-then-not-is_inside-clause-verdict : goal.returns-then-not-is_inside-clause-verdict
 returns-then-not-is_inside-clause-verdict g c =
-    let between : IsBetween (g.C.Curve.state c.args.curve.now).facts.meaning c.args.begin c.args.end = record { lawful = g.met.C.Curve.lawful c.args.curve.now; forward = c.requires.forward; first = c.requires.first; last = c.requires.last } in
+    let between : IsBetween (g.C.Curve.state c.args.curve.now).facts.meaning c.args.begin c.args.end = record {
+      lawful = g.met.C.Curve.lawful c.args.curve.now;
+      forward = c.requires.forward;
+      first = c.requires.first;
+      last = c.requires.last;
+    } in
     let whole = counted-whole _ _ _ _ _ between (rw c.as_slice.ensures at c.covered_by-covered.ensures) c.if-covered-wanted.false in
     let at : FitsSigned w64 c.args.peak.now.at = search rules in
     let begin = to_z-of_z w64 c.args.begin c.ranges.begin in
     let end = to_z-of_z w64 c.args.end c.ranges.end in
     let inside = rw (to_z-of_z w64 _ at, begin, end) at c.is_inside.ensures in
-    verdict-outside (g.C.Curve.state c.args.curve.now).facts.meaning c.args.begin _ c.args.peak.now whole (sym inside ∙ c.if-not-is_inside.true)
+    verdict-outside (g.C.Curve.state c.args.curve.now).facts.meaning c.args.begin _ c.args.peak.now whole
+    (sym inside ∙ c.if-not-is_inside.true)
 
 pub first_finding-requires-clause-span : goal.first_finding-requires-clause-span
 first_finding-requires-clause-span g c =
-    let between : IsBetween (g.C.Curve.state c.args.curve.now).facts.meaning c.args.begin c.args.end = record { lawful = g.met.C.Curve.lawful c.args.curve.now; forward = c.requires.forward; first = c.requires.first; last = c.requires.last } in
+    let between : IsBetween (g.C.Curve.state c.args.curve.now).facts.meaning c.args.begin c.args.end = record {
+      lawful = g.met.C.Curve.lawful c.args.curve.now;
+      forward = c.requires.forward;
+      first = c.requires.first;
+      last = c.requires.last;
+    } in
     let whole = counted-whole _ _ _ _ _ between (rw c.as_slice.ensures at c.covered_by-covered.ensures) c.if-covered-wanted.false in
     rw (to_z-of_z w64 c.args.begin c.ranges.begin, c.as_slice-2.ensures) (within-span _ _ _ _ between whole)
 
 pub returns-clause-verdict : goal.returns-clause-verdict
 returns-clause-verdict g c =
-    let between : IsBetween (g.C.Curve.state c.args.curve.now).facts.meaning c.args.begin c.args.end = record { lawful = g.met.C.Curve.lawful c.args.curve.now; forward = c.requires.forward; first = c.requires.first; last = c.requires.last } in
+    let between : IsBetween (g.C.Curve.state c.args.curve.now).facts.meaning c.args.begin c.args.end = record {
+      lawful = g.met.C.Curve.lawful c.args.curve.now;
+      forward = c.requires.forward;
+      first = c.requires.first;
+      last = c.requires.last;
+    } in
     let whole = counted-whole _ _ _ _ _ between (rw c.as_slice.ensures at c.covered_by-covered.ensures) c.if-covered-wanted.false in
     let at : FitsSigned w64 c.args.peak.now.at = search rules in
     let begin = to_z-of_z w64 c.args.begin c.ranges.begin in
@@ -38,10 +59,16 @@ returns-clause-verdict g c =
     let value : FitsSigned w128 c.args.peak.now.value = search rules in
     let inside = rw (to_z-of_z w64 _ at, begin, end) at c.is_inside.ensures in
     let found = rw (to_z-of_z w64 _ at, to_z-of_z w128 _ value, begin, c.as_slice-2.ensures) at c.first_finding.ensures.verdict in
-    found ∙ verdict-inside (g.C.Curve.state c.args.curve.now).facts.meaning c.args.begin _ c.args.peak.now whole (sym inside ∙ c.if-not-is_inside.false)
+    found ∙ verdict-inside (g.C.Curve.state c.args.curve.now).facts.meaning c.args.begin _ c.args.peak.now whole
+    (sym inside ∙ c.if-not-is_inside.false)
 
 pub returns-clause-highest : goal.returns-clause-highest
 returns-clause-highest g c = λ accepted.
-    let between : IsBetween (g.C.Curve.state c.args.curve.now).facts.meaning c.args.begin c.args.end = record { lawful = g.met.C.Curve.lawful c.args.curve.now; forward = c.requires.forward; first = c.requires.first; last = c.requires.last } in
+    let between : IsBetween (g.C.Curve.state c.args.curve.now).facts.meaning c.args.begin c.args.end = record {
+      lawful = g.met.C.Curve.lawful c.args.curve.now;
+      forward = c.requires.forward;
+      first = c.requires.first;
+      last = c.requires.last;
+    } in
     rw (span-end c.args.begin c.args.end c.requires.forward) at
     (verdict-highest _ _ _ c.args.peak.now between.lawful (within-span _ _ _ _ between refl) (sym (returns-clause-verdict g c) ∙ accepted))

@@ -7,17 +7,20 @@ use Rattle.highest_water.proofs.checking.first_finding.Goals as goal
 pub end_of-end-requires-clause-span : goal.end_of-end-requires-clause-span
 end_of-end-requires-clause-span g c =
     let at : FitsSigned w64 c.loop-cell.at.minute = search rules in
-    rw (to_z-of_z w64 _ at, c.loop-cell.invariant.unchanged) (first-span _ _ c.args.cells.now c.loop-cell.cell-index _ c.loop-cell-test.true c.loop-cell.invariant.span)
+    rw (to_z-of_z w64 _ at, c.loop-cell.invariant.unchanged)
+    (first-span _ _ c.args.cells.now c.loop-cell.cell-index _ c.loop-cell-test.true c.loop-cell.invariant.span)
 
 pub finding_on-requires-clause-span : goal.finding_on-requires-clause-span
 finding_on-requires-clause-span g c =
-    rw (c.end_of-end.ensures.after, c.loop-cell.invariant.unchanged) (first-span _ _ c.args.cells.now c.loop-cell.cell-index _ c.loop-cell-test.true c.loop-cell.invariant.span)
+    rw (c.end_of-end.ensures.after, c.loop-cell.invariant.unchanged)
+    (first-span _ _ c.args.cells.now c.loop-cell.cell-index _ c.loop-cell-test.true c.loop-cell.invariant.span)
 
 pub returns-in_default-clause-verdict : goal.returns-in_default-clause-verdict
 returns-in_default-clause-verdict g c =
     let left = rw (to_z-of_z w64 c.args.begin c.ranges.begin) at c.loop-cell.invariant.left in
     let found = rw (c.end_of-end.ensures.after, c.loop-cell.invariant.unchanged) at c.finding_on.ensures in
-    first-found _ c.args.highest _ _ c.args.cells.now c.loop-cell.cell-index _ _ _ c.loop-cell-test.true left found c.in_default.not-Accepted
+    first-found _ c.args.highest _ _ c.args.cells.now c.loop-cell.cell-index _ _ _ c.loop-cell-test.true left found
+    c.in_default.not-Accepted
 
 pub loop-cell-preserved : goal.loop-cell-preserved
 loop-cell-preserved g c =
@@ -30,9 +33,11 @@ loop-cell-preserved g c =
       counted = omega (arith, count-after _ _ c.end_of-end.ensures.after, c.loop-cell.invariant.counted);
       value = rw c.loop-cell.invariant.unchanged at c.end_of-end.ensures.value;
       span = rw minute (rest-span _ _ c.args.cells.now c.loop-cell.cell-index _ c.loop-cell-test.true c.loop-cell.invariant.span);
-      left = rw minute (rest-found _ c.args.highest _ _ c.args.cells.now c.loop-cell.cell-index _ _ c.loop-cell-test.true c.loop-cell.invariant.left right);
+      left = rw minute (rest-found _ c.args.highest _ _ c.args.cells.now c.loop-cell.cell-index _ _
+          c.loop-cell-test.true c.loop-cell.invariant.left right);
     }
 
 pub returns-clause-verdict : goal.returns-clause-verdict
 returns-clause-verdict g c =
-    none-found _ c.args.highest _ _ _ _ _ c.loop-cell-test.false (rw (to_z-of_z w64 c.args.begin c.ranges.begin) at c.loop-cell.invariant.left)
+    none-found _ c.args.highest _ _ _ _ _ c.loop-cell-test.false
+    (rw (to_z-of_z w64 c.args.begin c.ranges.begin) at c.loop-cell.invariant.left)

@@ -9,8 +9,8 @@ returns-in_err-push-clause-count g c =
     let next = c.in-Some.ensures in
     let all = rw (to_z-of_z w64 c.args.begin c.ranges.begin, to_z-of_z w64 c.args.end c.ranges.end) at invariant.cells in
     let ahead = rw invariant.unchanged at next.found.1 in
-    let stands = rw (next.unchanged, invariant.unchanged) at next.stands.pieces in
-    let few = points-few (g.C.Curve.state c.args.curve.now).facts.meaning c.args.highest _ _ _ stands in
+    let walk_invariant = rw (next.unchanged, invariant.unchanged) at next.walk_invariant.pieces in
+    let few = points-few (g.C.Curve.state c.args.curve.now).facts.meaning c.args.highest _ _ _ walk_invariant in
     counted-more c.loop-found.cells.items _ _ _ _ _ _ _ _ _ all ahead few next.count invariant.counted
 
 pub returns-clause-count : goal.returns-clause-count

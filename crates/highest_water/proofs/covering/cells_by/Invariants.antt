@@ -1,7 +1,7 @@
 use Rattle.std.proofs.Common.{◌≡◌, ◌+◌, ◌≤◌, ◌++◌, length}
 use Rattle.std.specs.Prelude.{unsigned_abs, ◌-ℤ◌}
 use Rattle.highest_water.specs.Covers.{peak_cover}
-use Rattle.highest_water.specs.Workings.Walk.{cells_ahead, Stands}
+use Rattle.highest_water.specs.Workings.Walk.{cells_ahead, WalkInvariant}
 use Rattle.highest_water.proofs.covering.cells_by.Given as goal
 
 -- the cells so far and those ahead are all cells
@@ -10,7 +10,7 @@ invariant-loop-found g l =
     let meaning = (g.C.Curve.state l.fn.curve).facts.meaning in
     record {
       unchanged : (g.C.Curve.state l.curve).facts ≡ (g.C.Curve.state l.fn.curve).facts;
-      stands : Stands (g.C.Curve.state l.curve) l.walk.end l.walk.at l.walk.waiting;
+      walk_invariant : WalkInvariant (g.C.Curve.state l.curve) l.walk.end l.walk.at l.walk.waiting;
       cells : l.cells.items ++ cells_ahead meaning l.highest l.walk.end l.walk.at.minute l.walk.waiting
           ≡ peak_cover meaning l.highest.minute l.highest.value l.begin (unsigned_abs (l.end -ℤ l.begin));
       counted : (g.C.Curve.state l.curve).count ≤ (g.C.Curve.state l.fn.curve).count + length l.cells.items + length l.walk.waiting + 1;

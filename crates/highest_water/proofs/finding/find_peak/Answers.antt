@@ -6,18 +6,22 @@ use Rattle.highest_water.proofs.finding.find_peak.Goals as goal
 
 pub cells_by-requires-clause-size : goal.cells_by-requires-clause-size
 cells_by-requires-clause-size g c =
-    let highest = rw (to_z-of_z w64 c.args.begin c.ranges.begin, to_z-of_z w64 c.args.end c.ranges.end) at c.highest_point-highest.ensures.highest in
-    highest-small (g.C.Curve.state c.args.curve.now).facts.meaning c.args.begin c.args.end _ _ (g.met.C.Curve.lawful c.args.curve.now) c.requires.first c.requires.last highest
+    let highest = rw (to_z-of_z w64 c.args.begin c.ranges.begin, to_z-of_z w64 c.args.end c.ranges.end)
+    at c.highest_point-highest.ensures.highest in
+    highest-small (g.C.Curve.state c.args.curve.now).facts.meaning c.args.begin c.args.end _ _
+    (g.met.C.Curve.lawful c.args.curve.now) c.requires.first c.requires.last highest
 
 pub returns-clause-peak : goal.returns-clause-peak
 returns-clause-peak g c =
-    let highest = rw (to_z-of_z w64 c.args.begin c.ranges.begin, to_z-of_z w64 c.args.end c.ranges.end) at c.highest_point-highest.ensures.highest in
+    let highest = rw (to_z-of_z w64 c.args.begin c.ranges.begin, to_z-of_z w64 c.args.end c.ranges.end)
+    at c.highest_point-highest.ensures.highest in
     let at : FitsSigned w64 c.highest_point-highest.result.minute = search rules in
     let value : FitsSigned w128 c.highest_point-highest.result.value = search rules in
     let begin = to_z-of_z w64 c.args.begin c.ranges.begin in
     let end = to_z-of_z w64 c.args.end c.ranges.end in
     let cells = rw (c.highest_point-highest.ensures.unchanged, begin, end) at c.in_ok-cells.ensures.cells in
-    rw (to_z-of_z w64 _ at, to_z-of_z w128 _ value) (highest-peak_of (g.C.Curve.state c.args.curve.now).facts.meaning c.args.begin c.args.end _ _ _ highest cells)
+    rw (to_z-of_z w64 _ at, to_z-of_z w128 _ value)
+    (highest-peak_of (g.C.Curve.state c.args.curve.now).facts.meaning c.args.begin c.args.end _ _ _ highest cells)
 
 pub returns-clause-count : goal.returns-clause-count
 returns-clause-count g c =

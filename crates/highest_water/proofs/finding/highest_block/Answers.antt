@@ -5,13 +5,13 @@ use Rattle.highest_water.proofs.UnderLemmas.{int_lt-true}
 use Rattle.highest_water.proofs.FindingLemmas.{asked-point, higher-point}
 use Rattle.highest_water.proofs.finding.highest_block.Goals as goal
 
-pub point_at-requires-clause-few : goal.point_at-requires-clause-few
-point_at-requires-clause-few g c =
+pub point_at-requires-clause-count_bound : goal.point_at-requires-clause-count_bound
+point_at-requires-clause-count_bound g c =
     let lawful = g.met.C.Curve.lawful c.args.curve.now in
     omega (arith, ints, lawful.early, lawful.late, c.requires.first, c.requires.last, c.loop-at.invariant.counted)
 
-pub block_end-at-requires-in-loop-at-clause-near : goal.block_end-at-requires-in-loop-at-clause-near
-block_end-at-requires-in-loop-at-clause-near g c =
+pub block_end-at-requires-in-loop-at-clause-in_range : goal.block_end-at-requires-in-loop-at-clause-in_range
+block_end-at-requires-in-loop-at-clause-in_range g c =
     let lawful = g.met.C.Curve.lawful c.args.curve.now in
     omega (arith, ints, lawful.early, lawful.late, c.requires.first, c.requires.last, c.loop-at.invariant.from, c.loop-at.invariant.within)
 
@@ -32,6 +32,7 @@ loop-at-preserved g c =
       unchanged = facts-after _ _ c.point_at.ensures.after ∙ invariant.unchanged;
       from = omega (arith, ints, c.block_end-at-in-loop-at.ensures, invariant.from);
       within = omega (arith, ints, c.block_end-at-in-loop-at.ensures, invariant.within);
-      point = rw c.higher_of-highest.ensures (higher-point meaning _ _ c.loop-at.highest c.point_at.result invariant.point (asked-point meaning _ _ _ c.point_at.result invariant.from less point));
+      point = rw c.higher_of-highest.ensures (higher-point meaning _ _ c.loop-at.highest c.point_at.result
+          invariant.point (asked-point meaning _ _ _ c.point_at.result invariant.from less point));
       counted = omega (arith, ints, c.block_end-at-in-loop-at.ensures, count-after _ _ c.point_at.ensures.after, invariant.counted);
     }

@@ -11,7 +11,7 @@ loop-found-init g c =
     let walk = c.walk_from-walk.ensures in
     record {
       unchanged = facts-after _ _ walk.after ∙ block.unchanged;
-      stands = walk.stands;
+      walk_invariant = walk.walk_invariant;
       until = walk.end;
       onward = omega (arith, ints, walk.at);
       so_far = rw walk.at (first-so_far (g.C.Curve.state c.args.curve.now).facts.meaning _ _ c.highest_block-highest.result block.point);
@@ -20,8 +20,10 @@ loop-found-init g c =
 
 pub next_cell-requires-clause-size : goal.next_cell-requires-clause-size
 next_cell-requires-clause-size g c =
-    let point = rw (to_z-of_z w64 c.args.begin c.ranges.begin, to_z-of_z w64 c.args.end c.ranges.end) at c.loop-found.invariant.so_far.point in
-    point-small (g.C.Curve.state c.args.curve.now).facts.meaning c.args.begin c.args.end c.loop-found.highest (g.met.C.Curve.lawful c.args.curve.now) c.requires.first c.requires.last point
+    let point = rw (to_z-of_z w64 c.args.begin c.ranges.begin, to_z-of_z w64 c.args.end c.ranges.end)
+    at c.loop-found.invariant.so_far.point in
+    point-small (g.C.Curve.state c.args.curve.now).facts.meaning c.args.begin c.args.end c.loop-found.highest
+    (g.met.C.Curve.lawful c.args.curve.now) c.requires.first c.requires.last point
 
 pub loop-found-smaller : goal.loop-found-smaller
 loop-found-smaller g c =
@@ -41,10 +43,14 @@ loop-found-preserved g c =
     let some = right-some _ _ _ _ right in
     record {
       unchanged = next.unchanged ∙ invariant.unchanged;
-      stands = next.stands;
+      walk_invariant = next.walk_invariant;
       until = next.end ∙ invariant.until;
       onward = omega (arith, ints, found.2, invariant.onward);
-      so_far = rw (c.raised_by-highest.ensures, found.2) (cell-so_far meaning _ _ c.loop-found.walk.at.minute c.loop-found.highest c.in-Some.found.at c.in-Some.found.cell (g.met.C.Curve.lawful c.args.curve.now) first last invariant.so_far invariant.onward (ap (λ (p : Point). p.minute) found.0) (rw (found.0, ← invariant.unchanged) invariant.stands.value) right (omega (arith, ints, found.2, found.4, invariant.until)));
+      so_far = rw (c.raised_by-highest.ensures, found.2)
+          (cell-so_far meaning _ _ c.loop-found.walk.at.minute c.loop-found.highest c.in-Some.found.at
+          c.in-Some.found.cell (g.met.C.Curve.lawful c.args.curve.now) first last invariant.so_far invariant.onward
+          (ap (λ (p : Point). p.minute) found.0) (rw (found.0, ← invariant.unchanged) invariant.walk_invariant.value)
+          right (omega (arith, ints, found.2, found.4, invariant.until)));
       counted = omega (arith, ints, found.2, found.4, some, next.count, invariant.counted, invariant.until);
     }
 
@@ -52,13 +58,16 @@ pub returns-clause-highest : goal.returns-clause-highest
 returns-clause-highest g c =
     let done = c.in_default.ensures.found.0 ∙ c.loop-found.invariant.until in
     rw (to_z-of_z w64 c.args.begin c.ranges.begin, to_z-of_z w64 c.args.end c.ranges.end) at
-    (all-so_far (g.C.Curve.state c.args.curve.now).facts.meaning _ _ c.loop-found.walk.at.minute c.loop-found.highest done c.loop-found.invariant.so_far)
+    (all-so_far (g.C.Curve.state c.args.curve.now).facts.meaning _ _ c.loop-found.walk.at.minute c.loop-found.highest
+    done c.loop-found.invariant.so_far)
 
 pub returns-clause-minute : goal.returns-clause-minute
-returns-clause-minute g c = (highest-is (g.C.Curve.state c.args.curve.now).facts.meaning c.args.begin c.args.end _ _ (returns-clause-highest g c)).0
+returns-clause-minute g c =
+    (highest-is (g.C.Curve.state c.args.curve.now).facts.meaning c.args.begin c.args.end _ _ (returns-clause-highest g c)).0
 
 pub returns-clause-value : goal.returns-clause-value
-returns-clause-value g c = (highest-is (g.C.Curve.state c.args.curve.now).facts.meaning c.args.begin c.args.end _ _ (returns-clause-highest g c)).1
+returns-clause-value g c =
+    (highest-is (g.C.Curve.state c.args.curve.now).facts.meaning c.args.begin c.args.end _ _ (returns-clause-highest g c)).1
 
 pub returns-clause-count : goal.returns-clause-count
 returns-clause-count g c =

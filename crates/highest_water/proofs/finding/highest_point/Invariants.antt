@@ -2,7 +2,7 @@ use Rattle.std.proofs.Common.{◌≡◌, ◌+◌, ◌*◌, ◌≤◌, length}
 use Rattle.std.specs.Prelude.{◌≤ℤ◌}
 use Rattle.interval_search.specs.Workings.Ahead.{minutes_to}
 use Rattle.highest_water.specs.Workings.Below.{IsHighestSoFar}
-use Rattle.highest_water.specs.Workings.Walk.{Stands}
+use Rattle.highest_water.specs.Workings.Walk.{WalkInvariant}
 use Rattle.highest_water.proofs.finding.highest_point.Given as goal
 
 -- no minute so far is higher
@@ -11,7 +11,7 @@ invariant-loop-found g l =
     let meaning = (g.C.Curve.state l.fn.curve).facts.meaning in
     record {
       unchanged : (g.C.Curve.state l.curve).facts ≡ (g.C.Curve.state l.fn.curve).facts;
-      stands : Stands (g.C.Curve.state l.curve) l.walk.end l.walk.at l.walk.waiting;
+      walk_invariant : WalkInvariant (g.C.Curve.state l.curve) l.walk.end l.walk.at l.walk.waiting;
       until : l.walk.end ≡ l.end;
       onward : l.begin ≤ℤ l.walk.at.minute;
       so_far : IsHighestSoFar meaning l.begin l.end l.walk.at.minute l.highest;

@@ -10,7 +10,8 @@ returns-then-n-eq1 g c =
     let begin : FitsSigned w64 c.args.begin.minute = search rules in
     let end : FitsSigned w64 c.args.end.minute = search rules in
     let n = simp to_z-of_z at c.minutes_to-n.ensures in
-    split-single (g.C.Curve.state c.args.curve.now).facts.meaning c.args.highest.minute c.args.highest.value c.args.begin.minute _ (sym n ∙ c.if-n-eq1.true)
+    split-single (g.C.Curve.state c.args.curve.now).facts.meaning c.args.highest.minute c.args.highest.value
+    c.args.begin.minute _ (sym n ∙ c.if-n-eq1.true)
 
 pub returns-then-is_under : goal.returns-then-is_under
 returns-then-is_under g c =
@@ -18,7 +19,8 @@ returns-then-is_under g c =
     let end : FitsSigned w64 c.args.end.minute = search rules in
     let n = simp to_z-of_z at c.minutes_to-n.ensures in
     ap (peak_split (g.C.Curve.state c.args.curve.now).facts.meaning c.args.highest.minute c.args.highest.value c.args.begin.minute) (sym n)
-    ∙ split-under (g.C.Curve.state c.args.curve.now).facts.meaning c.args.highest.minute c.args.highest.value c.args.begin.minute c.minutes_to-n.result (sym c.is_under.ensures ∙ c.if-is_under.true)
+    ∙ split-under (g.C.Curve.state c.args.curve.now).facts.meaning c.args.highest.minute c.args.highest.value
+    c.args.begin.minute c.minutes_to-n.result (sym c.is_under.ensures ∙ c.if-is_under.true)
 
 pub is_under-requires-clause-end_value : goal.is_under-requires-clause-end_value
 is_under-requires-clause-end_value g c =

@@ -1,6 +1,6 @@
 use Rattle.std.proofs.Common.{◌≡◌, ◌+◌, ◌∷◌, length}
 use Rattle.interval_search.specs.Workings.Ahead.{minutes_to}
-use Rattle.highest_water.specs.Workings.Walk.{cells_ahead, Stands}
+use Rattle.highest_water.specs.Workings.Walk.{cells_ahead, WalkInvariant}
 use Rattle.highest_water.proofs.walk.nearest_step.Given as goal
 
 -- the piece is halved, and nothing else changes
@@ -9,10 +9,11 @@ invariant-loop-cell g l =
     let meaning = (g.C.Curve.state l.fn.curve).facts.meaning in
     record {
       unchanged : (g.C.Curve.state l.curve).facts ≡ (g.C.Curve.state l.fn.curve).facts;
-      stands : Stands (g.C.Curve.state l.curve) l.end l.at (l.near ∷ l.waiting);
-      cells : cells_ahead meaning l.highest l.end l.at.minute (l.near ∷ l.waiting) ≡ cells_ahead meaning l.highest l.end l.at.minute (l.fn.near ∷ l.fn.waiting);
+      walk_invariant : WalkInvariant (g.C.Curve.state l.curve) l.end l.at (l.next_end ∷ l.waiting);
+      cells : cells_ahead meaning l.highest l.end l.at.minute (l.next_end ∷ l.waiting)
+          ≡ cells_ahead meaning l.highest l.end l.at.minute (l.fn.next_end ∷ l.fn.waiting);
       counted : (g.C.Curve.state l.curve).count + length l.fn.waiting ≡ (g.C.Curve.state l.fn.curve).count + length l.waiting;
     }
 
 abbrev pub decreases-loop-cell : goal.decreases-loop-cell
-decreases-loop-cell g l = minutes_to l.at.minute l.near.minute
+decreases-loop-cell g l = minutes_to l.at.minute l.next_end.minute

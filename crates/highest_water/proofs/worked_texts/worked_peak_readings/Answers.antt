@@ -18,7 +18,7 @@ use Rattle.cert_text.proofs.LineLemmas.{plain_name}
 use Rattle.highest_water.specs.declared.peak_cell.PeakCell.{PeakCell}
 use Rattle.highest_water.specs.declared.peak_cell.PeakCell.TheVariants.{Under, Single}
 use Rattle.highest_water.specs.PeakTexts.{IsPeakCell, IsPeakCertificate, peak_title, at_line_of, value_line_of, peak_cell_line_of, peak_text}
-use Rattle.highest_water.specs.Workings.PeakDrafts.{value_of, under_of, cell_of, next}
+use Rattle.highest_water.specs.Workings.PeakParsing.{value_of, under_of, cell_of, next}
 use Rattle.highest_water.specs.PeakReadings.{peak_of}
 use Rattle.highest_water.specs.Worked.{pier, pier_lines}
 use Rattle.highest_water.proofs.PeakReadingLemmas.{peak_of-text}
@@ -37,7 +37,10 @@ last_cells = Under 2 ∷ Under 2 ∷ Under 4 ∷ Under 4 ∷ Under 4 ∷ Under 8
 unders : AllByRecursion IsPeakCell last_cells
 unders = (
   (lit≤ tt, lit≤ tt),
-  ((lit≤ tt, lit≤ tt), ((lit≤ tt, lit≤ tt), ((lit≤ tt, lit≤ tt), ((lit≤ tt, lit≤ tt), ((lit≤ tt, lit≤ tt), ((lit≤ tt, lit≤ tt), ((lit≤ tt, lit≤ tt), tt))))))),
+  (
+    (lit≤ tt, lit≤ tt),
+    ((lit≤ tt, lit≤ tt), ((lit≤ tt, lit≤ tt), ((lit≤ tt, lit≤ tt), ((lit≤ tt, lit≤ tt), ((lit≤ tt, lit≤ tt), ((lit≤ tt, lit≤ tt), tt)))))),
+  ),
 )
 
 pier_is : IsPeakCertificate pier
@@ -51,28 +54,34 @@ pier_is = record {
 }
 
 pier_text : peak_text pier ≡ joined pier_lines
-unfolding digits two_digits date_text clock_text date_of date_from_year date_from_month moment_text station_line_of begin_line_of end_line_of last_line peak_title at_line_of value_line_of peak_cell_line_of peak_text
+unfolding digits two_digits date_text clock_text date_of date_from_year date_from_month moment_text station_line_of
+    begin_line_of end_line_of last_line peak_title at_line_of value_line_of peak_cell_line_of peak_text
 pier_text = refl
 
 pub returns-clause-pier : goal.returns-clause-pier
 returns-clause-pier c = sym (ap peak_of pier_text) ∙ peak_of-text pier pier_is
 
 pub returns-clause-changed : goal.returns-clause-changed
-unfolding encode chars is_utf8 moment_of has_form after digits_of size_of number_of station_of moment_after value_of under_of cell_of next read_from peak_of
+unfolding encode chars is_utf8 moment_of has_form after digits_of size_of number_of station_of moment_after value_of
+    under_of cell_of next read_from peak_of
 returns-clause-changed c = refl
 
 pub returns-clause-empty : goal.returns-clause-empty
-unfolding encode chars is_utf8 moment_of has_form after digits_of size_of number_of station_of moment_after value_of under_of cell_of next read_from peak_of
+unfolding encode chars is_utf8 moment_of has_form after digits_of size_of number_of station_of moment_after value_of
+    under_of cell_of next read_from peak_of
 returns-clause-empty c = refl
 
 pub returns-clause-not_done : goal.returns-clause-not_done
-unfolding encode chars is_utf8 moment_of has_form after digits_of size_of number_of station_of moment_after value_of under_of cell_of next read_from peak_of
+unfolding encode chars is_utf8 moment_of has_form after digits_of size_of number_of station_of moment_after value_of
+    under_of cell_of next read_from peak_of
 returns-clause-not_done c = refl
 
 pub returns-clause-no_lf : goal.returns-clause-no_lf
-unfolding encode chars is_utf8 moment_of has_form after digits_of size_of number_of station_of moment_after value_of under_of cell_of next read_from peak_of
+unfolding encode chars is_utf8 moment_of has_form after digits_of size_of number_of station_of moment_after value_of
+    under_of cell_of next read_from peak_of
 returns-clause-no_lf c = refl
 
 pub returns-clause-more : goal.returns-clause-more
-unfolding encode chars is_utf8 moment_of has_form after digits_of size_of number_of station_of moment_after value_of under_of cell_of next read_from peak_of
+unfolding encode chars is_utf8 moment_of has_form after digits_of size_of number_of station_of moment_after value_of
+    under_of cell_of next read_from peak_of
 returns-clause-more c = refl

@@ -7,5 +7,6 @@ use Rattle.highest_water.specs.PeakTexts.{peak_title, at_line_of, value_line_of,
 use Rattle.highest_water.proofs.worked_texts.worked_peak_texts.Goals as goal
 
 pub returns : goal.returns
-unfolding digits two_digits date_text clock_text date_of date_from_year date_from_month moment_text station_line_of begin_line_of end_line_of last_line peak_title at_line_of value_line_of peak_cell_line_of peak_text
+unfolding digits two_digits date_text clock_text date_of date_from_year date_from_month moment_text station_line_of
+    begin_line_of end_line_of last_line peak_title at_line_of value_line_of peak_cell_line_of peak_text
 returns c = record { pier = refl }

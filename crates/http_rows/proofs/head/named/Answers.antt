@@ -18,17 +18,20 @@ loop-field-preserved c =
     let value : List ℕ = span_bytes c.args.bytes.now (get_or c.args.fields.now i blank).value in
     elim c.if-is_named.branch [
       | then-is_named w ↦
-          (let more = one_more c.args.bytes.now c.args.name.now c.args.fields.now i blank c.loop-field-test.true (sym c.is_named.ensures ∙ w.if-is_named.true) in
+          (let more = one_more c.args.bytes.now c.args.name.now c.args.fields.now i blank c.loop-field-test.true
+          (sym c.is_named.ensures ∙ w.if-is_named.true) in
           let longer : length now ≡ length before + 1 = ap length more ∙ length_push before value in
           let shown : c.if-is_named.first.now ≡ (if length before == 0 then value else first_or_empty before) =
-          elim w.if-count-eq0.branch [ then-count-eq0 v ↦ grind (arith, common_steps, v, w) | else-count-eq0 v ↦ grind (arith, common_steps, v, w) ] in
+          elim w.if-count-eq0.branch
+          [ then-count-eq0 v ↦ grind (arith, common_steps, v, w) | else-count-eq0 v ↦ grind (arith, common_steps, v, w) ] in
           record {
             few = omega (arith, w.count-is, c.loop-field.invariant.few);
             count = omega (arith, w.count-is, longer, c.loop-field.invariant.count);
             first = shown ∙ sym (ap first_or_empty more ∙ first_push before value);
           })
       | else-is_named w ↦
-          (let same = another c.args.bytes.now c.args.name.now c.args.fields.now i blank c.loop-field-test.true (sym c.is_named.ensures ∙ w.if-is_named.false) in
+          (let same = another c.args.bytes.now c.args.name.now c.args.fields.now i blank c.loop-field-test.true
+          (sym c.is_named.ensures ∙ w.if-is_named.false) in
           record {
             few = omega (arith, w.count-is, c.loop-field.invariant.few);
             count = w.count-is ∙ c.loop-field.invariant.count ∙ ap length (sym same);

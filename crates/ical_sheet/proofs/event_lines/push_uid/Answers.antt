@@ -8,7 +8,8 @@ use Rattle.ical_sheet.proofs.event_lines.push_uid.Goals as goal
 pub returns : goal.returns
 unfolding uid_line
 returns c =
-    let minute : string_bytes c.push_minute.new.line ≡ string_bytes c.push_str.new.self ++ write_of c.args.event.now.minute 0 = search rules in
+    let minute : string_bytes c.push_minute.new.line
+    ≡ string_bytes c.push_str.new.self ++ write_of c.args.event.now.minute 0 = search rules in
     let line : c.as_bytes.result.now ≡ uid_line c.args.shared.now.head.now.name c.args.event.now =
     c.as_bytes.ensures.value ∙ c.as_str-2.ensures.value ∙ c.in_ok-push_str-6.ensures.bytes
     ∙ rw (

@@ -12,7 +12,8 @@ loop-end-init c = record {
 pub loop-end-preserved : goal.loop-end-preserved
 loop-end-preserved c = record {
   within = omega arith;
-  found = c.loop-end.invariant.found ∙ greatest-below (ends_at c.args.text.now) c.loop-end.end c.loop-end-test.true (sym c.if-not-ends_at.ensures);
+  found = c.loop-end.invariant.found
+      ∙ greatest-below (ends_at c.args.text.now) c.loop-end.end c.loop-end-test.true (sym c.if-not-ends_at.ensures);
 }
 
 pub returns-else-not-ends_at-clause-octets : goal.returns-else-not-ends_at-clause-octets

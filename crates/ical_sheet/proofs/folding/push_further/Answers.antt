@@ -9,7 +9,8 @@ pub loop-rest-smaller : goal.loop-rest-smaller
 loop-rest-smaller c =
     let some : 0 < length c.loop-rest.rest.now = grind (arith, nat_tests) in
     let less : length c.cut.result.1.now < length c.loop-rest.rest.now =
-    rw c.cut.ensures.rest (simp length-drop (omega (arith, some, prefix-positive 74 c.loop-rest.rest.now c.loop-rest.invariant.utf8 some (omega arith))))
+    rw c.cut.ensures.rest (simp length-drop
+    (omega (arith, some, prefix-positive 74 c.loop-rest.rest.now c.loop-rest.invariant.utf8 some (omega arith))))
     in
     less
 

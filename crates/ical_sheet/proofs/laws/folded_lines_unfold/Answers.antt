@@ -7,5 +7,5 @@ returns-clause-line c = line-unfolds
 pub returns-clause-lines : goal.returns-clause-lines
 returns-clause-lines c = lines-unfold
 
-pub returns-clause-short : goal.returns-clause-short
-returns-clause-short c = lines-are_short
+pub returns-clause-length_bound : goal.returns-clause-length_bound
+returns-clause-length_bound c = lines-are_short

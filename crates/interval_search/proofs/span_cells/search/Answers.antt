@@ -8,11 +8,15 @@ returns-in_err-push-clause-count g c =
     let most = rw (c.loop-found.invariant.unchanged) at c.next_found.ensures.most in
     let begin = to_z-of_z w64 c.args.begin c.ranges.begin in
     let end = to_z-of_z w64 c.args.end c.ranges.end in
-    rw (begin, end) at (asked-most (g.C.Curve.state c.next_found.new.curve) _ _ c.next_found.new.front.end c.next_found.new.front.at c.next_found.new.front.waiting c.next_found.ensures.stands most c.loop-found.invariant.most)
+    rw (begin, end)
+    at (asked-most (g.C.Curve.state c.next_found.new.curve) _ _ c.next_found.new.front.end c.next_found.new.front.at
+    c.next_found.new.front.waiting c.next_found.ensures.search_invariant most c.loop-found.invariant.most)
 
 pub returns-clause-count : goal.returns-clause-count
 returns-clause-count g c =
     let most = rw (c.loop-found.invariant.unchanged) at c.next_found.ensures.most in
     let begin = to_z-of_z w64 c.args.begin c.ranges.begin in
     let end = to_z-of_z w64 c.args.end c.ranges.end in
-    rw (begin, end) at (asked-most (g.C.Curve.state c.next_found.new.curve) _ _ c.next_found.new.front.end c.next_found.new.front.at c.next_found.new.front.waiting c.next_found.ensures.stands most c.loop-found.invariant.most)
+    rw (begin, end)
+    at (asked-most (g.C.Curve.state c.next_found.new.curve) _ _ c.next_found.new.front.end c.next_found.new.front.at
+    c.next_found.new.front.waiting c.next_found.ensures.search_invariant most c.loop-found.invariant.most)

@@ -1,7 +1,7 @@
 use Rattle.std.proofs.Common.{◌≡◌, ◌+◌, ◌-◌, ◌++◌, length}
 use Rattle.std.specs.Prelude.{unsigned_abs, ◌-ℤ◌}
 use Rattle.curve_law.specs.Cover.{cover}
-use Rattle.interval_search.specs.Workings.Ahead.{cells_ahead, Stands}
+use Rattle.interval_search.specs.Workings.Ahead.{cells_ahead, SearchInvariant}
 use Rattle.interval_search.proofs.span_cells.search.Given as goal
 
 -- the cells so far and those left are all cells
@@ -11,7 +11,7 @@ invariant-loop-found g l =
     let left = cells_ahead meaning l.front.end l.front.at.minute l.front.waiting in
     record {
       unchanged : (g.C.Curve.state l.curve).facts ≡ (g.C.Curve.state l.fn.curve).facts;
-      stands : Stands (g.C.Curve.state l.curve) l.front.end l.front.at l.front.waiting;
+      search_invariant : SearchInvariant (g.C.Curve.state l.curve) l.front.end l.front.at l.front.waiting;
       cells : l.cells.items ++ left ≡ cover meaning l.begin (unsigned_abs (l.end -ℤ l.begin));
       most : (g.C.Curve.state l.curve).count + length left - length l.front.waiting
           ≡ (g.C.Curve.state l.fn.curve).count + length (cover meaning l.begin (unsigned_abs (l.end -ℤ l.begin))) + 1;

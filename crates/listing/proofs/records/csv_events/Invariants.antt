@@ -7,5 +7,6 @@ use Rattle.listing.proofs.records.csv_events.Given as goal
 abbrev pub invariant-loop-event : goal.invariant-loop-event
 invariant-loop-event l = record {
   start : IsAtRecord l.records;
-  bytes : written l.records ≡ record_of event_header ++ flat_map (λ event. record_of (event_fields l.fn.name l.fn.units l.fn.zone event)) (take l.event-index l.event-items);
+  bytes : written l.records ≡ record_of event_header ++ flat_map (λ event.
+      record_of (event_fields l.fn.name l.fn.units l.fn.zone event)) (take l.event-index l.event-items);
 }

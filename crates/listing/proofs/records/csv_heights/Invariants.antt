@@ -7,5 +7,6 @@ use Rattle.listing.proofs.records.csv_heights.Given as goal
 abbrev pub invariant-loop-row : goal.invariant-loop-row
 invariant-loop-row l = record {
   start : IsAtRecord l.records;
-  bytes : written l.records ≡ record_of row_header ++ flat_map (λ row. record_of (row_fields l.fn.name l.fn.units l.fn.zone row)) (take l.row-index l.row-items);
+  bytes : written l.records ≡ record_of row_header
+      ++ flat_map (λ row. record_of (row_fields l.fn.name l.fn.units l.fn.zone row)) (take l.row-index l.row-items);
 }

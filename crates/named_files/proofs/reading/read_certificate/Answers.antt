@@ -20,4 +20,5 @@ pub returns-in-None-clause-opened : goal.returns-in-None-clause-opened
 unfolding certificate_named
 returns-in-None-clause-opened g c =
     rw c.in-None.is
-    (opened_none Certificate (λ file. certificate_named (λ _. file) None) (g.F.Files.state c.args.files.now).openings _ (λ file. rw (c.from_vec.ensures, c.new.ensures.items) refl))
+    (opened_none Certificate (λ file. certificate_named (λ _. file) None) (g.F.Files.state c.args.files.now).openings _
+    (λ file. rw (c.from_vec.ensures, c.new.ensures.items) refl))

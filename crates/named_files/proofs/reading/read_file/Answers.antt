@@ -17,7 +17,9 @@ returns-in-Ok-clause-opened g c =
 pub returns-in-Err-clause-own : goal.returns-in-Err-clause-own
 returns-in-Err-clause-own g c =
     λ t. rw c.fault_of_reading.ensures
-    (excuses_bytes (IsTrue (g.F.Files.state c.args.files.now).store.is_steady) c.args.slot ((g.F.Files.state c.args.files.now).store.folder c.args.name.now) c.in-Err.fault (rw c.limit_of.ensures at (c.in-Err.ensures.whole t)))
+    (excuses_bytes (IsTrue (g.F.Files.state c.args.files.now).store.is_steady) c.args.slot
+    ((g.F.Files.state c.args.files.now).store.folder c.args.name.now) c.in-Err.fault
+    (rw c.limit_of.ensures at (c.in-Err.ensures.whole t)))
 
 pub returns-in-Err-clause-opened : goal.returns-in-Err-clause-opened
 returns-in-Err-clause-opened g c =

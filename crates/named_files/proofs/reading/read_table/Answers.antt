@@ -10,7 +10,9 @@ pub returns-in_err-bytes-in-Some-clause-own : goal.returns-in_err-bytes-in-Some-
 unfolding table_named
 returns-in_err-bytes-in-Some-clause-own g c =
     λ t. rw c.in-Some.is
-    (meets_at (IsTrue (g.F.Files.state c.args.files.now).store.is_steady) (bytes_of Offsets ((g.F.Files.state c.args.files.now).store.folder c.in-Some.name)) _ c.from_residual.result _ c.from_residual.ensures.1 (c.in_err-bytes-in-Some.ensures.own t))
+    (meets_at (IsTrue (g.F.Files.state c.args.files.now).store.is_steady)
+    (bytes_of Offsets ((g.F.Files.state c.args.files.now).store.folder c.in-Some.name)) _ c.from_residual.result _
+    c.from_residual.ensures.1 (c.in_err-bytes-in-Some.ensures.own t))
 
 pub returns-in_err-bytes-in-Some-clause-opened : goal.returns-in_err-bytes-in-Some-clause-opened
 unfolding table_named
@@ -59,4 +61,5 @@ pub returns-in-None-clause-opened : goal.returns-in-None-clause-opened
 unfolding table_named
 returns-in-None-clause-opened g c =
     rw c.in-None.is
-    (opened_none Offsets (λ file. table_named (λ _. file) None) (g.F.Files.state c.args.files.now).openings _ (λ file. rw c.new.ensures refl))
+    (opened_none Offsets (λ file. table_named (λ _. file) None) (g.F.Files.state c.args.files.now).openings _
+    (λ file. rw c.new.ensures refl))

@@ -11,7 +11,9 @@ pub returns-in_err-bytes-in-Named-clause-own : goal.returns-in_err-bytes-in-Name
 unfolding zone_named
 returns-in_err-bytes-in-Named-clause-own g c =
     λ t. rw c.in-Named.is
-    (meets_at (IsTrue (g.F.Files.state c.args.files.now).store.is_steady) (bytes_of Zone ((g.F.Files.state c.args.files.now).store.folder c.in-Named.name)) _ c.from_residual.result _ c.from_residual.ensures.1 (c.in_err-bytes-in-Named.ensures.own t))
+    (meets_at (IsTrue (g.F.Files.state c.args.files.now).store.is_steady)
+    (bytes_of Zone ((g.F.Files.state c.args.files.now).store.folder c.in-Named.name)) _ c.from_residual.result _
+    c.from_residual.ensures.1 (c.in_err-bytes-in-Named.ensures.own t))
 
 pub returns-in_err-bytes-in-Named-clause-opened : goal.returns-in_err-bytes-in-Named-clause-opened
 unfolding zone_named
@@ -59,7 +61,8 @@ returns-in-Utc-clause-own g c = λ t. rw c.in-Utc.is refl
 pub returns-in-Utc-clause-opened : goal.returns-in-Utc-clause-opened
 unfolding zone_named
 returns-in-Utc-clause-opened g c =
-    rw c.in-Utc.is (opened_none Zone (λ file. zone_named (λ _. file) words.Utc) (g.F.Files.state c.args.files.now).openings _ (λ file. refl))
+    rw c.in-Utc.is (opened_none Zone (λ file. zone_named (λ _. file) words.Utc)
+    (g.F.Files.state c.args.files.now).openings _ (λ file. refl))
 
 pub returns-in-Fixed-clause-own : goal.returns-in-Fixed-clause-own
 unfolding zone_named
@@ -69,7 +72,8 @@ pub returns-in-Fixed-clause-opened : goal.returns-in-Fixed-clause-opened
 unfolding zone_named
 returns-in-Fixed-clause-opened g c =
     rw c.in-Fixed.is
-    (opened_none Zone (λ file. zone_named (λ _. file) (words.Fixed c.in-Fixed.minutes)) (g.F.Files.state c.args.files.now).openings _ (λ file. search rules))
+    (opened_none Zone (λ file. zone_named (λ _. file) (words.Fixed c.in-Fixed.minutes))
+    (g.F.Files.state c.args.files.now).openings _ (λ file. search rules))
 
 pub returns-in-Utc-clause-unnamed : goal.returns-in-Utc-clause-unnamed
 unfolding zone_named

@@ -16,6 +16,7 @@ loop-word-preserved c =
     sym (c.loop-word.invariant.2 w) ∙ not-true _ (sym c.in_ok-insert.ensures.added ∙ c.if-not-branch.false) in
     let known = c.in_ok-insert.ensures.updates.0 in (
       w.now ∷ before,
-      c.loop-word.invariant.1 ∙ are_sheets-new before c.args.words.now i d (omega arith) (sym c.is_sheet.ensures ∙ c.if-not-is_sheet.false) new,
+      c.loop-word.invariant.1 ∙ are_sheets-new before c.args.words.now i d (omega arith)
+          (sym c.is_sheet.ensures ∙ c.if-not-is_sheet.false) new,
       λ q. known q ∙ ap (cond _ true) (c.loop-word.invariant.2 q) ∙ known_after w.now q.now before,
     )

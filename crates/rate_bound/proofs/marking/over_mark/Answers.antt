@@ -9,8 +9,10 @@ returns c =
     let level = to_z-of_z w128 c.args.level c.ranges.level in
     let plus = c.requires.plus in
     let mark = c.requires.mark in
-    let apart : to_z w64 (of_z w64 (to_z w64 (of_z w64 c.args.plus) -ℤ to_z w64 (of_z w64 c.args.mark))) ≡ c.args.plus -ℤ c.args.mark = omega (arith, ints) in
-    let sum : to_z w128 (of_z w128 (to_z w128 (of_z w128 c.scaled.result) +ℤ to_z w128 (of_z w128 c.raised.result))) ≡ c.scaled.result +ℤ c.raised.result =
+    let apart : to_z w64 (of_z w64 (to_z w64 (of_z w64 c.args.plus) -ℤ to_z w64 (of_z w64 c.args.mark)))
+    ≡ c.args.plus -ℤ c.args.mark = omega (arith, ints) in
+    let sum : to_z w128 (of_z w128 (to_z w128 (of_z w128 c.scaled.result) +ℤ to_z w128 (of_z w128 c.raised.result)))
+    ≡ c.scaled.result +ℤ c.raised.result =
     omega (arith, ints, c.scaled.ensures.size, c.raised.ensures.size) in
     sum ∙ ap (λ x. x +ℤ c.raised.result) (rw (times, level) at c.scaled.ensures.value)
     ∙ ap (λ y. (c.args.times *ℤ c.args.level) +ℤ y) (rw apart at c.raised.ensures.value)

@@ -8,23 +8,29 @@ pub overflow_add-result-2 : goal.overflow_add-result-2
 overflow_add-result-2 c =
     let earlier = c.args.earlier.now in
     let later = c.args.later.now in
-    let near = max_part total_weight c.max.result earlier.near later.near (3 * 10 ^ 15) c.max.ensures.value c.requires.earlier.near c.requires.later.near (lit< tt) (lit< tt) (lit< tt) in
-    let amount = sum_part (most_rise * 10 ^ 9) earlier.amount later.amount (10 ^ 9) c.requires.earlier.amount c.requires.later.amount (lit< tt) (lit< tt) (lit< tt) in
+    let near = max_part total_weight c.max.result earlier.near later.near
+    (3 * 10 ^ 15) c.max.ensures.value c.requires.earlier.near c.requires.later.near (lit< tt) (lit< tt) (lit< tt) in
+    let amount = sum_part (most_rise * 10 ^ 9) earlier.amount later.amount
+    (10 ^ 9) c.requires.earlier.amount c.requires.later.amount (lit< tt) (lit< tt) (lit< tt) in
     plus_fits _ _ _ _ _ _ near amount (lit< tt)
 
 pub returns-clause-value : goal.returns-clause-value
 returns-clause-value c =
     let earlier = c.args.earlier.now in
     let later = c.args.later.now in
-    let near = max_part total_weight c.max.result earlier.near later.near (3 * 10 ^ 15) c.max.ensures.value c.requires.earlier.near c.requires.later.near (lit< tt) (lit< tt) (lit< tt) in
-    let amount = sum_part (most_rise * 10 ^ 9) earlier.amount later.amount (10 ^ 9) c.requires.earlier.amount c.requires.later.amount (lit< tt) (lit< tt) (lit< tt) in
+    let near = max_part total_weight c.max.result earlier.near later.near
+    (3 * 10 ^ 15) c.max.ensures.value c.requires.earlier.near c.requires.later.near (lit< tt) (lit< tt) (lit< tt) in
+    let amount = sum_part (most_rise * 10 ^ 9) earlier.amount later.amount
+    (10 ^ 9) c.requires.earlier.amount c.requires.later.amount (lit< tt) (lit< tt) (lit< tt) in
     (plus_part _ _ _ _ _ _ near amount (lit< tt)).same
 
 pub returns-clause-size : goal.returns-clause-size
 returns-clause-size c =
     let earlier = c.args.earlier.now in
     let later = c.args.later.now in
-    let near = max_part total_weight c.max.result earlier.near later.near (3 * 10 ^ 15) c.max.ensures.value c.requires.earlier.near c.requires.later.near (lit< tt) (lit< tt) (lit< tt) in
-    let amount = sum_part (most_rise * 10 ^ 9) earlier.amount later.amount (10 ^ 9) c.requires.earlier.amount c.requires.later.amount (lit< tt) (lit< tt) (lit< tt) in
+    let near = max_part total_weight c.max.result earlier.near later.near
+    (3 * 10 ^ 15) c.max.ensures.value c.requires.earlier.near c.requires.later.near (lit< tt) (lit< tt) (lit< tt) in
+    let amount = sum_part (most_rise * 10 ^ 9) earlier.amount later.amount
+    (10 ^ 9) c.requires.earlier.amount c.requires.later.amount (lit< tt) (lit< tt) (lit< tt) in
     let all = plus_part _ _ _ _ _ _ near amount (lit< tt) in
     rw all.same (omega (arith, all.size))

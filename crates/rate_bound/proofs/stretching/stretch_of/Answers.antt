@@ -12,4 +12,4 @@ pub returns-clause-years : goal.returns-clause-years
 returns-clause-years c =
     let tide = c.args.station.now in
     subst (NamesYears (length tide.years)) (sym (returns-clause-value c))
-    (names_years tide.first_year (length tide.years) c.args.a c.args.n c.known.ensures.years c.requires.first c.requires.last)
+    (names_years tide.first_year (length tide.years) c.args.a c.args.n c.limits_hold.ensures.years c.requires.first c.requires.last)

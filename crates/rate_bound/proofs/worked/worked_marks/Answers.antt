@@ -17,33 +17,65 @@ use Rattle.rate_bound.specs.Rates.{predicted_slope_rate, predicted_level_rate}
 use Rattle.rate_bound.proofs.worked.worked_marks.Goals as goal
 
 pub returns-clause-highest : goal.returns-clause-highest
-unfolding cover cover_within split split_within unit_cell is_quiet keeps_side verdict cells_verdict cell_verdict all_minutes predicted_slope_rate predicted_level_rate stretch_of plain_end_of place_of place_in year_at waves_of step_of rounded_of year_start_of days_from_civil day_count days_of_years days_of_months predicted_slope predicted_level predicted_millionths predicted_year_slope predicted_year_level weight_of weight_slope_of icos_of isin_of half_of quarter_of scaled_between sine_at correction sines
+unfolding cover cover_within split split_within unit_cell is_quiet keeps_side verdict cells_verdict cell_verdict
+    all_minutes predicted_slope_rate predicted_level_rate stretch_of plain_end_of place_of place_in year_at waves_of
+    step_of rounded_of year_start_of days_from_civil day_count days_of_years days_of_months predicted_slope
+    predicted_level predicted_millionths predicted_year_slope predicted_year_level weight_of weight_slope_of icos_of
+    isin_of half_of quarter_of scaled_between sine_at correction sines
 returns-clause-highest c = refl
 
 pub returns-clause-at_the_mark : goal.returns-clause-at_the_mark
-unfolding cover cover_within split split_within unit_cell is_quiet keeps_side verdict cells_verdict cell_verdict all_minutes predicted_slope_rate predicted_level_rate stretch_of plain_end_of place_of place_in year_at waves_of step_of rounded_of year_start_of days_from_civil day_count days_of_years days_of_months predicted_slope predicted_level predicted_millionths predicted_year_slope predicted_year_level weight_of weight_slope_of icos_of isin_of half_of quarter_of scaled_between sine_at correction sines
+unfolding cover cover_within split split_within unit_cell is_quiet keeps_side verdict cells_verdict cell_verdict
+    all_minutes predicted_slope_rate predicted_level_rate stretch_of plain_end_of place_of place_in year_at waves_of
+    step_of rounded_of year_start_of days_from_civil day_count days_of_years days_of_months predicted_slope
+    predicted_level predicted_millionths predicted_year_slope predicted_year_level weight_of weight_slope_of icos_of
+    isin_of half_of quarter_of scaled_between sine_at correction sines
 returns-clause-at_the_mark c = refl
 
 pub returns-clause-twice_and_more : goal.returns-clause-twice_and_more
-unfolding cover cover_within split split_within unit_cell is_quiet keeps_side verdict cells_verdict cell_verdict all_minutes predicted_slope_rate predicted_level_rate stretch_of plain_end_of place_of place_in year_at waves_of step_of rounded_of year_start_of days_from_civil day_count days_of_years days_of_months predicted_slope predicted_level predicted_millionths predicted_year_slope predicted_year_level weight_of weight_slope_of icos_of isin_of half_of quarter_of scaled_between sine_at correction sines
+unfolding cover cover_within split split_within unit_cell is_quiet keeps_side verdict cells_verdict cell_verdict
+    all_minutes predicted_slope_rate predicted_level_rate stretch_of plain_end_of place_of place_in year_at waves_of
+    step_of rounded_of year_start_of days_from_civil day_count days_of_years days_of_months predicted_slope
+    predicted_level predicted_millionths predicted_year_slope predicted_year_level weight_of weight_slope_of icos_of
+    isin_of half_of quarter_of scaled_between sine_at correction sines
 returns-clause-twice_and_more c = refl
 
 pub returns-clause-a_minute_on : goal.returns-clause-a_minute_on
-unfolding cover cover_within split split_within unit_cell is_quiet keeps_side verdict cells_verdict cell_verdict all_minutes predicted_slope_rate predicted_level_rate stretch_of plain_end_of place_of place_in year_at waves_of step_of rounded_of year_start_of days_from_civil day_count days_of_years days_of_months predicted_slope predicted_level predicted_millionths predicted_year_slope predicted_year_level weight_of weight_slope_of icos_of isin_of half_of quarter_of scaled_between sine_at correction sines
+unfolding cover cover_within split split_within unit_cell is_quiet keeps_side verdict cells_verdict cell_verdict
+    all_minutes predicted_slope_rate predicted_level_rate stretch_of plain_end_of place_of place_in year_at waves_of
+    step_of rounded_of year_start_of days_from_civil day_count days_of_years days_of_months predicted_slope
+    predicted_level predicted_millionths predicted_year_slope predicted_year_level weight_of weight_slope_of icos_of
+    isin_of half_of quarter_of scaled_between sine_at correction sines
 returns-clause-a_minute_on c = refl
 
 pub returns-clause-falls_to_the_mark : goal.returns-clause-falls_to_the_mark
-unfolding cover cover_within split split_within unit_cell is_quiet keeps_side verdict cells_verdict cell_verdict all_minutes predicted_slope_rate predicted_level_rate stretch_of plain_end_of place_of place_in year_at waves_of step_of rounded_of year_start_of days_from_civil day_count days_of_years days_of_months predicted_slope predicted_level predicted_millionths predicted_year_slope predicted_year_level weight_of weight_slope_of icos_of isin_of half_of quarter_of scaled_between sine_at correction sines
+unfolding cover cover_within split split_within unit_cell is_quiet keeps_side verdict cells_verdict cell_verdict
+    all_minutes predicted_slope_rate predicted_level_rate stretch_of plain_end_of place_of place_in year_at waves_of
+    step_of rounded_of year_start_of days_from_civil day_count days_of_years days_of_months predicted_slope
+    predicted_level predicted_millionths predicted_year_slope predicted_year_level weight_of weight_slope_of icos_of
+    isin_of half_of quarter_of scaled_between sine_at correction sines
 returns-clause-falls_to_the_mark c = refl
 
 pub returns-clause-rises_past_it : goal.returns-clause-rises_past_it
-unfolding cover cover_within split split_within unit_cell is_quiet keeps_side verdict cells_verdict cell_verdict all_minutes predicted_slope_rate predicted_level_rate stretch_of plain_end_of place_of place_in year_at waves_of step_of rounded_of year_start_of days_from_civil day_count days_of_years days_of_months predicted_slope predicted_level predicted_millionths predicted_year_slope predicted_year_level weight_of weight_slope_of icos_of isin_of half_of quarter_of scaled_between sine_at correction sines
+unfolding cover cover_within split split_within unit_cell is_quiet keeps_side verdict cells_verdict cell_verdict
+    all_minutes predicted_slope_rate predicted_level_rate stretch_of plain_end_of place_of place_in year_at waves_of
+    step_of rounded_of year_start_of days_from_civil day_count days_of_years days_of_months predicted_slope
+    predicted_level predicted_millionths predicted_year_slope predicted_year_level weight_of weight_slope_of icos_of
+    isin_of half_of quarter_of scaled_between sine_at correction sines
 returns-clause-rises_past_it c = refl
 
 pub returns-clause-ebb : goal.returns-clause-ebb
-unfolding cover cover_within split split_within unit_cell is_quiet keeps_side verdict cells_verdict cell_verdict all_minutes predicted_slope_rate predicted_level_rate stretch_of plain_end_of place_of place_in year_at waves_of step_of rounded_of year_start_of days_from_civil day_count days_of_years days_of_months predicted_slope predicted_level predicted_millionths predicted_year_slope predicted_year_level weight_of weight_slope_of icos_of isin_of half_of quarter_of scaled_between sine_at correction sines
+unfolding cover cover_within split split_within unit_cell is_quiet keeps_side verdict cells_verdict cell_verdict
+    all_minutes predicted_slope_rate predicted_level_rate stretch_of plain_end_of place_of place_in year_at waves_of
+    step_of rounded_of year_start_of days_from_civil day_count days_of_years days_of_months predicted_slope
+    predicted_level predicted_millionths predicted_year_slope predicted_year_level weight_of weight_slope_of icos_of
+    isin_of half_of quarter_of scaled_between sine_at correction sines
 returns-clause-ebb c = refl
 
 pub returns-clause-flood : goal.returns-clause-flood
-unfolding cover cover_within split split_within unit_cell is_quiet keeps_side verdict cells_verdict cell_verdict all_minutes predicted_slope_rate predicted_level_rate stretch_of plain_end_of place_of place_in year_at waves_of step_of rounded_of year_start_of days_from_civil day_count days_of_years days_of_months predicted_slope predicted_level predicted_millionths predicted_year_slope predicted_year_level weight_of weight_slope_of icos_of isin_of half_of quarter_of scaled_between sine_at correction sines
+unfolding cover cover_within split split_within unit_cell is_quiet keeps_side verdict cells_verdict cell_verdict
+    all_minutes predicted_slope_rate predicted_level_rate stretch_of plain_end_of place_of place_in year_at waves_of
+    step_of rounded_of year_start_of days_from_civil day_count days_of_years days_of_months predicted_slope
+    predicted_level predicted_millionths predicted_year_slope predicted_year_level weight_of weight_slope_of icos_of
+    isin_of half_of quarter_of scaled_between sine_at correction sines
 returns-clause-flood c = refl

@@ -17,45 +17,89 @@ use Rattle.rate_bound.specs.Rates.{predicted_slope_rate, predicted_level_rate}
 use Rattle.rate_bound.proofs.worked.worked_turns.Goals as goal
 
 pub returns-clause-from_midnight : goal.returns-clause-from_midnight
-unfolding cover cover_within split split_within unit_cell is_quiet keeps_side verdict cells_verdict cell_verdict all_minutes predicted_slope_rate predicted_level_rate stretch_of plain_end_of place_of place_in year_at waves_of step_of rounded_of year_start_of days_from_civil day_count days_of_years days_of_months predicted_slope predicted_level predicted_millionths predicted_year_slope predicted_year_level weight_of weight_slope_of icos_of isin_of half_of quarter_of scaled_between sine_at correction sines
+unfolding cover cover_within split split_within unit_cell is_quiet keeps_side verdict cells_verdict cell_verdict
+    all_minutes predicted_slope_rate predicted_level_rate stretch_of plain_end_of place_of place_in year_at waves_of
+    step_of rounded_of year_start_of days_from_civil day_count days_of_years days_of_months predicted_slope
+    predicted_level predicted_millionths predicted_year_slope predicted_year_level weight_of weight_slope_of icos_of
+    isin_of half_of quarter_of scaled_between sine_at correction sines
 returns-clause-from_midnight c = refl
 
 pub returns-clause-too_long : goal.returns-clause-too_long
-unfolding cover cover_within split split_within unit_cell is_quiet keeps_side verdict cells_verdict cell_verdict all_minutes predicted_slope_rate predicted_level_rate stretch_of plain_end_of place_of place_in year_at waves_of step_of rounded_of year_start_of days_from_civil day_count days_of_years days_of_months predicted_slope predicted_level predicted_millionths predicted_year_slope predicted_year_level weight_of weight_slope_of icos_of isin_of half_of quarter_of scaled_between sine_at correction sines
+unfolding cover cover_within split split_within unit_cell is_quiet keeps_side verdict cells_verdict cell_verdict
+    all_minutes predicted_slope_rate predicted_level_rate stretch_of plain_end_of place_of place_in year_at waves_of
+    step_of rounded_of year_start_of days_from_civil day_count days_of_years days_of_months predicted_slope
+    predicted_level predicted_millionths predicted_year_slope predicted_year_level weight_of weight_slope_of icos_of
+    isin_of half_of quarter_of scaled_between sine_at correction sines
 returns-clause-too_long c = refl
 
 pub returns-clause-low_water : goal.returns-clause-low_water
-unfolding cover cover_within split split_within unit_cell is_quiet keeps_side verdict cells_verdict cell_verdict all_minutes predicted_slope_rate predicted_level_rate stretch_of plain_end_of place_of place_in year_at waves_of step_of rounded_of year_start_of days_from_civil day_count days_of_years days_of_months predicted_slope predicted_level predicted_millionths predicted_year_slope predicted_year_level weight_of weight_slope_of icos_of isin_of half_of quarter_of scaled_between sine_at correction sines
+unfolding cover cover_within split split_within unit_cell is_quiet keeps_side verdict cells_verdict cell_verdict
+    all_minutes predicted_slope_rate predicted_level_rate stretch_of plain_end_of place_of place_in year_at waves_of
+    step_of rounded_of year_start_of days_from_civil day_count days_of_years days_of_months predicted_slope
+    predicted_level predicted_millionths predicted_year_slope predicted_year_level weight_of weight_slope_of icos_of
+    isin_of half_of quarter_of scaled_between sine_at correction sines
 returns-clause-low_water c = refl
 
 pub returns-clause-high_water : goal.returns-clause-high_water
-unfolding cover cover_within split split_within unit_cell is_quiet keeps_side verdict cells_verdict cell_verdict all_minutes predicted_slope_rate predicted_level_rate stretch_of plain_end_of place_of place_in year_at waves_of step_of rounded_of year_start_of days_from_civil day_count days_of_years days_of_months predicted_slope predicted_level predicted_millionths predicted_year_slope predicted_year_level weight_of weight_slope_of icos_of isin_of half_of quarter_of scaled_between sine_at correction sines
+unfolding cover cover_within split split_within unit_cell is_quiet keeps_side verdict cells_verdict cell_verdict
+    all_minutes predicted_slope_rate predicted_level_rate stretch_of plain_end_of place_of place_in year_at waves_of
+    step_of rounded_of year_start_of days_from_civil day_count days_of_years days_of_months predicted_slope
+    predicted_level predicted_millionths predicted_year_slope predicted_year_level weight_of weight_slope_of icos_of
+    isin_of half_of quarter_of scaled_between sine_at correction sines
 returns-clause-high_water c = refl
 
 pub returns-clause-before_a_new_year : goal.returns-clause-before_a_new_year
-unfolding cover cover_within split split_within unit_cell is_quiet keeps_side verdict cells_verdict cell_verdict all_minutes predicted_slope_rate predicted_level_rate stretch_of plain_end_of place_of place_in year_at waves_of step_of rounded_of year_start_of days_from_civil day_count days_of_years days_of_months predicted_slope predicted_level predicted_millionths predicted_year_slope predicted_year_level weight_of weight_slope_of icos_of isin_of half_of quarter_of scaled_between sine_at correction sines
+unfolding cover cover_within split split_within unit_cell is_quiet keeps_side verdict cells_verdict cell_verdict
+    all_minutes predicted_slope_rate predicted_level_rate stretch_of plain_end_of place_of place_in year_at waves_of
+    step_of rounded_of year_start_of days_from_civil day_count days_of_years days_of_months predicted_slope
+    predicted_level predicted_millionths predicted_year_slope predicted_year_level weight_of weight_slope_of icos_of
+    isin_of half_of quarter_of scaled_between sine_at correction sines
 returns-clause-before_a_new_year c = refl
 
 pub returns-clause-in_its_blend : goal.returns-clause-in_its_blend
-unfolding cover cover_within split split_within unit_cell is_quiet keeps_side verdict cells_verdict cell_verdict all_minutes predicted_slope_rate predicted_level_rate stretch_of plain_end_of place_of place_in year_at waves_of step_of rounded_of year_start_of days_from_civil day_count days_of_years days_of_months predicted_slope predicted_level predicted_millionths predicted_year_slope predicted_year_level weight_of weight_slope_of icos_of isin_of half_of quarter_of scaled_between sine_at correction sines
+unfolding cover cover_within split split_within unit_cell is_quiet keeps_side verdict cells_verdict cell_verdict
+    all_minutes predicted_slope_rate predicted_level_rate stretch_of plain_end_of place_of place_in year_at waves_of
+    step_of rounded_of year_start_of days_from_civil day_count days_of_years days_of_months predicted_slope
+    predicted_level predicted_millionths predicted_year_slope predicted_year_level weight_of weight_slope_of icos_of
+    isin_of half_of quarter_of scaled_between sine_at correction sines
 returns-clause-in_its_blend c = refl
 
 pub returns-clause-across_a_new_year : goal.returns-clause-across_a_new_year
-unfolding cover cover_within split split_within unit_cell is_quiet keeps_side verdict cells_verdict cell_verdict all_minutes predicted_slope_rate predicted_level_rate stretch_of plain_end_of place_of place_in year_at waves_of step_of rounded_of year_start_of days_from_civil day_count days_of_years days_of_months predicted_slope predicted_level predicted_millionths predicted_year_slope predicted_year_level weight_of weight_slope_of icos_of isin_of half_of quarter_of scaled_between sine_at correction sines
+unfolding cover cover_within split split_within unit_cell is_quiet keeps_side verdict cells_verdict cell_verdict
+    all_minutes predicted_slope_rate predicted_level_rate stretch_of plain_end_of place_of place_in year_at waves_of
+    step_of rounded_of year_start_of days_from_civil day_count days_of_years days_of_months predicted_slope
+    predicted_level predicted_millionths predicted_year_slope predicted_year_level weight_of weight_slope_of icos_of
+    isin_of half_of quarter_of scaled_between sine_at correction sines
 returns-clause-across_a_new_year c = refl
 
 pub returns-clause-not_by_the_first : goal.returns-clause-not_by_the_first
-unfolding cover cover_within split split_within unit_cell is_quiet keeps_side verdict cells_verdict cell_verdict all_minutes predicted_slope_rate predicted_level_rate stretch_of plain_end_of place_of place_in year_at waves_of step_of rounded_of year_start_of days_from_civil day_count days_of_years days_of_months predicted_slope predicted_level predicted_millionths predicted_year_slope predicted_year_level weight_of weight_slope_of icos_of isin_of half_of quarter_of scaled_between sine_at correction sines
+unfolding cover cover_within split split_within unit_cell is_quiet keeps_side verdict cells_verdict cell_verdict
+    all_minutes predicted_slope_rate predicted_level_rate stretch_of plain_end_of place_of place_in year_at waves_of
+    step_of rounded_of year_start_of days_from_civil day_count days_of_years days_of_months predicted_slope
+    predicted_level predicted_millionths predicted_year_slope predicted_year_level weight_of weight_slope_of icos_of
+    isin_of half_of quarter_of scaled_between sine_at correction sines
 returns-clause-not_by_the_first c = refl
 
 pub returns-clause-minute_by_minute : goal.returns-clause-minute_by_minute
-unfolding cover cover_within split split_within unit_cell is_quiet keeps_side verdict cells_verdict cell_verdict all_minutes predicted_slope_rate predicted_level_rate stretch_of plain_end_of place_of place_in year_at waves_of step_of rounded_of year_start_of days_from_civil day_count days_of_years days_of_months predicted_slope predicted_level predicted_millionths predicted_year_slope predicted_year_level weight_of weight_slope_of icos_of isin_of half_of quarter_of scaled_between sine_at correction sines
+unfolding cover cover_within split split_within unit_cell is_quiet keeps_side verdict cells_verdict cell_verdict
+    all_minutes predicted_slope_rate predicted_level_rate stretch_of plain_end_of place_of place_in year_at waves_of
+    step_of rounded_of year_start_of days_from_civil day_count days_of_years days_of_months predicted_slope
+    predicted_level predicted_millionths predicted_year_slope predicted_year_level weight_of weight_slope_of icos_of
+    isin_of half_of quarter_of scaled_between sine_at correction sines
 returns-clause-minute_by_minute c = refl
 
 pub returns-clause-no_tide : goal.returns-clause-no_tide
-unfolding cover cover_within split split_within unit_cell is_quiet keeps_side verdict cells_verdict cell_verdict all_minutes predicted_slope_rate predicted_level_rate stretch_of plain_end_of place_of place_in year_at waves_of step_of rounded_of year_start_of days_from_civil day_count days_of_years days_of_months predicted_slope predicted_level predicted_millionths predicted_year_slope predicted_year_level weight_of weight_slope_of icos_of isin_of half_of quarter_of scaled_between sine_at correction sines
+unfolding cover cover_within split split_within unit_cell is_quiet keeps_side verdict cells_verdict cell_verdict
+    all_minutes predicted_slope_rate predicted_level_rate stretch_of plain_end_of place_of place_in year_at waves_of
+    step_of rounded_of year_start_of days_from_civil day_count days_of_years days_of_months predicted_slope
+    predicted_level predicted_millionths predicted_year_slope predicted_year_level weight_of weight_slope_of icos_of
+    isin_of half_of quarter_of scaled_between sine_at correction sines
 returns-clause-no_tide c = refl
 
 pub returns-clause-no_tide_by_the_first : goal.returns-clause-no_tide_by_the_first
-unfolding cover cover_within split split_within unit_cell is_quiet keeps_side verdict cells_verdict cell_verdict all_minutes predicted_slope_rate predicted_level_rate stretch_of plain_end_of place_of place_in year_at waves_of step_of rounded_of year_start_of days_from_civil day_count days_of_years days_of_months predicted_slope predicted_level predicted_millionths predicted_year_slope predicted_year_level weight_of weight_slope_of icos_of isin_of half_of quarter_of scaled_between sine_at correction sines
+unfolding cover cover_within split split_within unit_cell is_quiet keeps_side verdict cells_verdict cell_verdict
+    all_minutes predicted_slope_rate predicted_level_rate stretch_of plain_end_of place_of place_in year_at waves_of
+    step_of rounded_of year_start_of days_from_civil day_count days_of_years days_of_months predicted_slope
+    predicted_level predicted_millionths predicted_year_slope predicted_year_level weight_of weight_slope_of icos_of
+    isin_of half_of quarter_of scaled_between sine_at correction sines
 returns-clause-no_tide_by_the_first c = refl

@@ -11,11 +11,13 @@ use Rattle.report_sheets.specs.Tallies.{tally_of}
 use Rattle.report_sheets.proofs.worked.worked_pages.Goals as goal
 
 pub returns-clause-first : goal.returns-clause-first
-unfolding pages_of page_of tally_of plain_events_of event_line_of height_line_of text_of_unit padded rounded_of write_of last_digits local_text time_text label_text date_text clock_text two_digits date_of date_from_year date_from_month
+unfolding pages_of page_of tally_of plain_events_of event_line_of height_line_of text_of_unit padded rounded_of write_of
+    last_digits local_text time_text label_text date_text clock_text two_digits date_of date_from_year date_from_month
 returns-clause-first c = rw (decimal_digit 2 (lit< tt), decimal_digit 1 (lit< tt))
 
 pub returns-clause-all : goal.returns-clause-all
-unfolding plain_events_of event_line_of height_line_of text_of_unit padded rounded_of write_of last_digits local_text time_text label_text date_text clock_text two_digits date_of date_from_year date_from_month
+unfolding plain_events_of event_line_of height_line_of text_of_unit padded rounded_of write_of last_digits local_text
+    time_text label_text date_text clock_text two_digits date_of date_from_year date_from_month
 returns-clause-all c = rw (decimal_digit 1 (lit< tt))
 
 pub returns-clause-none_wanted : goal.returns-clause-none_wanted

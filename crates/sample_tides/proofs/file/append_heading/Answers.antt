@@ -8,5 +8,12 @@ unfolding heading
 returns c =
     on_ok_weaker
     c.line-6.result
-    (λ ended. ended ∙ rw (c.in_ok-line-5.ensures, c.in_ok-line-4.ensures, c.in_ok-line-3.ensures, c.in_ok-line-2.ensures, c.in_ok-line.ensures, c.in_ok-append_title.ensures))
+    (λ ended. ended ∙ rw (
+      c.in_ok-line-5.ensures,
+      c.in_ok-line-4.ensures,
+      c.in_ok-line-3.ensures,
+      c.in_ok-line-2.ensures,
+      c.in_ok-line.ensures,
+      c.in_ok-append_title.ensures,
+    ))
     c.line-6.ensures

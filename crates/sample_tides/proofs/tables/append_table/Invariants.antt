@@ -5,5 +5,5 @@ use Rattle.sample_tides.proofs.tables.append_table.Given as goal
 
 abbrev pub invariant-loop-number : goal.invariant-loop-number
 invariant-loop-number l =
-    l.draft
-    ≡ each 1 (l.number - 1) (λ k. line (name_of k) >> values (value l.quantity.least l.quantity.bound l.quantity.places)) l.initial.draft
+    l.writer
+    ≡ each 1 (l.number - 1) (λ k. line (name_of k) >> values (value l.quantity.least l.quantity.bound l.quantity.places)) l.initial.writer

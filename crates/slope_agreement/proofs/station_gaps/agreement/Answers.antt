@@ -34,5 +34,6 @@ returns-clause-law c =
     λ m year plain.
     let tide = c.args.station.now in
     let value = λ (y : ℕ). year_agreement (tide_sums tide y) in
-    let is : to_z w128 c.loop-year.most-bits ≡ agreement_of tide = c.loop-year.invariant.value ∙ ap (greatest value) (let e : c.loop-year.year ≡ length tide.years = omega arith in e) in
-    rw is (tide_gap tide m year c.known.ensures plain)
+    let is : to_z w128 c.loop-year.most-bits ≡ agreement_of tide = c.loop-year.invariant.value
+    ∙ ap (greatest value) (let e : c.loop-year.year ≡ length tide.years = omega arith in e) in
+    rw is (tide_gap tide m year c.limits_hold.ensures plain)

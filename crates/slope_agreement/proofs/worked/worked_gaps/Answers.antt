@@ -11,21 +11,31 @@ use Rattle.year_blend.specs.Years.{year_start_of}
 use Rattle.slope_agreement.proofs.worked.worked_gaps.Goals as goal
 
 pub returns-clause-tide : goal.returns-clause-tide
-unfolding level_of slope_of year_level year_slope tide_of waves_of place_of place_in year_at rounded_of year_start_of days_from_civil day_count days_of_years days_of_months icos_of isin_of half_of quarter_of scaled_between sine_at correction sines
+unfolding level_of slope_of year_level year_slope tide_of waves_of place_of place_in year_at rounded_of year_start_of
+    days_from_civil day_count days_of_years days_of_months icos_of isin_of half_of quarter_of scaled_between sine_at
+    correction sines
 returns-clause-tide c = refl
 
 pub returns-clause-midnight : goal.returns-clause-midnight
-unfolding predicted_level predicted_slope predicted_year_level predicted_year_slope place_of place_in year_at rounded_of year_start_of days_from_civil day_count days_of_years days_of_months icos_of isin_of half_of quarter_of scaled_between sine_at correction sines
+unfolding predicted_level predicted_slope predicted_year_level predicted_year_slope place_of place_in year_at rounded_of
+    year_start_of days_from_civil day_count days_of_years days_of_months icos_of isin_of half_of quarter_of
+    scaled_between sine_at correction sines
 returns-clause-midnight c = refl
 
 pub returns-clause-before : goal.returns-clause-before
-unfolding predicted_level predicted_slope predicted_year_level predicted_year_slope place_of place_in year_at rounded_of year_start_of days_from_civil day_count days_of_years days_of_months icos_of isin_of half_of quarter_of scaled_between sine_at correction sines
+unfolding predicted_level predicted_slope predicted_year_level predicted_year_slope place_of place_in year_at rounded_of
+    year_start_of days_from_civil day_count days_of_years days_of_months icos_of isin_of half_of quarter_of
+    scaled_between sine_at correction sines
 returns-clause-before c = refl
 
 pub returns-clause-harbour_2000 : goal.returns-clause-harbour_2000
-unfolding predicted_level predicted_slope predicted_year_level predicted_year_slope place_of place_in year_at rounded_of year_start_of days_from_civil day_count days_of_years days_of_months icos_of isin_of half_of quarter_of scaled_between sine_at correction sines
+unfolding predicted_level predicted_slope predicted_year_level predicted_year_slope place_of place_in year_at rounded_of
+    year_start_of days_from_civil day_count days_of_years days_of_months icos_of isin_of half_of quarter_of
+    scaled_between sine_at correction sines
 returns-clause-harbour_2000 c = refl
 
 pub returns-clause-harbour_2001 : goal.returns-clause-harbour_2001
-unfolding predicted_level predicted_slope predicted_year_level predicted_year_slope place_of place_in year_at rounded_of year_start_of days_from_civil day_count days_of_years days_of_months icos_of isin_of half_of quarter_of scaled_between sine_at correction sines
+unfolding predicted_level predicted_slope predicted_year_level predicted_year_slope place_of place_in year_at rounded_of
+    year_start_of days_from_civil day_count days_of_years days_of_months icos_of isin_of half_of quarter_of
+    scaled_between sine_at correction sines
 returns-clause-harbour_2001 c = refl

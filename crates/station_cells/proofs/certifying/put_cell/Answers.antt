@@ -2,8 +2,8 @@ use Rattle.std.proofs.Common.{◌∙◌, arith}
 use Rattle.std.proofs.lemmas.Result.{err_from_is_err_and}
 use Rattle.station_cells.proofs.certifying.put_cell.Goals as goal
 
-pub put-requires-clause-short : goal.put-requires-clause-short
-put-requires-clause-short g c = let fits = c.as_str.ensures.fits in omega (arith, fits)
+pub put-requires-clause-length_bound : goal.put-requires-clause-length_bound
+put-requires-clause-length_bound g c = let fits = c.as_str.ensures.fits in omega (arith, fits)
 
 pub returns-in_err-sent-clause-sends : goal.returns-in_err-sent-clause-sends
 returns-in_err-sent-clause-sends g c =
@@ -11,8 +11,8 @@ returns-in_err-sent-clause-sends g c =
     let line = c.as_str.ensures.value ∙ c.cell_line.ensures in
     rw (p.1, p.2) (rw line at c.in_err-sent.ensures.sends)
 
-pub returns-in_err-sent-clause-short : goal.returns-in_err-sent-clause-short
-returns-in_err-sent-clause-short g c =
+pub returns-in_err-sent-clause-length_bound : goal.returns-in_err-sent-clause-length_bound
+returns-in_err-sent-clause-length_bound g c =
     let line = c.as_str.ensures.value ∙ c.cell_line.ensures in
     rw line at c.as_str.ensures.fits
 
@@ -28,7 +28,7 @@ returns-clause-holds g c =
     let line = c.as_str.ensures.value ∙ c.cell_line.ensures in
     rw line at c.in_ok-sent.ensures.holds
 
-pub returns-clause-short : goal.returns-clause-short
-returns-clause-short g c =
+pub returns-clause-length_bound : goal.returns-clause-length_bound
+returns-clause-length_bound g c =
     let line = c.as_str.ensures.value ∙ c.cell_line.ensures in
     rw line at c.as_str.ensures.fits

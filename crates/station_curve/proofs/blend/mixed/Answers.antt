@@ -14,5 +14,8 @@ returns-clause-value c =
     let later = to_z-of_z w128 c.args.later c.ranges.later in
     let first : c.weighted.result ≡ (pos total_weight -ℤ weight) *ℤ c.args.earlier = rw (rest, earlier) at c.weighted.ensures.value in
     let second : c.weighted-2.result ≡ weight *ℤ c.args.later = rw (same, later) at c.weighted-2.ensures.value in
-    let sum : to_z w128 (of_z w128 (to_z w128 (of_z w128 c.weighted.result) +ℤ to_z w128 (of_z w128 c.weighted-2.result))) ≡ c.weighted.result +ℤ c.weighted-2.result = omega (arith, ints, c.weighted.ensures.size, c.weighted-2.ensures.size) in
+    let sum :
+    to_z w128 (of_z w128 (to_z w128 (of_z w128 c.weighted.result) +ℤ to_z w128 (of_z w128 c.weighted-2.result)))
+    ≡ c.weighted.result +ℤ c.weighted-2.result =
+    omega (arith, ints, c.weighted.ensures.size, c.weighted-2.ensures.size) in
     sum ∙ ap (λ x. x +ℤ c.weighted-2.result) first ∙ ap (λ y. ((pos total_weight -ℤ weight) *ℤ c.args.earlier) +ℤ y) second

@@ -1,4 +1,4 @@
-use Rattle.station_curve.proofs.Gentle.{gentle_sums}
+use Rattle.station_curve.proofs.WithinLimits.{sums_within_limits}
 use Rattle.station_curve.proofs.YearChanges.{year_level_size, year_slope_size, level_difference}
 use Rattle.station_curve.proofs.changes.year_sizes.Goals as goal
 
@@ -12,4 +12,4 @@ pub returns-clause-difference : goal.returns-clause-difference
 returns-clause-difference c = level_difference
 
 pub returns-clause-sums : goal.returns-clause-sums
-returns-clause-sums c = gentle_sums
+returns-clause-sums c = sums_within_limits

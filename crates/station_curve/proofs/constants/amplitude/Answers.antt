@@ -10,7 +10,8 @@ pub returns-then-amplitude-eq0-clause-value : goal.returns-then-amplitude-eq0-cl
 returns-then-amplitude-eq0-clause-value c =
     let small = station_amplitude (length c.args.book.now.constituents) c.args.station.now c.args.k c.requires.station c.requires.place in
     let bits = rw c.as_slice.ensures at c.if-amplitude-eq0.true in
-    no_amplitude c.args.book.now c.args.station.now c.args.year c.args.k (zero_of_bits (get_or c.args.station.now.amplitude c.args.k (pos 0)) (10 ^ 10) small (lit< tt) bits)
+    no_amplitude c.args.book.now c.args.station.now c.args.year c.args.k
+    (zero_of_bits (get_or c.args.station.now.amplitude c.args.k (pos 0)) (10 ^ 10) small (lit< tt) bits)
 
 pub returns-clause-value : goal.returns-clause-value
 returns-clause-value c =
@@ -18,7 +19,7 @@ returns-clause-value c =
     let place = c.place_in_table.result in
     let factor = get_or c.args.book.now.factors place (pos 0) in
     let h = station_amplitude (length c.args.book.now.constituents) c.args.station.now c.args.k c.requires.station c.requires.place in
-    let k = book_factor c.args.book.now place c.get.ensures.sound c.place_in_table.ensures.within in
+    let k = book_factor c.args.book.now place c.get.ensures.valid c.place_in_table.ensures.within in
     let a : to_z w64 (of_z w64 amplitude) ≡ amplitude = cast_small w64 amplitude (10 ^ 10) h (lit< tt) in
     let f : to_z w64 (of_z w64 factor) ≡ factor = cast_small w64 factor (10 ^ 7) k (lit< tt) in
     cast_small w64 c.effective.result (10 ^ 11) c.effective.ensures.size (lit< tt)

@@ -17,7 +17,8 @@ overflow_add-result c =
     let sweep = times w64 speed minutes 3600000000 1100 c.requires.speed c.requires.minutes (lit< tt) (lit< tt) (lit< tt) in
     let argument = cast_small w64 c.args.argument 7200000000 c.requires.argument (lit< tt) in
     let epoch = cast_small w64 c.args.epoch 7200000000 c.requires.epoch (lit< tt) in
-    let turn : to_z w64 (of_z w64 (pos 60 *ℤ to_z w64 (of_z w64 apart))) ≡ pos 60 *ℤ apart = times w64 (pos 60) apart 60 14400000000 (lit≤ tt) width (lit< tt) (lit< tt) (lit< tt) in
+    let turn : to_z w64 (of_z w64 (pos 60 *ℤ to_z w64 (of_z w64 apart))) ≡ pos 60 *ℤ apart =
+    times w64 (pos 60) apart 60 14400000000 (lit≤ tt) width (lit< tt) (lit< tt) (lit< tt) in
     simp (sweep, argument, epoch, turn) (fits_signed_from_abs w64 ((speed *ℤ minutes) +ℤ (pos 60 *ℤ apart)) (omega (arith, sum)))
 
 pub returns-clause-value : goal.returns-clause-value
@@ -32,8 +33,10 @@ returns-clause-value c =
     let sweep = times w64 speed minutes 3600000000 1100 c.requires.speed c.requires.minutes (lit< tt) (lit< tt) (lit< tt) in
     let argument = cast_small w64 c.args.argument 7200000000 c.requires.argument (lit< tt) in
     let epoch = cast_small w64 c.args.epoch 7200000000 c.requires.epoch (lit< tt) in
-    let turn : to_z w64 (of_z w64 (pos 60 *ℤ to_z w64 (of_z w64 apart))) ≡ pos 60 *ℤ apart = times w64 (pos 60) apart 60 14400000000 (lit≤ tt) width (lit< tt) (lit< tt) (lit< tt) in
-    simp (sweep, argument, epoch, turn) (cast_small w64 ((speed *ℤ minutes) +ℤ (pos 60 *ℤ apart)) (3600000000 * 1100 + 60 * 14400000000) sum (lit< tt))
+    let turn : to_z w64 (of_z w64 (pos 60 *ℤ to_z w64 (of_z w64 apart))) ≡ pos 60 *ℤ apart =
+    times w64 (pos 60) apart 60 14400000000 (lit≤ tt) width (lit< tt) (lit< tt) (lit< tt) in
+    simp (sweep, argument, epoch, turn)
+    (cast_small w64 ((speed *ℤ minutes) +ℤ (pos 60 *ℤ apart)) (3600000000 * 1100 + 60 * 14400000000) sum (lit< tt))
 
 pub returns-clause-size : goal.returns-clause-size
 returns-clause-size c =
@@ -47,5 +50,12 @@ returns-clause-size c =
     let sweep = times w64 speed minutes 3600000000 1100 c.requires.speed c.requires.minutes (lit< tt) (lit< tt) (lit< tt) in
     let argument = cast_small w64 c.args.argument 7200000000 c.requires.argument (lit< tt) in
     let epoch = cast_small w64 c.args.epoch 7200000000 c.requires.epoch (lit< tt) in
-    let turn : to_z w64 (of_z w64 (pos 60 *ℤ to_z w64 (of_z w64 apart))) ≡ pos 60 *ℤ apart = times w64 (pos 60) apart 60 14400000000 (lit≤ tt) width (lit< tt) (lit< tt) (lit< tt) in
-    simp (sweep, argument, epoch, turn, cast_small w64 ((speed *ℤ minutes) +ℤ (pos 60 *ℤ apart)) (3600000000 * 1100 + 60 * 14400000000) sum (lit< tt)) (omega (arith, sum))
+    let turn : to_z w64 (of_z w64 (pos 60 *ℤ to_z w64 (of_z w64 apart))) ≡ pos 60 *ℤ apart =
+    times w64 (pos 60) apart 60 14400000000 (lit≤ tt) width (lit< tt) (lit< tt) (lit< tt) in
+    simp (
+      sweep,
+      argument,
+      epoch,
+      turn,
+      cast_small w64 ((speed *ℤ minutes) +ℤ (pos 60 *ℤ apart)) (3600000000 * 1100 + 60 * 14400000000) sum (lit< tt),
+    ) (omega (arith, sum))

@@ -12,8 +12,10 @@ use Rattle.station_curve.proofs.BookValues.{station_epoch, book_angle, angle_an_
 use Rattle.station_curve.proofs.constants.phase.Goals as goal
 
 pub overflow_cast-result : goal.overflow_cast-result
-overflow_cast-result c =
-    (omega (arith, ints, c.reduce.ensures.range.least, c.reduce.ensures.range.below), omega (arith, ints, c.reduce.ensures.range.least, c.reduce.ensures.range.below))
+overflow_cast-result c = (
+  omega (arith, ints, c.reduce.ensures.range.least, c.reduce.ensures.range.below),
+  omega (arith, ints, c.reduce.ensures.range.least, c.reduce.ensures.range.below),
+)
 
 pub returns-clause-value : goal.returns-clause-value
 returns-clause-value c =
@@ -22,18 +24,22 @@ returns-clause-value c =
     let k = c.args.k in
     let place = c.place_in_table.result in
     let angle = c.angle-angle.result in
-    let speed : to_z w64 c.speed.result ≡ speed_of b k = to_z_pos w64 c.speed.result (omega (arith, c.speed.ensures.size)) ∙ c.speed.ensures.value in
+    let speed : to_z w64 c.speed.result ≡ speed_of b k =
+    to_z_pos w64 c.speed.result (omega (arith, c.speed.ensures.size)) ∙ c.speed.ensures.value in
     let minutes : to_z w64 (of_z w64 (to_z w64 (of_z w64 c.from-minutes.result) -ℤ pos 60)) ≡ s.meridian -ℤ pos 60 =
     omega (arith, ints, c.from-minutes.ensures, c.requires.station.meridian.least, c.requires.station.meridian.most) in
     let argument : to_z w64 (of_z w64 (get_or c.as_slice.result.now place (pos 0))) ≡ get_or b.angles (k * b.years + c.args.year) (pos 0) =
-    rw (c.as_slice.ensures, c.get.ensures.exact) (cast_small w64 (get_or b.angles place (pos 0)) 7200000000 (book_angle b place c.get.ensures.sound c.place_in_table.ensures.within) (lit< tt))
+    rw (c.as_slice.ensures, c.get.ensures.exact) (cast_small w64 (get_or b.angles place (pos 0)) 7200000000
+    (book_angle b place c.get.ensures.valid c.place_in_table.ensures.within) (lit< tt))
     ∙ ap (λ p. get_or b.angles p (pos 0)) c.place_in_table.ensures.value in
     let epoch : to_z w64 (of_z w64 (get_or c.as_slice-2.result.now k (pos 0))) ≡ get_or s.epoch k (pos 0) =
-    rw c.as_slice-2.ensures (cast_small w64 (get_or s.epoch k (pos 0)) 7200000000 (station_epoch (length b.constituents) s k c.requires.station c.requires.place) (lit< tt)) in
+    rw c.as_slice-2.ensures (cast_small w64 (get_or s.epoch k (pos 0)) 7200000000
+    (station_epoch (length b.constituents) s k c.requires.station c.requires.place) (lit< tt)) in
     let is : angle ≡ angle_of b s c.args.year (start_of b.first_year c.args.year -ℤ pos 60) k =
     c.angle-angle.ensures.value ∙ angle_an_hour_before b s c.args.year k _ _ _ _ speed minutes argument epoch in
     let from : c.from.result ≡ angle = c.from.ensures ∙ cast_small w64 angle (10 ^ 13) c.angle-angle.ensures.size (lit< tt) in
-    let wide : to_z w128 (of_z w128 c.from.result) ≡ angle = rw from (cast_small w128 angle (10 ^ 13) c.angle-angle.ensures.size (lit< tt)) in
+    let wide : to_z w128 (of_z w128 c.from.result) ≡ angle =
+    rw from (cast_small w128 angle (10 ^ 13) c.angle-angle.ensures.size (lit< tt)) in
     let small = abs_onto c.reduce.result circle c.reduce.ensures.range.least c.reduce.ensures.range.below in
     ap unsigned_abs (cast_small w64 c.reduce.result circle small (lit< tt) ∙ c.reduce.ensures.value)
     ∙ ap (λ z. unsigned_abs (int_rem_euclid z (pos circle))) (wide ∙ is)

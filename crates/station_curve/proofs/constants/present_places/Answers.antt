@@ -17,9 +17,11 @@ loop-k-preserved c =
     elim c.if-as_slice-k-ne0.branch [
       | then-as_slice-k-ne0+in_ok-push w ↦
           let some : get_or s.amplitude k (pos 0) ≡ pos 0 → ⊥ = λ e. rw c.as_slice.ensures at w.if-as_slice-k-ne0.true (ap (of_z w64) e) in
-          ap (λ v. v.items) w.places-is ∙ w.in_ok-push.ensures.items ∙ ap (λ xs. xs ++ k ∷ []) c.loop-k.invariant ∙ sym (place-present b s k in_list some)
+          ap (λ v. v.items) w.places-is ∙ w.in_ok-push.ensures.items ∙ ap (λ xs. xs ++ k ∷ []) c.loop-k.invariant
+          ∙ sym (place-present b s k in_list some)
       | else-as_slice-k-ne0 w ↦
-          let none = zero_of_bits (get_or s.amplitude k (pos 0)) (10 ^ 10) small (lit< tt) (rw c.as_slice.ensures at w.if-as_slice-k-ne0.false) in
+          let none = zero_of_bits (get_or s.amplitude k (pos 0)) (10 ^ 10) small (lit< tt)
+          (rw c.as_slice.ensures at w.if-as_slice-k-ne0.false) in
           ap (λ v. v.items) w.places-is ∙ c.loop-k.invariant ∙ sym (place-absent b s k in_list none)
     ]
 
@@ -28,7 +30,7 @@ returns-clause-places c =
     let ended : c.loop-k.k ≡ c.count-k-end.result = omega arith in
     c.loop-k.invariant ∙ all_places c.args.book.now c.args.station.now c.loop-k.k (ended ∙ c.count-k-end.ensures.value)
 
-pub returns-clause-few : goal.returns-clause-few
-returns-clause-few c =
+pub returns-clause-count_bound : goal.returns-clause-count_bound
+returns-clause-count_bound c =
     let few = places-few c.args.book.now c.args.station.now c.loop-k.places.items (returns-clause-places c) in
-    omega (arith, few, c.count-k-end.ensures.value, c.count-k-end.ensures.few)
+    omega (arith, few, c.count-k-end.ensures.value, c.count-k-end.ensures.count_bound)

@@ -10,7 +10,7 @@ pub overflow_cast-result : goal.overflow_cast-result
 overflow_cast-result c =
     let element = c.index-as_slice-k.result in
     let at = rw (c.as_slice.ensures, c.get.ensures.exact) at c.index-as_slice-k.is in
-    let range = speed_within c.args.book.now element c.args.k c.get.ensures.sound c.requires.place at in
+    let range = speed_within c.args.book.now element c.args.k c.get.ensures.valid c.requires.place at in
     let small = abs_within element.speed 0 3600000000 range.least range.most in
     let same : to_z w64 (of_z w64 element.speed) ≡ element.speed = cast_small w64 element.speed 3600000000 small (lit< tt) in
     rw same (omega (arith, ints, range.least), omega (arith, small))
@@ -19,7 +19,7 @@ pub returns-clause-value : goal.returns-clause-value
 returns-clause-value c =
     let element = c.index-as_slice-k.result in
     let at = rw (c.as_slice.ensures, c.get.ensures.exact) at c.index-as_slice-k.is in
-    let range = speed_within c.args.book.now element c.args.k c.get.ensures.sound c.requires.place at in
+    let range = speed_within c.args.book.now element c.args.k c.get.ensures.valid c.requires.place at in
     let small = abs_within element.speed 0 3600000000 range.least range.most in
     let same : to_z w64 (of_z w64 element.speed) ≡ element.speed = cast_small w64 element.speed 3600000000 small (lit< tt) in
     rw same (pos_abs element.speed range.least ∙ constituent_speed c.args.book.now element c.args.k c.requires.place at)
@@ -28,7 +28,7 @@ pub returns-clause-size : goal.returns-clause-size
 returns-clause-size c =
     let element = c.index-as_slice-k.result in
     let at = rw (c.as_slice.ensures, c.get.ensures.exact) at c.index-as_slice-k.is in
-    let range = speed_within c.args.book.now element c.args.k c.get.ensures.sound c.requires.place at in
+    let range = speed_within c.args.book.now element c.args.k c.get.ensures.valid c.requires.place at in
     let small = abs_within element.speed 0 3600000000 range.least range.most in
     let same : to_z w64 (of_z w64 element.speed) ≡ element.speed = cast_small w64 element.speed 3600000000 small (lit< tt) in
     rw same small

@@ -26,17 +26,23 @@ loop-year-preserved c =
     let steepness_here : FitsSigned w128 y.sums.steep = search rules in
     record {
       amount = to_z-of_z w128 c.max-amount.result amount
-          ∙ greatest-more amount_of years i y _ _ _ inside at c.loop-year.invariant.amount (to_z-of_z w128 y.sums.amount amount_here ∙ ap (λ s. s.amount) sums) c.max-amount.ensures.value;
+          ∙ greatest-more amount_of years i y _ _ _ inside
+          at c.loop-year.invariant.amount (to_z-of_z w128 y.sums.amount amount_here ∙ ap (λ s. s.amount) sums)
+          c.max-amount.ensures.value;
       steepness = to_z-of_z w128 c.max-steepness.result steepness
-          ∙ greatest-more steepness_of years i y _ _ _ inside at c.loop-year.invariant.steepness (to_z-of_z w128 y.sums.steep steepness_here ∙ ap (λ s. s.steep) sums) c.max-steepness.ensures.value;
+          ∙ greatest-more steepness_of years i y _ _ _ inside
+          at c.loop-year.invariant.steepness (to_z-of_z w128 y.sums.steep steepness_here ∙ ap (λ s. s.steep) sums)
+          c.max-steepness.ensures.value;
     }
 
 pub returns-clause-amount : goal.returns-clause-amount
 returns-clause-amount c =
     let all = take_all c.loop-year.year-index c.args.years.now (omega (arith, c.loop-year-test.false)) in
-    c.loop-year.invariant.amount ∙ ap (λ (ys : List Year). pos (greatest_so_far amount_of ys)) all ∙ ap pos (greatest-kept amount_of c.args.years.now)
+    c.loop-year.invariant.amount ∙ ap (λ (ys : List Year). pos (greatest_so_far amount_of ys)) all
+    ∙ ap pos (greatest-kept amount_of c.args.years.now)
 
 pub returns-clause-steepness : goal.returns-clause-steepness
 returns-clause-steepness c =
     let all = take_all c.loop-year.year-index c.args.years.now (omega (arith, c.loop-year-test.false)) in
-    c.loop-year.invariant.steepness ∙ ap (λ (ys : List Year). pos (greatest_so_far steepness_of ys)) all ∙ ap pos (greatest-kept steepness_of c.args.years.now)
+    c.loop-year.invariant.steepness ∙ ap (λ (ys : List Year). pos (greatest_so_far steepness_of ys)) all
+    ∙ ap pos (greatest-kept steepness_of c.args.years.now)

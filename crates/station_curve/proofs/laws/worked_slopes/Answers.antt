@@ -10,29 +10,43 @@ use Rattle.station_curve.specs.Schureman.{predicted_year_level, predicted_year_s
 use Rattle.station_curve.proofs.laws.worked_slopes.Goals as goal
 
 pub returns-clause-before_noon : goal.returns-clause-before_noon
-unfolding predicted_slope predicted_year_slope predicted_year_level rounded_of place_of place_in year_at weight_of weight_slope_of year_start_of days_from_civil day_count days_of_years days_of_months icos_of isin_of half_of quarter_of scaled_between sine_at correction sines
+unfolding predicted_slope predicted_year_slope predicted_year_level rounded_of place_of place_in year_at weight_of
+    weight_slope_of year_start_of days_from_civil day_count days_of_years days_of_months icos_of isin_of half_of
+    quarter_of scaled_between sine_at correction sines
 returns-clause-before_noon c = refl
 
 pub returns-clause-noon : goal.returns-clause-noon
-unfolding predicted_slope predicted_year_slope predicted_year_level rounded_of place_of place_in year_at weight_of weight_slope_of year_start_of days_from_civil day_count days_of_years days_of_months icos_of isin_of half_of quarter_of scaled_between sine_at correction sines
+unfolding predicted_slope predicted_year_slope predicted_year_level rounded_of place_of place_in year_at weight_of
+    weight_slope_of year_start_of days_from_civil day_count days_of_years days_of_months icos_of isin_of half_of
+    quarter_of scaled_between sine_at correction sines
 returns-clause-noon c = refl
 
 pub returns-clause-blended_rising : goal.returns-clause-blended_rising
-unfolding predicted_slope predicted_year_slope predicted_year_level rounded_of place_of place_in year_at weight_of weight_slope_of year_start_of days_from_civil day_count days_of_years days_of_months icos_of isin_of half_of quarter_of scaled_between sine_at correction sines
+unfolding predicted_slope predicted_year_slope predicted_year_level rounded_of place_of place_in year_at weight_of
+    weight_slope_of year_start_of days_from_civil day_count days_of_years days_of_months icos_of isin_of half_of
+    quarter_of scaled_between sine_at correction sines
 returns-clause-blended_rising c = refl
 
 pub returns-clause-blended_falling : goal.returns-clause-blended_falling
-unfolding predicted_slope predicted_year_slope predicted_year_level rounded_of place_of place_in year_at weight_of weight_slope_of year_start_of days_from_civil day_count days_of_years days_of_months icos_of isin_of half_of quarter_of scaled_between sine_at correction sines
+unfolding predicted_slope predicted_year_slope predicted_year_level rounded_of place_of place_in year_at weight_of
+    weight_slope_of year_start_of days_from_civil day_count days_of_years days_of_months icos_of isin_of half_of
+    quarter_of scaled_between sine_at correction sines
 returns-clause-blended_falling c = refl
 
 pub returns-clause-harbour_2000 : goal.returns-clause-harbour_2000
-unfolding predicted_slope predicted_year_slope predicted_year_level rounded_of place_of place_in year_at weight_of weight_slope_of year_start_of days_from_civil day_count days_of_years days_of_months icos_of isin_of half_of quarter_of scaled_between sine_at correction sines
+unfolding predicted_slope predicted_year_slope predicted_year_level rounded_of place_of place_in year_at weight_of
+    weight_slope_of year_start_of days_from_civil day_count days_of_years days_of_months icos_of isin_of half_of
+    quarter_of scaled_between sine_at correction sines
 returns-clause-harbour_2000 c = refl
 
 pub returns-clause-harbour_new_year : goal.returns-clause-harbour_new_year
-unfolding predicted_slope predicted_year_slope predicted_year_level rounded_of place_of place_in year_at weight_of weight_slope_of year_start_of days_from_civil day_count days_of_years days_of_months icos_of isin_of half_of quarter_of scaled_between sine_at correction sines
+unfolding predicted_slope predicted_year_slope predicted_year_level rounded_of place_of place_in year_at weight_of
+    weight_slope_of year_start_of days_from_civil day_count days_of_years days_of_months icos_of isin_of half_of
+    quarter_of scaled_between sine_at correction sines
 returns-clause-harbour_new_year c = refl
 
 pub returns-clause-harbour_2001 : goal.returns-clause-harbour_2001
-unfolding predicted_slope predicted_year_slope predicted_year_level rounded_of place_of place_in year_at weight_of weight_slope_of year_start_of days_from_civil day_count days_of_years days_of_months icos_of isin_of half_of quarter_of scaled_between sine_at correction sines
+unfolding predicted_slope predicted_year_slope predicted_year_level rounded_of place_of place_in year_at weight_of
+    weight_slope_of year_start_of days_from_civil day_count days_of_years days_of_months icos_of isin_of half_of
+    quarter_of scaled_between sine_at correction sines
 returns-clause-harbour_2001 c = refl

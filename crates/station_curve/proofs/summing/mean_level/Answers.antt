@@ -10,5 +10,8 @@ returns-clause-value c =
 
 pub returns-clause-size : goal.returns-clause-size
 returns-clause-size c =
-    rw (c.from.ensures ∙ cast_small w64 c.args.datum (10 ^ 10) c.requires (lit< tt), times w128 (pos (10 ^ 9)) c.args.datum (10 ^ 9) (10 ^ 10) (lit≤ tt) c.requires (lit< tt) (lit< tt) (lit< tt))
+    rw (
+      c.from.ensures ∙ cast_small w64 c.args.datum (10 ^ 10) c.requires (lit< tt),
+      times w128 (pos (10 ^ 9)) c.args.datum (10 ^ 9) (10 ^ 10) (lit≤ tt) c.requires (lit< tt) (lit< tt) (lit< tt),
+    )
     (abs_times (pos (10 ^ 9)) c.args.datum (10 ^ 9) (10 ^ 10) (lit≤ tt) c.requires)

@@ -8,8 +8,8 @@ pub new-requires-clause-scale : goal.new-requires-clause-scale
 new-requires-clause-scale c =
     let found = c.args.found.now in
     let basis = found.basis in
-    let small : unsigned_abs c.in-Some.level ≤ 10000000000 = found.sound.near.mark c.in-Some.level c.in-Some.is in
+    let small : unsigned_abs c.in-Some.level ≤ 10000000000 = found.valid.in_range.mark c.in-Some.level c.in-Some.is in
     let times : FitsSigned w64 basis.high.times = search rules in
     let plus : FitsSigned w64 basis.high.plus = search rules in
     let level : FitsSigned w64 c.in-Some.level = search rules in
-    simp to_z-of_z (mark_scale basis c.in-Some.level (has_offsets _ basis found.sound.sound) small)
+    simp to_z-of_z (mark_scale basis c.in-Some.level (has_offsets _ basis found.valid.valid) small)

@@ -9,4 +9,5 @@ new-requires-clause-scale c =
     let found = c.args.found.now in
     let times : FitsSigned w64 c.slack_times-times.result = search rules in
     let plus : FitsSigned w64 c.slack_plus-plus.result = search rules in
-    simp to_z-of_z (rw (c.slack_times-times.ensures, c.slack_plus-plus.ensures) (slack_scale found.basis.slack found.basis refl (has_offsets _ found.basis found.sound.sound)))
+    simp to_z-of_z (rw (c.slack_times-times.ensures, c.slack_plus-plus.ensures)
+    (slack_scale found.basis.slack found.basis refl (has_offsets _ found.basis found.valid.valid)))

@@ -14,7 +14,9 @@ returns c =
     let source : FitsSigned w64 c.source.result = search rules in
     let level : FitsSigned w64 c.millionths-level.result = search rules in
     let at : c.source.result ≡ source_of (tide_of_found found) c.args.minute = simp to_z-of_z at c.source.ensures.exact in
-    let millionths : c.millionths-level.result ≡ millionths_of found.curve c.source.result = simp to_z-of_z at c.millionths-level.ensures.value in
+    let millionths : c.millionths-level.result ≡ millionths_of found.curve c.source.result =
+    simp to_z-of_z at c.millionths-level.ensures.value in
     let all : c.scaled.result ≡ scaled found.basis.high c.millionths-level.result = simp to_z-of_z at c.scaled.ensures in
     let fits : FitsSigned w64 c.scaled.result = search rules in
-    to_z-of_z w64 _ fits ∙ all ∙ ap (scaled found.basis.high) (millionths ∙ ap (millionths_of found.curve) at) ∙ level_for found c.args.minute c.requires
+    to_z-of_z w64 _ fits ∙ all ∙ ap (scaled found.basis.high) (millionths ∙ ap (millionths_of found.curve) at)
+    ∙ level_for found c.args.minute c.requires

@@ -9,8 +9,8 @@ find_peak-requires-clause-some c =
     let end : FitsSigned w64 c.args.found.now.span.end = search rules in
     simp to_z-of_z (peak_some c.args.found.now c.requires)
 
-pub find_peak-requires-clause-short : goal.find_peak-requires-clause-short
-find_peak-requires-clause-short c =
+pub find_peak-requires-clause-length_bound : goal.find_peak-requires-clause-length_bound
+find_peak-requires-clause-length_bound c =
     let begin : FitsSigned w64 c.args.found.now.span.begin = search rules in
     let end : FitsSigned w64 c.args.found.now.span.end = search rules in
     simp to_z-of_z (peak_short c.args.found.now c.requires)

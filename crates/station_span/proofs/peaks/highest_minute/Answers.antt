@@ -10,8 +10,8 @@ highest_point-requires-clause-some c =
     let end : FitsSigned w64 c.args.found.now.span.end = search rules in
     simp to_z-of_z (peak_some c.args.found.now c.requires)
 
-pub highest_point-requires-clause-short : goal.highest_point-requires-clause-short
-highest_point-requires-clause-short c =
+pub highest_point-requires-clause-length_bound : goal.highest_point-requires-clause-length_bound
+highest_point-requires-clause-length_bound c =
     let begin : FitsSigned w64 c.args.found.now.span.begin = search rules in
     let end : FitsSigned w64 c.args.found.now.span.end = search rules in
     simp to_z-of_z (peak_short c.args.found.now c.requires)

@@ -7,7 +7,8 @@ pub returns-clause-exact : goal.returns-clause-exact
 returns-clause-exact c =
     let begin : FitsSigned w64 c.args.found.now.span.begin = search rules in
     let end : FitsSigned w64 c.args.found.now.span.end = search rules in
-    (simp to_z-of_z at c.check_peak.ensures.verdict) ∙ verdict_is c.args.found.now _ c.args.peak.now c.requires.peak c.level_curve.ensures.meaning
+    (simp to_z-of_z at c.check_peak.ensures.verdict)
+    ∙ verdict_is c.args.found.now _ c.args.peak.now c.requires.peak c.level_curve.ensures.meaning
 
 pub returns-clause-inside : goal.returns-clause-inside
 returns-clause-inside c = λ accepted. (

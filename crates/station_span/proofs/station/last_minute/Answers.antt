@@ -8,4 +8,4 @@ pub returns-clause-moment : goal.returns-clause-moment
 returns-clause-moment c =
     let f : FitsSigned w64 c.year_start.result = search rules in
     let value : c.year_start.result ≡ year_start_of (c.args.book.now.first_year +ℤ pos c.args.book.now.years) = search rules in
-    simp to_z-of_z (rw value (last_moment c.args.book.now c.get-book.ensures.sound))
+    simp to_z-of_z (rw value (last_moment c.args.book.now c.get-book.ensures.valid))

@@ -11,7 +11,7 @@ returns c =
     rw c.into_byte_records.ensures.rdr record {
       trim = rw (flexible, headers) at reader.trim ∙ c.new.ensures.trim;
       ready = inr (inr (rw (flexible, headers) at reader.has_headers, reader.headers));
-      turns = c.into_byte_records.ensures.left;
+      rows_left = c.into_byte_records.ensures.left;
       config = rw (flexible, headers) at reader.config ∙ c.new.ensures.config;
       rest = strip_bom c.args.bytes.now;
       source = reader.source;

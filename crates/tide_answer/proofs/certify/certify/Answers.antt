@@ -1,7 +1,7 @@
 use Rattle.station_span.specs.Workings.Finds.{site_of, tide_of_found}
 use Rattle.station_span.proofs.HeldLemmas.{few_for, ready_for, tracks_tide}
 use Rattle.std.proofs.Common.{◌∙◌}
-use Rattle.tide_answer.proofs.CertificateLemmas.{certificate_sound, certified_whole}
+use Rattle.tide_answer.proofs.CertificateLemmas.{certificate_valid, certified_whole}
 use Rattle.tide_answer.proofs.certify.certify.Goals as goal
 
 pub cell_count-cells-requires : goal.cell_count-cells-requires
@@ -11,14 +11,16 @@ pub write_certificate-requires : goal.write_certificate-requires
 write_certificate-requires c =
     let found = c.in_ok-found.found in
     let is = c.in_ok-found.ensures.exact in
-    let sound = certificate_sound c.args.name.now found.asked (tide_of_found found) c.in_ok-tracks.tracks c.in_ok-found.ensures.named
-    (rw is.asked c.requires.begin) (rw is.asked c.requires.end) (ready_for found is.reach) (c.in_ok-tracks.ensures ∙ tracks_tide found is.reach) in
-    rw (c.certificate_of-cert.ensures, c.in_ok-copy.ensures) (rw is.asked at sound)
+    let valid = certificate_valid c.args.name.now found.asked (tide_of_found found) c.in_ok-tracks.tracks c.in_ok-found.ensures.named
+    (rw is.asked c.requires.begin) (rw is.asked c.requires.end) (ready_for found is.reach)
+    (c.in_ok-tracks.ensures ∙ tracks_tide found is.reach) in
+    rw (c.certificate_of-cert.ensures, c.in_ok-copy.ensures) (rw is.asked at valid)
 
 pub returns-clause-exact : goal.returns-clause-exact
 returns-clause-exact c =
     let is = c.in_ok-found.ensures.exact in
     let written = rw (c.certificate_of-cert.ensures, c.in_ok-copy.ensures) at c.in_ok-text.ensures in
     let tracks = rw (is.book, is.asked) at c.in_ok-tracks.ensures in
-    certified_whole c.args.book.now c.args.table.now c.args.name.now c.args.asked.now (site_of c.in_ok-found.found) c.in_ok-tracks.tracks c.in_ok-text.text c.cell_count-cells.result
+    certified_whole c.args.book.now c.args.table.now c.args.name.now c.args.asked.now
+    (site_of c.in_ok-found.found) c.in_ok-tracks.tracks c.in_ok-text.text c.cell_count-cells.result
     is.site tracks written c.cell_count-cells.ensures

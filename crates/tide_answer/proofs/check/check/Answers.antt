@@ -1,10 +1,10 @@
 use Rattle.tide_answer.proofs.CheckLemmas.{few_read, checked_by}
 use Rattle.tide_answer.proofs.check.check.Goals as goal
 
-pub judge-requires-clause-few : goal.judge-requires-clause-few
-judge-requires-clause-few c =
+pub judge-requires-clause-count_bound : goal.judge-requires-clause-count_bound
+judge-requires-clause-count_bound c =
     few_read c.in_ok-cert.cert c.args.bytes.now
-    (c.certificates_have_one_text.ensures.only_text c.in_ok-cert.cert c.args.bytes.now c.in_ok-cert.ensures.reads).1 c.requires.few
+    (c.certificates_have_one_text.ensures.only_text c.in_ok-cert.cert c.args.bytes.now c.in_ok-cert.ensures.reads).1 c.requires.count_bound
 
 pub returns-clause-exact : goal.returns-clause-exact
 returns-clause-exact c =

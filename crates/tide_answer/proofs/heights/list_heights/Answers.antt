@@ -13,14 +13,15 @@ returns-in_err-check_rows-clause-exact c =
     let is = c.in_ok-found.ensures.exact in
     let excused = simp to_z-of_z at c.in_err-check_rows.ensures.exact in
     rw (p.1, p.2)
-    (refused_rows _ c.args.book.now c.args.table.now c.args.name.now c.args.asked.now c.args.step c.args.layout c.args.zone.now (site_of c.in_ok-found.found) _
+    (refused_rows _ c.args.book.now c.args.table.now c.args.name.now c.args.asked.now c.args.step c.args.layout
+    c.args.zone.now (site_of c.in_ok-found.found) _
     is.site (sym c.in_ok-check_level.ensures.exact) (excused_by _ _ _ (sym excused)))
 
 pub rows_of-requires-clause-levels : goal.rows_of-requires-clause-levels
 rows_of-requires-clause-levels c = c.in_ok-check_level.ensures.all c.in_ok-found.ensures.exact.reach
 
-pub rows_of-requires-clause-few : goal.rows_of-requires-clause-few
-rows_of-requires-clause-few c = rw c.in_ok-found.ensures.exact.asked c.in_ok-check_rows.ensures.few
+pub rows_of-requires-clause-count_bound : goal.rows_of-requires-clause-count_bound
+rows_of-requires-clause-count_bound c = rw c.in_ok-found.ensures.exact.asked c.in_ok-check_rows.ensures.count_bound
 
 pub returns-clause-exact : goal.returns-clause-exact
 returns-clause-exact c =
@@ -29,5 +30,6 @@ returns-clause-exact c =
     let few = simp to_z-of_z at c.in_ok-check_rows.ensures.exact in
     let rows = rw (is.book, is.asked) at (simp to_z-of_z at c.in_ok-rows.ensures.exact) in
     rw (c.text_alone.ensures, c.in_ok-text.ensures, c.in_ok-found.found.unit)
-    (whole_list c.args.book.now c.args.table.now c.args.name.now c.args.asked.now c.args.step c.args.layout c.args.zone.now (site_of c.in_ok-found.found) c.in_ok-rows.rows
+    (whole_list c.args.book.now c.args.table.now c.args.name.now c.args.asked.now c.args.step c.args.layout
+    c.args.zone.now (site_of c.in_ok-found.found) c.in_ok-rows.rows
     is.site (sym c.in_ok-check_level.ensures.exact) (sym few) rows)

@@ -17,7 +17,8 @@ loop-place-preserved c =
     let row = simp to_z-of_z at c.row_at.ensures in
     let before = simp to_z-of_z at c.loop-place.invariant in
     simp to_z-of_z
-    (row_added c.args.found.now c.args.step c.loop-place.place c.loop-place.rows.items _ _ c.requires.levels c.requires.step (rw count at c.loop-place-test.true) before row c.in_ok-push.ensures.items)
+    (row_added c.args.found.now c.args.step c.loop-place.place c.loop-place.rows.items _ _ c.requires.levels
+    c.requires.step (rw count at c.loop-place-test.true) before row c.in_ok-push.ensures.items)
 
 pub returns-clause-listed : goal.returns-clause-listed
 returns-clause-listed c = rw c.from_vec.ensures c.loop-place.invariant.listed

@@ -1,14 +1,15 @@
 use Rattle.std.proofs.Common.{refl}
 use Rattle.tide_answer.specs.Answers.{peak_certified}
-use Rattle.tide_answer.proofs.PeakLemmas.{certificate_sound}
+use Rattle.tide_answer.proofs.PeakLemmas.{certificate_valid}
 use Rattle.tide_answer.proofs.highest.certify_peak.Goals as goal
 
 pub write_peak-requires : goal.write_peak-requires
 write_peak-requires c =
     let found = c.in_ok-found.found in
     let is = c.in_ok-found.ensures.exact in
-    let sound = certificate_sound c.args.name.now found c.in_ok-peak.peak c.in_ok-found.ensures.named (rw is.asked c.requires.moments) c.in_ok-found.ensures.peak c.in_ok-peak.ensures.exact in
-    rw (c.certificate_of-cert.ensures, c.in_ok-copy.ensures) (rw is.asked at sound)
+    let valid = certificate_valid c.args.name.now found c.in_ok-peak.peak c.in_ok-found.ensures.named
+    (rw is.asked c.requires.moments) c.in_ok-found.ensures.peak c.in_ok-peak.ensures.exact in
+    rw (c.certificate_of-cert.ensures, c.in_ok-copy.ensures) (rw is.asked at valid)
 
 pub returns-clause-exact : goal.returns-clause-exact
 unfolding peak_certified

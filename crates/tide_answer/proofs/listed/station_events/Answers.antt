@@ -8,4 +8,5 @@ returns-clause-exact c =
     let named = rw c.new-question.ensures at c.in_ok-name.ensures.found in
     let spans = rw c.new-question.ensures at c.in_ok-asked.ensures.exact in
     rw c.in_ok-copy.ensures
-    (listed_whole c.args.book.now c.args.table.now c.args.question.now c.in_ok-name.name.now c.in_ok-asked.asked exact.0 c.in_ok-found.found named (sym spans) exact.1 exact.2)
+    (listed_whole c.args.book.now c.args.table.now c.args.question.now c.in_ok-name.name.now c.in_ok-asked.asked exact.0
+    c.in_ok-found.found named (sym spans) exact.1 exact.2)

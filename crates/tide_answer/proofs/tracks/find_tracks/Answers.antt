@@ -5,7 +5,7 @@ use Rattle.station_span.specs.declared.reach.Reach.TheVariants.{Events}
 use Rattle.station_span.specs.Workings.Curves.{followed_tide}
 use Rattle.station_span.specs.Workings.Finds.{tide_of_found}
 use Rattle.station_span.proofs.HeldLemmas.{minutes_for, ready_for, span_for, tracks_for}
-use Rattle.station_span.proofs.TellLemmas.{tells_turn, tells_slack, tells_mark}
+use Rattle.station_span.proofs.FreshLemmas.{fresh_turn, fresh_slack, fresh_mark}
 use Rattle.event_list.specs.Events.{covers_of}
 use Rattle.tide_answer.proofs.CheckLemmas.{ok_same}
 use Rattle.tide_answer.proofs.tracks.find_tracks.Goals as goal
@@ -14,23 +14,25 @@ pub tracks_over-requires-clause-turn : goal.tracks_over-requires-clause-turn
 tracks_over-requires-clause-turn c =
     let found = c.args.found.now in
     rw (span_for found Events c.requires)
-    (tells_turn Second found.asked (tide_of_found found) _ (ready_for found c.requires) c.turn_curve-turn.ensures.meaning c.turn_curve-turn.ensures.fresh)
+    (fresh_turn Second found.asked (tide_of_found found) _
+    (ready_for found c.requires) c.turn_curve-turn.ensures.meaning c.turn_curve-turn.ensures.fresh)
 
 pub tracks_over-requires-clause-slack : goal.tracks_over-requires-clause-slack
 tracks_over-requires-clause-slack c =
     let found = c.args.found.now in
-    tells_slack Second (tide_of_found found) found.span mark_state
+    fresh_slack Second (tide_of_found found) found.span mark_state
     c.slack_curve-slack.result (minutes_for found c.requires) c.slack_curve-slack.ensures.meaning c.slack_curve-slack.ensures.fresh
 
 pub tracks_over-requires-clause-mark : goal.tracks_over-requires-clause-mark
 tracks_over-requires-clause-mark c =
     let found = c.args.found.now in
-    tells_mark Second (tide_of_found found) found.asked.mark found.span mark_state
+    fresh_mark Second (tide_of_found found) found.asked.mark found.span mark_state
     c.mark_curve-mark.result (minutes_for found c.requires) c.mark_curve-mark.ensures.meaning c.mark_curve-mark.ensures.fresh
 
 pub returns : goal.returns
 unfolding followed_tide
 returns c =
     let found = c.args.found.now in
-    let tide : IfOk c.tracks_over.result (λ t. t ≡ covers_of (followed_tide Second (tide_of_found found) found.asked.mark) found.span) = search rules in
+    let tide : IfOk c.tracks_over.result
+    (λ t. t ≡ covers_of (followed_tide Second (tide_of_found found) found.asked.mark) found.span) = search rules in
     ok_same _ _ c.tracks_over.result _ _ (tracks_for found c.requires) tide

@@ -9,7 +9,7 @@ pub returns-then-stations-le-STATIONS-clause-exact : goal.returns-then-stations-
 returns-then-stations-le-STATIONS-clause-exact c =
     rw (← c.as_slice-stations.ensures) (sym (take_all 40 c.as_slice-stations.result.now c.if-stations-le-STATIONS.true))
 
-pub returns-else-stations-le-STATIONS-clause-few : goal.returns-else-stations-le-STATIONS-clause-few
-returns-else-stations-le-STATIONS-clause-few c =
+pub returns-else-stations-le-STATIONS-clause-count_bound : goal.returns-else-stations-le-STATIONS-clause-count_bound
+returns-else-stations-le-STATIONS-clause-count_bound c =
     let long = length-take-le 40 c.as_slice-stations.result.now (omega arith) in
     omega arith

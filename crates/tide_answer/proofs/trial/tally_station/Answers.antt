@@ -7,12 +7,13 @@ use Rattle.station_span.proofs.HeldLemmas.{few_for, span_for}
 use Rattle.tide_answer.proofs.TrialLemmas.{station_whole, tracks_few}
 use Rattle.tide_answer.proofs.trial.tally_station.Goals as goal
 
-pub find_rejection-rejection-requires-clause-few : goal.find_rejection-rejection-requires-clause-few
-find_rejection-rejection-requires-clause-few c =
-    rw c.certificate_of-cert.ensures (tracks_few c.in_ok-found.found c.in_ok-tracks.tracks c.in_ok-found.ensures.exact.reach c.in_ok-tracks.ensures)
+pub find_rejection-rejection-requires-clause-count_bound : goal.find_rejection-rejection-requires-clause-count_bound
+find_rejection-rejection-requires-clause-count_bound c =
+    rw c.certificate_of-cert.ensures
+    (tracks_few c.in_ok-found.found c.in_ok-tracks.tracks c.in_ok-found.ensures.exact.reach c.in_ok-tracks.ensures)
 
-pub of-requires-clause-few : goal.of-requires-clause-few
-of-requires-clause-few c =
+pub of-requires-clause-count_bound : goal.of-requires-clause-count_bound
+of-requires-clause-count_bound c =
     rw (c.certificate_of-cert.ensures, c.in_ok-tracks.ensures) (few_for c.in_ok-found.found c.in_ok-found.ensures.exact.reach)
 
 pub returns-clause-exact : goal.returns-clause-exact
@@ -21,6 +22,7 @@ returns-clause-exact c =
     let is = rw c.requires.table at c.in_ok-found.ensures.exact in
     let span = span_for found Events is.reach ∙ ap (λ (a : Asked). widened_of found.basis a.begin a.end) is.asked in
     rw (c.of.ensures.exact, c.certificate_of-cert.ensures)
-    (station_whole c.args.book.now c.args.name.now (site_of found) found.span c.in_ok-tracks.tracks c.in_ok-listed.listed.events c.find_rejection-rejection.result is.site span
+    (station_whole c.args.book.now c.args.name.now (site_of found) found.span c.in_ok-tracks.tracks
+    c.in_ok-listed.listed.events c.find_rejection-rejection.result is.site span
     (rw (is.book, is.asked) at c.in_ok-tracks.ensures) (rw (is.book, is.asked) at c.in_ok-listed.ensures.events)
     (rw (is.book, c.certificate_of-cert.ensures) at c.find_rejection-rejection.ensures))

@@ -27,20 +27,23 @@ returns-in_err-question-clause-reads g c =
 pub returns-in-Some-clause-own : goal.returns-in-Some-clause-own
 returns-in-Some-clause-own g c =
     λ t k. rw c.in_ok-question.ensures.exact
-    (meets_named _ _ _ _ c.args.words.now c.in_ok-question.question c.in-Some.name c.answer_over.result c.in_ok-question.ensures.exact c.in-Some.is
-    ((rw c.new-sound.ensures at c.answer_over.ensures.own) t (rw c.in_ok-question.ensures.exact at k)))
+    (meets_named _ _ _ _ c.args.words.now c.in_ok-question.question c.in-Some.name c.answer_over.result
+    c.in_ok-question.ensures.exact c.in-Some.is
+    ((rw c.new-valid.ensures at c.answer_over.ensures.own) t (rw c.in_ok-question.ensures.exact at k)))
 
 pub returns-in-Some-clause-shown : goal.returns-in-Some-clause-shown
 returns-in-Some-clause-shown g c =
     shown_named _ _ c.args.words.now c.in_ok-question.question c.in-Some.name
     (g.F.Files.state c.args.files.now).openings
     (g.F.Files.state c.answer_over.new.files).openings
-    c.answer_over.result c.in_ok-question.ensures.exact c.in-Some.is (rw c.new-sound.ensures at c.answer_over.ensures.shown)
+    c.answer_over.result c.in_ok-question.ensures.exact c.in-Some.is (rw c.new-valid.ensures at c.answer_over.ensures.shown)
 
 pub returns-in-Some-clause-reads : goal.returns-in-Some-clause-reads
 returns-in-Some-clause-reads g c =
-    went_by_words (reading_failed c.answer_over.result) _ c.in_ok-question.question c.in-Some.name (sources (g.F.Files.state c.args.files.now) (g.K.Clock.state c.args.clock.now)) (sources (g.F.Files.state c.answer_over.new.files) (g.K.Clock.state c.answer_over.new.clock))
-    c.in_ok-question.ensures.exact c.in-Some.is (rw c.new-sound.ensures at c.answer_over.ensures.reads)
+    went_by_words (reading_failed c.answer_over.result) _ c.in_ok-question.question c.in-Some.name
+    (sources (g.F.Files.state c.args.files.now) (g.K.Clock.state c.args.clock.now))
+    (sources (g.F.Files.state c.answer_over.new.files) (g.K.Clock.state c.answer_over.new.clock))
+    c.in_ok-question.ensures.exact c.in-Some.is (rw c.new-valid.ensures at c.answer_over.ensures.reads)
 
 pub returns-in-None-clause-reads : goal.returns-in-None-clause-reads
 returns-in-None-clause-reads g c =
@@ -51,18 +54,20 @@ pub returns-in-Some-clause-unopened : goal.returns-in-Some-clause-unopened
 returns-in-Some-clause-unopened g c =
     λ nameless. absurd (nameless (names_file _ c.in_ok-question.question c.in-Some.name c.in_ok-question.ensures.exact c.in-Some.is))
 
-pub returns-in-Some-clause-unasked : goal.returns-in-Some-clause-unasked
-returns-in-Some-clause-unasked g c = rw c.in_ok-question.ensures.exact (rw c.new-sound.ensures at c.answer_over.ensures.unasked)
+pub returns-in-Some-clause-clock_unread : goal.returns-in-Some-clause-clock_unread
+returns-in-Some-clause-clock_unread g c = rw c.in_ok-question.ensures.exact (rw c.new-valid.ensures at c.answer_over.ensures.clock_unread)
 
 pub returns-in-Some-clause-asked_last : goal.returns-in-Some-clause-asked_last
 returns-in-Some-clause-asked_last g c =
-    λ t unread. (rw c.new-sound.ensures at c.answer_over.ensures.asked_last) t
-    (λ read. unread (has_files (λ slot. (g.F.Files.state c.args.files.now).store.folder) _ c.in_ok-question.question c.in-Some.name c.in_ok-question.ensures.exact c.in-Some.is read))
+    λ t unread. (rw c.new-valid.ensures at c.answer_over.ensures.asked_last) t
+    (λ read. unread (has_files (λ slot. (g.F.Files.state c.args.files.now).store.folder) _ c.in_ok-question.question
+    c.in-Some.name c.in_ok-question.ensures.exact c.in-Some.is read))
 
 pub returns-in-None-clause-own : goal.returns-in-None-clause-own
 returns-in-None-clause-own g c =
-    λ t k. meets_alone _ _ _ _ c.args.words.now c.in_ok-question.question c.answer_without.result c.in_ok-question.ensures.exact c.in-None.is
-    (rw c.new-sound.ensures at c.answer_without.ensures.exact)
+    λ t k. meets_alone _ _ _ _ c.args.words.now c.in_ok-question.question c.answer_without.result
+    c.in_ok-question.ensures.exact c.in-None.is
+    (rw c.new-valid.ensures at c.answer_without.ensures.exact)
 
 pub returns-in-None-clause-shown : goal.returns-in-None-clause-shown
 returns-in-None-clause-shown g c =
@@ -71,18 +76,20 @@ returns-in-None-clause-shown g c =
     (g.F.Files.state c.args.files.now).openings
     c.answer_without.result refl
     (shown_alone _ _ c.args.words.now c.in_ok-question.question c.answer_without.result [] c.in_ok-question.ensures.exact c.in-None.is
-    (rw c.new-sound.ensures at c.answer_without.ensures.exact))
+    (rw c.new-valid.ensures at c.answer_without.ensures.exact))
 
-pub returns-in_err-question-clause-asked_once : goal.returns-in_err-question-clause-asked_once
-returns-in_err-question-clause-asked_once g c =
+pub returns-in_err-question-clause-clock_read_once : goal.returns-in_err-question-clause-clock_read_once
+returns-in_err-question-clause-clock_read_once g c =
     λ t asks has settled. let p = err_from_is_err_and c.from_residual.result c.from_residual.ensures.1 in
     absurd (unasked_unsettled _ _ c.in_err-question.ensures.exact asks (rw (p.1, p.2) at settled))
 
-pub returns-in-Some-clause-asked_once : goal.returns-in-Some-clause-asked_once
-returns-in-Some-clause-asked_once g c =
-    λ t asks has settled. (rw c.new-sound.ensures at c.answer_over.ensures.asked_once) t (rw c.in_ok-question.ensures.exact at asks)
-    (files_named (λ slot. (g.F.Files.state c.args.files.now).store.folder) _ c.in_ok-question.question c.in-Some.name c.in_ok-question.ensures.exact c.in-Some.is has) settled
+pub returns-in-Some-clause-clock_read_once : goal.returns-in-Some-clause-clock_read_once
+returns-in-Some-clause-clock_read_once g c =
+    λ t asks has settled. (rw c.new-valid.ensures at c.answer_over.ensures.clock_read_once) t (rw c.in_ok-question.ensures.exact at asks)
+    (files_named (λ slot. (g.F.Files.state c.args.files.now).store.folder) _ c.in_ok-question.question c.in-Some.name
+    c.in_ok-question.ensures.exact c.in-Some.is has) settled
 
-pub returns-in-None-clause-asked_once : goal.returns-in-None-clause-asked_once
-returns-in-None-clause-asked_once g c =
-    λ t asks has settled. absurd (nameless_unread (λ slot. (g.F.Files.state c.args.files.now).store.folder) _ c.in_ok-question.question c.in_ok-question.ensures.exact c.in-None.is has)
+pub returns-in-None-clause-clock_read_once : goal.returns-in-None-clause-clock_read_once
+returns-in-None-clause-clock_read_once g c =
+    λ t asks has settled. absurd (nameless_unread (λ slot. (g.F.Files.state c.args.files.now).store.folder) _
+    c.in_ok-question.question c.in_ok-question.ensures.exact c.in-None.is has)

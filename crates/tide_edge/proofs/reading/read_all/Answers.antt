@@ -84,5 +84,6 @@ returns-in-Ok-clause-too_long g c =
 pub returns-clause-too_long : goal.returns-clause-too_long
 returns-clause-too_long g c = (
   λ is. absurd cc,
-  λ has. absurd (unopened_unpassed c.args.limit c.args.name.now (g.F.Files.state c.args.files.now).openings _ (ap (λ s. s.openings) c.in-Err.ensures.after) has),
+  λ has. absurd (unopened_unpassed c.args.limit c.args.name.now (g.F.Files.state c.args.files.now).openings _
+      (ap (λ s. s.openings) c.in-Err.ensures.after) has),
 )

@@ -14,15 +14,18 @@ loop-count-init g c =
 
 pub read_more-requires-clause-open : goal.read_more-requires-clause-open
 read_more-requires-clause-open g c =
-    rw (still_open (g.D.Door.state c.args.door.now) (g.D.Door.state c.loop-count.door) c.loop-count.request false c.loop-count.invariant.read)
+    rw (still_open (g.D.Door.state c.args.door.now)
+    (g.D.Door.state c.loop-count.door) c.loop-count.request false c.loop-count.invariant.read)
     c.requires.is_open
 
 pub returns-in_default : goal.returns-in_default
 returns-in_default g c =
     rw c.loop-count.invariant.clock
-    (went_unread c.args.stock.now c.loop-count.request (g.D.Door.state c.args.door.now) (g.D.Door.state c.read_more.new.door) (g.K.Clock.state c.args.clock.now)
+    (went_unread c.args.served_data.now c.loop-count.request (g.D.Door.state c.args.door.now)
+    (g.D.Door.state c.read_more.new.door) (g.K.Clock.state c.args.clock.now)
     (has_failed (g.D.Door.state c.args.door.now) (g.D.Door.state c.loop-count.door) (g.D.Door.state c.read_more.new.door)
-    c.loop-count.request c.in_default.ensures.after.0 _ c.loop-count.invariant.read c.loop-count.invariant.waits c.in_default.ensures.after.1))
+    c.loop-count.request c.in_default.ensures.after.0 _ c.loop-count.invariant.read c.loop-count.invariant.waits
+    c.in_default.ensures.after.1))
 
 pub returns-then-is_empty : goal.returns-then-is_empty
 returns-then-is_empty g c =
@@ -42,7 +45,7 @@ returns-then-is_empty g c =
     sym c.as_slice-bytes.ensures ∙ grind (arith, common_steps, c.is_empty.ensures, c.if-is_empty.true) in
     let none : c.in-Ok.count ≡ 0 = grind (arith, common_steps, c.in-Ok.ensures.longer, empty) in
     rw c.loop-count.invariant.clock
-    (went_silent c.args.stock.now first after (g.K.Clock.state c.args.clock.now)
+    (went_silent c.args.served_data.now first after (g.K.Clock.state c.args.clock.now)
     (rw empty at (has_read first now after c.loop-count.request c.read_more.new.self c.in-Ok.count c.loop-count.invariant.read
     c.loop-count.invariant.waits more (over_none c.in-Ok.count c.read_more.new.self none) c.in-Ok.ensures.within_piece))
     (λ t. none_came _ (rw empty at (all_read first now after c.loop-count.request c.read_more.new.self c.in-Ok.count
@@ -60,7 +63,8 @@ answer_row-requires-clause-is_open g c =
       within = c.in-Ok.ensures.within;
       bytes = c.in-Ok.ensures.next_bytes;
     } in
-    rw (still_open_after (g.D.Door.state c.args.door.now) now (g.D.Door.state c.read_more.new.door) c.loop-count.request c.read_more.new.self
+    rw (still_open_after (g.D.Door.state c.args.door.now) now
+    (g.D.Door.state c.read_more.new.door) c.loop-count.request c.read_more.new.self
     c.in-Ok.count c.loop-count.invariant.read more) c.requires.is_open
 
 pub returns-then-ends_reading : goal.returns-then-ends_reading
@@ -82,7 +86,8 @@ returns-then-ends_reading g c =
     λ none. grind (arith, common_steps, c.is_empty.ensures, c.if-is_empty.false, c.as_slice-bytes.ensures, none) in
     let row_is = rw c.as_slice-bytes.ensures at c.row_for-row.ensures.row in
     let ends : (c.in-Ok.count == 0 || is_settled row) ≡ true = sym c.ends_reading.ensures ∙ c.if-ends_reading.true in
-    went_by_row (is_err c.answer_row.result) c.args.stock.now row c.read_more.new.self first after (g.D.Door.state c.answer_row.new.door)
+    went_by_row (is_err c.answer_row.result) c.args.served_data.now row c.read_more.new.self first after
+    (g.D.Door.state c.answer_row.new.door)
     (g.K.Clock.state c.args.clock.now) (g.K.Clock.state c.answer_row.new.clock)
     (has_read first now after c.loop-count.request c.read_more.new.self c.in-Ok.count c.loop-count.invariant.read
     c.loop-count.invariant.waits more (over_row c.in-Ok.count c.read_more.new.self row ends row_is) c.in-Ok.ensures.within_piece)

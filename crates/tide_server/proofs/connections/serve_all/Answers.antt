@@ -9,8 +9,8 @@ pub loop-taken-init : goal.loop-taken-init
 loop-taken-init g c = record {
   doorway = c.requires.listens;
   kept = none_kept (exchange (g.D.Door.state c.args.door.now) (g.K.Clock.state c.args.clock.now));
-  passed = none_passed c.args.stock.now (exchange (g.D.Door.state c.args.door.now) (g.K.Clock.state c.args.clock.now));
-  served = λ t k. none_served c.args.stock.now (exchange (g.D.Door.state c.args.door.now) (g.K.Clock.state c.args.clock.now));
+  passed = none_passed c.args.served_data.now (exchange (g.D.Door.state c.args.door.now) (g.K.Clock.state c.args.clock.now));
+  served = λ t k. none_served c.args.served_data.now (exchange (g.D.Door.state c.args.door.now) (g.K.Clock.state c.args.clock.now));
   unasked = λ none. refl;
 }
 
@@ -19,7 +19,7 @@ returns-in_err-serve_next-clause-served g c =
     λ t k. let p = err_from_is_err_and c.from_residual.result c.from_residual.ensures.1 in
     rw p.1
     (failed
-    c.args.stock.now
+    c.args.served_data.now
     c.in_err-serve_next.field-0.0
     c.loop-taken._taken
     (exchange (g.D.Door.state c.args.door.now) (g.K.Clock.state c.args.clock.now))
@@ -37,7 +37,7 @@ returns-in_err-serve_next-clause-kept g c =
     let p = err_from_is_err_and c.from_residual.result c.from_residual.ensures.1 in
     rw (p.1, p.2)
     (kept_by
-    c.args.stock.now
+    c.args.served_data.now
     c.in_err-serve_next.field-0.0
     (exchange (g.D.Door.state c.args.door.now) (g.K.Clock.state c.args.clock.now))
     (exchange (g.D.Door.state c.loop-taken.door) (g.K.Clock.state c.loop-taken.clock))
@@ -50,7 +50,7 @@ returns-in_err-serve_next-clause-passed g c =
     let p = err_from_is_err_and c.from_residual.result c.from_residual.ensures.1 in
     rw p.1
     (failed_passed
-    c.args.stock.now
+    c.args.served_data.now
     c.in_err-serve_next.field-0.0
     (exchange (g.D.Door.state c.args.door.now) (g.K.Clock.state c.args.clock.now))
     (exchange (g.D.Door.state c.loop-taken.door) (g.K.Clock.state c.loop-taken.clock))
@@ -69,12 +69,12 @@ loop-taken-preserved g c =
     ap (λ d. d.doorway) step.door in
     let doorway = rw c.loop-taken.invariant.doorway at next in record {
       doorway =
-          next_serving c.args.stock.now.port c.loop-taken._taken (g.D.Door.state c.serve_next.new.door).doorway
+          next_serving c.args.served_data.now.port c.loop-taken._taken (g.D.Door.state c.serve_next.new.door).doorway
           c.loop-taken-test.true doorway;
-      kept = kept_on c.args.stock.now before now after c.loop-taken.invariant.kept step;
-      passed = passed_on c.args.stock.now before now after c.loop-taken.invariant.passed step;
+      kept = kept_on c.args.served_data.now before now after c.loop-taken.invariant.kept step;
+      passed = passed_on c.args.served_data.now before now after c.loop-taken.invariant.passed step;
       served = λ t k.
-          more_served c.args.stock.now c.loop-taken._taken before now after t k c.loop-taken.invariant.kept
+          more_served c.args.served_data.now c.loop-taken._taken before now after t k c.loop-taken.invariant.kept
           (c.loop-taken.invariant.served t k) step;
       unasked = λ none. absurd (omega (arith, none));
     }

@@ -6,7 +6,7 @@ pub returns-in-Ok-serve_connection-clause-steps : goal.returns-in-Ok-serve_conne
 returns-in-Ok-serve_connection-clause-steps g c =
     let comes : c.in-Ok.comes ≡ true = search rules in
     served_next
-    c.args.stock.now
+    c.args.served_data.now
     (g.D.Door.state c.args.door.now)
     (g.D.Door.state c.next.new.self)
     (g.D.Door.state c.serve_connection.new.door)
@@ -20,7 +20,7 @@ pub returns-in-Err-serve_connection-clause-steps : goal.returns-in-Err-serve_con
 returns-in-Err-serve_connection-clause-steps g c =
     let comes : c.in-Ok.comes ≡ true = search rules in
     left_next
-    c.args.stock.now
+    c.args.served_data.now
     (g.D.Door.state c.args.door.now)
     (g.D.Door.state c.next.new.self)
     (g.D.Door.state c.serve_connection.new.door)

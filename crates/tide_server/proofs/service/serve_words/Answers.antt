@@ -1,19 +1,21 @@
 use Rattle.std.proofs.Common.{◌∙◌, inl, inr, false, refl, sym}
 use Rattle.std.specs.Bool.{IsTrue}
 use Rattle.named_files.specs.NoAnswers.{is_unread}
-use Rattle.tide_server.specs.Openings.{handed, stock_of}
+use Rattle.tide_server.specs.Openings.{server_states, served_data_of}
 use Rattle.tide_server.proofs.OpeningLemmas.{files_failed, refused_another, refused_for, refused_full}
-use Rattle.tide_server.proofs.StockLemmas.{shown_another, shown_ready, shown_refused}
+use Rattle.tide_server.proofs.ServedDataLemmas.{shown_another, shown_ready, shown_refused}
 use Rattle.tide_server.proofs.service.serve_words.Goals as goal
 
 pub returns-in-Ok-clause-own_files : goal.returns-in-Ok-clause-own_files
 returns-in-Ok-clause-own_files g c =
     λ t. inl (refused_full
     (IsTrue (g.F.Files.state c.args.files.now).store.is_steady)
-    (stock_of (g.F.Files.state c.args.files.now).store.folder c.args.words.now)
+    (served_data_of (g.F.Files.state c.args.files.now).store.folder c.args.words.now)
     c.refuse-in-Err-new.result
-    (handed (g.F.Files.state c.args.files.now) (g.D.Door.state c.args.door.now) (g.E.Sink.state c.args.err.now) (g.K.Clock.state c.args.clock.now))
-    (handed (g.F.Files.state c.read_stock.new.files) (g.D.Door.state c.args.door.now) (g.E.Sink.state c.refuse-in-Err-new.new.err) (g.K.Clock.state c.args.clock.now))
+    (server_states (g.F.Files.state c.args.files.now) (g.D.Door.state c.args.door.now) (g.E.Sink.state c.args.err.now)
+    (g.K.Clock.state c.args.clock.now))
+    (server_states (g.F.Files.state c.read_served_data.new.files) (g.D.Door.state c.args.door.now)
+    (g.E.Sink.state c.refuse-in-Err-new.new.err) (g.K.Clock.state c.args.clock.now))
     c.refuse-in-Err-new.ensures.line.0
     c.refuse-in-Err-new.ensures.same
     refl
@@ -23,15 +25,19 @@ returns-in-Ok-clause-own_files g c =
 pub returns-in-Ok-clause-shown : goal.returns-in-Ok-clause-shown
 returns-in-Ok-clause-shown g c =
     shown_ready c.args.words.now _ c.refuse-in-Err-new.result
-    (handed (g.F.Files.state c.args.files.now) (g.D.Door.state c.args.door.now) (g.E.Sink.state c.args.err.now) (g.K.Clock.state c.args.clock.now))
-    (handed (g.F.Files.state c.read_stock.new.files) (g.D.Door.state c.args.door.now) (g.E.Sink.state c.refuse-in-Err-new.new.err) (g.K.Clock.state c.args.clock.now))
+    (server_states (g.F.Files.state c.args.files.now) (g.D.Door.state c.args.door.now) (g.E.Sink.state c.args.err.now)
+    (g.K.Clock.state c.args.clock.now))
+    (server_states (g.F.Files.state c.read_served_data.new.files) (g.D.Door.state c.args.door.now)
+    (g.E.Sink.state c.refuse-in-Err-new.new.err) (g.K.Clock.state c.args.clock.now))
     c.in-Ok.ensures.shown
     (λ expected is. inl (refused_full
     (Unit {0})
     expected
     c.refuse-in-Err-new.result
-    (handed (g.F.Files.state c.args.files.now) (g.D.Door.state c.args.door.now) (g.E.Sink.state c.args.err.now) (g.K.Clock.state c.args.clock.now))
-    (handed (g.F.Files.state c.read_stock.new.files) (g.D.Door.state c.args.door.now) (g.E.Sink.state c.refuse-in-Err-new.new.err) (g.K.Clock.state c.args.clock.now))
+    (server_states (g.F.Files.state c.args.files.now) (g.D.Door.state c.args.door.now) (g.E.Sink.state c.args.err.now)
+    (g.K.Clock.state c.args.clock.now))
+    (server_states (g.F.Files.state c.read_served_data.new.files) (g.D.Door.state c.args.door.now)
+    (g.E.Sink.state c.refuse-in-Err-new.new.err) (g.K.Clock.state c.args.clock.now))
     c.refuse-in-Err-new.ensures.line.0
     c.refuse-in-Err-new.ensures.same
     refl
@@ -42,37 +48,45 @@ pub returns-clause-own_files : goal.returns-clause-own_files
 returns-clause-own_files g c =
     λ t. inl (refused_for
     (IsTrue (g.F.Files.state c.args.files.now).store.is_steady)
-    (stock_of (g.F.Files.state c.args.files.now).store.folder c.args.words.now)
+    (served_data_of (g.F.Files.state c.args.files.now).store.folder c.args.words.now)
     c.in-Err.none
-    c.tell.result
-    (handed (g.F.Files.state c.args.files.now) (g.D.Door.state c.args.door.now) (g.E.Sink.state c.args.err.now) (g.K.Clock.state c.args.clock.now))
-    (handed (g.F.Files.state c.read_stock.new.files) (g.D.Door.state c.args.door.now) (g.E.Sink.state c.tell.new.err) (g.K.Clock.state c.args.clock.now))
+    c.report.result
+    (server_states (g.F.Files.state c.args.files.now) (g.D.Door.state c.args.door.now) (g.E.Sink.state c.args.err.now)
+    (g.K.Clock.state c.args.clock.now))
+    (server_states (g.F.Files.state c.read_served_data.new.files) (g.D.Door.state c.args.door.now)
+    (g.E.Sink.state c.report.new.err) (g.K.Clock.state c.args.clock.now))
     (c.in-Err.ensures.own t)
     refl
     refl
-    c.tell.ensures.told)
+    c.report.ensures.reported)
 
 pub returns-clause-shown : goal.returns-clause-shown
 returns-clause-shown g c =
-    shown_refused c.args.words.now c.in-Err.none c.tell.result
-    (handed (g.F.Files.state c.args.files.now) (g.D.Door.state c.args.door.now) (g.E.Sink.state c.args.err.now) (g.K.Clock.state c.args.clock.now))
-    (handed (g.F.Files.state c.read_stock.new.files) (g.D.Door.state c.args.door.now) (g.E.Sink.state c.tell.new.err) (g.K.Clock.state c.args.clock.now))
-    c.in-Err.ensures.shown refl refl c.tell.ensures.told
+    shown_refused c.args.words.now c.in-Err.none c.report.result
+    (server_states (g.F.Files.state c.args.files.now) (g.D.Door.state c.args.door.now) (g.E.Sink.state c.args.err.now)
+    (g.K.Clock.state c.args.clock.now))
+    (server_states (g.F.Files.state c.read_served_data.new.files) (g.D.Door.state c.args.door.now)
+    (g.E.Sink.state c.report.new.err) (g.K.Clock.state c.args.clock.now))
+    c.in-Err.ensures.shown refl refl c.report.ensures.reported
 
 pub returns-in-Ok-clause-read_fault : goal.returns-in-Ok-clause-read_fault
 returns-in-Ok-clause-read_fault g c =
     rw c.refuse-in-Err-new.ensures.same
     (files_failed false
-    (handed (g.F.Files.state c.args.files.now) (g.D.Door.state c.args.door.now) (g.E.Sink.state c.args.err.now) (g.K.Clock.state c.args.clock.now))
-    (handed (g.F.Files.state c.read_stock.new.files) (g.D.Door.state c.args.door.now) (g.E.Sink.state c.refuse-in-Err-new.new.err) (g.K.Clock.state c.args.clock.now))
+    (server_states (g.F.Files.state c.args.files.now) (g.D.Door.state c.args.door.now) (g.E.Sink.state c.args.err.now)
+    (g.K.Clock.state c.args.clock.now))
+    (server_states (g.F.Files.state c.read_served_data.new.files) (g.D.Door.state c.args.door.now)
+    (g.E.Sink.state c.refuse-in-Err-new.new.err) (g.K.Clock.state c.args.clock.now))
     c.in-Ok.ensures.read.faults c.requires refl refl)
 
 pub returns-clause-read_fault : goal.returns-clause-read_fault
 returns-clause-read_fault g c =
-    rw c.tell.ensures.read
+    rw c.report.ensures.read
     (files_failed (is_unread c.in-Err.none)
-    (handed (g.F.Files.state c.args.files.now) (g.D.Door.state c.args.door.now) (g.E.Sink.state c.args.err.now) (g.K.Clock.state c.args.clock.now))
-    (handed (g.F.Files.state c.read_stock.new.files) (g.D.Door.state c.args.door.now) (g.E.Sink.state c.tell.new.err) (g.K.Clock.state c.args.clock.now))
+    (server_states (g.F.Files.state c.args.files.now) (g.D.Door.state c.args.door.now) (g.E.Sink.state c.args.err.now)
+    (g.K.Clock.state c.args.clock.now))
+    (server_states (g.F.Files.state c.read_served_data.new.files) (g.D.Door.state c.args.door.now)
+    (g.E.Sink.state c.report.new.err) (g.K.Clock.state c.args.clock.now))
     c.in-Err.ensures.read.faults c.requires refl refl)
 
 pub returns-in-Ok-new-clause-own_files : goal.returns-in-Ok-new-clause-own_files
@@ -80,31 +94,33 @@ returns-in-Ok-new-clause-own_files g c =
     λ t. inr (
       _,
       c.in-Ok.ensures.own t,
-      c.serve_stock.ensures.ended.listened (g.F.Files.state c.args.files.now) (g.F.Files.state c.read_stock.new.files),
+      c.serve_data.ensures.ended.listened (g.F.Files.state c.args.files.now) (g.F.Files.state c.read_served_data.new.files),
     )
 
 pub returns-in-Ok-new-clause-shown : goal.returns-in-Ok-new-clause-shown
 returns-in-Ok-new-clause-shown g c =
-    shown_ready c.args.words.now _ c.serve_stock.result
-    (handed (g.F.Files.state c.args.files.now) (g.D.Door.state c.args.door.now) (g.E.Sink.state c.args.err.now) (g.K.Clock.state c.args.clock.now))
-    (handed (g.F.Files.state c.read_stock.new.files) (g.D.Door.state c.serve_stock.new.door) (g.E.Sink.state c.serve_stock.new.err) (g.K.Clock.state c.serve_stock.new.clock))
+    shown_ready c.args.words.now _ c.serve_data.result
+    (server_states (g.F.Files.state c.args.files.now) (g.D.Door.state c.args.door.now) (g.E.Sink.state c.args.err.now)
+    (g.K.Clock.state c.args.clock.now))
+    (server_states (g.F.Files.state c.read_served_data.new.files) (g.D.Door.state c.serve_data.new.door)
+    (g.E.Sink.state c.serve_data.new.err) (g.K.Clock.state c.serve_data.new.clock))
     c.in-Ok.ensures.shown
     (λ expected is. inr (
       _,
       is,
-      c.serve_stock.ensures.ended.listened (g.F.Files.state c.args.files.now) (g.F.Files.state c.read_stock.new.files),
+      c.serve_data.ensures.ended.listened (g.F.Files.state c.args.files.now) (g.F.Files.state c.read_served_data.new.files),
     ))
 
 pub returns-in-Ok-new-clause-unlistened : goal.returns-in-Ok-new-clause-unlistened
 returns-in-Ok-new-clause-unlistened g c =
-    let listened = c.serve_stock.ensures.ended.listened (g.F.Files.state c.args.files.now) (g.F.Files.state c.read_stock.new.files) in
+    let listened = c.serve_data.ensures.ended.listened (g.F.Files.state c.args.files.now) (g.F.Files.state c.read_served_data.new.files) in
     let asked = listened.asked in λ none. absurd (cc)
 
-pub returns-in-Ok-new-clause-unasked : goal.returns-in-Ok-new-clause-unasked
-returns-in-Ok-new-clause-unasked g c =
-    let listened = c.serve_stock.ensures.ended.listened (g.F.Files.state c.args.files.now) (g.F.Files.state c.read_stock.new.files) in
+pub returns-in-Ok-new-clause-clock_unread : goal.returns-in-Ok-new-clause-clock_unread
+returns-in-Ok-new-clause-clock_unread g c =
+    let listened = c.serve_data.ensures.ended.listened (g.F.Files.state c.args.files.now) (g.F.Files.state c.read_served_data.new.files) in
     let asked = listened.asked in
-    λ took. elim took [ inl none ↦ absurd (cc) | inr none ↦ c.serve_stock.ensures.unasked none ]
+    λ took. elim took [ inl none ↦ absurd (cc) | inr none ↦ c.serve_data.ensures.unasked none ]
 
 pub returns-then-names_another-clause-own_files : goal.returns-then-names_another-clause-own_files
 returns-then-names_another-clause-own_files g c =
@@ -114,8 +130,10 @@ returns-then-names_another-clause-own_files g c =
     (λ slot. (g.F.Files.state c.args.files.now).store.folder)
     c.args.words.now
     c.refuse.result
-    (handed (g.F.Files.state c.args.files.now) (g.D.Door.state c.args.door.now) (g.E.Sink.state c.args.err.now) (g.K.Clock.state c.args.clock.now))
-    (handed (g.F.Files.state c.args.files.now) (g.D.Door.state c.args.door.now) (g.E.Sink.state c.refuse.new.err) (g.K.Clock.state c.args.clock.now))
+    (server_states (g.F.Files.state c.args.files.now) (g.D.Door.state c.args.door.now) (g.E.Sink.state c.args.err.now)
+    (g.K.Clock.state c.args.clock.now))
+    (server_states (g.F.Files.state c.args.files.now) (g.D.Door.state c.args.door.now) (g.E.Sink.state c.refuse.new.err)
+    (g.K.Clock.state c.args.clock.now))
     c.refuse.ensures.line.0
     another
     c.refuse.ensures.same
@@ -127,16 +145,20 @@ pub returns-then-names_another-clause-shown : goal.returns-then-names_another-cl
 returns-then-names_another-clause-shown g c =
     let another = sym c.names_another.ensures ∙ c.if-names_another.true in
     shown_another c.args.words.now c.refuse.result
-    (handed (g.F.Files.state c.args.files.now) (g.D.Door.state c.args.door.now) (g.E.Sink.state c.args.err.now) (g.K.Clock.state c.args.clock.now))
-    (handed (g.F.Files.state c.args.files.now) (g.D.Door.state c.args.door.now) (g.E.Sink.state c.refuse.new.err) (g.K.Clock.state c.args.clock.now))
+    (server_states (g.F.Files.state c.args.files.now) (g.D.Door.state c.args.door.now) (g.E.Sink.state c.args.err.now)
+    (g.K.Clock.state c.args.clock.now))
+    (server_states (g.F.Files.state c.args.files.now) (g.D.Door.state c.args.door.now) (g.E.Sink.state c.refuse.new.err)
+    (g.K.Clock.state c.args.clock.now))
     refl
     (refused_another
     (Unit {0})
     _
     c.args.words.now
     c.refuse.result
-    (handed (g.F.Files.state c.args.files.now) (g.D.Door.state c.args.door.now) (g.E.Sink.state c.args.err.now) (g.K.Clock.state c.args.clock.now))
-    (handed (g.F.Files.state c.args.files.now) (g.D.Door.state c.args.door.now) (g.E.Sink.state c.refuse.new.err) (g.K.Clock.state c.args.clock.now))
+    (server_states (g.F.Files.state c.args.files.now) (g.D.Door.state c.args.door.now) (g.E.Sink.state c.args.err.now)
+    (g.K.Clock.state c.args.clock.now))
+    (server_states (g.F.Files.state c.args.files.now) (g.D.Door.state c.args.door.now) (g.E.Sink.state c.refuse.new.err)
+    (g.K.Clock.state c.args.clock.now))
     c.refuse.ensures.line.0
     another
     c.refuse.ensures.same
@@ -148,6 +170,8 @@ pub returns-then-names_another-clause-read_fault : goal.returns-then-names_anoth
 returns-then-names_another-clause-read_fault g c =
     rw c.refuse.ensures.same
     (files_failed false
-    (handed (g.F.Files.state c.args.files.now) (g.D.Door.state c.args.door.now) (g.E.Sink.state c.args.err.now) (g.K.Clock.state c.args.clock.now))
-    (handed (g.F.Files.state c.args.files.now) (g.D.Door.state c.args.door.now) (g.E.Sink.state c.refuse.new.err) (g.K.Clock.state c.args.clock.now))
+    (server_states (g.F.Files.state c.args.files.now) (g.D.Door.state c.args.door.now) (g.E.Sink.state c.args.err.now)
+    (g.K.Clock.state c.args.clock.now))
+    (server_states (g.F.Files.state c.args.files.now) (g.D.Door.state c.args.door.now) (g.E.Sink.state c.refuse.new.err)
+    (g.K.Clock.state c.args.clock.now))
     refl c.requires refl refl)

@@ -13,9 +13,11 @@ use Rattle.http_rows.specs.Responses.{status_of}
 use Rattle.tide_server.proofs.worked.worked_answers.Goals as goal
 
 pub returns-clause-none_asked : goal.returns-clause-none_asked
-unfolding form_urlencoded_on_literals chars encode is_utf8 utf8_error_len utf8_lossy utf8_valid_len said_by digits zone_of question_of with_item with_items ask_line line_of asking_reply question_reply status_of
+unfolding form_urlencoded_on_literals chars encode is_utf8 utf8_error_len utf8_lossy utf8_valid_len said_by digits
+    zone_of question_of with_item with_items ask_line line_of asking_reply question_reply status_of
 returns-clause-none_asked c = λ book table minute. refl
 
 pub returns-clause-head_alone : goal.returns-clause-head_alone
-unfolding form_urlencoded_on_literals chars encode is_utf8 utf8_error_len utf8_lossy utf8_valid_len said_by digits question_of with_item with_items ask_line line_of asking_reply question_reply status_of
+unfolding form_urlencoded_on_literals chars encode is_utf8 utf8_error_len utf8_lossy utf8_valid_len said_by digits
+    question_of with_item with_items ask_line line_of asking_reply question_reply status_of
 returns-clause-head_alone c = λ book table minute. refl

@@ -11,7 +11,9 @@ minutes_from-x-requires-clause-minute c =
     (domain_small c.args.first_year c.args.years c.args.m c.requires.years c.requires.domain)
 
 -- a distance from a new year without casts
-plain_distance : (first_year m x : ℤ) (n : ℕ) → FitsSigned w32 first_year → FitsSigned w64 m → FitsSigned w64 x → x ≡ to_z w64 (of_z w64 m) -ℤ start_of (to_z w32 (of_z w32 first_year)) n → to_z w64 (of_z w64 x) ≡ m -ℤ start_of first_year n
+plain_distance : (first_year m x : ℤ) (n : ℕ) → FitsSigned w32 first_year → FitsSigned w64 m → FitsSigned w64 x
+    → x ≡ to_z w64 (of_z w64 m) -ℤ start_of (to_z w32 (of_z w32 first_year)) n
+    → to_z w64 (of_z w64 x) ≡ m -ℤ start_of first_year n
 plain_distance first_year m x n first_fits fits x_fits distance =
     to_z-of_z w64 x x_fits
     ∙ rw (to_z-of_z w64 m fits, to_z-of_z w32 first_year first_fits) at distance
@@ -43,7 +45,8 @@ returns-else-is_blend-clause-rule c =
     ]
     in
     rw year
-    (nearest_plain c.args.first_year c.args.years c.args.m c.if-rem_euclid.nearest (to_z w64 (of_z w64 c.minutes_from-x.result)) c.requires.years c.requires.domain nearest
+    (nearest_plain c.args.first_year c.args.years c.args.m c.if-rem_euclid.nearest
+    (to_z w64 (of_z w64 c.minutes_from-x.result)) c.requires.years c.requires.domain nearest
     (plain_distance _ _ _ _ c.ranges.first_year c.ranges.m (search rules) c.minutes_from-x.ensures)
     (λ tests. let wrong : false ≡ true = c.if-is_blend.ensures.1 tests in cc))
 

@@ -6,7 +6,8 @@ use Rattle.decimal_text.proofs.steps.Steps.after.Goals as goal
 
 pub returns-then-self : goal.returns-then-self
 returns-then-self c places count n h =
-    more_past places count n c.args.digit c.args.self (nat_eq c.args.digit 0) c.if-self-eq0.true c.requires.one (λ e. (c.if-self.true, eqb-true _ _ e)) (λ e. inr (grind (arith, nat_tests))) h
+    more_past places count n c.args.digit c.args.self (nat_eq c.args.digit 0) c.if-self-eq0.true c.requires.one
+    (λ e. (c.if-self.true, eqb-true _ _ e)) (λ e. inr (grind (arith, nat_tests))) h
 
 pub returns-else-self : goal.returns-else-self
 returns-else-self c places count n h =

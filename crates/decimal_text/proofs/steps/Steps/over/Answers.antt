@@ -8,17 +8,24 @@ use Rattle.decimal_text.proofs.steps.Steps.over.Goals as goal
 
 pub loop-byte-init : goal.loop-byte-init
 loop-byte-init c =
-    record { digits = refl; stands = rw c.from.ensures (none_yet c.args.places c.args.whole c.requires.few c.requires.short) }
+    record {
+      digits = refl;
+      digits_invariant =
+          rw c.from.ensures (none_yet c.args.places c.args.whole c.requires.count_bound c.requires.whole_bound);
+    }
 
 pub loop-byte-preserved : goal.loop-byte-preserved
 loop-byte-preserved c =
     let text = c.args.fraction.now in
     let i = c.loop-byte.byte-index in
     let is_digit : is_ascii_digit (get_or text i 0) ≡ true = cc in
-    let more : digits_value_after 10 c.args.whole (take (i + 1) text) ≡ digits_value_after 10 c.args.whole (take i text) * 10 + (get_or text i 0 - 48) =
-    after_more c.args.whole text i c.loop-byte-test.true ∙ ap (λ d. digits_value_after 10 c.args.whole (take i text) * 10 + d) (digit_value_is _ is_digit) in
-    let stands = c.after-steps.ensures c.args.places i (digits_value_after 10 c.args.whole (take i text)) c.loop-byte.invariant.stands in
+    let more : digits_value_after 10 c.args.whole (take (i + 1) text)
+    ≡ digits_value_after 10 c.args.whole (take i text) * 10 + (get_or text i 0 - 48) =
+    after_more c.args.whole text i c.loop-byte-test.true
+    ∙ ap (λ d. digits_value_after 10 c.args.whole (take i text) * 10 + d) (digit_value_is _ is_digit) in
+    let digits_invariant = c.after-steps.ensures c.args.places i
+    (digits_value_after 10 c.args.whole (take i text)) c.loop-byte.invariant.digits_invariant in
     record {
       digits = list_all_more is_ascii_digit text i 0 c.loop-byte-test.true ∙ simp (c.loop-byte.invariant.digits, is_digit);
-      stands = rw more stands;
+      digits_invariant = rw more digits_invariant;
     }

@@ -18,7 +18,8 @@ invariant_of-result g c =
 
 pub returns-clause-left : goal.returns-clause-left
 returns-clause-left g c =
-    rw (c.new.ensures.left, c.new-2.ensures.left, c.new-3.ensures.left) (merged-ahead c.args.turn c.args.slack c.args.mark c.requires.slack_at c.requires.mark_at)
+    rw (c.new.ensures.left, c.new-2.ensures.left, c.new-3.ensures.left)
+    (merged-ahead c.args.turn c.args.slack c.args.mark c.requires.slack_at c.requires.mark_at)
 
 pub returns-clause-all : goal.returns-clause-all
 returns-clause-all g c =

@@ -3,7 +3,7 @@ use Rattle.std.proofs.lemmas.Int.{to_z-of_z}
 use mir.Syntax.{w64, w128}
 use Rattle.station_curve.specs.declared.year_sums.Sums.{Sums}
 use Rattle.rate_bound.specs.Rates.{tide_sums, plain_slope_rate, blended_slope_rate, limited}
-use Rattle.rate_bound.proofs.Telling.{slope_rate-within, slope_rate-first, slope_rate-second}
+use Rattle.rate_bound.proofs.RateCases.{slope_rate-within, slope_rate-first, slope_rate-second}
 use Rattle.rate_bound.proofs.turn.TurnCurveCurve.rate.Goals as goal
 
 pub returns-in-Within : goal.returns-in-Within
@@ -18,7 +18,8 @@ pub returns-in-First : goal.returns-in-First
 returns-in-First c =
     let curve = c.args.self.now in
     let minute = to_z-of_z w64 c.args.a c.ranges.a in
-    slope_rate-first curve.version curve.station.now c.args.a c.args.n c.in-Across.year c.in-First.is (rw minute at c.in-Across.ensures.value)
+    slope_rate-first curve.version curve.station.now c.args.a c.args.n c.in-Across.year c.in-First.is
+    (rw minute at c.in-Across.ensures.value)
 
 pub returns-in-Second : goal.returns-in-Second
 returns-in-Second c =

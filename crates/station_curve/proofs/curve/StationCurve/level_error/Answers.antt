@@ -10,14 +10,17 @@ use Rattle.station_curve.proofs.curve.StationCurve.level_error.Goals as goal
 
 pub error_of-requires : goal.error_of-requires
 error_of-requires c =
-    let size = greatest-kept_size amount_of (tide_in c.self.inside).years c.self.inside.greatest.amount (10 ^ 9) c.self.invariant.gentle.amounts (lit≤ tt) c.self.invariant.amount in
+    let size = greatest-kept_size amount_of (tide_in c.self.inside).years c.self.inside.greatest.amount
+    (10 ^ 9) c.self.invariant.within_limits.amounts (lit≤ tt) c.self.invariant.amount in
     omega (arith, size)
 
 error : (c : goal.After-error_of)
-    → (to_z w128 (of_z w128 c.error_of.result) ≡ pos (level_error_of c.args.self.now)) × (level_error_of c.args.self.now ≤ total_weight * (38100 * 10 ^ 9))
+    → (to_z w128 (of_z w128 c.error_of.result) ≡ pos (level_error_of c.args.self.now))
+    × (level_error_of c.args.self.now ≤ total_weight * (38100 * 10 ^ 9))
 unfolding level_error_of
 error c =
-    error_by_greatest amount_of (tide_in c.self.inside) c.args.self.now c.self.inside.greatest.amount c.error_of.result (10 ^ 9) c.self.view_is c.self.invariant.gentle.amounts (lit≤ tt) c.self.invariant.amount c.error_of.ensures
+    error_by_greatest amount_of (tide_in c.self.inside) c.args.self.now c.self.inside.greatest.amount c.error_of.result
+    (10 ^ 9) c.self.view_is c.self.invariant.within_limits.amounts (lit≤ tt) c.self.invariant.amount c.error_of.ensures
 
 pub returns-clause-value : goal.returns-clause-value
 returns-clause-value c = (error c).0

@@ -15,7 +15,8 @@ rounded-requires-clause-room c =
 pub overflow_cast-result : goal.overflow_cast-result
 overflow_cast-result c =
     let level = cast_small w128 c.level.result (total_weight * (11 * 10 ^ 18)) c.level.ensures.size (lit< tt) in
-    let half = half_up-le (unsigned_abs c.level.result) (total_weight * 10 ^ 9) (11 * 10 ^ 9) (lit< tt) (omega (arith, c.level.ensures.size)) in
+    let half = half_up-le (unsigned_abs c.level.result) (total_weight * 10 ^ 9) (11 * 10 ^ 9) (lit< tt)
+    (omega (arith, c.level.ensures.size)) in
     let small : unsigned_abs c.rounded.result ≤ 11 * 10 ^ 9 = omega (arith, rw level at c.rounded.ensures.small, half) in
     rw (cast_small w128 c.rounded.result (11 * 10 ^ 9) small (lit< tt)) (fits_signed_from_abs w64 c.rounded.result (omega (arith, small)))
 
@@ -24,7 +25,8 @@ unfolding millionths_of
 returns-clause-value c =
     let same = to_z-of_z w64 c.args.m c.ranges.m in
     let level = cast_small w128 c.level.result (total_weight * (11 * 10 ^ 18)) c.level.ensures.size (lit< tt) in
-    let half = half_up-le (unsigned_abs c.level.result) (total_weight * 10 ^ 9) (11 * 10 ^ 9) (lit< tt) (omega (arith, c.level.ensures.size)) in
+    let half = half_up-le (unsigned_abs c.level.result) (total_weight * 10 ^ 9) (11 * 10 ^ 9) (lit< tt)
+    (omega (arith, c.level.ensures.size)) in
     let small : unsigned_abs c.rounded.result ≤ 11 * 10 ^ 9 = omega (arith, rw level at c.rounded.ensures.small, half) in
     rw (cast_small w128 c.rounded.result (11 * 10 ^ 9) small (lit< tt))
     (cast_small w64 c.rounded.result (11 * 10 ^ 9) small (lit< tt) ∙ rw level at c.rounded.ensures.exact
@@ -33,6 +35,7 @@ returns-clause-value c =
 pub returns-clause-size : goal.returns-clause-size
 returns-clause-size c =
     let level = cast_small w128 c.level.result (total_weight * (11 * 10 ^ 18)) c.level.ensures.size (lit< tt) in
-    let half = half_up-le (unsigned_abs c.level.result) (total_weight * 10 ^ 9) (11 * 10 ^ 9) (lit< tt) (omega (arith, c.level.ensures.size)) in
+    let half = half_up-le (unsigned_abs c.level.result) (total_weight * 10 ^ 9) (11 * 10 ^ 9) (lit< tt)
+    (omega (arith, c.level.ensures.size)) in
     let small : unsigned_abs c.rounded.result ≤ 11 * 10 ^ 9 = omega (arith, rw level at c.rounded.ensures.small, half) in
     rw (cast_small w128 c.rounded.result (11 * 10 ^ 9) small (lit< tt), cast_small w64 c.rounded.result (11 * 10 ^ 9) small (lit< tt)) small

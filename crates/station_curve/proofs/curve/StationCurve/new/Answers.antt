@@ -8,7 +8,7 @@ of_station-requires c =
     let is = rw c.as_slice.ensures at c.index-as_slice-station.is in
     rw (c.new-book.ensures, is) record {
       station = c.requires.book.stations c.args.station c.index-as_slice-station.result c.requires.station;
-      first = c.all_minutes.ensures.near;
+      first = c.all_minutes.ensures.in_range;
       last = c.all_minutes.ensures.near_last;
     }
 
@@ -16,7 +16,12 @@ pub returns-clause-exact : goal.returns-clause-exact
 returns-clause-exact c =
     let is = rw c.as_slice.ensures at c.index-as_slice-station.is in
     at_station _ c.args.book.now.stations c.args.station c.index-as_slice-station.result c.requires.station is
-    (rw (c.all_minutes.ensures.first, c.all_minutes.ensures.last, c.new-book.ensures, whole_curve c.args.book.now c.index-as_slice-station.result c.requires.book) at c.of_station.ensures.exact)
+    (rw (
+      c.all_minutes.ensures.first,
+      c.all_minutes.ensures.last,
+      c.new-book.ensures,
+      whole_curve c.args.book.now c.index-as_slice-station.result c.requires.book,
+    ) at c.of_station.ensures.exact)
 
 pub returns-clause-predicts : goal.returns-clause-predicts
 returns-clause-predicts c =

@@ -7,30 +7,36 @@ use Rattle.harmonics_text.specs.Books.{IsBook, IsStation}
 use Rattle.year_blend.specs.Places.{start_of}
 use Rattle.station_curve.specs.declared.years.Year.{Year}
 use Rattle.station_curve.specs.Curves.{tide_over, PredictsOver}
-use Rattle.station_curve.specs.Limits.{IsGentle}
+use Rattle.station_curve.specs.Limits.{IsWithinLimits}
 use Rattle.station_curve.specs.Workings.Prepared.{AreReady}
 use Rattle.station_curve.proofs.Products.{cast_small, abs_span, abs_within}
-use Rattle.station_curve.proofs.Gentle.{gentle_over, kept_over}
+use Rattle.station_curve.proofs.WithinLimits.{within_limits_over, kept_over}
 use Rattle.station_curve.proofs.Predicting.{predicts_over}
 use Rattle.station_curve.proofs.curve.StationCurve.of_years.Goals as goal
 
 first_cast : (b : Book) → IsBook b → to_z w32 (of_z w32 b.first_year) ≡ b.first_year
-first_cast b sound = cast_small w32 b.first_year 8800 (abs_within b.first_year 2 8800 sound.first_year.least sound.first_year.most) (lit< tt)
+first_cast b valid = cast_small w32 b.first_year 8800
+    (abs_within b.first_year 2 8800 valid.first_year.least valid.first_year.most) (lit< tt)
 
 -- the stored years are those of the tide
-kept : (b : Book) (s : Station) (first last : ℤ) (years : List Year) → IsBook b → IsStation (length b.constituents) s → AreReady b s first last b.years years
-    → record { first_year = to_z w32 (of_z w32 b.first_year); datum = to_z w64 (of_z w64 s.datum); years = map (λ y. y.waves.items) years } ≡ tide_over b s first last
-kept b s first last years sound station ready =
-    kept_over b s first last years _ _ ready (first_cast b sound) (cast_small w64 s.datum (10 ^ 10) (abs_span s.datum 9999999999 station.datum.least station.datum.most) (lit< tt))
+kept : (b : Book) (s : Station) (first last : ℤ) (years : List Year) → IsBook b → IsStation (length b.constituents) s
+    → AreReady b s first last b.years years
+    → record { first_year = to_z w32 (of_z w32 b.first_year); datum = to_z w64 (of_z w64 s.datum); years = map (λ y. y.waves.items) years }
+    ≡ tide_over b s first last
+kept b s first last years valid station ready =
+    kept_over b s first last years _ _ ready (first_cast b valid)
+    (cast_small w64 s.datum (10 ^ 10) (abs_span s.datum 9999999999 station.datum.least station.datum.most) (lit< tt))
 
 pub invariant_of-result : goal.invariant_of-result
 invariant_of-result c =
     let b = c.args.book.now in
     let s = c.args.station.now in
-    let sound = c.get.ensures.sound in
-    let first = first_cast b sound in
+    let valid = c.get.ensures.valid in
+    let first = first_cast b valid in
     rw c.get.ensures.exact record {
-      gentle = subst IsGentle (sym (kept b s c.args.reach.first c.args.reach.last c.args.years.items sound c.requires.station c.requires.years)) (gentle_over b s c.args.reach.first c.args.reach.last sound c.requires.station c.requires.years.within);
+      within_limits = subst IsWithinLimits
+          (sym (kept b s c.args.minute_range.first c.args.minute_range.last c.args.years.items valid c.requires.station c.requires.years))
+          (within_limits_over b s c.args.minute_range.first c.args.minute_range.last valid c.requires.station c.requires.years.within);
       starts = λ k d h. c.requires.years.starts k d (omega (arith, h, c.requires.years.counted)) ∙ ap (λ f. start_of f k) (sym first);
       ends = λ k d h. c.requires.years.ends k d (omega (arith, h, c.requires.years.counted)) ∙ ap (λ f. start_of f (suc k)) (sym first);
       sums = λ k d h. c.requires.years.sums k d (omega (arith, h, c.requires.years.counted));
@@ -40,11 +46,14 @@ invariant_of-result c =
 
 pub returns-clause-exact : goal.returns-clause-exact
 returns-clause-exact c =
-    rw c.get.ensures.exact (kept c.args.book.now c.args.station.now c.args.reach.first c.args.reach.last c.args.years.items c.get.ensures.sound c.requires.station c.requires.years)
+    rw c.get.ensures.exact (kept c.args.book.now c.args.station.now c.args.minute_range.first c.args.minute_range.last
+    c.args.years.items c.get.ensures.valid c.requires.station c.requires.years)
 
 pub returns-clause-predicts : goal.returns-clause-predicts
 returns-clause-predicts c =
     let b = c.args.book.now in
     let s = c.args.station.now in
-    let sound = c.get.ensures.sound in
-    rw c.get.ensures.exact (subst (PredictsOver b s c.args.reach.first c.args.reach.last) (sym (kept b s c.args.reach.first c.args.reach.last c.args.years.items sound c.requires.station c.requires.years)) (predicts_over b s c.args.reach.first c.args.reach.last sound))
+    let valid = c.get.ensures.valid in
+    rw c.get.ensures.exact (subst (PredictsOver b s c.args.minute_range.first c.args.minute_range.last)
+    (sym (kept b s c.args.minute_range.first c.args.minute_range.last c.args.years.items valid c.requires.station c.requires.years))
+    (predicts_over b s c.args.minute_range.first c.args.minute_range.last valid))

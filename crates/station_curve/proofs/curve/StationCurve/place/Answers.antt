@@ -2,38 +2,40 @@ use Rattle.std.proofs.Common.{◌≡◌, length, sym, ap, ◌∙◌, arith, lit<
 use Rattle.std.proofs.lemmas.Int.{ints, to_z-of_z}
 use mir.Syntax.{w32, w64}
 use mir.Val.{to_z, of_z}
-use Rattle.station_curve.proofs.Around.{around_plain, around_near}
-use Rattle.station_curve.proofs.Near.{near_place}
+use Rattle.station_curve.proofs.Around.{around_plain, around_in_range}
+use Rattle.station_curve.proofs.InRange.{in_range_place}
 use Rattle.station_curve.proofs.Products.{cast_small, abs_within}
-use Rattle.station_curve.proofs.Ready.{gentle_of}
+use Rattle.station_curve.proofs.Ready.{within_limits_of}
 use Rattle.station_curve.proofs.curve.StationCurve.place.Goals as goal
 
 pub returns-in-Some-clause-value : goal.returns-in-Some-clause-value
 returns-in-Some-clause-value c =
     let tide = c.args.self.now in
-    let years = (gentle_of c.self.inside tide c.self.invariant c.self.view_is).years in
+    let years = (within_limits_of c.self.inside tide c.self.invariant c.self.view_is).years in
     let around = rw (to_z-of_z w64 c.args.m c.ranges.m) at c.in-Some.ensures in
     sym (around_plain tide.first_year (length tide.years) c.args.m c.args.m c.in-Some.year years.least (omega (arith, ints)) around)
 
-pub returns-in-Some-clause-near : goal.returns-in-Some-clause-near
-returns-in-Some-clause-near c =
+pub returns-in-Some-clause-in_range : goal.returns-in-Some-clause-in_range
+returns-in-Some-clause-in_range c =
     let tide = c.args.self.now in
-    let years = (gentle_of c.self.inside tide c.self.invariant c.self.view_is).years in
+    let years = (within_limits_of c.self.inside tide c.self.invariant c.self.view_is).years in
     let around = rw (to_z-of_z w64 c.args.m c.ranges.m) at c.in-Some.ensures in
-    around_near tide.first_year (length tide.years) c.args.m c.in-Some.year years.least around
+    around_in_range tide.first_year (length tide.years) c.args.m c.in-Some.year years.least around
 
 pub returns-in-None-clause-value : goal.returns-in-None-clause-value
 returns-in-None-clause-value c =
-    let years = c.self.invariant.gentle.years in
+    let years = c.self.invariant.within_limits.years in
     let first : to_z w32 (of_z w32 c.self.inside.first_year) ≡ c.args.self.now.first_year =
-    cast_small w32 c.self.inside.first_year 8800 (abs_within c.self.inside.first_year 2 8800 years.least years.most) (lit< tt) ∙ ap (λ t. t.first_year) c.self.view_is in
+    cast_small w32 c.self.inside.first_year 8800 (abs_within c.self.inside.first_year 2 8800 years.least years.most)
+    (lit< tt) ∙ ap (λ t. t.first_year) c.self.view_is in
     rw (first, c.years.ensures, to_z-of_z w64 c.args.m c.ranges.m) at c.place.ensures.value
 
-pub returns-in-None-clause-near : goal.returns-in-None-clause-near
-returns-in-None-clause-near c =
-    let years = c.self.invariant.gentle.years in
+pub returns-in-None-clause-in_range : goal.returns-in-None-clause-in_range
+returns-in-None-clause-in_range c =
+    let years = c.self.invariant.within_limits.years in
     let first : to_z w32 (of_z w32 c.self.inside.first_year) ≡ c.args.self.now.first_year =
-    cast_small w32 c.self.inside.first_year 8800 (abs_within c.self.inside.first_year 2 8800 years.least years.most) (lit< tt) ∙ ap (λ t. t.first_year) c.self.view_is in
-    near_place c.args.self.now.first_year (length c.args.self.now.years) c.args.m c.place.result
-    (gentle_of c.self.inside c.args.self.now c.self.invariant c.self.view_is).years.least
+    cast_small w32 c.self.inside.first_year 8800 (abs_within c.self.inside.first_year 2 8800 years.least years.most)
+    (lit< tt) ∙ ap (λ t. t.first_year) c.self.view_is in
+    in_range_place c.args.self.now.first_year (length c.args.self.now.years) c.args.m c.place.result
+    (within_limits_of c.self.inside c.args.self.now c.self.invariant c.self.view_is).years.least
     (rw (first, c.years.ensures, to_z-of_z w64 c.args.m c.ranges.m) at c.place.ensures.rule)

@@ -2,22 +2,26 @@ use Rattle.std.proofs.Common.{◌≡◌, length, sym, ap, ◌∙◌, arith, lit<
 use Rattle.std.proofs.lemmas.Int.{ints, to_z-of_z}
 use mir.Syntax.{w32, w64}
 use mir.Val.{to_z, of_z}
-use Rattle.station_curve.proofs.Around.{around_plain, around_near}
+use Rattle.station_curve.proofs.Around.{around_plain, around_in_range}
 use Rattle.station_curve.proofs.Products.{cast_small, abs_within}
-use Rattle.station_curve.proofs.Ready.{gentle_of}
+use Rattle.station_curve.proofs.Ready.{within_limits_of}
 use Rattle.station_curve.proofs.curve.StationCurve.plain_year.Goals as goal
 
 pub returns-in-Some : goal.returns-in-Some
 returns-in-Some c =
     let tide = c.args.self.now in
-    let years = (gentle_of c.self.inside tide c.self.invariant c.self.view_is).years in
+    let years = (within_limits_of c.self.inside tide c.self.invariant c.self.view_is).years in
     let around = rw (to_z-of_z w64 c.args.m c.ranges.m) at c.in-Some.ensures in
-    let near = around_near tide.first_year (length tide.years) c.args.m c.in-Some.year years.least around in
-    (sym (around_plain tide.first_year (length tide.years) c.args.m c.args.m c.in-Some.year years.least (omega (arith, ints)) around), near.0, near.1)
+    let in_range = around_in_range tide.first_year (length tide.years) c.args.m c.in-Some.year years.least around in (
+      sym (around_plain tide.first_year (length tide.years) c.args.m c.args.m c.in-Some.year years.least (omega (arith, ints)) around),
+      in_range.0,
+      in_range.1,
+    )
 
 pub returns-in-None : goal.returns-in-None
 returns-in-None c =
-    let years = c.self.invariant.gentle.years in
+    let years = c.self.invariant.within_limits.years in
     let first : to_z w32 (of_z w32 c.self.inside.first_year) ≡ c.args.self.now.first_year =
-    cast_small w32 c.self.inside.first_year 8800 (abs_within c.self.inside.first_year 2 8800 years.least years.most) (lit< tt) ∙ ap (λ t. t.first_year) c.self.view_is in
+    cast_small w32 c.self.inside.first_year 8800 (abs_within c.self.inside.first_year 2 8800 years.least years.most)
+    (lit< tt) ∙ ap (λ t. t.first_year) c.self.view_is in
     rw (first, c.years.ensures, to_z-of_z w64 c.args.m c.ranges.m) at c.calendar_year_of.ensures

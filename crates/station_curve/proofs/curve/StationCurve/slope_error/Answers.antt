@@ -10,14 +10,18 @@ use Rattle.station_curve.proofs.curve.StationCurve.slope_error.Goals as goal
 
 pub error_of-requires : goal.error_of-requires
 error_of-requires c =
-    let size = greatest-kept_size steepness_of (tide_in c.self.inside).years c.self.inside.greatest.steepness (10 ^ 17) c.self.invariant.gentle.steepnesses (lit≤ tt) c.self.invariant.steepness in
+    let size = greatest-kept_size steepness_of (tide_in c.self.inside).years c.self.inside.greatest.steepness
+    (10 ^ 17) c.self.invariant.within_limits.steepnesses (lit≤ tt) c.self.invariant.steepness in
     omega (arith, size)
 
 error : (c : goal.After-error_of)
-    → (to_z w128 (of_z w128 c.error_of.result) ≡ pos (slope_error_of c.args.self.now)) × (slope_error_of c.args.self.now ≤ total_weight * (38100 * 10 ^ 17))
+    → (to_z w128 (of_z w128 c.error_of.result) ≡ pos (slope_error_of c.args.self.now))
+    × (slope_error_of c.args.self.now ≤ total_weight * (38100 * 10 ^ 17))
 unfolding slope_error_of
 error c =
-    error_by_greatest steepness_of (tide_in c.self.inside) c.args.self.now c.self.inside.greatest.steepness c.error_of.result (10 ^ 17) c.self.view_is c.self.invariant.gentle.steepnesses (lit≤ tt) c.self.invariant.steepness c.error_of.ensures
+    error_by_greatest steepness_of (tide_in c.self.inside) c.args.self.now c.self.inside.greatest.steepness
+    c.error_of.result (10 ^ 17) c.self.view_is c.self.invariant.within_limits.steepnesses
+    (lit≤ tt) c.self.invariant.steepness c.error_of.ensures
 
 pub returns-clause-value : goal.returns-clause-value
 returns-clause-value c = (error c).0

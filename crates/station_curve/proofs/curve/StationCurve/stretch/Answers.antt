@@ -9,27 +9,33 @@ use Rattle.station_curve.proofs.curve.StationCurve.stretch.Goals as goal
 
 pub overflow_add-m : goal.overflow_add-m
 overflow_add-m c =
-    let small = domain_small c.args.self.now.first_year (length c.args.self.now.years) c.args.m c.known.ensures.years c.requires.first in
-    omega (arith, ints, small, c.requires.short, c.from.ensures)
+    let small = domain_small c.args.self.now.first_year
+    (length c.args.self.now.years) c.args.m c.limits_hold.ensures.years c.requires.first in
+    omega (arith, ints, small, c.requires.length_bound, c.from.ensures)
 
 pub year_around-requires-clause-last : goal.year_around-requires-clause-last
 year_around-requires-clause-last c =
-    let small = domain_small c.args.self.now.first_year (length c.args.self.now.years) c.args.m c.known.ensures.years c.requires.first in
+    let small = domain_small c.args.self.now.first_year
+    (length c.args.self.now.years) c.args.m c.limits_hold.ensures.years c.requires.first in
     let same = to_z-of_z w64 c.args.m c.ranges.m in
-    let end : to_z w64 (of_z w64 (c.args.m +ℤ to_z w64 (of_z w64 c.from.result))) ≡ c.args.m +ℤ pos c.args.n = omega (arith, ints, small, c.requires.short, c.from.ensures) in
+    let end : to_z w64 (of_z w64 (c.args.m +ℤ to_z w64 (of_z w64 c.from.result))) ≡ c.args.m +ℤ pos c.args.n =
+    omega (arith, ints, small, c.requires.length_bound, c.from.ensures) in
     rw (same, end) c.requires.last
 
 pub returns-in-Some : goal.returns-in-Some
 returns-in-Some c =
     let tide = c.args.self.now in
-    let small = domain_small tide.first_year (length tide.years) c.args.m c.known.ensures.years c.requires.first in
+    let small = domain_small tide.first_year (length tide.years) c.args.m c.limits_hold.ensures.years c.requires.first in
     let same = to_z-of_z w64 c.args.m c.ranges.m in
-    let end : to_z w64 (of_z w64 (c.args.m +ℤ to_z w64 (of_z w64 c.from.result))) ≡ c.args.m +ℤ pos c.args.n = omega (arith, ints, small, c.requires.short, c.from.ensures) in
-    around_within tide.first_year (length tide.years) c.args.m c.args.n c.in-Some.year c.known.ensures.years.least (rw (same, end) at c.in-Some.ensures)
+    let end : to_z w64 (of_z w64 (c.args.m +ℤ to_z w64 (of_z w64 c.from.result))) ≡ c.args.m +ℤ pos c.args.n =
+    omega (arith, ints, small, c.requires.length_bound, c.from.ensures) in
+    around_within tide.first_year (length tide.years) c.args.m c.args.n c.in-Some.year c.limits_hold.ensures.years.least
+    (rw (same, end) at c.in-Some.ensures)
 
 pub returns-in-None : goal.returns-in-None
 returns-in-None c =
-    let years = c.self.invariant.gentle.years in
+    let years = c.self.invariant.within_limits.years in
     let first : to_z w32 (of_z w32 c.self.inside.first_year) ≡ c.args.self.now.first_year =
-    cast_small w32 c.self.inside.first_year 8800 (abs_within c.self.inside.first_year 2 8800 years.least years.most) (lit< tt) ∙ ap (λ t. t.first_year) c.self.view_is in
+    cast_small w32 c.self.inside.first_year 8800 (abs_within c.self.inside.first_year 2 8800 years.least years.most)
+    (lit< tt) ∙ ap (λ t. t.first_year) c.self.view_is in
     rw (first, c.years.ensures, to_z-of_z w64 c.args.m c.ranges.m) at c.stretch.ensures.value

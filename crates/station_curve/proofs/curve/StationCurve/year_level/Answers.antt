@@ -8,7 +8,7 @@ use Rattle.station_curve.proofs.curve.StationCurve.year_level.Goals as goal
 
 pub mean_level-requires : goal.mean_level-requires
 mean_level-requires c =
-    let datum = c.self.invariant.gentle.datum in
+    let datum = c.self.invariant.within_limits.datum in
     rw (cast_small w64 c.self.inside.datum (10 ^ 10) datum (lit< tt)) datum
 
 pub overflow_add-result : goal.overflow_add-result
@@ -18,12 +18,14 @@ overflow_add-result c =
 pub returns-clause-value : goal.returns-clause-value
 unfolding year_level
 returns-clause-value c =
-    let heights : c.from.result ≡ c.year_heights.result = c.from.ensures ∙ cast_small w64 c.year_heights.result (10 ^ 18) c.year_heights.ensures.size (lit< tt) in
+    let heights : c.from.result ≡ c.year_heights.result =
+    c.from.ensures ∙ cast_small w64 c.year_heights.result (10 ^ 18) c.year_heights.ensures.size (lit< tt) in
     let same = to_z-of_z w64 c.args.m c.ranges.m in
-    let sum : to_z w128 (of_z w128 (to_z w128 (of_z w128 c.mean_level.result) +ℤ to_z w128 (of_z w128 c.from.result))) ≡ c.mean_level.result +ℤ c.from.result =
+    let sum : to_z w128 (of_z w128 (to_z w128 (of_z w128 c.mean_level.result) +ℤ to_z w128 (of_z w128 c.from.result)))
+    ≡ c.mean_level.result +ℤ c.from.result =
     omega (arith, ints, c.mean_level.ensures.size, c.year_heights.ensures.size, heights) in
     let datum : to_z w64 (of_z w64 c.self.inside.datum) ≡ c.args.self.now.datum =
-    cast_small w64 c.self.inside.datum (10 ^ 10) c.self.invariant.gentle.datum (lit< tt) ∙ ap (λ t. t.datum) c.self.view_is in
+    cast_small w64 c.self.inside.datum (10 ^ 10) c.self.invariant.within_limits.datum (lit< tt) ∙ ap (λ t. t.datum) c.self.view_is in
     sum ∙ ap (λ x. x +ℤ c.from.result) (c.mean_level.ensures.value ∙ ap (λ d. pos (10 ^ 9) *ℤ d) datum)
     ∙ ap (λ y. (pos (10 ^ 9) *ℤ c.args.self.now.datum) +ℤ y) (heights ∙ rw same at c.year_heights.ensures.value)
 

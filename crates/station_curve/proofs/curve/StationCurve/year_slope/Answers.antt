@@ -9,30 +9,37 @@ use Rattle.station_curve.proofs.curve.StationCurve.year_slope.Goals as goal
 
 pub minutes_to-requires-clause-least : goal.minutes_to-requires-clause-least
 minutes_to-requires-clause-least c =
-    let y = year_of c.self.inside c.args.self.now c.args.year c.index-year.result.now c.self.invariant c.self.view_is c.requires.year c.index-year.ensures in
+    let y = year_of c.self.inside c.args.self.now c.args.year c.index-year.result.now c.self.invariant c.self.view_is
+    c.requires.year c.index-year.ensures in
     let same = to_z-of_z w64 c.args.m c.ranges.m in
-    rw (same, y.start) c.requires.near.least
+    rw (same, y.start) c.requires.in_range.least
 
 pub minutes_to-requires-clause-most : goal.minutes_to-requires-clause-most
 minutes_to-requires-clause-most c =
-    let y = year_of c.self.inside c.args.self.now c.args.year c.index-year.result.now c.self.invariant c.self.view_is c.requires.year c.index-year.ensures in
+    let y = year_of c.self.inside c.args.self.now c.args.year c.index-year.result.now c.self.invariant c.self.view_is
+    c.requires.year c.index-year.ensures in
     let same = to_z-of_z w64 c.args.m c.ranges.m in
-    rw (same, y.start) c.requires.near.most
+    rw (same, y.start) c.requires.in_range.most
 
 pub falls-requires-clause-steepness : goal.falls-requires-clause-steepness
 falls-requires-clause-steepness c =
-    let y = year_of c.self.inside c.args.self.now c.args.year c.index-year.result.now c.self.invariant c.self.view_is c.requires.year c.index-year.ensures in
+    let y = year_of c.self.inside c.args.self.now c.args.year c.index-year.result.now c.self.invariant c.self.view_is
+    c.requires.year c.index-year.ensures in
     rw c.as_slice.ensures.value y.steepness
 
 pub returns-clause-value : goal.returns-clause-value
 unfolding year_slope
 returns-clause-value c =
-    let y = year_of c.self.inside c.args.self.now c.args.year c.index-year.result.now c.self.invariant c.self.view_is c.requires.year c.index-year.ensures in
+    let y = year_of c.self.inside c.args.self.now c.args.year c.index-year.result.now c.self.invariant c.self.view_is
+    c.requires.year c.index-year.ensures in
     let same = to_z-of_z w64 c.args.m c.ranges.m in
-    let minutes : c.minutes_to.result ≡ minutes_into c.args.self.now.first_year c.args.year c.args.m = rw (same, y.start) at c.minutes_to.ensures.value in
+    let minutes : c.minutes_to.result ≡ minutes_into c.args.self.now.first_year c.args.year c.args.m =
+    rw (same, y.start) at c.minutes_to.ensures.value in
     let waves : c.as_slice.result.now ≡ waves_in c.args.self.now c.args.year = c.as_slice.ensures.value ∙ y.waves in
-    let falls : c.falls.result ≡ falls_of (minutes_into c.args.self.now.first_year c.args.year c.args.m) (waves_in c.args.self.now c.args.year) =
+    let falls : c.falls.result ≡ falls_of (minutes_into c.args.self.now.first_year c.args.year c.args.m)
+    (waves_in c.args.self.now c.args.year) =
     c.falls.ensures.value ∙ ap (λ t. falls_of t c.as_slice.result.now) minutes
     ∙ ap (falls_of (minutes_into c.args.self.now.first_year c.args.year c.args.m)) waves in
-    let negated : to_z w128 (of_z w128 (pos 0 -ℤ to_z w128 (of_z w128 c.falls.result))) ≡ neg_ℤ c.falls.result = omega (arith, ints, c.falls.ensures.size) in
+    let negated : to_z w128 (of_z w128 (pos 0 -ℤ to_z w128 (of_z w128 c.falls.result))) ≡ neg_ℤ c.falls.result =
+    omega (arith, ints, c.falls.ensures.size) in
     negated ∙ ap neg_ℤ falls

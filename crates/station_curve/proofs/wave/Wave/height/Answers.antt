@@ -2,7 +2,7 @@ use Rattle.std.proofs.Common.{FitsSigned, rules, ◌^◌, ◌*ℤ◌, ap, ◌∙
 use Rattle.std.proofs.lemmas.Int.{to_z-of_z}
 use mir.Syntax.{w64}
 use Rattle.fixed_sine.specs.Sine.{isin_of}
-use Rattle.fixed_sine.specs.Turn.{units_of}
+use Rattle.fixed_sine.specs.BinaryAngle.{units_of}
 use Rattle.station_curve.proofs.Products.{cast_small}
 use Rattle.station_curve.proofs.Turning.{cosine_ahead}
 use Rattle.station_curve.proofs.wave.Wave.height.Goals as goal
@@ -10,11 +10,13 @@ use Rattle.station_curve.proofs.wave.Wave.height.Goals as goal
 pub returns-clause-value : goal.returns-clause-value
 returns-clause-value c =
     let fits : FitsSigned w64 c.by_amplitude.result = search rules in
-    let same = cast_small w64 c.turn_sine.result (10 ^ 9) c.turn_sine.ensures.size (lit< tt) in
-    to_z-of_z w64 c.by_amplitude.result fits ∙ c.by_amplitude.ensures.value ∙ ap (λ z. c.args.self.now.amplitude *ℤ z) (same ∙ c.turn_sine.ensures.value ∙ ap (λ turn. isin_of (units_of turn)) c.turn_ahead.ensures ∙ cosine_ahead c.args.self.now c.args.minutes c.requires)
+    let same = cast_small w64 c.binary_angle_sine.result (10 ^ 9) c.binary_angle_sine.ensures.size (lit< tt) in
+    to_z-of_z w64 c.by_amplitude.result fits ∙ c.by_amplitude.ensures.value ∙ ap (λ z. c.args.self.now.amplitude *ℤ z)
+    (same ∙ c.binary_angle_sine.ensures.value ∙ ap (λ turn. isin_of (units_of turn)) c.binary_angle_ahead.ensures
+    ∙ cosine_ahead c.args.self.now c.args.minutes c.requires)
 
 pub returns-clause-size : goal.returns-clause-size
 returns-clause-size c =
     let fits : FitsSigned w64 c.by_amplitude.result = search rules in
-    let same = cast_small w64 c.turn_sine.result (10 ^ 9) c.turn_sine.ensures.size (lit< tt) in
-    rw (to_z-of_z w64 c.by_amplitude.result fits) (c.by_amplitude.ensures.size (10 ^ 9) (rw same c.turn_sine.ensures.size))
+    let same = cast_small w64 c.binary_angle_sine.result (10 ^ 9) c.binary_angle_sine.ensures.size (lit< tt) in
+    rw (to_z-of_z w64 c.by_amplitude.result fits) (c.by_amplitude.ensures.size (10 ^ 9) (rw same c.binary_angle_sine.ensures.size))

@@ -19,7 +19,8 @@ step c =
     let value : c.step.result ≡ pos (step_of c.args.self.now.speed) =
     c.step.ensures.value ∙ ap (λ n. pos (step_of n)) (speed ∙ ap (λ h. h.speed) c.self.view_is) in
     let small : unsigned_abs (pos (step_of c.args.self.now.speed)) ≤ 104724001 = most_step c.args.self.now.speed (quick c) in
-    c.from-step.ensures ∙ ap (λ z. to_z w64 (of_z w64 z)) value ∙ cast_small w64 (pos (step_of c.args.self.now.speed)) 104724001 small (lit< tt)
+    c.from-step.ensures ∙ ap (λ z. to_z w64 (of_z w64 z)) value
+    ∙ cast_small w64 (pos (step_of c.args.self.now.speed)) 104724001 small (lit< tt)
 
 amount : (c : After-from-steep) → c.from-amount.result ≡ pos (unsigned_abs c.args.self.now.amplitude)
 amount c =
@@ -30,9 +31,11 @@ steep : (c : After-from-steep) → c.from-steep.result ≡ pos (unsigned_abs c.a
 steep c =
     let wave = c.args.self.now in
     let steep = c.self.inside.steepness in
-    let product : steep ≡ wave.amplitude *ℤ pos wave.speed = c.self.invariant.product ∙ ap (λ h. h.amplitude *ℤ pos h.speed) c.self.view_is in
+    let product : steep ≡ wave.amplitude *ℤ pos wave.speed =
+    c.self.invariant.product ∙ ap (λ h. h.amplitude *ℤ pos h.speed) c.self.view_is in
     let same = cast_small w64 steep (10 ^ 17) c.self.invariant.steep (lit< tt) in
-    c.from-steep.ensures ∙ ap pos (rw same at c.unsigned_abs-2.ensures.value ∙ ap unsigned_abs product ∙ unsigned_abs-mul wave.amplitude (pos wave.speed))
+    c.from-steep.ensures ∙ ap pos (rw same at c.unsigned_abs-2.ensures.value ∙ ap unsigned_abs product
+    ∙ unsigned_abs-mul wave.amplitude (pos wave.speed))
 
 amount_small : (c : After-from-steep) → unsigned_abs c.args.self.now.amplitude ≤ 10 ^ 9
 amount_small c = let small = c.self.invariant.amount in rw (← ap (λ h. unsigned_abs h.amplitude) c.self.view_is) small
@@ -40,7 +43,8 @@ amount_small c = let small = c.self.invariant.amount in rw (← ap (λ h. unsign
 steep_small : (c : After-from-steep) → unsigned_abs c.args.self.now.amplitude * c.args.self.now.speed ≤ 10 ^ 17
 steep_small c =
     let wave = c.args.self.now in
-    let product : c.self.inside.steepness ≡ wave.amplitude *ℤ pos wave.speed = c.self.invariant.product ∙ ap (λ h. h.amplitude *ℤ pos h.speed) c.self.view_is in
+    let product : c.self.inside.steepness ≡ wave.amplitude *ℤ pos wave.speed =
+    c.self.invariant.product ∙ ap (λ h. h.amplitude *ℤ pos h.speed) c.self.view_is in
     let small = c.self.invariant.steep in
     omega (arith, small, ap unsigned_abs product, unsigned_abs-mul wave.amplitude (pos wave.speed))
 
@@ -50,13 +54,15 @@ returns-clause-amount c =
 
 pub returns-clause-steep : goal.returns-clause-steep
 returns-clause-steep c =
-    rw (steep c) (cast_small w128 (pos (unsigned_abs c.args.self.now.amplitude * c.args.self.now.speed)) (10 ^ 17) (steep_small c) (lit< tt))
+    rw (steep c) (cast_small w128 (pos (unsigned_abs c.args.self.now.amplitude * c.args.self.now.speed)) (10 ^ 17)
+    (steep_small c) (lit< tt))
 
 pub returns-clause-near : goal.returns-clause-near
 returns-clause-near c =
     let wave = c.args.self.now in
     rw (amount c, step c)
-    (times w128 (pos (unsigned_abs wave.amplitude)) (pos (step_of wave.speed)) (10 ^ 9) 104724001 (amount_small c) (most_step wave.speed (quick c)) (lit< tt) (lit< tt) (lit< tt))
+    (times w128 (pos (unsigned_abs wave.amplitude)) (pos (step_of wave.speed)) (10 ^ 9) 104724001 (amount_small c)
+    (most_step wave.speed (quick c)) (lit< tt) (lit< tt) (lit< tt))
 
 pub returns-clause-near_size : goal.returns-clause-near_size
 returns-clause-near_size c = height_rate_size (unsigned_abs c.args.self.now.amplitude) c.args.self.now.speed (quick c)
@@ -65,7 +71,9 @@ pub returns-clause-far : goal.returns-clause-far
 returns-clause-far c =
     let wave = c.args.self.now in
     rw (steep c, step c)
-    (times w128 (pos (unsigned_abs wave.amplitude * wave.speed)) (pos (step_of wave.speed)) (10 ^ 17) 104724001 (steep_small c) (most_step wave.speed (quick c)) (lit< tt) (lit< tt) (lit< tt))
+    (times w128 (pos (unsigned_abs wave.amplitude * wave.speed)) (pos (step_of wave.speed)) (10 ^ 17) 104724001
+    (steep_small c) (most_step wave.speed (quick c)) (lit< tt) (lit< tt) (lit< tt))
 
 pub returns-clause-far_size : goal.returns-clause-far_size
-returns-clause-far_size c = height_rate_size (unsigned_abs c.args.self.now.amplitude * c.args.self.now.speed) c.args.self.now.speed (quick c)
+returns-clause-far_size c =
+    height_rate_size (unsigned_abs c.args.self.now.amplitude * c.args.self.now.speed) c.args.self.now.speed (quick c)

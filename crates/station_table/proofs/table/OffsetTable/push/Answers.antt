@@ -6,5 +6,5 @@ use Rattle.station_table.proofs.table.OffsetTable.push.Goals as goal
 pub invariant_of-self-2 : goal.invariant_of-self-2
 invariant_of-self-2 c = rw c.in_ok-push.ensures.items record {
   few = omega (arith, length-append c.self.inside.rows.items (c.args.row ∷ []), ap length c.self.view_is);
-  each = All-push IsOffsets c.self.inside.rows.items c.args.row c.self.invariant.each c.requires.sound;
+  each = All-push IsOffsets c.self.inside.rows.items c.args.row c.self.invariant.each c.requires.valid;
 }

@@ -19,7 +19,8 @@ returns c =
     ≡ Some (drop (get_or c.self.inside.starts.items c.args.place 0) (take c.if-at-len-2.end c.self.inside.bytes.items)) =
     part_at c.self.inside.starts.items c.self.inside.bytes.items c.args.place c.if-at-len-2.end within
     (λ h. elim c.if-at-len-2.branch [ then-at-len-2 w ↦ grind (arith, common_steps, w) | else-at-len-2 w ↦ grind (arith, common_steps, w) ])
-    (λ h. elim c.if-at-len-2.branch [ then-at-len-2 w ↦ grind (arith, common_steps, w) | else-at-len-2 w ↦ grind (arith, common_steps, w) ]) in
+    (λ h. elim c.if-at-len-2.branch
+    [ then-at-len-2 w ↦ grind (arith, common_steps, w) | else-at-len-2 w ↦ grind (arith, common_steps, w) ]) in
     let start : get_or c.self.inside.starts.items c.args.place 0 ≡ c.index-2.result.now = grind (arith, common_steps) in
     let part : drop (get_or c.self.inside.starts.items c.args.place 0) (take c.if-at-len-2.end c.self.inside.bytes.items)
     ≡ c.rest_from.result.now = cc in

@@ -1,0 +1,97 @@
+-- Cells that approximate values decide.
+use Rattle.std.proofs.Common.{◌≡◌, ℕ, ◌*◌, ◌^◌, ◌≤◌, ◌<◌, ℤ, pos, ◌+ℤ◌, ◌-ℤ◌, ◌*ℤ◌, unsigned_abs, int_lt, Bool, true, false, not, inl, Option, Some, None, IfSome, refl, sym, ◌∙◌, arith}
+use mathlib.Core.Bool.{beq}
+use Rattle.std.proofs.lemmas.Int.{ints}
+use Rattle.curve_law.specs.Meaning.{Meaning, IsMinute, IsApproximateValue, IsSpan, IsLawful}
+use Rattle.curve_law.specs.declared.quiet.TheConstants.{MOST_MINUTES}
+use Rattle.curve_law.specs.Cover.{keeps_side, is_quiet}
+use Rattle.curve_law.specs.Workings.Approximate.{IsFar}
+use Rattle.curve_law.proofs.QuietLemmas.{crossed-loud, is_quiet-length, is_quiet-rate}
+
+-- a sum of approximate values is within the sum of the errors
+pub sum-approximate : (approximate approximate_end v w : ℤ) (error : ℕ) → unsigned_abs (approximate -ℤ v) ≤ error
+    → unsigned_abs (approximate_end -ℤ w) ≤ error
+    → unsigned_abs ((approximate +ℤ approximate_end) -ℤ (v +ℤ w)) ≤ 2 * error
+sum-approximate approximate approximate_end v w error first second = omega (arith, ints, first, second)
+
+-- a sum of two values on one side of 0 is far enough from 0, or not
+pub far-keeps : (v w rate : ℤ) (n : ℕ) (far : Bool) → int_lt (pos 0) v ≡ int_lt (pos 0) w
+    → IsFar (rate *ℤ pos n) (v +ℤ w) far → keeps_side (Some rate) n v w ≡ far
+unfolding keeps_side
+far-keeps v w rate n true side far = grind (arith, ints)
+far-keeps v w rate n false side far = grind (arith, ints)
+
+pub far-quiet : (c : Meaning) (a : ℤ) (n : ℕ) (rate : ℤ) (side far : Bool) → 2 ≤ n → n ≤ MOST_MINUTES → Some rate
+    ≡ c.rate a n → int_lt (pos 0) (c.track.value a) ≡ side → int_lt (pos 0) (c.track.value (a +ℤ pos n)) ≡ side
+    → IsFar (rate *ℤ pos n) (c.track.value a +ℤ c.track.value (a +ℤ pos n)) far → is_quiet c a n ≡ far
+far-quiet c a n rate side far two most is first second sum =
+    sym (is_quiet-rate c a n (Some rate) two most is)
+    ∙ far-keeps (c.track.value a) (c.track.value (a +ℤ pos n)) rate n far (first ∙ sym second) sum
+
+-- the side of all values within the error is the side of the value
+pub decided-side : (approximate e v : ℤ) (error : ℕ) (side : Bool) → e ≡ pos error
+    → ((value : ℤ) → unsigned_abs (approximate -ℤ value) ≤ unsigned_abs e → int_lt (pos 0) value ≡ side)
+    → unsigned_abs (approximate -ℤ v) ≤ error → int_lt (pos 0) v ≡ side
+decided-side approximate e v error side is decided close = decided v (rw is close)
+
+-- approximate values on two sides of 0, or too few minutes
+pub decided-crossed : (c : Meaning) (a : ℤ) (n : ℕ) (side end_side : Bool) → int_lt (pos 0) (c.track.value a) ≡ side
+    → int_lt (pos 0) (c.track.value (a +ℤ pos n)) ≡ end_side → not (beq side end_side) ≡ true → is_quiet c a n ≡ false
+decided-crossed c a n side end_side first second other = sym (crossed-loud c a n (rw (first, second) other))
+
+pub too_short : (c : Meaning) (a : ℤ) (n : ℕ) → n < 2 → is_quiet c a n ≡ false
+too_short c a n few = sym (is_quiet-length c a n (inl few))
+
+same-side : (s t : Bool) → not (beq s t) ≡ false → t ≡ s
+same-side true true h = refl
+same-side true false h = cc
+same-side false true h = cc
+same-side false false h = refl
+
+-- approximate values whose sum decides
+pub decided-far :
+    (c : Meaning) (a : ℤ) (n : ℕ) (rate approximate approximate_end most e : ℤ) (error : ℕ) (side end_side far : Bool)
+    → 2 ≤ n → n ≤ MOST_MINUTES → Some rate ≡ c.rate a n → int_lt (pos 0) (c.track.value a) ≡ side
+    → int_lt (pos 0) (c.track.value (a +ℤ pos n)) ≡ end_side → not (beq side end_side) ≡ false
+    → most ≡ rate *ℤ pos n → e ≡ pos (2 * error) → unsigned_abs (approximate -ℤ c.track.value a) ≤ error
+    → unsigned_abs (approximate_end -ℤ c.track.value (a +ℤ pos n)) ≤ error
+    → ((sum : ℤ) → unsigned_abs ((approximate +ℤ approximate_end) -ℤ sum) ≤ unsigned_abs e → IsFar most sum far) → is_quiet c a n ≡ far
+decided-far c a n rate approximate approximate_end most e error side end_side far two few is first second same is_most
+    is_e close end_close decided =
+    let sum = decided (c.track.value a +ℤ c.track.value (a +ℤ pos n))
+    (rw is_e (sum-approximate approximate approximate_end _ _ error close end_close)) in
+    far-quiet c a n rate side far two few is first (second ∙ same-side side end_side same) (rw is_most at sum)
+
+-- the approximate values at both ends of a span are within the error
+pub begin-close : (c : Meaning) (approximate : ℤ → ℤ) (error : ℕ) (a : ℤ) (n : ℕ) (v : ℤ)
+    → ((m : ℤ) → IsMinute c m → IsApproximateValue c error m (approximate m)) → IsSpan c a n → v ≡ approximate a
+    → IsApproximateValue c error a v
+begin-close c approximate error a n v close span is =
+    let last = span.last in
+    rw is (close a (record { first = span.first; last = omega (arith, ints, last) }))
+
+pub end-close : (c : Meaning) (approximate : ℤ → ℤ) (error : ℕ) (a : ℤ) (n : ℕ) (v : ℤ)
+    → ((m : ℤ) → IsMinute c m → IsApproximateValue c error m (approximate m)) → IsSpan c a n
+    → v ≡ approximate (a +ℤ pos n) → IsApproximateValue c error (a +ℤ pos n) v
+end-close c approximate error a n v close span is =
+    let first = span.first in
+    rw is (close (a +ℤ pos n) (record { first = omega (arith, ints, first); last = span.last }))
+
+-- approximate values of a lawful curve can be added without overflow
+approximate-size : (approximate v : ℤ) (error : ℕ) → unsigned_abs v < 10 ^ 37 → error ≤ 10 ^ 36
+    → unsigned_abs (approximate -ℤ v) ≤ error → unsigned_abs approximate < 2 * 10 ^ 37
+approximate-size approximate v error small narrow close = omega (arith, ints, small, narrow, close)
+
+pub approximate-sizes : (c : Meaning) (a : ℤ) (n error : ℕ) (approximate approximate_end : ℤ) → IsLawful c
+    → error ≤ 10 ^ 36 → IsSpan c a n → IsApproximateValue c error a approximate
+    → IsApproximateValue c error (a +ℤ pos n) approximate_end
+    → (unsigned_abs approximate < 2 * 10 ^ 37) × (unsigned_abs approximate_end < 2 * 10 ^ 37)
+approximate-sizes c a n error approximate approximate_end law narrow span close end_close =
+    let here = law.values a (record { first = span.first; last = (let last = span.last in omega (arith, ints, last)) }) in
+    let there = law.values (a +ℤ pos n) (record { first = (let first = span.first in omega (arith, ints, first)); last = span.last }) in
+    (approximate-size approximate _ error here narrow close, approximate-size approximate_end _ error there narrow end_close)
+
+-- a property of all values that an approximation allows is one of the value
+pub some-decided : {P Q : Bool → Type 0} (o : Option Bool) → IfSome o P → ((x : Bool) → P x → Q x) → IfSome o Q
+some-decided None decided then = tt
+some-decided (Some x) decided then = then x decided

@@ -1,0 +1,178 @@
+//! The cell between two approximate values. If these leave it open, the exact values are used.
+
+ghost use Rattle.std.specs.Prelude.{◌≡◌, ◌*◌, ◌^◌, ◌<◌, ◌≤◌, ℤ, pos, ◌+ℤ◌, ◌-ℤ◌, ◌≤ℤ◌, int_lt, unsigned_abs, IfSome};
+ghost use Rattle.curve_law.specs.Meaning.{IsApproximateValue, IsSpan};
+ghost use Rattle.curve_law.specs.Cover.{is_quiet, unit_cell};
+ghost use Rattle.curve_law.specs.declared.quiet.TheConstants.{MOST_MINUTES};
+ghost use Rattle.curve_law.specs.Workings.Approximate.{IsFar};
+
+use crate::cell::Cell;
+use crate::curve::Curve;
+use crate::quiet::{MOST_MINUTES, cell_of_sides, is_quiet, most_change, unit_cell};
+
+/// Returns true if the `n` minutes from `a` on are a quiet cell. `approximate` and `approximate_end` are the
+/// approximate values at its ends.
+pub fn is_quiet_from_approximate<C: Curve>(
+    curve: &C,
+    a: i64,
+    n: u32,
+    approximate: i128,
+    approximate_end: i128,
+) -> bool
+    requires span { IsSpan (C.state curve.now).facts.meaning a n }
+    requires count_bound { n ≤ MOST_MINUTES }
+    requires approximate { approximate ≡ (C.state curve.now).facts.approximate a }
+    requires approximate_end { approximate_end ≡ (C.state curve.now).facts.approximate (a +ℤ pos n) }
+    ensures { result ≡ is_quiet (C.state curve.now).facts.meaning a n }
+{
+    match quiet_if_decided(curve, a, n, approximate, approximate_end) {
+        Some(quiet) => quiet,
+        None => is_quiet_exactly(curve, a, n, approximate, approximate_end),
+    }
+}
+
+/// Returns the cell of the single minute `a`. `approximate` and `approximate_next` are the approximate values at `a`
+/// and at the next minute.
+pub fn unit_cell_from_approximate<C: Curve>(
+    curve: &C,
+    a: i64,
+    approximate: i128,
+    approximate_next: i128,
+) -> Cell
+    requires span { IsSpan (C.state curve.now).facts.meaning a 1 }
+    requires approximate { approximate ≡ (C.state curve.now).facts.approximate a }
+    requires approximate_next { approximate_next ≡ (C.state curve.now).facts.approximate (a +ℤ pos 1) }
+    ensures { result ≡ unit_cell (C.state curve.now).facts.meaning.track a }
+{
+    match unit_cell_if_decided(curve, a, approximate, approximate_next) {
+        Some(cell) => cell,
+        None => unit_cell_exactly(curve, a, approximate, approximate_next),
+    }
+}
+
+/// Returns whether the `n` minutes from `a` on are a quiet cell, or `None` if the approximate values at
+/// its ends leave it open.
+fn quiet_if_decided<C: Curve>(
+    curve: &C,
+    a: i64,
+    n: u32,
+    approximate: i128,
+    approximate_end: i128,
+) -> Option<bool>
+    requires span { IsSpan (C.state curve.now).facts.meaning a n }
+    requires count_bound { n ≤ MOST_MINUTES }
+    requires approximate { IsApproximateValue (C.state curve.now).facts.meaning (C.state curve.now).facts.error a approximate }
+    requires approximate_end { IsApproximateValue (C.state curve.now).facts.meaning (C.state curve.now).facts.error
+        (a +ℤ pos n) approximate_end }
+    ensures { IfSome result (λ quiet. is_quiet (C.state curve.now).facts.meaning a n ≡ quiet) }
+{
+    let error = curve.error();
+    if side_of(approximate, error)? != side_of(approximate_end, error)? || n < 2 {
+        return Some(false);
+    }
+    match curve.rate(a, n) {
+        Some(rate) => passes(
+            approximate + approximate_end,
+            2 * error,
+            most_change(rate, n),
+        ),
+        None => Some(false),
+    }
+}
+
+/// Returns the cell of the single minute `a`, or `None` if the approximate values at `a` and the next
+/// minute leave it open.
+fn unit_cell_if_decided<C: Curve>(
+    curve: &C,
+    a: i64,
+    approximate: i128,
+    approximate_next: i128,
+) -> Option<Cell>
+    requires span { IsSpan (C.state curve.now).facts.meaning a 1 }
+    requires approximate { IsApproximateValue (C.state curve.now).facts.meaning (C.state curve.now).facts.error a approximate }
+    requires approximate_next { IsApproximateValue (C.state curve.now).facts.meaning (C.state curve.now).facts.error
+        (a +ℤ pos 1) approximate_next }
+    ensures { IfSome result (λ cell. cell ≡ unit_cell (C.state curve.now).facts.meaning.track a) }
+{
+    let error = curve.error();
+    match (
+        side_of(approximate, error),
+        side_of(approximate_next, error),
+    ) {
+        (Some(is_above), Some(is_above_next)) => {
+            Some(cell_of_sides(curve, a, is_above, is_above_next))
+        }
+        _ => None,
+    }
+}
+
+#[cold]
+#[inline(never)]
+fn is_quiet_exactly<C: Curve>(
+    curve: &C,
+    a: i64,
+    n: u32,
+    approximate: i128,
+    approximate_end: i128,
+) -> bool
+    requires span { IsSpan (C.state curve.now).facts.meaning a n }
+    requires count_bound { n ≤ MOST_MINUTES }
+    requires approximate { approximate ≡ (C.state curve.now).facts.approximate a }
+    requires approximate_end { approximate_end ≡ (C.state curve.now).facts.approximate (a +ℤ pos n) }
+    ensures { result ≡ is_quiet (C.state curve.now).facts.meaning a n }
+{
+    let value = curve.exact_value(a, approximate);
+    let end_value = curve.exact_value(a + i64::from(n), approximate_end);
+    is_quiet(curve, a, n, value, end_value)
+}
+
+#[cold]
+#[inline(never)]
+fn unit_cell_exactly<C: Curve>(curve: &C, a: i64, approximate: i128, approximate_next: i128) -> Cell
+    requires span { IsSpan (C.state curve.now).facts.meaning a 1 }
+    requires approximate { approximate ≡ (C.state curve.now).facts.approximate a }
+    requires approximate_next { approximate_next ≡ (C.state curve.now).facts.approximate (a +ℤ pos 1) }
+    ensures { result ≡ unit_cell (C.state curve.now).facts.meaning.track a }
+{
+    let value = curve.exact_value(a, approximate);
+    let next_value = curve.exact_value(a + 1, approximate_next);
+    unit_cell(curve, a, value, next_value)
+}
+
+/// Returns true if each value within `error` of `approximate` is above 0, false if none is, and `None`
+/// otherwise.
+fn side_of(approximate: i128, error: i128) -> Option<bool>
+    requires approximate { unsigned_abs approximate < 2 * 10 ^ 37 }
+    requires least { pos 0 ≤ℤ error }
+    requires most { error ≤ℤ pos (10 ^ 36) }
+    ensures { IfSome result (λ side. (value : ℤ) → unsigned_abs (approximate -ℤ value) ≤ unsigned_abs error
+        → int_lt (pos 0) value ≡ side) }
+{
+    if approximate > error {
+        Some(true)
+    } else if approximate + error <= 0 {
+        Some(false)
+    } else {
+        None
+    }
+}
+
+/// Returns true if each sum within `error` of `approximate` exceeds `most` in size, false if each is smaller,
+/// and `None` otherwise.
+fn passes(approximate: i128, error: i128, most: i128) -> Option<bool>
+    requires approximate { unsigned_abs approximate < 4 * 10 ^ 37 }
+    requires least { pos 0 ≤ℤ error }
+    requires error_bound { error ≤ℤ pos (2 * 10 ^ 36) }
+    requires most { unsigned_abs most < 5 * 10 ^ 37 }
+    ensures { IfSome result (λ far. (sum : ℤ) → unsigned_abs (approximate -ℤ sum) ≤ unsigned_abs error
+        → IsFar most sum far) }
+{
+    let size = approximate.abs();
+    if size - error > most {
+        Some(true)
+    } else if size + error < most {
+        Some(false)
+    } else {
+        None
+    }
+}

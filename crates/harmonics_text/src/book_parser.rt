@@ -1,0 +1,408 @@
+//! The parser state of a book that is read line by line.
+
+ghost use Rattle.std.specs.Prelude.{◌≡◌, ◌+◌, ◌<◌, ◌≤◌, length, IfOk};
+ghost use Rattle.harmonics_text.specs.Rules.{end_of, same_count_of};
+ghost use Rattle.harmonics_text.specs.Workings.BookParsing.{
+  Follows,
+  IsBookParser,
+  with_constituents,
+  with_angles,
+  with_factors,
+  new_book,
+  after_constituent,
+  after_years,
+  after_angles,
+  after_years_again,
+  after_factors,
+  after_nothing,
+  with_pair,
+  after_pair,
+  after_record,
+  after_text,
+  after_line,
+  book_at,
+  book_in,
+};
+
+use crate::book::Book;
+use crate::column::Column;
+use crate::fault::{LineFault, Why};
+use crate::heading::{Heading, constituent, is_end};
+use crate::lines::{is_all_blank, is_comment, is_too_long, only_token, trimmed, without_cr};
+use crate::lists::{Constituents, Stations};
+use crate::local_time::{LocalTime, local_time_of_line};
+use crate::names::name_of;
+use crate::numbers::{count, first_year};
+use crate::record::{Constants, Record, amplitude_and_epoch, datum, into_station};
+use crate::scale::Scale;
+use crate::table::{Table, start_table, with_line};
+use decimal_text::{Numbers, Text};
+use std::alloc::{AllocError, Global};
+use std::mem;
+
+/// The parser state: the parts of the book read so far, and so the form that the next line must have.
+#[derive(Drop)]
+pub enum BookParser {
+    Count,
+    /// The number of constituents still to come, at least one, and those read.
+    Constituents(u32, Constituents),
+    FirstYear(Constituents),
+    Years(Constituents, i32),
+    Angles(Heading, Table),
+    AnglesEnd(Heading, Numbers),
+    YearsAgain(Heading, Numbers),
+    Factors(Heading, Numbers, Table),
+    FactorsEnd(Heading, Numbers, Numbers),
+    Stations(Book, Record),
+}
+
+impl BookParser {
+    /// Reads the next line of the file.
+    ///
+    /// # Errors
+    /// [`LineFault::Bad`] with the first rule that the line breaks; [`LineFault::NoMemory`] if memory
+    /// runs out.
+    #[tactic(auto, unfolding(crate::specs::Workings::BookParsing::after_line))]
+    pub fn add_line(&mut self, alloc: Global, line: &[u8]) -> Result<(), LineFault>
+        requires { IsBookParser self.old }
+        ensures { Follows (λ _. self.new) result (after_line self.old line.now) }
+    {
+        if is_comment(line) {
+            return Ok(());
+        }
+        if is_too_long(line) {
+            return Err(LineFault::Bad(Why::LineTooLong));
+        }
+        let text = without_cr(line);
+        if is_all_blank(text) {
+            return Ok(());
+        }
+        self.add_text(alloc, text)
+    }
+
+    /// Reads a line that is no comment. A pair that isn't the station's last is added without moving the
+    /// state.
+    fn add_text(&mut self, alloc: Global, text: &[u8]) -> Result<(), LineFault>
+        requires { IsBookParser self.old }
+        ensures { Follows (λ _. self.new) result (after_text self.old text.now) }
+    {
+        if let BookParser::Stations(book, begun) = self {
+            if let Record::Constants(station) = begun {
+                if station.amplitude.len() + 1 < book.constituents.as_slice().len() {
+                    return add_pair(book, station, text);
+                }
+            }
+        }
+        *self = mem::replace(self, BookParser::Count).after_text(alloc, text)?;
+        Ok(())
+    }
+
+    /// Returns the state after a line that is no comment.
+    #[tactic(auto, unfolding(crate::specs::Workings::BookParsing::after_text, crate::specs::Workings::BookParsing::after_count))]
+    fn after_text(self, alloc: Global, text: &[u8]) -> Result<BookParser, LineFault>
+        requires { IsBookParser self }
+        ensures { Follows (λ d. d) result (after_text self text.now) }
+    {
+        match self {
+            BookParser::Count => {
+                let left = count(text)?;
+                Ok(BookParser::Constituents(left, Constituents::empty(alloc)))
+            }
+            BookParser::Constituents(left, earlier) => after_constituent(
+                alloc, left, earlier, text,
+            ),
+            BookParser::FirstYear(constituents) => {
+                let first_year = first_year(text)?;
+                Ok(BookParser::Years(constituents, first_year))
+            }
+            BookParser::Years(constituents, first_year) => {
+                after_years(alloc, constituents, first_year, text)
+            }
+            BookParser::Angles(heading, table) => after_angles(heading, table, text),
+            BookParser::AnglesEnd(heading, angles) => {
+                check_end(text)?;
+                Ok(BookParser::YearsAgain(heading, angles))
+            }
+            BookParser::YearsAgain(heading, angles) => after_years_again(
+                alloc, heading, angles, text,
+            ),
+            BookParser::Factors(heading, angles, table) => {
+                after_factors(heading, angles, table, text)
+            }
+            BookParser::FactorsEnd(heading, angles, factors) => {
+                check_end(text)?;
+                Ok(BookParser::Stations(new_book(alloc, heading, angles, factors), Record::Nothing))
+            }
+            BookParser::Stations(book, begun) => after_record(alloc, book, begun, text),
+        }
+    }
+
+    /// Returns the book if its last part is complete.
+    pub fn into_book(self) -> Option<Book>
+        ensures { result ≡ book_in self }
+    {
+        match self {
+            BookParser::Stations(book, begun) => book_at(book, begun),
+            _ => None,
+        }
+    }
+}
+
+/// Returns `book` if no station is incomplete.
+fn book_at(book: Book, begun: Record) -> Option<Book>
+    ensures { result ≡ book_at book begun }
+{
+    match begun {
+        Record::Nothing => Some(book),
+        _ => None,
+    }
+}
+
+#[tactic(auto, unfolding(crate::specs::Rules::end_of))]
+fn check_end(text: &[u8]) -> Result<(), Why>
+    ensures { result ≡ end_of text.now }
+{
+    let Some(token) = only_token(text) else {
+        return Err(Why::NoEnd);
+    };
+    if is_end(token) {
+        Ok(())
+    } else {
+        Err(Why::NoEnd)
+    }
+}
+
+#[tactic(auto, unfolding(crate::specs::Workings::BookParsing::after_constituent))]
+fn after_constituent(
+    alloc: Global,
+    left: u32,
+    mut earlier: Constituents,
+    text: &[u8],
+) -> Result<BookParser, LineFault>
+    ensures { Follows (λ d. d) result (after_constituent left earlier text.now) }
+{
+    let next = constituent(alloc, &earlier, text)?;
+    earlier.push(next)?;
+    if left > 1 {
+        Ok(BookParser::Constituents(left - 1, earlier))
+    } else {
+        Ok(BookParser::FirstYear(earlier))
+    }
+}
+
+#[tactic(auto, unfolding(crate::specs::Workings::BookParsing::after_years))]
+fn after_years(
+    alloc: Global,
+    constituents: Constituents,
+    first_year: i32,
+    text: &[u8],
+) -> Result<BookParser, LineFault>
+    ensures { Follows (λ d. d) result (after_years constituents first_year text.now) }
+{
+    let years = count(text)?;
+    let heading = Heading {
+        constituents,
+        first_year,
+        years,
+    };
+    Ok(BookParser::Angles(heading, start_table(alloc)))
+}
+
+fn with_angles(heading: Heading, table: Table) -> BookParser
+    ensures { result ≡ with_angles heading table }
+{
+    if table.place < heading.constituents.as_slice().len() {
+        BookParser::Angles(heading, table)
+    } else {
+        BookParser::AnglesEnd(heading, table.values.into_numbers())
+    }
+}
+
+#[tactic(auto, unfolding(crate::specs::Workings::BookParsing::after_angles))]
+fn after_angles(heading: Heading, table: Table, text: &[u8]) -> Result<BookParser, LineFault>
+    requires here { table.place < length heading.constituents }
+    requires count_bound { length heading.constituents ≤ 500 }
+    ensures { Follows (λ d. d) result (after_angles heading table text.now) }
+{
+    let table = with_line(table, &heading, Scale::Angle, text)?;
+    Ok(with_angles(heading, table))
+}
+
+#[tactic(auto, unfolding(crate::specs::Rules::same_count_of))]
+fn check_years(years: u32, text: &[u8]) -> Result<(), Why>
+    ensures { result ≡ same_count_of years text.now }
+{
+    if count(text)? == years {
+        Ok(())
+    } else {
+        Err(Why::YearsDiffer)
+    }
+}
+
+#[tactic(auto, unfolding(crate::specs::Workings::BookParsing::after_years_again))]
+fn after_years_again(
+    alloc: Global,
+    heading: Heading,
+    angles: Numbers,
+    text: &[u8],
+) -> Result<BookParser, LineFault>
+    ensures { Follows (λ d. d) result (after_years_again heading angles text.now) }
+{
+    check_years(heading.years, text)?;
+    Ok(BookParser::Factors(heading, angles, start_table(alloc)))
+}
+
+fn with_factors(heading: Heading, angles: Numbers, table: Table) -> BookParser
+    ensures { result ≡ with_factors heading angles table }
+{
+    if table.place < heading.constituents.as_slice().len() {
+        BookParser::Factors(heading, angles, table)
+    } else {
+        BookParser::FactorsEnd(heading, angles, table.values.into_numbers())
+    }
+}
+
+#[tactic(auto, unfolding(crate::specs::Workings::BookParsing::after_factors))]
+fn after_factors(
+    heading: Heading,
+    angles: Numbers,
+    table: Table,
+    text: &[u8],
+) -> Result<BookParser, LineFault>
+    requires here { table.place < length heading.constituents }
+    requires count_bound { length heading.constituents ≤ 500 }
+    ensures { Follows (λ d. d) result (after_factors heading angles table text.now) }
+{
+    let table = with_line(table, &heading, Scale::Factor, text)?;
+    Ok(with_factors(heading, angles, table))
+}
+
+/// Returns the book without any station.
+fn new_book(alloc: Global, heading: Heading, angles: Numbers, factors: Numbers) -> Book
+    ensures { result ≡ new_book heading angles factors }
+{
+    Book {
+        constituents: heading.constituents,
+        first_year: heading.first_year,
+        years: heading.years,
+        angles,
+        factors,
+        stations: Stations::empty(alloc),
+    }
+}
+
+#[tactic(auto, unfolding(crate::specs::Workings::BookParsing::after_nothing, crate::specs::Rules::station_name_of))]
+fn after_nothing(alloc: Global, book: Book, text: &[u8]) -> Result<BookParser, LineFault>
+    ensures { Follows (λ d. d) result (after_nothing book text.now) }
+{
+    if book.stations.as_slice().len() >= 20_000 {
+        return Err(LineFault::Bad(Why::TooManyStations));
+    }
+    let name = name_of(alloc, trimmed(text), 200)?;
+    Ok(BookParser::Stations(book, Record::Name(name)))
+}
+
+#[tactic(auto, unfolding(crate::specs::Workings::BookParsing::after_record))]
+fn after_station_name(
+    alloc: Global,
+    book: Book,
+    name: Text,
+    text: &[u8],
+) -> Result<BookParser, LineFault>
+    ensures { Follows (λ d. d) result (after_record book (Record.Name name) text.now) }
+{
+    let local_time = local_time_of_line(alloc, text)?;
+    Ok(BookParser::Stations(book, Record::LocalTime(name, local_time)))
+}
+
+/// Returns the station with the datum of line `text`, with memory for `count` constants.
+#[tactic(auto, unfolding(crate::specs::Workings::BookParsing::after_record))]
+fn with_datum(
+    alloc: Global,
+    name: Text,
+    local_time: LocalTime,
+    count: usize,
+    text: &[u8],
+) -> Result<Constants, LineFault>
+    ensures { (book : Book) → Follows (λ station. BookParser.Stations book (Record.Constants station)) result
+        (after_record book (Record.LocalTime name local_time) text.now) }
+{
+    let (datum, units) = datum(text)?;
+    let amplitude = Column::with_room(alloc, count)?;
+    let epoch = Column::with_room(alloc, count)?;
+    Ok(Constants {
+        name,
+        local_time,
+        datum,
+        units,
+        amplitude,
+        epoch,
+    })
+}
+
+fn after_local_time(
+    alloc: Global,
+    book: Book,
+    name: Text,
+    local_time: LocalTime,
+    text: &[u8],
+) -> Result<BookParser, LineFault>
+    ensures { Follows (λ d. d) result (after_record book (Record.LocalTime name local_time) text.now) }
+{
+    let count = book.constituents.as_slice().len();
+    let station = with_datum(alloc, name, local_time, count, text)?;
+    Ok(BookParser::Stations(book, Record::Constants(station)))
+}
+
+#[tactic(auto, unfolding(crate::specs::Workings::BookParsing::after_record))]
+fn after_record(
+    alloc: Global,
+    book: Book,
+    begun: Record,
+    text: &[u8],
+) -> Result<BookParser, LineFault>
+    requires { IsBookParser (BookParser.Stations book begun) }
+    ensures { Follows (λ d. d) result (after_record book begun text.now) }
+{
+    match begun {
+        Record::Nothing => after_nothing(alloc, book, text),
+        Record::Name(name) => after_station_name(alloc, book, name, text),
+        Record::LocalTime(name, local_time) => {
+            after_local_time(alloc, book, name, local_time, text)
+        }
+        Record::Constants(constants) => after_pair(book, constants, text),
+    }
+}
+
+/// Appends the amplitude and the epoch of the next constituent to `station`.
+#[tactic(auto, unfolding(crate::specs::Workings::BookParsing::after_pair))]
+fn add_pair(book: &Book, station: &mut Constants, text: &[u8]) -> Result<(), LineFault>
+    requires { length station.old.amplitude < length book.now.constituents }
+    ensures exact { Follows (λ _. with_pair book.now station.new) result (after_pair book.now station.old text.now) }
+    ensures one { IfOk result (λ _. length station.new.amplitude ≡ length station.old.amplitude + 1) }
+{
+    let name = &book.constituents.as_slice()[station.amplitude.len()].name;
+    let (amplitude, epoch) = amplitude_and_epoch(name, text)?;
+    station.amplitude.push(amplitude)?;
+    station.epoch.push(epoch)?;
+    Ok(())
+}
+
+/// Returns the state after `station` got one more pair, which may be its last.
+fn with_pair(mut book: Book, station: Constants) -> Result<BookParser, AllocError>
+    ensures { IfOk result (λ d. d ≡ with_pair book station) }
+{
+    if station.amplitude.len() < book.constituents.as_slice().len() {
+        return Ok(BookParser::Stations(book, Record::Constants(station)));
+    }
+    book.stations.push(into_station(station))?;
+    Ok(BookParser::Stations(book, Record::Nothing))
+}
+
+fn after_pair(book: Book, mut station: Constants, text: &[u8]) -> Result<BookParser, LineFault>
+    requires { length station.amplitude < length book.constituents }
+    ensures { Follows (λ d. d) result (after_pair book station text.now) }
+{
+    add_pair(&book, &mut station, text)?;
+    Ok(with_pair(book, station)?)
+}

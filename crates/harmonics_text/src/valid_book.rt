@@ -1,0 +1,44 @@
+//! A book that is proved to be valid.
+
+ghost use Rattle.std.specs.Prelude.{◌≡◌};
+ghost use Rattle.harmonics_text.specs.Books.{IsBook};
+
+use crate::book::Book;
+use std::marker::Model;
+
+/// A borrowed book whose counts, names and values are proved to be in the ranges of a file. In contracts
+/// its value is the book.
+#[derive(Debug, Drop)]
+pub struct ValidBook<'a> {
+    book: &'a Book,
+}
+
+impl<'a> Model for ValidBook<'a> {
+    ghost use Rattle.harmonics_text.specs.declared.book.Book.{Book};
+
+    ghost Value = { Book };
+
+    ghost use Rattle.harmonics_text.specs.Books.{IsBook};
+
+    ghost view = { λ valid. valid.book.now };
+
+    ghost invariant = { λ valid. IsBook valid.book.now };
+}
+
+impl<'a> ValidBook<'a> {
+    /// Returns `book` as a valid one; the caller proves its ranges.
+    pub fn new(book: &'a Book) -> ValidBook<'a>
+        requires { IsBook book.now }
+        ensures { result ≡ book.now }
+    {
+        ValidBook { book }
+    }
+
+    /// Borrows the book.
+    pub fn get(&self) -> &'a Book
+        ensures exact { result.now ≡ self.now }
+        ensures valid { IsBook self.now }
+    {
+        self.book
+    }
+}

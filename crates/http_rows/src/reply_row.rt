@@ -1,0 +1,90 @@
+//! The row of the table of statuses that applies to a request.
+
+ghost use Rattle.std.specs.Prelude.{◌≡◌, Option};
+ghost use Rattle.http_rows.specs.Heads as heads;
+ghost use Rattle.http_rows.specs.Rows as rows;
+ghost use Rattle.http_rows.specs.Workings.Views.{IsAskingRow, row_seen};
+
+use crate::asked::{Asking, asked};
+use crate::head::{is_head, read_head};
+use crate::head_lines::{head_end, line_feeds};
+use crate::limits::{MOST_HEAD, MOST_LINES};
+use crate::request_rejection::RequestRejection;
+
+/// The row of the table of statuses that applies to a request.
+#[derive(Clone, Copy, Debug)]
+pub enum ReplyRow<'a> {
+    /// A fixed row, which rejects the request; true if its reply has no body.
+    Rejects(RequestRejection, bool),
+    /// A row after the fixed ones: the predictor answers this request.
+    Asks(Asking<'a>),
+}
+
+impl ReplyRow<'_> {
+    ghost use Rattle.std.specs.Prelude.{◌≡◌};
+    ghost use Rattle.http_rows.specs.Responses.{is_bodiless};
+    ghost use Rattle.http_rows.specs.Rows.{is_settled};
+    ghost use Rattle.http_rows.specs.Workings.Views.{row_seen};
+
+    /// Returns true if further bytes of the request can't change the row.
+    pub fn is_settled(&self) -> bool
+        ensures { result ≡ is_settled (row_seen self.now) }
+    {
+        match self {
+            ReplyRow::Rejects(rejection, _) => rejection.is_settled(),
+            ReplyRow::Asks(_) => true,
+        }
+    }
+
+    /// Returns true if the reply has no body.
+    pub fn is_bodiless(&self) -> bool
+        ensures { result ≡ is_bodiless (row_seen self.now) }
+    {
+        match self {
+            ReplyRow::Rejects(_, bodiless) => *bodiless,
+            ReplyRow::Asks(asking) => asking.bodiless,
+        }
+    }
+}
+
+/// Returns the row of the table of statuses that applies to `request`, the whole of a request.
+pub fn row_for(request: &[u8]) -> ReplyRow<'_>
+    ensures row { rows.IsRow request.now (row_seen result) }
+    ensures answered { IsAskingRow (row_seen result) }
+{
+    match head_end(request) {
+        Some(end) => {
+            let (bytes, rest) = request.split_at(end);
+            ended_row(bytes, rest)
+        }
+        None => unended_row(request),
+    }
+}
+
+fn unended_row(request: &[u8]) -> ReplyRow<'_>
+    ensures { row_seen result ≡ rows.unended_row request.now }
+{
+    if request.len() < MOST_HEAD {
+        ReplyRow::Rejects(RequestRejection::HeadCutShort, false)
+    } else {
+        ReplyRow::Rejects(RequestRejection::HeadTooLarge, false)
+    }
+}
+
+fn ended_row<'a>(bytes: &'a [u8], rest: &'a [u8]) -> ReplyRow<'a>
+    ensures row { (read : Option heads.Head) × heads.ReadsAs bytes.now read
+        × (row_seen result ≡ rows.ended_row bytes.now read rest.now) }
+    ensures answered { IsAskingRow (row_seen result) }
+{
+    let read = read_head(bytes);
+    if line_feeds(bytes) > MOST_LINES {
+        return ReplyRow::Rejects(RequestRejection::HeadTooLarge, false);
+    }
+    let Some(head) = read else {
+        return ReplyRow::Rejects(RequestRejection::BadRequest, false);
+    };
+    match asked(&head, rest) {
+        Ok(asking) => ReplyRow::Asks(asking),
+        Err(rejection) => ReplyRow::Rejects(rejection, is_head(&head)),
+    }
+}

@@ -1,0 +1,40 @@
+//! The reasons why a request is rejected without the predictor.
+
+/// The reason why a request is rejected by its head or the length of its body.
+#[derive(Clone, Copy, Debug, PartialEq, Eq)]
+pub enum RequestRejection {
+    /// The head doesn't end within 8,192 bytes, or has more than 66 lines.
+    HeadTooLarge,
+    /// The request ended before its head did.
+    HeadCutShort,
+    /// The head isn't one of HTTP/1.x, or its fields contradict each other.
+    BadRequest,
+    /// The server has no such path.
+    NotFound,
+    /// The path is for GET and HEAD, and the method is another one.
+    RequiresGet,
+    /// The path is for POST, and the method is another one.
+    RequiresPost,
+    /// A POST has no Content-Length.
+    LengthRequired,
+    /// The body is longer than 4,194,304 bytes.
+    BodyTooLarge,
+    /// The request ended before its body did.
+    BodyCutShort,
+}
+
+impl RequestRejection {
+    ghost use Rattle.std.specs.Prelude.{◌≡◌};
+    ghost use Rattle.http_rows.specs.Rows.{is_settled_by};
+
+    /// Returns true if further bytes of the request can't change the rejection: if neither head nor body
+    /// was cut short.
+    pub(crate) fn is_settled(self) -> bool
+        ensures { result ≡ is_settled_by self }
+    {
+        !matches!(
+            self,
+            RequestRejection::HeadCutShort | RequestRejection::BodyCutShort
+        )
+    }
+}

@@ -1,5 +1,0 @@
-use Rattle.ical_sheet.proofs.IdentifierLemmas.{identifiers-apart}
-use Rattle.ical_sheet.proofs.laws.identifiers_tell_events_apart.Goals as goal
-
-pub returns : goal.returns
-returns c = identifiers-apart

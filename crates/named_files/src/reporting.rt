@@ -1,0 +1,54 @@
+//! The line that reports why there is no answer.
+
+ghost use Rattle.std.specs.Prelude.{◌≡◌, Bool};
+ghost use Rattle.tide_fault.specs.Faults.{IsPrintable as IsPrintableFault, line_of as line_of_fault, status_of as status_of_fault};
+ghost use Rattle.named_files.specs.NoAnswers.{IsPrintable, is_read_fault, is_unread};
+ghost use Rattle.tide_edge.specs.SinkStates.{Wrote};
+ghost use Rattle.named_files.specs.Reporting.{Reports, ReportsFault};
+
+use crate::no_answer::NoAnswer;
+use station_table::OffsetTable;
+use std::alloc::Global;
+use tide_edge::{Sink, write_all};
+use tide_fault::{Fault, Status, fault_line, fault_status};
+
+/// Writes the line of the reason `none` to `err`, and returns its exit status. The status doesn't
+/// depend on whether the write fails.
+pub fn report<E: Sink>(alloc: Global, none: NoAnswer, err: &mut E) -> Status
+    requires { IsPrintable none }
+    ensures reported { Reports none result (E.state err.old) (E.state err.new) }
+    ensures read { is_read_fault result ≡ is_unread none }
+{
+    match none {
+        NoAnswer::Unread => refuse(err, Status::ReadFault, b"read fault\n"),
+        NoAnswer::Faulty(fault) => {
+            let table = OffsetTable::new(alloc);
+            report_fault(alloc, &fault, &table, err)
+        }
+        NoAnswer::Refused(refusal, table) => {
+            report_fault(alloc, &Fault::Refused(refusal), &table, err)
+        }
+    }
+}
+
+/// Writes the line of `fault`, and returns its status.
+fn report_fault<E: Sink>(alloc: Global, fault: &Fault, table: &OffsetTable, err: &mut E) -> Status
+    requires { IsPrintableFault table.now fault.now }
+    ensures { ReportsFault (status_of_fault fault.now) (line_of_fault table.now fault.now) result (E.state err.old) (E.state err.new) }
+{
+    match fault_line(alloc, fault, table) {
+        Ok(line) => refuse(err, fault_status(fault), line.as_slice()),
+        Err(_) => refuse(err, Status::NoMemory, b"no memory\n"),
+    }
+}
+
+/// Writes `line` to `err`, and returns `status`, also if the write fails. Nothing is tried again.
+pub fn refuse<E: Sink>(err: &mut E, status: Status, line: &[u8]) -> Status
+    ensures same { result ≡ status }
+    ensures line { (failed : Bool) × Wrote (E.state err.old) (E.state err.new) failed line.now }
+{
+    match write_all(err, line) {
+        Ok(()) => status,
+        Err(_) => status,
+    }
+}

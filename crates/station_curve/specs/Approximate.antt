@@ -1,0 +1,56 @@
+-- Approximate level and slope of a tide: by chords of the sine outside blends, and exact in a blend (this
+-- project).
+use Rattle.std.specs.Prelude.{ℕ, ◌+◌, ◌*◌, ◌%◌, ◌^◌, List, ℤ, pos, neg_ℤ, ◌+ℤ◌, ◌*ℤ◌, fold}
+use Rattle.fixed_sine.specs.BinaryAngle.{binary_angle_of}
+use Rattle.fixed_sine.specs.Chords.{chord_sine_of}
+use Rattle.year_blend.specs.declared.parts.Place.{Place}
+use Rattle.year_blend.specs.declared.parts.Place.TheVariants.{Plain, Blend}
+use Rattle.year_blend.specs.Weights.{total_weight}
+use Rattle.station_curve.specs.Waves.{Harmonic, Tide}
+use Rattle.station_curve.specs.Levels.{minutes_into, waves_in, place_in_tide, level_of, slope_of}
+
+-- the phase of a wave t minutes later, as a fraction of a turn
+abbrev pub binary_angle_after : Harmonic → ℕ → ℕ
+binary_angle_after h t = (binary_angle_of h.phase + binary_angle_of h.speed * t) % 2 ^ 64
+
+-- the phase plus a quarter of a circle, whose sine is the cosine
+abbrev pub binary_angle_ahead : Harmonic → ℕ → ℕ
+binary_angle_ahead h t = (binary_angle_after h t + 2 ^ 62) % 2 ^ 64
+
+-- the wave's part of the level, by a chord
+abbrev pub approximate_height_at : ℕ → Harmonic → ℤ
+approximate_height_at t h = h.amplitude *ℤ chord_sine_of (binary_angle_ahead h t)
+
+-- the wave's part of the slope with the other sign, by a chord
+abbrev pub approximate_fall_at : ℕ → Harmonic → ℤ
+approximate_fall_at t h = (h.amplitude *ℤ pos h.speed) *ℤ chord_sine_of (binary_angle_after h t)
+
+-- the sum of the approximate heights
+abbrev pub approximate_heights_of : ℕ → List Harmonic → ℤ
+approximate_heights_of t hs = fold (λ sum h. sum +ℤ approximate_height_at t h) (pos 0) hs
+
+-- the sum of the approximate falls
+abbrev pub approximate_falls_of : ℕ → List Harmonic → ℤ
+approximate_falls_of t hs = fold (λ sum h. sum +ℤ approximate_fall_at t h) (pos 0) hs
+
+-- the approximate level by the constants of one year, in the unit of year_level
+unfoldable pub approximate_year_level : Tide → ℤ → ℕ → ℤ
+approximate_year_level tide m year =
+    (pos (10 ^ 9) *ℤ tide.datum) +ℤ approximate_heights_of (minutes_into tide.first_year year m) (waves_in tide year)
+
+-- the approximate slope by the constants of one year, in the unit of year_slope
+unfoldable pub approximate_year_slope : Tide → ℤ → ℕ → ℤ
+approximate_year_slope tide m year = neg_ℤ (approximate_falls_of (minutes_into tide.first_year year m) (waves_in tide year))
+
+-- an approximate value outside blends, and the exact one in a blend
+abbrev pub approximate_or_exact : (ℕ → ℤ) → ℤ → Place → ℤ
+approximate_or_exact approximate exact (Plain year) = pos total_weight *ℤ approximate year
+approximate_or_exact approximate exact (Blend year x) = exact
+
+-- the approximate level at minute m
+unfoldable pub approximate_level_of : Tide → ℤ → ℤ
+approximate_level_of tide m = approximate_or_exact (approximate_year_level tide m) (level_of tide m) (place_in_tide tide m)
+
+-- the approximate slope at minute m
+unfoldable pub approximate_slope_of : Tide → ℤ → ℤ
+approximate_slope_of tide m = approximate_or_exact (approximate_year_slope tide m) (slope_of tide m) (place_in_tide tide m)

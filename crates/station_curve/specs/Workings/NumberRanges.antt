@@ -1,0 +1,43 @@
+-- Bounds that keep all numbers of a curve within their types.
+use Rattle.std.specs.Prelude.{◌≡◌, ℕ, suc, ◌+◌, ◌-◌, ◌%◌, ◌^◌, ◌<◌, ◌≤◌, Option, Some, None, ℤ, pos, ◌+ℤ◌, ◌-ℤ◌, ◌*ℤ◌, ◌≤ℤ◌, unsigned_abs}
+use Rattle.fixed_sine.specs.BinaryAngle.{units_of, binary_angle_of}
+use Rattle.year_blend.specs.declared.parts.Place.{Place}
+use Rattle.year_blend.specs.declared.parts.Place.TheVariants.{Plain, Blend}
+use Rattle.year_blend.specs.Places.{start_of, place_of}
+use Rattle.year_blend.specs.Weights.{IsWithinHourOfNewYear}
+use Rattle.station_curve.specs.Limits.{most_amount, most_steepness}
+
+-- the fields of a wave: the product of its amplitude and its speed, its speed and its phase as fractions
+-- of a turn, and its phase plus a quarter of a circle
+pub record IsWave (amplitude : ℤ) (speed : ℕ) (steepness : ℤ) (pace : ℕ) (start : ℕ) (ahead : ℕ) : Type 0 where
+  pub amount : unsigned_abs amplitude ≤ most_amount
+  pub steep : unsigned_abs steepness ≤ most_steepness
+  pub product : steepness ≡ amplitude *ℤ pos speed
+  pub quick : speed ≤ 3600000000
+  pub paced : pace ≡ binary_angle_of speed
+  pub started : start ≡ binary_angle_of (units_of start)
+  pub turned : ahead ≡ (start + 2 ^ 62) % 2 ^ 64
+
+-- a minute at which a year's constants are used: at most an hour before or after it
+pub record IsWithinHourOfYear (first_year : ℤ) (year : ℕ) (m : ℤ) : Type 0 where
+  pub least : pos 0 ≤ℤ ((m -ℤ start_of first_year year) +ℤ pos 60)
+  pub most : ((m -ℤ start_of first_year year) +ℤ pos 60) ≤ℤ pos 600000
+
+-- the years of a position are at most an hour from its minute
+abbrev pub IsPlaceInRange : ℤ → ℕ → ℤ → Place → Type 0
+IsPlaceInRange first_year years m (Plain year) = (year < years) × IsWithinHourOfYear first_year year m
+IsPlaceInRange first_year years m (Blend year x) =
+    (0 < year) × (year < years) × IsWithinHourOfYear first_year year m × IsWithinHourOfYear first_year (year - 1) m
+    × IsWithinHourOfNewYear x
+
+-- the year whose plain part contains minute m, or none if it is in a blend
+abbrev pub IsPlainYear : ℤ → ℕ → ℤ → Option ℕ → Type 0
+IsPlainYear first_year years m (Some year) =
+    (Plain year ≡ place_of first_year years m) × (year < years) × IsWithinHourOfYear first_year year m
+IsPlainYear first_year years m None = (year : ℕ) × (x : ℤ) × (Blend year x ≡ place_of first_year years m)
+
+-- the minutes from `first` to `last` are at least an hour from both ends of their year
+pub record IsAround (first_year : ℤ) (years : ℕ) (first last : ℤ) (year : ℕ) : Type 0 where
+  pub one_of : year < years
+  pub past_start : (start_of first_year year +ℤ pos 60) ≤ℤ first
+  pub before_end : (last +ℤ pos 60) ≤ℤ start_of first_year (suc year)

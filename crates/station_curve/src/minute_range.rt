@@ -1,0 +1,48 @@
+//! The minutes for which a curve is requested.
+
+ghost use Rattle.std.specs.Prelude.{◌≡◌, ◌^◌, ◌≤◌, ◌&&◌, pos, ◌+ℤ◌, int_le, unsigned_abs};
+ghost use Rattle.year_blend.specs.Years.{year_start_of};
+
+use crate::constants::calendar_year;
+use crate::years::HOUR;
+use harmonics_text::ValidBook;
+use year_blend::year_start;
+
+/// The minutes from `first` to `last` for which a curve is requested.
+#[derive(Clone, Copy)]
+pub struct MinuteRange {
+    pub first: i64,
+    pub last: i64,
+}
+
+impl MinuteRange {
+    /// Returns true if a year from `start` to `end` is at most an hour from these minutes.
+    pub fn touches(self, start: i64, end: i64) -> bool
+        requires last { unsigned_abs self.last ≤ 10 ^ 12 }
+        requires end { unsigned_abs end ≤ 10 ^ 12 }
+        ensures { result ≡ (int_le start (self.last +ℤ pos 60) && int_le self.first (end +ℤ pos 60)) }
+    {
+        is_within_hour(start, self.last) && is_within_hour(self.first, end)
+    }
+}
+
+/// Returns true if `minute` is at most an hour after `other`.
+fn is_within_hour(minute: i64, other: i64) -> bool
+    requires { unsigned_abs other ≤ 10 ^ 12 }
+    ensures { result ≡ int_le minute (other +ℤ pos 60) }
+{
+    minute <= other + HOUR
+}
+
+/// Returns all minutes of a book's years, and the first one after them.
+pub fn all_minutes(book: &ValidBook<'_>) -> MinuteRange
+    ensures first { result.first ≡ year_start_of book.now.first_year }
+    ensures last { result.last ≡ year_start_of (book.now.first_year +ℤ pos book.now.years) }
+    ensures in_range { unsigned_abs result.first ≤ 10 ^ 12 }
+    ensures near_last { unsigned_abs result.last ≤ 10 ^ 12 }
+{
+    MinuteRange {
+        first: year_start(calendar_year(book, 0)),
+        last: year_start(calendar_year(book, book.get().years)),
+    }
+}

@@ -1,0 +1,42 @@
+//! A station by its name, without a span.
+
+ghost use Rattle.std.specs.Prelude.{IfErr};
+ghost use Rattle.tide_fault.specs.Faults.{IsPrintableRefusal};
+ghost use Rattle.station_span.specs.Sites.{station_in};
+ghost use Rattle.station_span.specs.Workings.Finds.{FindsReference};
+
+use crate::station::{find_basis, level_units, station_at, whole_curve};
+use decimal_text::Text;
+use harmonics_text::{Station, ValidBook};
+use station_curve::StationCurve;
+use station_table::OffsetTable;
+use std::alloc::Global;
+use tide_fault::Refusal;
+
+/// A reference station that has levels, with its curve for all minutes of the harmonics file.
+#[derive(Debug, Drop)]
+pub struct ReferenceStation<'a> {
+    pub station: &'a Station,
+    pub curve: StationCurve,
+}
+
+/// Returns the reference of the station `name`.
+///
+/// # Errors
+/// The first [`Refusal`] in this order: the station, its unit, the bounds on its constants.
+#[tactic(auto, unfolding(crate::specs::Sites::station_in))]
+pub fn find_reference<'a>(
+    alloc: Global,
+    book: &ValidBook<'a>,
+    table: &OffsetTable,
+    name: &Text,
+) -> Result<ReferenceStation<'a>, Refusal>
+    ensures exact { FindsReference book.now (station_in book.now table.now name.now) result }
+    ensures printable { IfErr result (IsPrintableRefusal table.now) }
+{
+    let basis = find_basis(book, table, name)?;
+    let station = station_at(book.get(), basis.station);
+    level_units(station.units)?;
+    let curve = whole_curve(alloc, book, basis.station, station)?;
+    Ok(ReferenceStation { station, curve })
+}

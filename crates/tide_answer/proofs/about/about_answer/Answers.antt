@@ -1,0 +1,14 @@
+use Rattle.std.proofs.Common.{FitsSigned, rules}
+use mir.Syntax.{w128}
+use Rattle.std.proofs.lemmas.Int.{to_z-of_z}
+use Rattle.tide_answer.proofs.AnswerLemmas.{reference_whole}
+use Rattle.tide_answer.proofs.about.about_answer.Goals as goal
+
+pub returns-clause-exact : goal.returns-clause-exact
+returns-clause-exact c =
+    let is = c.in_ok-found.ensures.exact in
+    let bound : FitsSigned w128 c.agreement-agreement.result = search rules in
+    let text = simp to_z-of_z at c.in_ok-text.ensures in
+    let agrees = c.predicted_agreements.ensures.value c.args.book.now is.site.station c.in_ok-found.found.curve is.predicts in
+    rw (c.text_alone.ensures, text, c.constituent_count-count.ensures, c.agreement-agreement.ensures.value)
+    (reference_whole c.args.book.now c.args.table.now c.args.name.now c.in_ok-found.found is agrees)

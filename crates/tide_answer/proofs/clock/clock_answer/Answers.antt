@@ -1,0 +1,59 @@
+use Rattle.std.proofs.Common.{FitsSigned, w64, rules, sym, subst}
+use Rattle.std.proofs.lemmas.Int.{to_z-of_z}
+use Rattle.std.proofs.lemmas.Result.{err_from_is_err_and}
+use Rattle.station_span.specs.declared.asked.Asked.{Asked}
+use Rattle.station_span.specs.Workings.Finds.{IsLooked, site_of, tide_of_found}
+use Rattle.station_span.proofs.FoundLemmas.{excused_by}
+use Rattle.station_span.proofs.HeldLemmas.{looked_level}
+use Rattle.station_span.proofs.LevelLemmas.{zone_minute}
+use Rattle.tide_answer.proofs.LevelSteps.{refused_level, whole_clock}
+use Rattle.tide_answer.proofs.clock.clock_answer.Goals as goal
+
+pub returns-in_err-check_level-clause-exact : goal.returns-in_err-check_level-clause-exact
+returns-in_err-check_level-clause-exact c =
+    let now : FitsSigned w64 c.args.now = search rules in
+    let p = err_from_is_err_and c.from_residual-in_err-check_level.result c.from_residual-in_err-check_level.ensures.1 in
+    let asked = simp to_z-of_z at c.day_from-asked.ensures.exact in
+    let is = rw asked at c.in_ok-found.ensures.exact in
+    rw (p.1, p.2)
+    (refused_level _ c.args.book.now c.args.table.now c.args.name.now c.args.now c.args.zone.now
+    (site_of c.in_ok-found.found) _ is.site (excused_by _ _ _ (sym c.in_err-check_level.ensures.exact)))
+
+pub level_at-level-requires : goal.level_at-level-requires
+level_at-level-requires c =
+    let now : FitsSigned w64 c.args.now = search rules in
+    let asked = simp to_z-of_z at c.day_from-asked.ensures.exact in
+    let is = rw asked at c.in_ok-found.ensures.exact in
+    simp to_z-of_z (subst (λ (a : Asked). IsLooked c.in_ok-found.found a.begin) is.asked (c.in_ok-check_level.ensures.first is.reach))
+
+pub is_rising-rising-requires : goal.is_rising-rising-requires
+is_rising-rising-requires c =
+    let now : FitsSigned w64 c.args.now = search rules in
+    let asked = simp to_z-of_z at c.day_from-asked.ensures.exact in
+    let is = rw asked at c.in_ok-found.ensures.exact in
+    simp to_z-of_z (subst (λ (a : Asked). IsLooked c.in_ok-found.found a.begin) is.asked (c.in_ok-check_level.ensures.first is.reach))
+
+pub clock_text-requires-clause-now : goal.clock_text-requires-clause-now
+clock_text-requires-clause-now c =
+    let now : FitsSigned w64 c.args.now = search rules in
+    let asked = simp to_z-of_z at c.day_from-asked.ensures.exact in
+    let is = rw asked at c.in_ok-found.ensures.exact in
+    let looked = subst (λ (a : Asked). IsLooked c.in_ok-found.found a.begin) is.asked (c.in_ok-check_level.ensures.first is.reach) in
+    simp to_z-of_z (zone_minute (tide_of_found c.in_ok-found.found) c.args.now (looked_level c.in_ok-found.found c.args.now looked))
+
+pub clock_text-requires-clause-listed : goal.clock_text-requires-clause-listed
+clock_text-requires-clause-listed c = rw (c.in_ok-found.found.unit, ← c.in_ok-listed.ensures.units) c.in_ok-listed.ensures.lines
+
+pub returns-clause-exact : goal.returns-clause-exact
+returns-clause-exact c =
+    let now : FitsSigned w64 c.args.now = search rules in
+    let asked = simp to_z-of_z at c.day_from-asked.ensures.exact in
+    let is = rw asked at c.in_ok-found.ensures.exact in
+    let list = rw (is.book, is.asked) at c.in_ok-listed.ensures in
+    let shown : FitsSigned w64 c.level_at-level.result = search rules in
+    let level = rw is.book at (simp to_z-of_z at c.level_at-level.ensures) in
+    let rising = rw is.book at (simp to_z-of_z at c.is_rising-rising.ensures) in
+    let text = rw (c.zone.ensures.exact, level, rising, c.in_ok-found.found.unit) at (simp to_z-of_z at c.in_ok-text.ensures) in
+    rw text
+    (whole_clock c.args.book.now c.args.table.now c.args.name.now c.args.now c.args.zone.now
+    (site_of c.in_ok-found.found) c.in_ok-listed.listed is.site (sym c.in_ok-check_level.ensures.exact) list)

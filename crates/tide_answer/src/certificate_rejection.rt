@@ -1,0 +1,41 @@
+//! The check of a certificate's tracks.
+
+ghost use Rattle.std.specs.Prelude.{◌≡◌};
+ghost use Rattle.station_cells.specs.Rejections.{HasFewCells};
+ghost use Rattle.station_span.specs.declared.reach.Reach.{Reach};
+ghost use Rattle.station_span.specs.Workings.Finds.{site_of};
+ghost use Rattle.tide_answer.specs.Answers.{version_of};
+ghost use Rattle.tide_answer.specs.Asking.{asked_by_certificate};
+ghost use Rattle.tide_answer.specs.Workings.Certifying.{rejection_in};
+
+use cert_text::Certificate;
+use rate_bound::Version;
+use station_cells::{Rejection, rejection_over};
+use station_span::{FoundStation, mark_curve, slack_curve, turn_curve};
+
+/// Returns the first fault of the tracks of `cert`, by the rules of its version, or `None` if they
+/// are right: first whether the slack track is present exactly if it is required, and then the
+/// cells of each track. Doesn't allocate.
+pub fn find_rejection(found: &FoundStation, cert: &Certificate) -> Option<Rejection>
+    requires reach { found.now.reach ≡ Reach.Events }
+    requires same { found.now.asked ≡ asked_by_certificate cert.now }
+    requires count_bound { HasFewCells cert.now.tracks }
+    ensures { result ≡ rejection_in found.now.origin.book (site_of found.now) cert.now }
+{
+    let version = version_of(cert);
+    let turn = turn_curve(found, version);
+    let slack = slack_curve(found, version);
+    let mark = mark_curve(found, version);
+    rejection_over(turn, slack, mark, &found.span, &cert.tracks)
+}
+
+/// Returns the version of the rates by which `cert` is checked.
+fn version_of(cert: &Certificate) -> Version
+    ensures { result ≡ version_of cert.now }
+{
+    if cert.version == 1 {
+        Version::First
+    } else {
+        Version::Second
+    }
+}

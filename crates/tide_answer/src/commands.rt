@@ -1,0 +1,125 @@
+//! The answer to a request.
+
+ghost use Rattle.std.specs.Prelude.{◌≡◌, IfErr, IfOk};
+ghost use Rattle.decimal_text.specs.Expected.{ReturnsUnless};
+ghost use Rattle.harmonics_text.specs.Books.{IsBook};
+ghost use Rattle.listing.specs.StationLists.{stations_text_of};
+ghost use Rattle.question.specs.Asked.{IsAsked};
+ghost use Rattle.tide_answer.specs.Answers.{answered, text_alone};
+ghost use Rattle.tide_fault.specs.Faults.{refusal_is_out_of_memory, IsPrintableRefusal};
+ghost use Rattle.tide_answer.specs.Givens.{IsGiven, given_seen};
+
+use crate::about::about_answer;
+use crate::alone::answer_alone;
+use crate::asked_spans::{span_named, station_named};
+use crate::calendar::list_days;
+use crate::certify::certify;
+use crate::check::check;
+use crate::clock::clock_answer;
+use crate::given::{Given, GivenView};
+use crate::heights::list_heights;
+use crate::highest::{certify_peak, highest_answer};
+use crate::peak_check::check_peak_text;
+use crate::predict::predict;
+use crate::text::{Answer, text_alone};
+use harmonics_text::{Book, ValidBook};
+use listing::stations_text;
+use question::{Command, Question, ValidQuestion};
+use station_table::OffsetTable;
+use std::alloc::Global;
+use tide_fault::Refusal;
+
+/// Returns the answer to `question` over the harmonic constants `book` and the offsets `table`,
+/// with the zone, the certificate and the present minute of `given`. A request to report, whose
+/// events [`station_events`](crate::station_events) returns, or to serve is answered as one without
+/// a station.
+///
+/// # Errors
+/// The first [`Refusal`] in this order, as `specs/Answers.antt` defines it: a certificate's form,
+/// the station, its unit, the span, the bounds on its constants, the mark, a level at each minute,
+/// the number of rows. [`Refusal::NoMemory`] may be returned in place of any result.
+///
+/// # Examples
+/// ```
+/// let given = Given {
+///     zone: Zone::Utc,
+///     certificate: Bytes::from_vec(Vec::new(alloc)),
+///     now: 0,
+/// };
+/// let answered = answer(alloc, &book, &table, &question, &given)?;
+/// assert_eq!(rt; answered.text.as_slice(), DAY.as_bytes());
+/// ```
+///
+/// ```
+/// let question = request(alloc, "check|file=f|certificate=c")?;
+/// let given = Given {
+///     zone: Zone::Utc,
+///     certificate: Bytes::from_vec(CERTIFICATE.as_bytes().to_vec(alloc)?),
+///     now: 0,
+/// };
+/// let checked = answer(alloc, &book, &table, &question, &given)?;
+/// assert!(rt; !checked.rejected);
+/// ```
+pub fn answer(
+    alloc: Global,
+    book: &Book,
+    table: &OffsetTable,
+    question: &Question,
+    given: &Given,
+) -> Result<Answer, Refusal>
+    requires book { IsBook book.now }
+    requires asked { IsAsked question.now }
+    requires given { IsGiven given.now }
+    ensures exact { ReturnsUnless refusal_is_out_of_memory (answered book.now table.now question.now given.entry.now) result }
+    ensures printable { IfErr result (IsPrintableRefusal table.now) }
+{
+    let book = ValidBook::new(book);
+    let question = ValidQuestion::new(question);
+    answer_valid(alloc, &book, table, &question, given.view())
+}
+
+/// Returns the answer to the valid `question` over the valid `book`, as [`answer`] does, from borrowed
+/// inputs.
+///
+/// # Errors
+/// As [`answer`].
+#[tactic(auto, unfolding(crate::specs::Answers::answered, crate::specs::Answers::asks_name, crate::specs::Answers::asks_span))]
+pub fn answer_valid(
+    alloc: Global,
+    book: &ValidBook<'_>,
+    table: &OffsetTable,
+    question: &ValidQuestion<'_>,
+    given: GivenView<'_>,
+) -> Result<Answer, Refusal>
+    requires given { IsGiven (given_seen given) }
+    ensures exact { ReturnsUnless refusal_is_out_of_memory (answered book.now table.now question.now (given_seen given.entry)) result }
+    ensures printable { IfErr result (IsPrintableRefusal table.now) }
+{
+    let name = station_named(question);
+    let asked = span_named(question);
+    let zone = &given.zone.clock();
+    let Question { layout, step, .. } = question.get();
+    match question.get().command {
+        Command::Predict => predict(alloc, book, table, name?, &asked?, *layout, zone),
+        Command::Certify => certify(alloc, book, table, name?, &asked?),
+        Command::Heights => list_heights(alloc, book, table, name?, &asked?, *step, *layout, zone),
+        Command::Calendar => list_days(alloc, book, table, name?, &asked?, zone),
+        Command::Highest => highest_answer(alloc, book, table, name?, &asked?, zone),
+        Command::Peak => certify_peak(alloc, book, table, name?, &asked?),
+        Command::Clock => clock_answer(alloc, book, table, name?, given.now, zone),
+        Command::About => about_answer(alloc, book, table, name?),
+        Command::Check => check(alloc, book, table, given.certificate, zone),
+        Command::PeakCheck => check_peak_text(alloc, book, table, given.certificate),
+        Command::Stations => answer_stations(alloc, book.get(), table),
+        Command::Sample | Command::Trial => answer_alone(alloc, question),
+        Command::Report | Command::Serve => Err(Refusal::NoStation),
+    }
+}
+
+/// Returns the answer to `stations`.
+fn answer_stations(alloc: Global, book: &Book, table: &OffsetTable) -> Result<Answer, Refusal>
+    ensures exact { IfOk result (λ answer. answer ≡ text_alone (stations_text_of book.now table.now)) }
+    ensures memory { IfErr result (λ refusal. refusal ≡ Refusal.NoMemory) }
+{
+    Ok(text_alone(stations_text(alloc, book, table)?))
+}

@@ -1,0 +1,231 @@
+-- The data of a server by what it opened.
+use Rattle.std.proofs.Common.{◌≡◌, ◌∙◌, ap, ℕ, List, [], ◌∷◌, ◌++◌, map, append-nil, append_assoc, Option, Some, None, Result, Ok, Err, inl, refl, sym, subst}
+use Rattle.std.specs.Prelude.{slice_get}
+use Rattle.std.specs.Option.{ForSome}
+use Rattle.std.specs.Result.{IsErrAnd}
+use Rattle.decimal_text.specs.Expected.{Excused, Meets}
+use Rattle.harmonics_text.specs.declared.book.Book.{Book}
+use Rattle.question.specs.declared.question.Question.{Question}
+use Rattle.station_table.specs.declared.offsets.Offsets.{Offsets as TableRow}
+use Rattle.tide_edge.specs.FileStates.{Opening, Openings, listed, openings_of}
+use Rattle.tide_fault.specs.declared.fault.Fault.{Fault}
+use Rattle.tide_fault.specs.declared.slot.Slot.{Slot}
+use Rattle.tide_fault.specs.declared.slot.Slot.TheVariants.{File, Offsets, Zone, Certificate}
+use Rattle.tide_fault.specs.declared.status.Status.{Status}
+use Rattle.tide_fault.specs.Faults.{is_out_of_memory as fault_is_out_of_memory}
+use Rattle.named_files.specs.declared.no_answer.NoAnswer.{NoAnswer}
+use Rattle.named_files.specs.declared.no_answer.NoAnswer.TheVariants.{Faulty}
+use Rattle.named_files.specs.NoAnswers.{IsOf, file_of, source_of, faulty}
+use Rattle.named_files.specs.Opened.{IsResultOf, Opened, failing_file, folders_shown, shown}
+use Rattle.named_files.specs.Readings.{book_named, table_named}
+use Rattle.named_files.proofs.OpenedLemmas.{all_named, as_many, book_shown, go_on, last_all, last_names, names_on, shown_at, shown_second, table_shown}
+use Rattle.named_files.proofs.ReadingLemmas.{meets_at, faulty_excuses}
+use Rattle.named_files.proofs.SettledLemmas.{reported_settles}
+use Rattle.named_files.specs.Reporting.{Reports}
+use Rattle.tide_server.proofs.OpeningLemmas.{refused_for}
+use Rattle.tide_server.specs.declared.served_data.ServedData.{ServedData}
+use Rattle.tide_server.specs.Openings.{EndsAs, ServerStates, IsRefused, service_of, served_data_by, served_data_from, served_data_named}
+use Rattle.tide_server.specs.Shown.{EndsAsShown, names_by, names_served, served_data_by_openings, served_data_names}
+
+-- ---- The names up to a fault
+
+after_book : (name : List ℕ) (question : Question) (said : Option Slot) → ForSome said (λ other. other ≡ File)
+    → (more : List (List ℕ)) × (served_data_names name question said ≡ (name ∷ []) ++ more)
+after_book name question None is = (listed question.offsets, refl)
+after_book name question (Some other) is = ([], ap (λ it. served_data_names name question (Some it)) (is other refl))
+
+after_table : (name : List ℕ) (question : Question) (said : Option Slot) → ForSome said (λ other. other ≡ Offsets)
+    → served_data_names name question said ≡ name ∷ listed question.offsets
+after_table name question None is = refl
+after_table name question (Some other) is = ap (λ it. served_data_names name question (Some it)) (is other refl)
+
+-- ---- The files, one after the other
+
+abbrev pub served_data_shown : Question → List ℕ → List Opening → Result ServedData NoAnswer
+served_data_shown question name openings = served_data_named (folders_shown question openings) question name
+
+pub stopped_at_book : (question : Question) (name : List ℕ) (before after : Openings) (none : NoAnswer)
+    (result : Result ServedData NoAnswer)
+    → IsErrAnd result (λ e. e ≡ none) → IsOf File none → Opened File (Some name) (book_shown name) before after (Err none)
+    → IsResultOf (served_data_names name question) (served_data_shown question name) before after result
+unfolding served_data_named
+stopped_at_book question name before after none (Ok served_data) is of_book book = absurd is
+stopped_at_book question name before after none (Err it) is of_book book =
+    let openings = book.openings ++ [] in
+    let to = after_book name question (file_of none) of_book in
+    rw is
+    (record {
+      openings = openings;
+      unopened = book.unopened ++ to.0;
+      all = last_all File (Some name) (book_shown name) before after (Err none) book;
+      names =
+          to.1
+          ∙ ap (λ n. n ++ to.0) (last_names File (Some name) (book_shown name) before after (Err none) book)
+          ∙ append_assoc (map (λ o. o.name) openings) book.unopened to.0;
+      answer =
+          meets_at (Unit {0}) (book_named (folders_shown question openings File) name) _ (Err none) none refl
+          (book.answer (shown File (slice_get openings 0)) (shown_at File [] book.openings [] 0 refl));
+    })
+
+pub stopped_at_table : (question : Question) (name : List ℕ) (before between after : Openings) (read : Book) (none : NoAnswer)
+    (result : Result ServedData NoAnswer) → IsErrAnd result (λ e. e ≡ none) → IsOf Offsets none
+    → Opened File (Some name) (book_shown name) before between (Ok read)
+    → Opened Offsets question.offsets (table_shown question.offsets) between after (Err none)
+    → IsResultOf (served_data_names name question) (served_data_shown question name) before after result
+unfolding served_data_named
+stopped_at_table question name before between after read none (Ok served_data) is of_table book table = absurd is
+stopped_at_table question name before between after read none (Err it) is of_table book table =
+    let last = table.openings ++ [] in
+    let openings = book.openings ++ last in
+    let one = as_many File (Some name) (book_shown name) before between read book in
+    rw is
+    (record {
+      openings = openings;
+      unopened = table.unopened;
+      all =
+          go_on before between after book.openings last book.all
+          (last_all Offsets question.offsets (table_shown question.offsets) between after (Err none) table);
+      names =
+          after_table name question (file_of none) of_table
+          ∙ names_on book.openings last (name ∷ []) (listed question.offsets) table.unopened
+          (all_named File (Some name) (book_shown name) before between read book)
+          (last_names Offsets question.offsets (table_shown question.offsets) between after (Err none) table);
+      answer =
+          rw (book.answer (shown File (slice_get openings 0)) (shown_at File [] book.openings last 0 refl))
+          (meets_at (Unit {0}) (table_named (folders_shown question openings Offsets) question.offsets) _ (Err none) none refl
+          (table.answer (shown Offsets (slice_get openings 1)) (shown_second book.openings table.openings [] one)));
+    })
+
+pub all_opened : (question : Question) (name : List ℕ) (before between after : Openings) (read : Book)
+    (rows : List TableRow) (served_data : ServedData)
+    → served_data ≡ record { book = read; table = rows; port = question.port }
+    → Opened File (Some name) (book_shown name) before between (Ok read)
+    → Opened Offsets question.offsets (table_shown question.offsets) between after (Ok rows)
+    → IsResultOf (served_data_names name question) (served_data_shown question name) before after (Ok served_data)
+unfolding served_data_named
+all_opened question name before between after read rows served_data is book table =
+    let last = table.openings ++ [] in
+    let openings = book.openings ++ last in
+    let one = as_many File (Some name) (book_shown name) before between read book in
+    record {
+      openings = openings;
+      unopened = table.unopened;
+      all =
+          go_on before between after book.openings last book.all
+          (last_all Offsets question.offsets (table_shown question.offsets) between after (Ok rows) table);
+      names =
+          names_on book.openings last (name ∷ []) (listed question.offsets) table.unopened
+          (all_named File (Some name) (book_shown name) before between read book)
+          (last_names Offsets question.offsets (table_shown question.offsets) between after (Ok rows) table);
+      answer =
+          rw (
+            is,
+            book.answer (shown File (slice_get openings 0)) (shown_at File [] book.openings last 0 refl),
+            table.answer (shown Offsets (slice_get openings 1)) (shown_second book.openings table.openings [] one),
+          )
+          refl;
+    }
+
+-- ---- The arguments
+
+pub shown_unasked : (words : List (List ℕ)) (before : Openings) (fault : Fault) (result : Result ServedData NoAnswer)
+    → IsErrAnd result (λ none. none ≡ Faulty fault) → Excused (fault_is_out_of_memory fault) (service_of words) fault
+    → IsResultOf (names_served (service_of words)) (served_data_by_openings words) before before result
+unfolding served_data_from
+shown_unasked words before fault result is excused = record {
+  openings = [];
+  unopened = names_served (service_of words) (failing_file result);
+  all = sym (append-nil (openings_of before));
+  names = refl;
+  answer = meets_at (Unit {0}) (faulty (service_of words)) _ result (Faulty fault) is
+      (faulty_excuses (Unit {0}) (service_of words) fault excused);
+}
+
+pub shown_named : (words : List (List ℕ)) (question : Question) (name : List ℕ) (before after : Openings)
+    (result : Result ServedData NoAnswer)
+    → service_of words ≡ Ok question → question.file ≡ Some name
+    → IsResultOf (served_data_names name question) (served_data_shown question name) before after result
+    → IsResultOf (names_served (service_of words)) (served_data_by_openings words) before after result
+unfolding served_data_from
+shown_named words question name before after result is named shown =
+    let N : Option (List ℕ) → Type 0 =
+    λ file. names_by question file (failing_file result) ≡ map (λ o. o.name) shown.openings ++ shown.unopened in
+    let M : Option (List ℕ) → Type 0 = λ file.
+    Meets source_of (Unit {0}) (served_data_by (folders_shown question shown.openings) question file) result in
+    record {
+      openings = shown.openings;
+      unopened = shown.unopened;
+      all = shown.all;
+      names = rw is (subst N (sym named) shown.names);
+      answer = rw is (subst M (sym named) shown.answer);
+    }
+
+pub shown_nameless : (words : List (List ℕ)) (question : Question) (before : Openings) (result : Result ServedData NoAnswer)
+    → service_of words ≡ Ok question → Meets source_of (Unit {0}) (served_data_by (folders_shown question []) question question.file) result
+    → IsResultOf (names_served (service_of words)) (served_data_by_openings words) before before result
+unfolding served_data_from
+shown_nameless words question before result is meets = record {
+  openings = [];
+  unopened = names_served (service_of words) (failing_file result);
+  all = sym (append-nil (openings_of before));
+  names = refl;
+  answer = rw is meets;
+}
+
+-- ---- The end of a server
+
+wider_by : (question : Question) (file : Option (List ℕ)) (why : Option Slot)
+    → (more : List (List ℕ)) × (names_by question file None ≡ names_by question file why ++ more)
+wider_by question None why = ([], refl)
+wider_by question (Some name) None = ([], sym (append-nil (served_data_names name question None)))
+wider_by question (Some name) (Some File) = (listed question.offsets, refl)
+wider_by question (Some name) (Some Offsets) = ([], sym (append-nil (served_data_names name question None)))
+wider_by question (Some name) (Some Zone) = ([], sym (append-nil (served_data_names name question None)))
+wider_by question (Some name) (Some Certificate) = ([], sym (append-nil (served_data_names name question None)))
+
+wider : (asked : Result Question Fault) (why : Option Slot)
+    → (more : List (List ℕ)) × (names_served asked None ≡ names_served asked why ++ more)
+wider (Ok question) why = wider_by question question.file why
+wider (Err fault) why = ([], refl)
+
+pub shown_ready : (words : List (List ℕ)) (served_data : ServedData) (status : Status) (before after : ServerStates)
+    → IsResultOf (names_served (service_of words))
+    (served_data_by_openings words) before.files.openings after.files.openings (Ok served_data)
+    → ((expected : Result ServedData NoAnswer) → expected ≡ Ok served_data → EndsAs (Unit {0}) expected status before after)
+    → EndsAsShown words status before after
+shown_ready words served_data status before after shown ends = record {
+  openings = shown.openings;
+  all = shown.all;
+  unopened = shown.unopened;
+  names = shown.names;
+  last = λ other. (shown.unopened, rw shown.answer shown.names);
+  ends = ends (served_data_by_openings words shown.openings) shown.answer;
+}
+
+pub shown_refused : (words : List (List ℕ)) (none : NoAnswer) (status : Status) (before after : ServerStates)
+    → IsResultOf (names_served (service_of words)) (served_data_by_openings words) before.files.openings after.files.openings (Err none)
+    → after.door ≡ before.door → after.clock ≡ before.clock → Reports none status before.err after.err
+    → EndsAsShown words status before after
+shown_refused words none status before after shown door clock faulty =
+    let expected : Result ServedData NoAnswer = served_data_by_openings words shown.openings in
+    let to = wider (service_of words) (failing_file {T = ServedData} (Err none)) in
+    record {
+      openings = shown.openings;
+      all = shown.all;
+      unopened = shown.unopened ++ to.0;
+      names = to.1 ∙ ap (λ n. n ++ to.0) shown.names ∙ append_assoc (map (λ o. o.name) shown.openings) shown.unopened to.0;
+      last = λ other.
+          (shown.unopened, rw (reported_settles expected none status before.err after.err shown.answer faulty other) shown.names);
+      ends = inl (refused_for (Unit {0}) expected none status before after shown.answer door clock faulty);
+    }
+
+pub shown_another : (words : List (List ℕ)) (status : Status) (before after : ServerStates) → after.files ≡ before.files
+    → IsRefused (Unit {0}) (served_data_by_openings words []) status before after → EndsAsShown words status before after
+shown_another words status before after same refused = record {
+  openings = [];
+  all = ap (λ files. openings_of files.openings) same ∙ sym (append-nil (openings_of before.files.openings));
+  unopened = names_served (service_of words) None;
+  names = refl;
+  last = λ other. (names_served (service_of words) (failing_file (served_data_by_openings words [])), refl);
+  ends = inl refused;
+}

@@ -1,0 +1,57 @@
+use Rattle.std.proofs.Common.{refl}
+use Rattle.std.specs.Bool.{IsTrue}
+use Rattle.named_files.specs.Readings.{book_named, table_named}
+use Rattle.named_files.proofs.ReadingLemmas.{meets_at}
+use Rattle.tide_server.proofs.ServedDataLemmas.{all_opened, stopped_at_book, stopped_at_table}
+use Rattle.tide_server.specs.Openings.{served_data_named}
+use Rattle.tide_server.proofs.served_data_reading.read_named.Goals as goal
+
+pub returns-in_err-book-clause-own : goal.returns-in_err-book-clause-own
+unfolding served_data_named
+returns-in_err-book-clause-own g c =
+    let book = c.in_err-book.ensures.own in
+    λ t. meets_at (IsTrue (g.F.Files.state c.args.files.now).store.is_steady)
+    (book_named (g.F.Files.state c.args.files.now).store.folder c.args.name.now) _ c.from_residual.result _
+    c.from_residual.ensures.1 (book t)
+
+pub returns-in_err-book-clause-shown : goal.returns-in_err-book-clause-shown
+returns-in_err-book-clause-shown g c =
+    stopped_at_book c.args.question.now c.args.name.now
+    (g.F.Files.state c.args.files.now).openings
+    (g.F.Files.state c.read_book.new.files).openings
+    _ c.from_residual.result c.from_residual.ensures.1 c.in_err-book.ensures.fault c.in_err-book.ensures.opened
+
+pub returns-in_err-table-clause-own : goal.returns-in_err-table-clause-own
+unfolding served_data_named
+returns-in_err-table-clause-own g c =
+    let book = c.in_ok-book.ensures.own in
+    let table = rw c.read_book.ensures.read.store at c.in_err-table.ensures.own in
+    λ t. rw (book t) (meets_at (IsTrue (g.F.Files.state c.args.files.now).store.is_steady)
+    (table_named (g.F.Files.state c.args.files.now).store.folder c.args.question.now.offsets) _
+    c.from_residual-in_err-table.result _ c.from_residual-in_err-table.ensures.1 (table t))
+
+pub returns-in_err-table-clause-shown : goal.returns-in_err-table-clause-shown
+returns-in_err-table-clause-shown g c =
+    stopped_at_table c.args.question.now c.args.name.now
+    (g.F.Files.state c.args.files.now).openings
+    (g.F.Files.state c.read_book.new.files).openings
+    (g.F.Files.state c.read_table.new.files).openings
+    c.in_ok-book.book
+    _ c.from_residual-in_err-table.result c.from_residual-in_err-table.ensures.1 c.in_err-table.ensures.fault
+    c.in_ok-book.ensures.opened c.in_err-table.ensures.opened
+
+pub returns-clause-own : goal.returns-clause-own
+unfolding served_data_named
+returns-clause-own g c =
+    let book = c.in_ok-book.ensures.own in
+    let table = rw c.read_book.ensures.read.store at c.in_ok-table.ensures.own in
+    λ t. rw (book t, table t, c.new.ensures) refl
+
+pub returns-clause-shown : goal.returns-clause-shown
+returns-clause-shown g c =
+    all_opened c.args.question.now c.args.name.now
+    (g.F.Files.state c.args.files.now).openings
+    (g.F.Files.state c.read_book.new.files).openings
+    (g.F.Files.state c.read_table.new.files).openings
+    c.in_ok-book.book c.in_ok-table.table _ c.new.ensures
+    c.in_ok-book.ensures.opened c.in_ok-table.ensures.opened

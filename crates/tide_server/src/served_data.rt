@@ -1,0 +1,67 @@
+//! The data that a server serves.
+
+ghost use Rattle.std.specs.Prelude.{◌≡◌};
+ghost use Rattle.harmonics_text.specs.Books.{IsBook};
+
+use harmonics_text::{Book, ValidBook};
+use station_table::OffsetTable;
+use std::marker::Model;
+
+/// The data that a server serves, and its port.
+#[derive(Drop)]
+pub struct ServedData {
+    /// The harmonic constants.
+    pub book: Book,
+    /// The subordinate stations. It has no row if no table is named.
+    pub table: OffsetTable,
+    /// The port of 127.0.0.1 at which the server listens.
+    pub port: u16,
+}
+
+/// The data of a server, whose harmonic constants are valid. Contracts see it as the data.
+#[derive(Drop)]
+pub struct ValidServedData {
+    served_data: ServedData,
+}
+
+impl Model for ValidServedData {
+    ghost use Rattle.tide_server.specs.declared.served_data.ServedData.{ServedData};
+    ghost use Rattle.harmonics_text.specs.Books.{IsBook};
+
+    ghost Value = { ServedData };
+
+    ghost view = { λ valid. valid.served_data };
+
+    ghost invariant = { λ valid. IsBook valid.served_data.book };
+}
+
+impl ValidServedData {
+    /// Returns `served_data`, whose harmonic constants are valid.
+    pub fn new(served_data: ServedData) -> ValidServedData
+        requires { IsBook served_data.book }
+        ensures { result ≡ served_data }
+    {
+        ValidServedData { served_data }
+    }
+
+    /// Returns the harmonic constants, borrowed.
+    pub fn book(&self) -> ValidBook<'_>
+        ensures { result ≡ self.now.book }
+    {
+        ValidBook::new(&self.served_data.book)
+    }
+
+    /// Returns the table, borrowed.
+    pub fn table(&self) -> &OffsetTable
+        ensures { result.now ≡ self.now.table }
+    {
+        &self.served_data.table
+    }
+
+    /// Returns the port at which the server listens.
+    pub fn port(&self) -> u16
+        ensures { result ≡ self.now.port }
+    {
+        self.served_data.port
+    }
+}
