@@ -337,7 +337,7 @@ fn curve_over(
 {
     match StationCurve::over(alloc, book.get(), place, span.begin, span.end) {
         Ok(curve) => {
-            curve.ranges_hold();
+            curve.limits_hold();
             Ok(curve)
         }
         Err(fault) => Err(Refusal::from(fault)),
@@ -364,7 +364,7 @@ pub fn whole_curve(
 {
     match StationCurve::new(alloc, book.get(), place) {
         Ok(curve) => {
-            curve.ranges_hold();
+            curve.limits_hold();
             Ok(curve)
         }
         Err(fault) => Err(Refusal::from(fault)),
