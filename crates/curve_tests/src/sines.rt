@@ -52,7 +52,7 @@ fn places_of_angles(rt: HostRuntime) {
 }
 
 #[test]
-fn sines_and_cosines_of_turns(rt: HostRuntime) {
+fn sines_and_cosines_of_binary_angles(rt: HostRuntime) {
     let rows = [
         (0, 0, 1_000_000_000),
         (8_700_000_000, 250_380_003, 968_147_637),
@@ -71,10 +71,10 @@ fn sines_and_cosines_of_turns(rt: HostRuntime) {
     ];
     for (place, sine, cosine) in rows {
         assert!(rt; place < CIRCLE as u64);
-        let turn = turn_of(place);
-        assert_eq!(rt; turn_sine(turn), sine, "the sine at {place}");
-        let ahead = turn.wrapping_add(QUARTER_TURN);
-        assert_eq!(rt; turn_sine(ahead), cosine, "the cosine at {place}");
+        let angle = binary_angle_of(place);
+        assert_eq!(rt; binary_angle_sine(angle), sine, "the sine at {place}");
+        let ahead = angle.wrapping_add(QUARTER_CIRCLE);
+        assert_eq!(rt; binary_angle_sine(ahead), cosine, "the cosine at {place}");
     }
 }
 
@@ -95,9 +95,9 @@ fn sines_and_cosines_by_chords(rt: HostRuntime) {
     ];
     for (place, sine, cosine) in rows {
         assert!(rt; place < CIRCLE as u64);
-        let turn = turn_of(place);
-        assert_eq!(rt; chord_sine(turn), sine, "the sine by a chord at {place}");
-        let ahead = turn.wrapping_add(QUARTER_TURN);
+        let angle = binary_angle_of(place);
+        assert_eq!(rt; chord_sine(angle), sine, "the sine by a chord at {place}");
+        let ahead = angle.wrapping_add(QUARTER_CIRCLE);
         assert_eq!(rt;
             chord_sine(ahead),
             cosine,
