@@ -84,9 +84,9 @@ class Site:
         self.predictors[port] = subprocess.Popen(words, stderr=subprocess.PIPE, text=True)
 
     def wait_for_predictor(self, port):
-        told = self.predictors[port].stderr.readline()
-        if 'http://' not in told:
-            raise SystemExit(f'try_site: a predictor does not serve: {told.strip()}')
+        notice = self.predictors[port].stderr.readline()
+        if 'http://' not in notice:
+            raise SystemExit(f'try_site: a predictor does not serve: {notice.strip()}')
 
     def start_predictors(self):
         for port in self.ports:
