@@ -5,14 +5,15 @@ mod rows;
 mod sizes;
 
 ghost use Rattle.std.specs.Prelude.{[], IfOk};
-ghost use Rattle.harmonics_text.specs.Books.{IsBook};
+ghost use Rattle.harmonics_book.specs.Books.{IsBook};
 ghost use Rattle.question.specs.Asked.{IsAsked};
 ghost use Rattle.tide_answer.specs.Givens.{IsGiven};
 ghost use Rattle.tide_fault.specs.Faults.{IsPrintable};
 
 use case::{Case, asked, written};
 use decimal_text::{Bytes, Text};
-use harmonics_text::{Book, BookFault, read_book};
+use harmonics_book::Book;
+use harmonics_text::{BookFault, read_book};
 use question::ValidQuestion;
 use rows::{
     ANSWERS, ASK_FAULTS, CUT_SHORT, HALF_SLACK, PEAK_VERDICTS, REFUSALS, STREAMS, VERDICTS,

@@ -1,13 +1,14 @@
 //! The examples in the documentation of public calls, over a pier from 1999 to 2001.
 
 ghost use Rattle.std.specs.Prelude.{IfOk};
-ghost use Rattle.harmonics_text.specs.Books.{IsBook};
+ghost use Rattle.harmonics_book.specs.Books.{IsBook};
 ghost use Rattle.question.specs.Asked.{IsAsked};
 
 use calendar_sheet::calendar_text;
 use cert_text::{CertFault, read_certificate, write_certificate};
 use decimal_text::{Bytes, Text};
-use harmonics_text::{Book, ValidBook, read_book};
+use harmonics_book::{Book, ValidBook};
+use harmonics_text::read_book;
 use listing::plain_events;
 use question::{AskFault, Question, pairs_of_words, read_question};
 use station_span::{

@@ -3,7 +3,7 @@ use Rattle.std.proofs.Common.{◌≡◌, ◌↔◌, ℕ, List, Option, IsErrAnd,
 use Rattle.std.specs.Bool.{IsTrue}
 use Rattle.tide_edge.proofs.ReadingLemmas.{begun_whole}
 use Rattle.tide_edge.specs.FileStates.{FilesState, files_after_open}
-use Rattle.harmonics_text.specs.declared.book.Book.{Book as TheBook}
+use Rattle.harmonics_book.specs.declared.book.Book.{Book as TheBook}
 use Rattle.harmonics_text.specs.declared.fault.BookFault.{BookFault}
 use Rattle.harmonics_text.specs.declared.fault.BookFault.TheVariants as form
 use Rattle.harmonics_text.specs.Pieces.{Fed}

@@ -1,7 +1,7 @@
 //! Loading a book from a file, in pieces.
 
 ghost use Rattle.std.specs.Prelude.{◌≡◌, ◌↔◌, ◌≤◌, IsTrue, [], length, Some, Err, IfOk, OnOk};
-ghost use Rattle.harmonics_text.specs.Books.{IsBook};
+ghost use Rattle.harmonics_book.specs.Books.{IsBook};
 ghost use Rattle.book_loading.specs.Loading.{loaded, source_of};
 ghost use Rattle.book_loading.specs.Workings.Feeding.{bytes_fed};
 ghost use Rattle.decimal_text.specs.Expected.{Meets, is_outside_fault};
@@ -10,7 +10,8 @@ ghost use Rattle.tide_edge.specs.Workings.Reading.{HasCome, IsFresh, IsPassed, I
 ghost use Rattle.decimal_text.specs.declared.limits.TheConstants.{MOST_BYTES};
 
 use decimal_text::Text;
-use harmonics_text::{Book, BookFault, BookReader};
+use harmonics_book::Book;
+use harmonics_text::{BookFault, BookReader};
 use std::alloc::{AllocError, Global};
 use tide_edge::{Files, PIECE, ReadAllFault};
 

@@ -7,7 +7,7 @@ use Rattle.std.proofs.lemmas.Int.{ints}
 use Rattle.std.proofs.lemmas.List.{get_or-map, length-map}
 use Rattle.std.proofs.lemmas.List.Elements.{All-filter, All-map, filter-append}
 use Rattle.curve_law.specs.declared.event.Event.{Event}
-use Rattle.harmonics_text.specs.declared.book.Units.{Units}
+use Rattle.harmonics_book.specs.declared.book.Units.{Units}
 use Rattle.event_text.specs.Lines.{IsListed}
 use Rattle.zone_time.specs.declared.zone.Zone.{Zone}
 use Rattle.zone_time.specs.Dates.{IsDay}

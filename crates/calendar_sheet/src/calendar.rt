@@ -14,7 +14,7 @@ use arrayvec::ArrayString;
 use curve_law::{Event, Events};
 use decimal_text::{Bytes, Text};
 use event_text::{word, write_level};
-use harmonics_text::Units;
+use harmonics_book::Units;
 use std::alloc::{AllocError, Global};
 use zone_time::{MINUTES_OF_DAY, Zone, ZoneClock, write_clock, write_date};
 

@@ -16,9 +16,9 @@ use Rattle.event_list.specs.Events.{events_over, span_minutes}
 use Rattle.event_list.specs.Shifts.{is_within, moved, moved_within, offset_of, widened_of}
 use Rattle.event_list.proofs.EventLemmas.{events_of, events-parts}
 use Rattle.event_list.proofs.OrderLemmas.{All-ordered}
-use Rattle.harmonics_text.specs.declared.book.Book.{Book}
-use Rattle.harmonics_text.specs.declared.book.Station.{Station}
-use Rattle.harmonics_text.specs.Books.{IsBook, IsStation}
+use Rattle.harmonics_book.specs.declared.book.Book.{Book}
+use Rattle.harmonics_book.specs.declared.book.Station.{Station}
+use Rattle.harmonics_book.specs.Books.{IsBook, IsStation}
 use Rattle.listing.specs.Abouts.{about_text_of}
 use Rattle.named_files.specs.Readings.{book_named, table_named}
 use Rattle.question.specs.declared.command.Command.TheVariants.{About, Predict}

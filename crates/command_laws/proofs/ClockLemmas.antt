@@ -4,8 +4,8 @@ use Rattle.std.specs.Prelude.{IsTrue}
 use Rattle.std.specs.List.{flat_map}
 use Rattle.std.proofs.lemmas.Int.{ints}
 use Rattle.event_text.specs.Lines.{event_line_in, height_line_of}
-use Rattle.harmonics_text.specs.declared.book.Book.{Book}
-use Rattle.harmonics_text.specs.declared.book.Units.{Units}
+use Rattle.harmonics_book.specs.declared.book.Book.{Book}
+use Rattle.harmonics_book.specs.declared.book.Units.{Units}
 use Rattle.listing.specs.declared.row.Row.{Row}
 use Rattle.listing.specs.Listings.{clock_text_of, plain_events_of, plain_heights_of, row_line_in}
 use Rattle.question.specs.declared.command.Command.TheVariants.{Clock, Heights, Predict}

@@ -1,7 +1,7 @@
 -- The rows of `heights` are those of the law over any level.
 use Rattle.std.proofs.Common.{◌≡◌, ℕ, ℤ, pos, ◌≤ℤ◌, List, Ok, refl, ap}
 use Rattle.std.specs.Prelude.{slice_get}
-use Rattle.harmonics_text.specs.declared.book.Book.{Book}
+use Rattle.harmonics_book.specs.declared.book.Book.{Book}
 use Rattle.question.specs.declared.command.Command.TheVariants.{Heights}
 use Rattle.question.specs.declared.question.Question.{Question}
 use Rattle.station_span.specs.declared.asked.Asked.{Asked}

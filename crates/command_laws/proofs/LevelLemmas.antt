@@ -16,7 +16,7 @@ use Rattle.event_list.specs.Shifts.{is_within, moved, moved_by, moved_within, of
 use Rattle.event_list.proofs.EventLemmas.{events_of as all_events, events-parts}
 use Rattle.event_list.proofs.OrderLemmas.{All-ordered}
 use Rattle.event_list.proofs.PlainLemmas.{within-lies}
-use Rattle.harmonics_text.specs.declared.book.Book.{Book}
+use Rattle.harmonics_book.specs.declared.book.Book.{Book}
 use Rattle.station_curve.specs.Schureman.{predicted_millionths}
 use Rattle.station_span.specs.declared.asked.Asked.{Asked}
 use Rattle.station_span.specs.Following.{asks_slack, events_of, followed, followed_by, if_asked}

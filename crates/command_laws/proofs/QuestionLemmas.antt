@@ -9,7 +9,7 @@ use Rattle.station_span.proofs.SiteLemmas.{then_ok}
 use Rattle.zone_time.specs.declared.zone.Zone.{Zone}
 use Rattle.question.specs.declared.question.Layout.{Layout}
 use Rattle.tide_answer.specs.declared.text.Answer.{Answer}
-use Rattle.harmonics_text.specs.declared.book.Book.{Book}
+use Rattle.harmonics_book.specs.declared.book.Book.{Book}
 use Rattle.question.specs.declared.command.Command.TheVariants.{Predict, Heights, Highest}
 use Rattle.station_table.specs.declared.offsets.Offsets.{Offsets}
 use Rattle.tide_answer.specs.declared.given.Given.{Given}

@@ -11,7 +11,7 @@ use Rattle.std.proofs.lemmas.Option.{slice_get_past}
 use Rattle.std.proofs.lemmas.Slice.Eq.{bytes_eq-Decides}
 use Rattle.curve_law.specs.declared.event.Event.{Event}
 use Rattle.curve_law.proofs.CoverLemmas.{by_test}
-use Rattle.harmonics_text.specs.declared.book.Book.{Book}
+use Rattle.harmonics_book.specs.declared.book.Book.{Book}
 use Rattle.named_files.specs.declared.materials.Materials.{Materials}
 use Rattle.named_files.specs.NoAnswers.{refused_over}
 use Rattle.named_files.specs.Readings.{book_named, certificate_named, files_in, table_named, zone_named}

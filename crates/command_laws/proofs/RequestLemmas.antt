@@ -4,8 +4,8 @@ use Rattle.std.specs.Prelude.{option_and_then, unwrap_or}
 use Rattle.std.specs.Option.{ok_or}
 use Rattle.std.proofs.lemmas.Int.{ints}
 use Rattle.curve_law.proofs.CoverLemmas.{by_test}
-use Rattle.harmonics_text.specs.declared.book.Book.{Book}
-use Rattle.harmonics_text.specs.declared.book.Station.{Station}
+use Rattle.harmonics_book.specs.declared.book.Book.{Book}
+use Rattle.harmonics_book.specs.declared.book.Station.{Station}
 use Rattle.question.specs.declared.command.Command.{Command}
 use Rattle.question.specs.declared.fault.AskFault.{AskFault}
 use Rattle.question.specs.declared.fault.AskFault.TheVariants.{UnknownCommand}

@@ -5,8 +5,8 @@ use Rattle.std.specs.Option.{ok_or}
 use Rattle.std.proofs.lemmas.Int.{ints}
 use Rattle.curve_law.proofs.CoverLemmas.{by_test}
 use Rattle.event_list.specs.Shifts.{widened_of}
-use Rattle.harmonics_text.specs.declared.book.Book.{Book}
-use Rattle.harmonics_text.specs.declared.book.Units.{Units}
+use Rattle.harmonics_book.specs.declared.book.Book.{Book}
+use Rattle.harmonics_book.specs.declared.book.Units.{Units}
 use Rattle.station_curve.specs.Curves.{curve_of}
 use Rattle.station_curve.specs.Waves.{Tide}
 use Rattle.station_span.specs.declared.asked.Asked.{Asked}

@@ -22,10 +22,10 @@ use Rattle.event_list.proofs.PlainLemmas.{events-inside, plain-span}
 use Rattle.event_list.proofs.ScaleLemmas.{scaled-usual}
 use Rattle.event_list.proofs.ShiftLemmas.{shifted-ordered}
 use Rattle.event_text.specs.Words.{is_slack}
-use Rattle.harmonics_text.specs.declared.book.Book.{Book}
-use Rattle.harmonics_text.specs.declared.book.Station.{Station}
-use Rattle.harmonics_text.specs.declared.book.Units.{Units}
-use Rattle.harmonics_text.specs.declared.book.Units.TheVariants.{Feet, Meters, Knots, KnotsSquared}
+use Rattle.harmonics_book.specs.declared.book.Book.{Book}
+use Rattle.harmonics_book.specs.declared.book.Station.{Station}
+use Rattle.harmonics_book.specs.declared.book.Units.{Units}
+use Rattle.harmonics_book.specs.declared.book.Units.TheVariants.{Feet, Meters, Knots, KnotsSquared}
 use Rattle.rate_bound.specs.declared.version.Version.TheVariants.{Second}
 use Rattle.rate_bound.specs.Meanings.{over_mark, predicted_mark}
 use Rattle.station_curve.specs.Schureman.{predicted_level, predicted_millionths}

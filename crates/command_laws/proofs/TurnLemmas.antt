@@ -19,7 +19,7 @@ use Rattle.event_list.specs.Shifts.{greatest_add, is_within, least_add, moved, m
 use Rattle.event_list.specs.Workings.Coming.{IsAscending}
 use Rattle.event_list.proofs.EventLemmas.{events_of as all_events, events-parts}
 use Rattle.event_list.proofs.PlainLemmas.{LiesIn, plain_list-lies}
-use Rattle.harmonics_text.specs.declared.book.Book.{Book}
+use Rattle.harmonics_book.specs.declared.book.Book.{Book}
 use Rattle.rate_bound.specs.declared.version.Version.TheVariants.{Second}
 use Rattle.rate_bound.specs.Meanings.{predicted_turn}
 use Rattle.station_span.specs.declared.asked.Asked.{Asked}

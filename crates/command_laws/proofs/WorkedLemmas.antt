@@ -2,7 +2,8 @@
 use Rattle.std.proofs.Common.{◌≡◌, ℕ, pos, List, [], Some, None, Ok, refl, ap, ◌∙◌}
 use Rattle.std.specs.Prelude.{codes}
 use Rattle.std.specs.List.{slice_split}
-use Rattle.harmonics_text.specs.Worked.{file_of, pier_book, pier_lines}
+use Rattle.harmonics_book.specs.Worked.{pier_book}
+use Rattle.harmonics_text.specs.Worked.{file_of, pier_lines}
 use Rattle.harmonics_text.proofs.Worked.{pier_is}
 use Rattle.named_files.specs.declared.materials.Materials.{Materials}
 use Rattle.named_files.specs.Readings.{book_named, certificate_named, files_in, table_named, zone_named}

@@ -6,8 +6,8 @@ use Rattle.curve_law.specs.declared.kind.Kind.{Kind}
 use Rattle.curve_law.specs.declared.kind.Kind.TheVariants.{High, Low}
 use Rattle.event_list.specs.Shifts.{offset_of}
 use Rattle.fixed_sine.specs.Circle.{radian}
-use Rattle.harmonics_text.specs.declared.book.Book.{Book}
-use Rattle.harmonics_text.specs.declared.book.Station.{Station}
+use Rattle.harmonics_book.specs.declared.book.Book.{Book}
+use Rattle.harmonics_book.specs.declared.book.Station.{Station}
 use Rattle.listing.specs.Abouts.{about_text_of}
 use Rattle.named_files.specs.Readings.{book_named, table_named}
 use Rattle.question.specs.declared.command.Command.TheVariants.{About, Predict}

@@ -25,8 +25,8 @@ use Rattle.curve_law.specs.declared.event.Event.{Event}
 use Rattle.curve_law.specs.declared.kind.Kind.{Kind}
 use Rattle.curve_law.specs.declared.kind.Kind.TheVariants.{High, Low}
 use Rattle.event_text.specs.Lines.{event_line_in}
-use Rattle.harmonics_text.specs.declared.book.Book.{Book}
-use Rattle.harmonics_text.specs.declared.book.Units.{Units}
+use Rattle.harmonics_book.specs.declared.book.Book.{Book}
+use Rattle.harmonics_book.specs.declared.book.Units.{Units}
 use Rattle.listing.specs.Listings.{direction_of}
 use Rattle.question.specs.declared.command.Command.TheVariants.{Clock, Heights, Predict}
 use Rattle.question.specs.declared.question.Layout.TheVariants.{Plain}

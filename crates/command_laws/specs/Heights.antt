@@ -1,6 +1,6 @@
 -- The rows that `heights` prints (this project).
 use Rattle.std.specs.Prelude.{◌≡◌, ℕ, ℤ, List, IsSomeAnd, Some, Ok, slice_get}
-use Rattle.harmonics_text.specs.declared.book.Book.{Book}
+use Rattle.harmonics_book.specs.declared.book.Book.{Book}
 use Rattle.listing.specs.declared.row.Row.{Row}
 use Rattle.named_files.specs.Readings.{book_named, table_named, zone_named}
 use Rattle.question.specs.declared.command.Command.TheVariants.{Heights}

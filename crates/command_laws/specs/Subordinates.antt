@@ -27,9 +27,9 @@ use Rattle.curve_law.specs.declared.event.Event.{Event}
 use Rattle.event_list.specs.Order.{ordered}
 use Rattle.event_list.specs.Shifts.{moved_within, widened_of}
 use Rattle.event_text.specs.Words.{is_slack}
-use Rattle.harmonics_text.specs.declared.book.Book.{Book}
-use Rattle.harmonics_text.specs.declared.book.Units.{Units}
-use Rattle.harmonics_text.specs.declared.book.Units.TheVariants.{Knots}
+use Rattle.harmonics_book.specs.declared.book.Book.{Book}
+use Rattle.harmonics_book.specs.declared.book.Units.{Units}
+use Rattle.harmonics_book.specs.declared.book.Units.TheVariants.{Knots}
 use Rattle.question.specs.declared.command.Command.TheVariants.{Predict}
 use Rattle.question.specs.declared.question.Question.{Question}
 use Rattle.station_curve.specs.Worked.{small_station}

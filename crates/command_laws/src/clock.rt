@@ -2,8 +2,8 @@
 
 ghost use Rattle.std.specs.Prelude.{◌≡◌, pos, true, IsOk, [], ◌∷◌, codes, Some, None};
 ghost use Rattle.curve_law.specs.declared.kind.Kind.{Kind};
-ghost use Rattle.harmonics_text.specs.declared.book.Units.{Units};
-ghost use Rattle.harmonics_text.specs.Worked.{pier_book as pier_file};
+ghost use Rattle.harmonics_book.specs.declared.book.Units.{Units};
+ghost use Rattle.harmonics_book.specs.Worked.{pier_book as pier_file};
 ghost use Rattle.question.specs.declared.command.Command.{Command};
 ghost use Rattle.question.specs.Worked.{bare};
 ghost use Rattle.station_curve.specs.Worked.{pier, pier_book};

@@ -1,7 +1,7 @@
 //! The law of `heights`.
 
 ghost use Rattle.std.specs.Prelude.{◌≡◌, ℤ, [], codes, Ok};
-ghost use Rattle.harmonics_text.specs.declared.book.Book.{Book};
+ghost use Rattle.harmonics_book.specs.declared.book.Book.{Book};
 ghost use Rattle.station_span.specs.Levels.{level_at};
 ghost use Rattle.station_span.specs.Sites.{Site};
 ghost use Rattle.text_laws.specs.Heights.{rows_over};

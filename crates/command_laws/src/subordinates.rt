@@ -4,8 +4,8 @@ ghost use Rattle.std.specs.Prelude.{◌≡◌, pos, IsOk, [], ◌∷◌, codes, 
 ghost use Rattle.curve_law.specs.declared.kind.Kind.{Kind};
 ghost use Rattle.event_list.specs.Shifts.{widened_of};
 ghost use Rattle.event_list.specs.Worked.{harbour};
-ghost use Rattle.harmonics_text.specs.declared.book.Units.{Units};
-ghost use Rattle.harmonics_text.specs.Worked.{pier_book as pier_file};
+ghost use Rattle.harmonics_book.specs.declared.book.Units.{Units};
+ghost use Rattle.harmonics_book.specs.Worked.{pier_book as pier_file};
 ghost use Rattle.question.specs.declared.command.Command.{Command};
 ghost use Rattle.question.specs.Worked.{bare};
 ghost use Rattle.station_curve.specs.Worked.{pier, pier_book, small_station};

@@ -4,7 +4,7 @@ use crate::lists::{TIDE, events_of, is_in_years};
 use calendar_sheet::*;
 use curve_law::Kind;
 use decimal_text::Text;
-use harmonics_text::Units;
+use harmonics_book::Units;
 use std::alloc::Global;
 use std::test::Fail;
 use zone_time::{Zone, read_zone};

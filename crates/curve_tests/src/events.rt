@@ -8,7 +8,7 @@ use curve_law::samples::{Line, Ripple};
 use curve_law::{Cell, Cells, Curve, Event, Kind, Tracks};
 use event_list::*;
 use event_text::worked_words;
-use harmonics_text::Units;
+use harmonics_book::Units;
 use interval_search::Search;
 use station_table::{Basis, Offset, Slack};
 use std::alloc::{AllocError, Global};

@@ -1,14 +1,14 @@
 //! Calendars for other programs.
 
 ghost use Rattle.std.specs.Prelude.{◌≡◌, IfOk, IsTrue};
-ghost use Rattle.harmonics_text.specs.declared.book.Units.{Units};
+ghost use Rattle.harmonics_book.specs.declared.book.Units.{Units};
 ghost use Rattle.ical_sheet.specs.Folding.{IsContentLine};
 
 use crate::lists::is_listed;
 use crate::reports::is_printable;
 use curve_law::{Event, Kind};
 use decimal_text::{Bytes, Text};
-use harmonics_text::Units;
+use harmonics_book::Units;
 use ical_sheet::{
     IcalSheet, calendars_are_sheets, calendars_unfold, escape, fold, folded_lines_unfold,
     identifiers_are_unique, lines_are_cut_between_characters, unfold, worked_calendars,

@@ -1,8 +1,9 @@
 ghost use Rattle.std.specs.Prelude.{IfOk};
-ghost use Rattle.harmonics_text.specs.Books.{IsBook};
+ghost use Rattle.harmonics_book.specs.Books.{IsBook};
 
 use curve_law::{Curve, Kind};
-use harmonics_text::{Book, BookFault, read_book};
+use harmonics_book::Book;
+use harmonics_text::{BookFault, read_book};
 use rate_bound::*;
 use station_curve::StationCurve;
 use std::alloc::Global;

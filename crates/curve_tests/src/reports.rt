@@ -6,7 +6,7 @@ use crate::lists::{TIDE, events_of};
 use crate::sheets::{Counter, Refusal, Refusing};
 use curve_law::Kind;
 use decimal_text::{Text, Words};
-use harmonics_text::Units;
+use harmonics_book::Units;
 use report_sheets::{
     FirstLines, Head, Ranges, Sheet, Tally, fill, missing, pages_show_the_first_events,
     sheets_write_their_layouts, worked_pages, worked_ranges, worked_tallies, worked_words,

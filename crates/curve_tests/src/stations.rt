@@ -1,7 +1,8 @@
 ghost use Rattle.std.specs.Prelude.{IfOk};
-ghost use Rattle.harmonics_text.specs.Books.{IsBook};
+ghost use Rattle.harmonics_book.specs.Books.{IsBook};
 
-use harmonics_text::{Book, BookFault, read_book};
+use harmonics_book::Book;
+use harmonics_text::{BookFault, read_book};
 use station_curve::*;
 use std::alloc::Global;
 use std::test::Fail;

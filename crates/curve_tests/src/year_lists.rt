@@ -8,7 +8,7 @@ use crate::lists::{events_of, rows_of};
 use calendar_sheet::calendar_text;
 use curve_law::{Events, Kind};
 use decimal_text::Text;
-use harmonics_text::Units;
+use harmonics_book::Units;
 use listing::{Rows, clock_text, csv_events, csv_heights, plain_events, plain_heights};
 use std::alloc::{AllocError, Global};
 use std::test::Fail;

@@ -11,7 +11,7 @@ use Rattle.curve_law.specs.Meaning.{Meaning}
 use Rattle.curve_law.specs.Track.{side_at, has_event, event_at, plain_list}
 use Rattle.curve_law.proofs.CoverLemmas.{by_test}
 use Rattle.curve_law.proofs.TrackLemmas.{plain_list-zero, plain_list-one, plain_list-suc}
-use Rattle.harmonics_text.specs.declared.book.Units.{Units}
+use Rattle.harmonics_book.specs.declared.book.Units.{Units}
 use Rattle.station_table.specs.declared.basis.Basis.{Basis}
 use Rattle.station_table.specs.declared.offset.Offset.{Offset}
 use Rattle.station_table.specs.declared.offset.Slack.{Slack}

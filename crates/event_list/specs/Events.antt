@@ -29,7 +29,7 @@ use Rattle.curve_law.specs.Cover.{cover}
 use Rattle.curve_law.specs.Meaning.{Meaning, IsMinute, IsSpan, IsLawful, AgreeOver}
 use Rattle.curve_law.specs.Track.{plain_list}
 use Rattle.curve_law.specs.Verdicts.{verdict}
-use Rattle.harmonics_text.specs.declared.book.Units.{Units}
+use Rattle.harmonics_book.specs.declared.book.Units.{Units}
 use Rattle.station_table.specs.declared.basis.Basis.{Basis}
 use Rattle.event_list.specs.declared.span.Span.{Span}
 use Rattle.event_list.specs.Order.{ordered}

@@ -3,7 +3,7 @@
 ghost use Rattle.std.specs.Prelude.{◌≡◌, ℕ, ◌+◌, ◌*◌, ◌^◌, ◌≤◌, ℤ, ◌≤ℤ◌, ◌<ℤ◌, unsigned_abs, List, All, IsTrue};
 ghost use Rattle.curve_law.specs.declared.event.Event.{Event};
 ghost use Rattle.curve_law.specs.declared.tracks.Tracks.{Tracks};
-ghost use Rattle.harmonics_text.specs.declared.book.Units.{Units};
+ghost use Rattle.harmonics_book.specs.declared.book.Units.{Units};
 ghost use Rattle.station_table.specs.declared.basis.Basis.{Basis};
 ghost use Rattle.station_table.specs.Bases.{is_plain};
 ghost use Rattle.event_list.specs.declared.span.Span.{Span};

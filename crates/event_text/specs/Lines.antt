@@ -1,7 +1,7 @@
 -- The lines of events and levels (the layout of XTide's plain listings; this project).
 use Rattle.std.specs.Prelude.{ℕ, ◌-◌, ℤ, IsTrue, List, ◌++◌, length, replicate, codes}
-use Rattle.harmonics_text.specs.declared.book.Units.{Units}
-use Rattle.harmonics_text.specs.declared.book.Units.TheVariants.{Feet, Meters, Knots, KnotsSquared}
+use Rattle.harmonics_book.specs.declared.book.Units.{Units}
+use Rattle.harmonics_book.specs.declared.book.Units.TheVariants.{Feet, Meters, Knots, KnotsSquared}
 use Rattle.curve_law.specs.declared.event.Event.{Event}
 use Rattle.event_text.specs.Words.{has_word, word_of, word_text}
 use Rattle.zone_time.specs.declared.local.Local.{Local}

@@ -1,7 +1,7 @@
 -- The names of events (the tide and current tables of the National Ocean Service; XTide's event names).
 use Rattle.std.specs.Prelude.{ℕ, ℤ, pos, Bool, true, false, not, int_lt, if◌then◌else◌, List, codes}
-use Rattle.harmonics_text.specs.declared.book.Units.{Units}
-use Rattle.harmonics_text.specs.declared.book.Units.TheVariants.{Feet, Meters, Knots, KnotsSquared}
+use Rattle.harmonics_book.specs.declared.book.Units.{Units}
+use Rattle.harmonics_book.specs.declared.book.Units.TheVariants.{Feet, Meters, Knots, KnotsSquared}
 use Rattle.curve_law.specs.declared.kind.Kind.{Kind}
 use Rattle.curve_law.specs.declared.kind.Kind.TheVariants.{
   High,

@@ -11,7 +11,7 @@ use crate::naming::word;
 use crate::unit::unit_text;
 use arrayvec::ArrayString;
 use curve_law::Event;
-use harmonics_text::Units;
+use harmonics_book::Units;
 use zone_time::{Local, write_local};
 
 /// Writes the line of `event` to the empty `out`, as `2000-01-10 06:00 UTC      -1.00 feet  Low Tide`

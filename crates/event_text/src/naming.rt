@@ -5,7 +5,7 @@ ghost use Rattle.event_text.specs.Words.{has_word, word_of};
 
 use crate::event_word::EventWord;
 use curve_law::Kind;
-use harmonics_text::Units;
+use harmonics_book::Units;
 
 /// Returns the name of an event of this kind; `level` is in millionths of the unit. A current above 0 is
 /// a flood. The events of a hydraulic current have no names, and only a current has slack water.

@@ -3,7 +3,7 @@
 ghost use Rattle.std.specs.Prelude.{◌≡◌, ◌≤◌, length};
 ghost use Rattle.event_text.specs.Lines.{text_of_unit};
 
-use harmonics_text::Units;
+use harmonics_book::Units;
 
 /// Returns the name of a unit, in ASCII and at most 7 bytes.
 #[tactic(auto, unfolding(crate::specs::Lines::text_of_unit))]

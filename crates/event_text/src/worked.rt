@@ -1,7 +1,7 @@
 //! Lines and levels that were computed by hand.
 
 ghost use Rattle.std.specs.Prelude.{◌≡◌, pos, negsuc, codes};
-ghost use Rattle.harmonics_text.specs.declared.book.Units.{Units};
+ghost use Rattle.harmonics_book.specs.declared.book.Units.{Units};
 ghost use Rattle.curve_law.specs.declared.kind.Kind.{Kind};
 ghost use Rattle.zone_time.specs.declared.local.Label.{Label};
 ghost use Rattle.event_text.specs.Lines.{level_text, padded, event_line_of, height_line_of};

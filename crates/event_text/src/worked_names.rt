@@ -1,7 +1,7 @@
 //! Names of events that were computed by hand.
 
 ghost use Rattle.std.specs.Prelude.{◌≡◌, pos, negsuc, false, true, codes};
-ghost use Rattle.harmonics_text.specs.declared.book.Units.{Units};
+ghost use Rattle.harmonics_book.specs.declared.book.Units.{Units};
 ghost use Rattle.curve_law.specs.declared.kind.Kind.{Kind};
 ghost use Rattle.event_text.specs.declared.event_word.EventWord.{EventWord};
 ghost use Rattle.event_text.specs.Words.{has_word, word_of, word_text};

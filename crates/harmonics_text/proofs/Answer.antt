@@ -4,7 +4,7 @@ use Rattle.std.specs.Prelude.{not, ◌&&◌, ◌||◌}
 use Rattle.std.specs.List.{list_all}
 use Rattle.std.proofs.Math.Seq.{drop-cons}
 use Rattle.std.proofs.lemmas.Bool.{lt-ltb}
-use Rattle.harmonics_text.specs.declared.book.Book.{Book}
+use Rattle.harmonics_book.specs.declared.book.Book.{Book}
 use Rattle.harmonics_text.specs.declared.fault.Why.{Why}
 use Rattle.harmonics_text.specs.declared.fault.Why.TheVariants.{LineTooLong}
 use Rattle.harmonics_text.specs.declared.scale.Scale.{Scale}
@@ -66,7 +66,7 @@ table_ends s h t lt =
     [ zero ↦ rw (drop-cons h.constituents t.place unnamed lt) refl | suc more ↦ rw (lt-ltb 0 (suc more) (omega arith)) refl ] in
     left_ends t.left
 
-constituents_end : (left : ℕ) (cs : List Rattle.harmonics_text.specs.declared.book.Constituent.Constituent) → 1 ≤ left
+constituents_end : (left : ℕ) (cs : List Rattle.harmonics_book.specs.declared.book.Constituent.Constituent) → 1 ≤ left
     → constituents left cs [] ≡ Err None
 unfolding constituents
 constituents_end zero cs some = absurd (omega (arith, some))

@@ -3,7 +3,7 @@ use Rattle.std.proofs.Common.{◌≡◌, ℕ, suc, ◌+◌, ◌≤◌, true, fal
 use Rattle.std.specs.Prelude.{codes, MatchResult}
 use Rattle.std.specs.Result.{result_and}
 use Rattle.decimal_text.specs.Expected.{◌>>=◌}
-use Rattle.harmonics_text.specs.declared.book.Book.{Book}
+use Rattle.harmonics_book.specs.declared.book.Book.{Book}
 use Rattle.harmonics_text.specs.declared.book_parser.BookParser.{BookParser}
 use Rattle.harmonics_text.specs.declared.progress.Progress.{Progress}
 use Rattle.harmonics_text.specs.declared.fault.Why.{Why}

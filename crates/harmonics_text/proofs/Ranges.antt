@@ -7,7 +7,7 @@ use Rattle.std.proofs.lemmas.Int.{ints}
 use Rattle.std.proofs.lemmas.Bool.{leb-true}
 use Rattle.std.proofs.lemmas.Bool.Decides.{nat_tests}
 use Rattle.std.proofs.lemmas.List.Sums.{AllPass-from_list_all}
-use Rattle.harmonics_text.specs.declared.book.Constituent.{Constituent}
+use Rattle.harmonics_book.specs.declared.book.Constituent.{Constituent}
 use Rattle.harmonics_text.specs.declared.fault.Why.{Why}
 use Rattle.harmonics_text.specs.declared.fault.Why.TheVariants.{BadName, BadNumber, BadMeridian, BadUnits, WrongConstituent}
 use Rattle.harmonics_text.specs.declared.scale.Scale.{Scale}
@@ -17,8 +17,8 @@ use Rattle.decimal_text.specs.Digits.{digits_of}
 use Rattle.decimal_text.specs.declared.fault.DecimalFault.{DecimalFault}
 use Rattle.decimal_text.specs.declared.fault.DecimalFault.TheVariants as decimals
 use Rattle.harmonics_text.specs.declared.local_time.LocalTime.{LocalTime}
-use Rattle.harmonics_text.specs.declared.book.Units.{Units}
-use Rattle.harmonics_text.specs.Books.{IsWithin, IsName, IsLatinNameByte, IsConstituent}
+use Rattle.harmonics_book.specs.declared.book.Units.{Units}
+use Rattle.harmonics_book.specs.Books.{IsWithin, IsName, IsLatinNameByte, IsConstituent}
 use Rattle.decimal_text.specs.Expected.{◌>>=◌}
 use Rattle.harmonics_text.specs.Rules.{or_fault, in_scale, number_of, least_of, most_of, from_to, count_of, first_year_of, whole_of, is_latin_name_byte, name_of, new_name_of, is_absent, is_end, has_name, constituent_from, constituent_of, local_time_from, local_time_of, meridian_of, clock_of, minutes_of, zone_of, datum_of, pair_from, pair_of, units_of, if_true, is_name, is_colon, two_digits_of}
 

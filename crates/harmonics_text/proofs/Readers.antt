@@ -3,7 +3,7 @@ use Rattle.std.proofs.Common.{◌≡◌, ℕ, suc, ◌+◌, ◌≤◌, true, fal
 use Rattle.std.specs.Prelude.{codes}
 use Rattle.std.specs.Result.{IfOk, result_err}
 use Rattle.decimal_text.specs.Expected.{◌>>=◌}
-use Rattle.harmonics_text.specs.declared.book.Book.{Book}
+use Rattle.harmonics_book.specs.declared.book.Book.{Book}
 use Rattle.harmonics_text.specs.declared.book_parser.BookParser.{BookParser}
 use Rattle.harmonics_text.specs.declared.book_parser.BookParser.TheVariants as parsing
 use Rattle.harmonics_text.specs.declared.record.Record.TheVariants as records
@@ -13,7 +13,7 @@ use Rattle.harmonics_text.specs.declared.fault.Why.TheVariants.{CutShort, LineTo
 use Rattle.harmonics_text.specs.declared.fault.BookFault.{BookFault}
 use Rattle.harmonics_text.specs.declared.fault.BookFault.TheVariants.{NoMemory}
 use Rattle.harmonics_text.specs.declared.fault.BookFault.TheVariants as faults
-use Rattle.harmonics_text.specs.Books.{IsBook}
+use Rattle.harmonics_book.specs.Books.{IsBook}
 use Rattle.harmonics_text.specs.Lines.{cut, is_comment, is_too_long, kept, numbered, is_filled}
 use Rattle.harmonics_text.specs.Reading.{At, book_of, ReturnsBook, FailsBook}
 use Rattle.harmonics_text.specs.Pieces.{ended_lines, pending_line, pending_length, judged_lines, fault_in, fault_so_far, ReturnsFault}

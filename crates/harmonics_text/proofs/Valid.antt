@@ -3,9 +3,9 @@ use Rattle.std.proofs.Common.{◌≡◌, ℕ, ℤ, pos, negsuc, zero, suc, ◌+�
 use Rattle.std.specs.List.{list_all}
 use Rattle.std.proofs.lemmas.Bool.{cases_lt, lt-ltb, le-ltb, leb-false, ne_eqb}
 use Rattle.std.proofs.lemmas.List.Elements.{All-push}
-use Rattle.harmonics_text.specs.declared.book.Constituent.{Constituent}
-use Rattle.harmonics_text.specs.declared.book.Station.{Station}
-use Rattle.harmonics_text.specs.declared.book.Book.{Book}
+use Rattle.harmonics_book.specs.declared.book.Constituent.{Constituent}
+use Rattle.harmonics_book.specs.declared.book.Station.{Station}
+use Rattle.harmonics_book.specs.declared.book.Book.{Book}
 use Rattle.harmonics_text.specs.declared.fault.Why.{Why}
 use Rattle.harmonics_text.specs.declared.fault.Why.TheVariants.{LineTooLong}
 use Rattle.harmonics_text.specs.declared.scale.Scale.{Scale}
@@ -18,7 +18,7 @@ use Rattle.harmonics_text.specs.declared.record.Record.{Record}
 use Rattle.harmonics_text.specs.declared.record.Record.TheVariants as records
 use Rattle.harmonics_text.specs.declared.book_parser.BookParser.{BookParser}
 use Rattle.harmonics_text.specs.declared.book_parser.BookParser.TheVariants as parsing
-use Rattle.harmonics_text.specs.Books.{IsWithin, IsConstituent, IsStation, IsBook}
+use Rattle.harmonics_book.specs.Books.{IsWithin, IsConstituent, IsStation, IsBook}
 use Rattle.harmonics_text.specs.Rules.{number_of, least_of, most_of, count_of, first_year_of, name_of, constituent_of, values_from, named, end_of, same_count_of, station_name_of, local_time_of, datum_of, pair_of}
 use Rattle.harmonics_text.specs.Workings.BookParsing.{IsHeading, AreValues, IsAngles, IsFactors, IsTable, AreConstants, IsBookParser, station_of, at_place, after_values, after_name, after_table_line, new_table, with_constituents, with_angles, with_factors, with_pair, after_count, after_constituent, after_years, after_angles, after_years_again, after_factors, after_nothing, after_pair, after_record, after_text, after_line, new_book}
 use Rattle.harmonics_text.proofs.Ranges.{bind_ok, ok_is, unless, number_within, count_within, first_year_within, name_valid, IsConstituent-of, local_time_of_valid, datum_valid, IsPair, pair_valid}

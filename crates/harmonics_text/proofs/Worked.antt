@@ -3,7 +3,8 @@ use lib.Utf8.{encode}
 use Rattle.std.proofs.Common.{◌≡◌, [], ◌∷◌, ◌++◌, codes, pos, negsuc, take, Ok, Err, Some, None, refl}
 use Rattle.std.specs.Prelude.{map, replicate}
 use Rattle.harmonics_text.specs.declared.fault.Why.TheVariants.{BadCount, BadMeridian, BadName, BadNumber, CutShort, LineTooLong, TooFine}
-use Rattle.harmonics_text.specs.Worked.{pier_lines, file_of, pier_book, pier_with, changes}
+use Rattle.harmonics_book.specs.Worked.{pier_book}
+use Rattle.harmonics_text.specs.Worked.{pier_lines, file_of, pier_with, changes}
 use Rattle.harmonics_text.specs.Lines.{cut, numbered, is_kept, kept, tokens, trimmed}
 use Rattle.harmonics_text.specs.Rules.{in_scale, number_of, whole_of, from_to, count_of, first_year_of, name_of, new_name_of, constituent_from, constituent_of, named, end_of, same_count_of, values_from, station_name_of, two_digits_of, minutes_of, clock_of, meridian_of, zone_of, local_time_from, local_time_of, units_of, datum_of, pair_from, pair_of}
 use Rattle.harmonics_text.specs.Reading.{constituents, values, table, pairs, station, most_stations, stations, book, book_of}

@@ -1,4 +1,4 @@
-pub mod Books
+pub use Rattle.harmonics_book.specs.Books
 pub mod Workings
 pub mod Latin
 pub mod Lines

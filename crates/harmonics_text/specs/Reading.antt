@@ -1,9 +1,9 @@
 -- The book of a harmonics file: its parts in order, each of some lines (XTide's text harmonics file; this
 -- project).
 use Rattle.std.specs.Prelude.{◌≡◌, ℕ, zero, suc, ℤ, ◌+◌, List, [], ◌∷◌, ◌++◌, length, Option, Some, None, Result, Ok, Err, if◌then◌else◌}
-use Rattle.harmonics_text.specs.declared.book.Constituent.{Constituent}
-use Rattle.harmonics_text.specs.declared.book.Station.{Station}
-use Rattle.harmonics_text.specs.declared.book.Book.{Book}
+use Rattle.harmonics_book.specs.declared.book.Constituent.{Constituent}
+use Rattle.harmonics_book.specs.declared.book.Station.{Station}
+use Rattle.harmonics_book.specs.declared.book.Book.{Book}
 use Rattle.harmonics_text.specs.declared.fault.BookFault.{BookFault}
 use Rattle.harmonics_text.specs.declared.fault.BookFault.TheVariants.{NoMemory}
 use Rattle.harmonics_text.specs.declared.fault.BookFault.TheVariants as faults

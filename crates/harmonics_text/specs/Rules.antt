@@ -45,9 +45,9 @@ use Rattle.decimal_text.specs.declared.fault.DecimalFault.TheVariants as decimal
 use Rattle.decimal_text.specs.Decimal.{read_of}
 use Rattle.decimal_text.specs.Digits.{digits_of}
 use Rattle.decimal_text.specs.Expected.{◌>>=◌}
-use Rattle.harmonics_text.specs.declared.book.Constituent.{Constituent}
-use Rattle.harmonics_text.specs.declared.book.Units.{Units}
-use Rattle.harmonics_text.specs.declared.book.Units.TheVariants.{Feet, Meters, Knots, KnotsSquared}
+use Rattle.harmonics_book.specs.declared.book.Constituent.{Constituent}
+use Rattle.harmonics_book.specs.declared.book.Units.{Units}
+use Rattle.harmonics_book.specs.declared.book.Units.TheVariants.{Feet, Meters, Knots, KnotsSquared}
 use Rattle.harmonics_text.specs.declared.fault.Why.{Why}
 use Rattle.harmonics_text.specs.declared.fault.Why.TheVariants.{
   BadCount,

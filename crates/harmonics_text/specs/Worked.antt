@@ -1,7 +1,5 @@
--- A small file, its book, and the faults of changed copies (this project).
-use Rattle.std.specs.Prelude.{ℕ, ◌-◌, pos, List, [], ◌∷◌, ◌++◌, codes, slice_set}
-use Rattle.harmonics_text.specs.declared.book.Book.{Book}
-use Rattle.harmonics_text.specs.declared.book.Units.TheVariants.{Feet}
+-- A small file, whose book is `pier_book` of harmonics_book, and the faults of changed copies (this project).
+use Rattle.std.specs.Prelude.{ℕ, ◌-◌, List, [], ◌∷◌, ◌++◌, codes, slice_set}
 use Rattle.harmonics_text.specs.declared.fault.Why.{Why}
 use Rattle.harmonics_text.specs.declared.fault.Why.TheVariants.{
   BadCount,
@@ -27,25 +25,6 @@ pier_lines =
 abbrev pub file_of : List (List ℕ) → List ℕ
 file_of [] = []
 file_of (line ∷ lines) = line ++ 10 ∷ file_of lines
-
--- the book of that file
-abbrev pub pier_book : Book
-pier_book = record {
-  constituents = record { name = codes "S2"; speed = pos 300000000 } ∷ [];
-  first_year = pos 1999;
-  years = 3;
-  angles = pos 0 ∷ pos 0 ∷ pos 0 ∷ [];
-  factors = pos 1000000 ∷ pos 1000000 ∷ pos 1000000 ∷ [];
-  stations = record {
-    name = codes "Pier";
-    meridian = pos 0;
-    zone = codes "UTC";
-    datum = pos 0;
-    units = Feet;
-    amplitude = pos 1000000 ∷ [];
-    epoch = pos 0 ∷ [];
-  } ∷ [];
-}
 
 -- another text for one line, and the fault of the changed file
 pub record Change : Type 0 where

@@ -24,12 +24,10 @@ ghost use Rattle.harmonics_text.specs.Workings.BookParsing.{
   book_in,
 };
 
-use crate::book::Book;
 use crate::column::Column;
 use crate::fault::{LineFault, Why};
 use crate::heading::{Heading, constituent, is_end};
 use crate::lines::{is_all_blank, is_comment, is_too_long, only_token, trimmed, without_cr};
-use crate::lists::{Constituents, Stations};
 use crate::local_time::{LocalTime, local_time_of_line};
 use crate::names::name_of;
 use crate::numbers::{count, first_year};
@@ -37,6 +35,7 @@ use crate::record::{Constants, Record, amplitude_and_epoch, datum, into_station}
 use crate::scale::Scale;
 use crate::table::{Table, start_table, with_line};
 use decimal_text::{Numbers, Text};
+use harmonics_book::{Book, Constituents, Stations};
 use std::alloc::{AllocError, Global};
 use std::mem;
 

@@ -2,15 +2,15 @@
 
 ghost use Rattle.std.specs.Prelude.{◌≡◌, ◌+◌, ◌^◌, ◌++◌, ◌<◌, ◌≤◌, [], length, if◌then◌else◌, is_none, IfOk, IfSome, None};
 ghost use Rattle.std.specs.Result.{result_err};
-ghost use Rattle.harmonics_text.specs.Books.{IsBook};
+ghost use Rattle.harmonics_book.specs.Books.{IsBook};
 ghost use Rattle.harmonics_text.specs.Reading.{ReturnsBook, book_of};
 ghost use Rattle.harmonics_text.specs.Pieces.{ReturnsFault, fault_so_far, pending_length};
 ghost use Rattle.decimal_text.specs.declared.limits.TheConstants.{MOST_BYTES};
 
-use crate::book::Book;
 use crate::fault::BookFault;
 use crate::history::History;
 use crate::progress::Progress;
+use harmonics_book::Book;
 use std::alloc::{AllocError, Global};
 use std::marker::Model;
 

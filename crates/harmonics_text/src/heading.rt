@@ -4,14 +4,13 @@ ghost use Rattle.std.specs.Prelude.{◌≡◌};
 ghost use Rattle.harmonics_text.specs.Rules.{is_absent, is_end, has_name, new_name_of, constituent_of};
 ghost use Rattle.harmonics_text.specs.Workings.BookParsing.{Follows};
 
-use crate::book::Constituent;
 use crate::fault::{LineFault, Why};
 use crate::lines::{next_token, only_token};
-use crate::lists::Constituents;
 use crate::names::name_of;
 use crate::numbers::number;
 use crate::scale::Scale;
 use decimal_text::Text;
+use harmonics_book::{Constituent, Constituents};
 use std::alloc::Global;
 
 /// The parts of a book before its tables.

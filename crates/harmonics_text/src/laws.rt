@@ -24,7 +24,8 @@ ghost use Rattle.harmonics_text.specs.Rules.{count_of, station_name_of, local_ti
 ghost use Rattle.harmonics_text.specs.Lines.{cut, numbered, kept, tokens};
 ghost use Rattle.harmonics_text.specs.Reading.{At, book_of};
 ghost use Rattle.harmonics_text.specs.Pieces.{ended_lines, pending_length, fault_so_far};
-ghost use Rattle.harmonics_text.specs.Worked.{pier_lines, file_of, pier_book, pier_with, changes};
+ghost use Rattle.harmonics_book.specs.Worked.{pier_book};
+ghost use Rattle.harmonics_text.specs.Worked.{pier_lines, file_of, pier_with, changes};
 
 use crate::fault::Why;
 

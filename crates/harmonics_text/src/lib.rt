@@ -1,12 +1,10 @@
-//! The text file of harmonic constants: its content and its reader.
+//! The reader of text files of harmonic constants.
 //!
-//! A [`Book`] is the content of one file, in the format of the text files of XTide's tools: the
-//! constituents with their speeds, the equilibrium arguments and node factors of each year, and the
-//! stations with their amplitudes and epochs. [`read_book`] reads it from the file's bytes. A
-//! [`ValidBook`] is one whose values are proved to be in the ranges of a file.
+//! [`read_book`] reads a [`Book`] from the bytes of a file in the format of XTide's tools, and a
+//! [`BookReader`] reads it piece by piece. The book and its lists are those of the crate
+//! `harmonics_book`.
 #![tactic(auto)]
 
-mod book;
 mod book_parser;
 mod book_reader;
 mod column;
@@ -15,7 +13,6 @@ mod heading;
 mod history;
 mod laws;
 mod lines;
-mod lists;
 mod local_time;
 mod names;
 mod numbers;
@@ -25,12 +22,9 @@ mod reading;
 mod record;
 mod scale;
 mod table;
-mod valid_book;
 
-pub use book::{Book, Constituent, Station, Units};
 pub use book_reader::BookReader;
 pub use fault::{BookFault, Why};
+pub use harmonics_book::{Book, Constituent, Constituents, Station, Stations, Units, ValidBook};
 pub use laws::{first_faults, worked_files, worked_lines, worked_pieces};
-pub use lists::{Constituents, Stations};
 pub use reading::read_book;
-pub use valid_book::ValidBook;

@@ -16,11 +16,11 @@ ghost use Rattle.harmonics_text.specs.Workings.Readers.{
 };
 ghost use Rattle.std.specs.Result.{result_err};
 
-use crate::book::Book;
 use crate::book_parser::BookParser;
 use crate::fault::{BookFault, LineFault, Why};
 use crate::lines::next_line;
 use crate::pending::Pending;
+use harmonics_book::Book;
 use std::alloc::{AllocError, Global};
 
 /// The state between two pieces of a file.

@@ -1,13 +1,13 @@
 //! Reading a file of harmonic constants.
 
 ghost use Rattle.std.specs.Prelude.{◌≡◌, ◌≤◌, length, IfOk};
-ghost use Rattle.harmonics_text.specs.Books.{IsBook};
+ghost use Rattle.harmonics_book.specs.Books.{IsBook};
 ghost use Rattle.harmonics_text.specs.Reading.{ReturnsBook, book_of};
 ghost use Rattle.decimal_text.specs.declared.limits.TheConstants.{MOST_BYTES};
 
-use crate::book::Book;
 use crate::book_reader::BookReader;
 use crate::fault::BookFault;
+use harmonics_book::Book;
 use std::alloc::Global;
 
 /// Reads a file of harmonic constants, and returns its book.

@@ -4,7 +4,6 @@ ghost use Rattle.std.specs.Prelude.{◌≡◌, pos, if◌then◌else◌};
 ghost use Rattle.harmonics_text.specs.Rules.{units_of, datum_of, pair_of};
 ghost use Rattle.harmonics_text.specs.Workings.BookParsing.{station_of};
 
-use crate::book::{Station, Units};
 use crate::column::Column;
 use crate::fault::Why;
 use crate::heading::is_absent;
@@ -14,6 +13,7 @@ use crate::names::is_name;
 use crate::numbers::number;
 use crate::scale::Scale;
 use decimal_text::Text;
+use harmonics_book::{Station, Units};
 
 /// A station whose constants are being read.
 #[derive(Drop)]

@@ -20,8 +20,8 @@ use Rattle.event_text.specs.declared.event_word.EventWord.{EventWord}
 use Rattle.event_text.specs.declared.event_word.EventWord.TheVariants.{HighTide, LowTide, MaxFlood, MinFlood, MaxEbb, MinEbb, SlackFloodBegins, SlackEbbBegins, MarkRising, MarkFalling}
 use Rattle.event_text.specs.Lines.{level_text, text_of_unit}
 use Rattle.event_text.specs.Words.{word_of, word_text}
-use Rattle.harmonics_text.specs.declared.book.Units.{Units}
-use Rattle.harmonics_text.specs.declared.book.Units.TheVariants.{Feet, Meters, Knots, KnotsSquared}
+use Rattle.harmonics_book.specs.declared.book.Units.{Units}
+use Rattle.harmonics_book.specs.declared.book.Units.TheVariants.{Feet, Meters, Knots, KnotsSquared}
 use Rattle.hex.specs.Hex.{encode_lower, encode_with, lower_digits}
 use Rattle.report_sheets.specs.declared.head.Head.{Head}
 use Rattle.report_sheets.specs.Sheets.{IsHead}

@@ -6,7 +6,7 @@ use Rattle.decimal_text.specs.Rounding.{rounded_of}
 use Rattle.decimal_text.specs.Writing.{last_digits, write_of}
 use Rattle.event_text.specs.Lines.{text_of_unit}
 use Rattle.event_text.specs.Worked.{low_tide}
-use Rattle.harmonics_text.specs.declared.book.Units.TheVariants.{Feet}
+use Rattle.harmonics_book.specs.declared.book.Units.TheVariants.{Feet}
 use Rattle.hex.specs.Hex.{encode_with}
 use Rattle.zone_time.specs.Dates.{date_from_month, date_from_year, date_of, two_digits}
 use Rattle.ical_sheet.specs.Calendars.{content_lines, event_lines, stamp_of, summary_line, uid_line}

@@ -9,7 +9,7 @@ use Rattle.curve_law.specs.declared.kind.Kind.TheVariants.{High, Low, FloodBegin
 use Rattle.decimal_text.specs.Writing.{write_of}
 use Rattle.event_text.specs.Lines.{level_text, text_of_unit}
 use Rattle.event_text.specs.Words.{word_of, word_text}
-use Rattle.harmonics_text.specs.declared.book.Units.{Units}
+use Rattle.harmonics_book.specs.declared.book.Units.{Units}
 use Rattle.hex.specs.Hex.{encode_lower}
 use Rattle.ical_sheet.specs.Escaping.{escaped}
 use Rattle.ical_sheet.specs.Folding.{folded}

@@ -2,7 +2,7 @@
 
 ghost use Rattle.std.specs.Prelude.{◌≡◌, [], ◌∷◌, ◌++◌, codes, length, map, negsuc, pos, replicate};
 ghost use Rattle.event_text.specs.Worked.{high_tide, low_tide};
-ghost use Rattle.harmonics_text.specs.declared.book.Units.{Units};
+ghost use Rattle.harmonics_book.specs.declared.book.Units.{Units};
 ghost use Rattle.ical_sheet.specs.Calendars.{calendar_of, nearest_moment, stamp_of, summary_line, uid_line};
 ghost use Rattle.ical_sheet.specs.Escaping.{escaped};
 ghost use Rattle.ical_sheet.specs.Folding.{folded, physical_lines, pieces_of, unfolded};

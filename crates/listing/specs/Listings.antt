@@ -4,7 +4,7 @@ use Rattle.std.specs.Prelude.{ℕ, ℤ, Bool, true, false, List, ◌++◌, codes
 use Rattle.std.specs.List.{flat_map}
 use Rattle.curve_law.specs.declared.event.Event.{Event}
 use Rattle.event_text.specs.Lines.{event_line_in, height_line_of}
-use Rattle.harmonics_text.specs.declared.book.Units.{Units}
+use Rattle.harmonics_book.specs.declared.book.Units.{Units}
 use Rattle.listing.specs.declared.row.Row.{Row}
 use Rattle.zone_time.specs.declared.zone.Zone.{Zone}
 use Rattle.zone_time.specs.Zones.{local_in}

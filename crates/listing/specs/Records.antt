@@ -6,7 +6,7 @@ use Rattle.csv.specs.Writing.{default_writer, row_text}
 use Rattle.curve_law.specs.declared.event.Event.{Event}
 use Rattle.decimal_text.specs.Writing.{write_of}
 use Rattle.event_text.specs.Words.{word_of, word_text}
-use Rattle.harmonics_text.specs.declared.book.Units.{Units}
+use Rattle.harmonics_book.specs.declared.book.Units.{Units}
 use Rattle.listing.specs.declared.row.Row.{Row}
 use Rattle.event_text.specs.Lines.{text_of_unit}
 use Rattle.zone_time.specs.declared.zone.Zone.{Zone}

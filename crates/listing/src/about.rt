@@ -5,7 +5,7 @@ ghost use Rattle.listing.specs.Abouts.{about_text_of, facts_of, names_of};
 
 use decimal_text::{Bytes, Text};
 use event_text::unit_text;
-use harmonics_text::Units;
+use harmonics_book::Units;
 use std::alloc::{AllocError, Global};
 
 /// Returns five lines: the station's `name`; its reference's name after `reference`; the unit of its

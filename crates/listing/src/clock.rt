@@ -10,7 +10,7 @@ use arrayvec::ArrayString;
 use curve_law::Events;
 use decimal_text::{Bytes, Text};
 use event_text::height_line;
-use harmonics_text::Units;
+use harmonics_book::Units;
 use std::alloc::{AllocError, Global};
 use zone_time::{Zone, ZoneClock};
 

@@ -8,7 +8,7 @@ use crate::plain::name_line;
 use arrayvec::ArrayString;
 use decimal_text::{Bytes, Text};
 use event_text::height_line;
-use harmonics_text::Units;
+use harmonics_book::Units;
 use std::alloc::{AllocError, Global};
 use zone_time::{Zone, ZoneClock};
 

@@ -12,7 +12,7 @@ use arrayvec::ArrayString;
 use curve_law::{Event, Events};
 use decimal_text::{Bytes, Text};
 use event_text::{event_line, height_line};
-use harmonics_text::Units;
+use harmonics_book::Units;
 use std::alloc::{AllocError, Global};
 use zone_time::{Zone, ZoneClock};
 

@@ -26,7 +26,7 @@ use csv::{Writer, WriterBuilder};
 use curve_law::{Event, Events};
 use decimal_text::{Bytes, Text, write};
 use event_text::{unit_text, word};
-use harmonics_text::Units;
+use harmonics_book::Units;
 use std::alloc::{AllocError, Global};
 use zone_time::{Zone, ZoneClock, write_moment, write_time};
 

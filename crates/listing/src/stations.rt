@@ -7,7 +7,7 @@ ghost use Rattle.listing.specs.Workings.Units.{AreUnitsOf};
 
 use decimal_text::{Bytes, Text};
 use event_text::unit_text;
-use harmonics_text::{Book, Station, Units};
+use harmonics_book::{Book, Station, Units};
 use station_table::{OffsetTable, Offsets};
 use std::alloc::{AllocError, Global};
 use std::collections::BTreeMap;

@@ -1,8 +1,8 @@
 //! Listings worked out by hand.
 
 ghost use Rattle.std.specs.Prelude.{◌≡◌, [], ◌∷◌, ◌++◌, false, pos, negsuc, codes, Some, None};
-ghost use Rattle.harmonics_text.specs.declared.book.Units.{Units};
-ghost use Rattle.harmonics_text.specs.Worked.{pier_book};
+ghost use Rattle.harmonics_book.specs.declared.book.Units.{Units};
+ghost use Rattle.harmonics_book.specs.Worked.{pier_book};
 ghost use Rattle.station_table.specs.Worked.{dock_rows};
 ghost use Rattle.zone_time.specs.declared.zone.Zone.{Zone};
 ghost use Rattle.listing.specs.Listings.{plain_events_of, plain_heights_of, clock_text_of, highest_text_of};

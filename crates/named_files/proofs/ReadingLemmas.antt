@@ -2,7 +2,7 @@
 use Rattle.std.proofs.Common.{◌≡◌, ◌∙◌, ap, sym, ℕ, nat_le, Bool, true, false, cond, List, length, Option, Some, None, Result, Ok, Err, refl, subst}
 use Rattle.std.specs.Result.{IsErrAnd}
 use Rattle.decimal_text.specs.Expected.{◌>>=◌, Excused, ReturnsUnless}
-use Rattle.harmonics_text.specs.declared.book.Book.{Book as TheBook}
+use Rattle.harmonics_book.specs.declared.book.Book.{Book as TheBook}
 use Rattle.harmonics_text.specs.declared.fault.BookFault.TheVariants as form
 use Rattle.harmonics_text.specs.Reading.{At, book_of}
 use Rattle.tide_fault.specs.declared.fault.Fault.{Fault}

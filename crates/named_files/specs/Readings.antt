@@ -2,7 +2,7 @@
 -- project).
 use Rattle.std.specs.Prelude.{ℕ, List, [], Option, Some, None, Result, Ok, Err}
 use Rattle.decimal_text.specs.Expected.{◌>>=◌}
-use Rattle.harmonics_text.specs.declared.book.Book.{Book as TheBook}
+use Rattle.harmonics_book.specs.declared.book.Book.{Book as TheBook}
 use Rattle.harmonics_text.specs.declared.fault.BookFault.TheVariants as form
 use Rattle.harmonics_text.specs.Reading.{At, book_of}
 use Rattle.question.specs.declared.question.Question.{Question}

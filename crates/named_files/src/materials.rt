@@ -1,7 +1,7 @@
 //! The contents of a request's files.
 
 use decimal_text::Bytes;
-use harmonics_text::Book;
+use harmonics_book::Book;
 use station_table::OffsetTable;
 use zone_time::Zone;
 

@@ -2,7 +2,7 @@
 
 ghost use Rattle.std.specs.Prelude.{◌≡◌, ◌≤◌, false, IsTrue, [], length, Some, None, Ok, IfOk, IfErr};
 ghost use Rattle.decimal_text.specs.Expected.{ReturnsUnless};
-ghost use Rattle.harmonics_text.specs.Books.{IsBook};
+ghost use Rattle.harmonics_book.specs.Books.{IsBook};
 ghost use Rattle.question.specs.Asked.{IsZoneWord};
 ghost use Rattle.station_table.specs.Table.{table_of};
 ghost use Rattle.zone_time.specs.Zones.{IsZone, zone_of};
@@ -33,7 +33,7 @@ use crate::materials::Materials;
 use crate::no_answer::NoAnswer;
 use book_loading::{LoadFault, load_book};
 use decimal_text::{Bytes, MOST_BYTES, Text};
-use harmonics_text::Book;
+use harmonics_book::Book;
 use question::{ValidQuestion, ZoneWord};
 use station_table::{OffsetTable, read_offsets};
 use std::alloc::Global;

@@ -3,7 +3,7 @@
 ghost use Rattle.std.specs.Prelude.{◌≡◌, [], codes, Some, Ok, Err};
 ghost use Rattle.harmonics_text.specs.declared.fault.BookFault.{BookFault};
 ghost use Rattle.harmonics_text.specs.declared.fault.Why.{Why};
-ghost use Rattle.harmonics_text.specs.Worked.{pier_book};
+ghost use Rattle.harmonics_book.specs.Worked.{pier_book};
 ghost use Rattle.question.specs.declared.command.Command.{Command};
 ghost use Rattle.question.specs.declared.question.ZoneWord.{ZoneWord};
 ghost use Rattle.question.specs.Worked.{bare};

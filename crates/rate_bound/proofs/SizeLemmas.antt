@@ -1,8 +1,8 @@
 -- The size of the values of both curves.
 use Rattle.std.proofs.Common.{◌≡◌, length, Bool, true, false, Option, Some, None, Ok, Err, refl, cond, ℤ}
-use Rattle.harmonics_text.specs.declared.book.Station.{Station}
-use Rattle.harmonics_text.specs.declared.book.Book.{Book}
-use Rattle.harmonics_text.specs.Books.{IsBook, IsStation}
+use Rattle.harmonics_book.specs.declared.book.Station.{Station}
+use Rattle.harmonics_book.specs.declared.book.Book.{Book}
+use Rattle.harmonics_book.specs.Books.{IsBook, IsStation}
 use Rattle.station_curve.specs.declared.fault.CurveFault.{CurveFault}
 use Rattle.station_curve.specs.declared.fault.CurveFault.TheVariants.{Hydraulic}
 use Rattle.station_curve.specs.Curves.{is_hydraulic, first_fault, tide_of, tide_or, curve_of}

@@ -3,8 +3,8 @@
 use Rattle.std.specs.Prelude.{◌*◌, ◌^◌, length, Bool, if◌then◌else◌, ℤ, pos, ◌+ℤ◌, ◌-ℤ◌, ◌*ℤ◌}
 use Rattle.curve_law.specs.declared.kind.Kind.TheVariants.{High, Low, FloodBegins, EbbBegins, MarkRising, MarkFalling}
 use Rattle.curve_law.specs.Meaning.{Meaning}
-use Rattle.harmonics_text.specs.declared.book.Station.{Station}
-use Rattle.harmonics_text.specs.declared.book.Book.{Book}
+use Rattle.harmonics_book.specs.declared.book.Station.{Station}
+use Rattle.harmonics_book.specs.declared.book.Book.{Book}
 use Rattle.station_curve.specs.Levels.{level_of, slope_of, millionths_of}
 use Rattle.station_curve.specs.Schureman.{predicted_level, predicted_slope, predicted_millionths}
 use Rattle.station_curve.specs.Waves.{Tide}

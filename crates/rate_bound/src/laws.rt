@@ -2,9 +2,9 @@
 
 ghost use Rattle.std.specs.Prelude.{◌≡◌, ℕ, ℤ, pos, ◌+ℤ◌, ◌≤ℤ◌, Bool, length, Ok};
 ghost use Rattle.curve_law.specs.Meaning.{AgreeOver, IsLawful};
-ghost use Rattle.harmonics_text.specs.declared.book.Station.{Station};
-ghost use Rattle.harmonics_text.specs.declared.book.Book.{Book};
-ghost use Rattle.harmonics_text.specs.Books.{IsBook, IsStation};
+ghost use Rattle.harmonics_book.specs.declared.book.Station.{Station};
+ghost use Rattle.harmonics_book.specs.declared.book.Book.{Book};
+ghost use Rattle.harmonics_book.specs.Books.{IsBook, IsStation};
 ghost use Rattle.year_blend.specs.Places.{AreYears, InDomain};
 ghost use Rattle.station_curve.specs.Curves.{PredictsOver, curve_of};
 ghost use Rattle.station_curve.specs.Limits.{IsWithinLimits};

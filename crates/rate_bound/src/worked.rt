@@ -7,7 +7,7 @@ ghost use Rattle.curve_law.specs.Verdicts.{verdict};
 ghost use Rattle.curve_law.specs.declared.cell.Cell.{Cell};
 ghost use Rattle.curve_law.specs.declared.kind.Kind.{Kind};
 ghost use Rattle.curve_law.specs.declared.verdict.Verdict.{Verdict};
-ghost use Rattle.harmonics_text.specs.declared.book.Units.TheVariants.{Feet};
+ghost use Rattle.harmonics_book.specs.declared.book.Units.TheVariants.{Feet};
 ghost use Rattle.station_curve.specs.Worked.{small_station, pier_book, shifted_book, pier};
 ghost use Rattle.rate_bound.specs.declared.version.Version.{Version};
 ghost use Rattle.rate_bound.specs.Rates.{predicted_slope_rate, predicted_level_rate};

@@ -5,10 +5,8 @@ ghost use Rattle.decimal_text.specs.declared.limits.TheConstants.{MOST_BYTES};
 
 use crate::texts::{PIER, changed};
 use decimal_text::{MOST_BYTES, Text};
-use harmonics_text::{
-    Book, BookFault, BookReader, Constituent, Constituents, Stations, Units, Why, read_book,
-    worked_files, worked_lines,
-};
+use harmonics_book::{Book, Constituent, Constituents, Stations, Units};
+use harmonics_text::{BookFault, BookReader, Why, read_book, worked_files, worked_lines};
 use std::alloc::{AllocError, Global};
 use std::test::Fail;
 

@@ -8,7 +8,7 @@ use Rattle.std.proofs.lemmas.List.Sums.{count_by_more_yes, count_by_more_no}
 use Rattle.curve_law.specs.declared.event.Event.{Event}
 use Rattle.event_text.specs.Words.{word_of}
 use Rattle.event_text.specs.declared.event_word.EventWord.{EventWord}
-use Rattle.harmonics_text.specs.declared.book.Units.{Units}
+use Rattle.harmonics_book.specs.declared.book.Units.{Units}
 use Rattle.report_sheets.specs.Tallies.{count_at, count_line, names, place_of}
 use Rattle.std.proofs.Common.{⊎_elim}
 

@@ -5,7 +5,7 @@ use Rattle.curve_law.specs.declared.event.Event.{Event}
 use Rattle.curve_law.specs.declared.kind.Kind.{Kind}
 use Rattle.curve_law.specs.declared.kind.Kind.TheVariants.{High, Low}
 use Rattle.event_text.specs.Lines.{level_text, text_of_unit}
-use Rattle.harmonics_text.specs.declared.book.Units.{Units}
+use Rattle.harmonics_book.specs.declared.book.Units.{Units}
 use Rattle.zone_time.specs.Moments.{moment_text}
 use Rattle.report_sheets.specs.declared.extreme.Extreme.{Extreme}
 use Rattle.report_sheets.specs.declared.extreme.Extreme.TheVariants.{Highest, Lowest}

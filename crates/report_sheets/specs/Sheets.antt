@@ -1,7 +1,7 @@
 -- Sheets: the word, the limit and the layout, and the list after one more event (this project).
 use Rattle.std.specs.Prelude.{◌≢◌, ℕ, pos, ◌≤◌, ◌==◌, if◌then◌else◌, List, [], ◌∷◌, ◌++◌, length, All}
 use Rattle.curve_law.specs.declared.event.Event.{Event}
-use Rattle.harmonics_text.specs.declared.book.Units.TheVariants.{Feet, KnotsSquared}
+use Rattle.harmonics_book.specs.declared.book.Units.TheVariants.{Feet, KnotsSquared}
 use Rattle.report_sheets.specs.declared.head.Head.{Head}
 use Rattle.report_sheets.specs.declared.taken.Taken.{Taken}
 use Rattle.report_sheets.specs.declared.taken.Taken.TheVariants.{Kept, Full}

@@ -16,7 +16,7 @@ use Rattle.event_text.specs.declared.event_word.EventWord.TheVariants.{
   MarkRising,
   MarkFalling,
 }
-use Rattle.harmonics_text.specs.declared.book.Units.{Units}
+use Rattle.harmonics_book.specs.declared.book.Units.{Units}
 use Rattle.report_sheets.specs.declared.head.Head.{Head}
 use Rattle.report_sheets.specs.Sheets.{SheetMeaning}
 

@@ -3,7 +3,7 @@ use Rattle.std.specs.Prelude.{ℕ, pos, negsuc, List, [], ◌∷◌, codes}
 use Rattle.curve_law.specs.declared.event.Event.{Event}
 use Rattle.curve_law.specs.declared.kind.Kind.TheVariants.{High, Low, MarkFalling}
 use Rattle.event_text.specs.Worked.{high_tide, low_tide}
-use Rattle.harmonics_text.specs.declared.book.Units.TheVariants.{Feet, Knots}
+use Rattle.harmonics_book.specs.declared.book.Units.TheVariants.{Feet, Knots}
 use Rattle.report_sheets.specs.declared.head.Head.{Head}
 use Rattle.report_sheets.specs.Sheets.{SheetMeaning}
 use Rattle.report_sheets.specs.Tallies.{tally_sheet}

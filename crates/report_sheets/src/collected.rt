@@ -8,7 +8,7 @@ use crate::head::Head;
 use crate::taken::Taken;
 use curve_law::Event;
 use decimal_text::Text;
-use harmonics_text::Units;
+use harmonics_book::Units;
 use std::alloc::{AllocError, Global};
 
 /// The head with which a sheet was opened, and the events that it has taken since. A sheet that

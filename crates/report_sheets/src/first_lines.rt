@@ -12,7 +12,7 @@ use arrayvec::ArrayString;
 use curve_law::Event;
 use decimal_text::Bytes;
 use event_text::event_line;
-use harmonics_text::Units;
+use harmonics_book::Units;
 use std::alloc::{AllocError, Global};
 use zone_time::Zone;
 

@@ -3,7 +3,7 @@
 ghost use Rattle.std.specs.Prelude.{◌≡◌, ◌++◌, IfOk, codes};
 
 use decimal_text::Text;
-use harmonics_text::Units;
+use harmonics_book::Units;
 use std::alloc::{AllocError, Global};
 
 /// The head of a report: a station, its unit and the minute at which the report is made.

@@ -14,7 +14,7 @@ use arrayvec::ArrayString;
 use curve_law::Event;
 use decimal_text::Bytes;
 use event_text::{unit_text, write_level};
-use harmonics_text::Units;
+use harmonics_book::Units;
 use std::alloc::{AllocError, Global};
 use zone_time::write_moment;
 

@@ -12,7 +12,7 @@ use crate::sheet_of::SheetOf;
 use curve_law::Event;
 use decimal_text::Bytes;
 use event_text::{EventWord, word};
-use harmonics_text::Units;
+use harmonics_book::Units;
 use itoa::Buffer;
 use std::alloc::{AllocError, Global};
 

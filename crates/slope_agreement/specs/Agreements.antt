@@ -3,8 +3,8 @@
 use Rattle.std.specs.Prelude.{◌≡◌, ℕ, zero, suc, length, ℤ, pos, ◌+ℤ◌, ◌-ℤ◌, ◌*ℤ◌, unsigned_abs}
 use Rattle.std.specs.Int.{int_max}
 use Rattle.fixed_sine.specs.Circle.{radian}
-use Rattle.harmonics_text.specs.declared.book.Station.{Station}
-use Rattle.harmonics_text.specs.declared.book.Book.{Book}
+use Rattle.harmonics_book.specs.declared.book.Station.{Station}
+use Rattle.harmonics_book.specs.declared.book.Book.{Book}
 use Rattle.year_blend.specs.declared.parts.Place.TheVariants.{Plain}
 use Rattle.year_blend.specs.Places.{InDomain, place_of}
 use Rattle.year_blend.specs.Weights.{total_weight}

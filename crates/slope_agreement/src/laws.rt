@@ -3,9 +3,9 @@
 ghost use Rattle.std.specs.Prelude.{◌≡◌, ℕ, ◌-◌, ◌*◌, ◌<◌, ◌≤◌, length, None, ℤ, pos, ◌+ℤ◌, ◌-ℤ◌, ◌*ℤ◌, ◌≤ℤ◌, unsigned_abs};
 ghost use Rattle.fixed_sine.specs.Circle.{degree, radian};
 ghost use Rattle.fixed_sine.specs.Table.{sine_at, rise, correction};
-ghost use Rattle.harmonics_text.specs.declared.book.Station.{Station};
-ghost use Rattle.harmonics_text.specs.declared.book.Book.{Book};
-ghost use Rattle.harmonics_text.specs.Books.{IsBook, IsStation};
+ghost use Rattle.harmonics_book.specs.declared.book.Station.{Station};
+ghost use Rattle.harmonics_book.specs.declared.book.Book.{Book};
+ghost use Rattle.harmonics_book.specs.Books.{IsBook, IsStation};
 ghost use Rattle.station_curve.specs.Curves.{first_fault, Predicts};
 ghost use Rattle.station_curve.specs.Waves.{Tide};
 ghost use Rattle.slope_agreement.specs.Agreements.{predicted_gap, predicted_gap_before, IsPlainMinute, agreement_of, predicted_agreement};

@@ -1,7 +1,7 @@
 //! Gaps and bounds that were computed elsewhere.
 
 ghost use Rattle.std.specs.Prelude.{◌≡◌, ◌*◌, [], ◌∷◌, pos};
-ghost use Rattle.harmonics_text.specs.declared.book.Units.TheVariants.{Feet};
+ghost use Rattle.harmonics_book.specs.declared.book.Units.TheVariants.{Feet};
 ghost use Rattle.station_curve.specs.Curves.{tide_of};
 ghost use Rattle.station_curve.specs.Worked.{small_station, pier_book, pier, harbour_book, harbour};
 ghost use Rattle.slope_agreement.specs.Agreements.{gap_of, predicted_gap, predicted_gap_before, agreement_of, predicted_agreement};

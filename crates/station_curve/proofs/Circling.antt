@@ -7,8 +7,8 @@ use Rattle.std.proofs.lemmas.Bool.{cases_lt}
 use Rattle.std.proofs.lemmas.Int.{ints, int_rem_euclid_is}
 use Rattle.std.proofs.lemmas.Nat.{mul-le}
 use Rattle.fixed_sine.specs.Circle.{circle}
-use Rattle.harmonics_text.specs.declared.book.Station.{Station}
-use Rattle.harmonics_text.specs.declared.book.Book.{Book}
+use Rattle.harmonics_book.specs.declared.book.Station.{Station}
+use Rattle.harmonics_book.specs.declared.book.Book.{Book}
 use Rattle.year_blend.specs.Places.{start_of}
 use Rattle.station_curve.specs.Workings.NumberRanges.{IsWithinHourOfYear}
 use Rattle.station_curve.specs.Levels.{minutes_into}

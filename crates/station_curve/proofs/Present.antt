@@ -9,8 +9,8 @@ use Rattle.std.proofs.lemmas.List.{get_or-map, length-map}
 use Rattle.std.proofs.lemmas.List.Elements.{All-filter, filter_more}
 use Rattle.std.proofs.lemmas.List.FromFn.{get_or-range_with_len, length-range_with_len}
 use Rattle.std.proofs.lemmas.List.Sums.{sum_by_more, length-filter, count_by-le-length}
-use Rattle.harmonics_text.specs.declared.book.Station.{Station}
-use Rattle.harmonics_text.specs.declared.book.Book.{Book}
+use Rattle.harmonics_book.specs.declared.book.Station.{Station}
+use Rattle.harmonics_book.specs.declared.book.Book.{Book}
 use Rattle.station_curve.specs.Waves.{Harmonic, amount_of, steepness_of}
 use Rattle.station_curve.specs.Schureman.{constituents_of, amplitude_of, speed_of}
 use Rattle.station_curve.specs.Curves.{wave_of, waves_of, is_present}

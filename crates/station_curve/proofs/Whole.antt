@@ -3,9 +3,9 @@ use Rattle.std.proofs.Common.{◌≡◌, ℕ, suc, ◌<◌, true, List, length, 
 use Rattle.std.specs.Prelude.{filter}
 use Rattle.std.proofs.lemmas.Int.{ints}
 use Rattle.std.proofs.lemmas.List.FromFn.{get_or-map-range_with_len, length-map-range_with_len}
-use Rattle.harmonics_text.specs.declared.book.Station.{Station}
-use Rattle.harmonics_text.specs.declared.book.Book.{Book}
-use Rattle.harmonics_text.specs.Books.{IsBook, IsStation}
+use Rattle.harmonics_book.specs.declared.book.Station.{Station}
+use Rattle.harmonics_book.specs.declared.book.Book.{Book}
+use Rattle.harmonics_book.specs.Books.{IsBook, IsStation}
 use Rattle.year_blend.specs.Years.{year_start_of}
 use Rattle.year_blend.proofs.PlaceLemmas.{start_of-later}
 use Rattle.station_curve.specs.Curves.{waves_of, is_present, is_touched, tide_of, tide_over, curve_of, curve_over, first_fault, Predicts, PredictsOver}

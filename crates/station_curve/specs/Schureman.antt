@@ -7,8 +7,8 @@ use Rattle.std.specs.List.{range_with_len}
 use Rattle.decimal_text.specs.Rounding.{rounded_of}
 use Rattle.fixed_sine.specs.Circle.{circle}
 use Rattle.fixed_sine.specs.Sine.{isin_of, icos_of}
-use Rattle.harmonics_text.specs.declared.book.Station.{Station}
-use Rattle.harmonics_text.specs.declared.book.Book.{Book}
+use Rattle.harmonics_book.specs.declared.book.Station.{Station}
+use Rattle.harmonics_book.specs.declared.book.Book.{Book}
 use Rattle.year_blend.specs.Places.{start_of, place_of}
 use Rattle.year_blend.specs.Weights.{total_weight}
 use Rattle.station_curve.specs.Levels.{blended, drift}

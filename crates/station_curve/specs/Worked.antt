@@ -1,9 +1,9 @@
 -- Small books and their stations, whose tides were computed elsewhere (this project).
 use Rattle.std.specs.Prelude.{[], ◌∷◌, codes, ℤ, pos, negsuc}
-use Rattle.harmonics_text.specs.declared.book.Units.{Units}
-use Rattle.harmonics_text.specs.declared.book.Units.TheVariants.{Feet}
-use Rattle.harmonics_text.specs.declared.book.Station.{Station}
-use Rattle.harmonics_text.specs.declared.book.Book.{Book}
+use Rattle.harmonics_book.specs.declared.book.Units.{Units}
+use Rattle.harmonics_book.specs.declared.book.Units.TheVariants.{Feet}
+use Rattle.harmonics_book.specs.declared.book.Station.{Station}
+use Rattle.harmonics_book.specs.declared.book.Book.{Book}
 use Rattle.station_curve.specs.Waves.{Harmonic}
 
 -- a book of one constituent with this speed and three years from 1999 on; its argument is 0 in the first

@@ -23,7 +23,7 @@ ghost use Rattle.std.specs.Prelude.{
 };
 ghost use Rattle.decimal_text.specs.Rounding.{rounded_of};
 ghost use Rattle.fixed_sine.specs.Circle.{circle};
-ghost use Rattle.harmonics_text.specs.Books.{IsStation};
+ghost use Rattle.harmonics_book.specs.Books.{IsStation};
 ghost use Rattle.year_blend.specs.Places.{start_of};
 ghost use Rattle.year_blend.specs.Years.{IsYearInReach};
 ghost use Rattle.station_curve.specs.Waves.{amount_of, steepness_of};
@@ -36,7 +36,7 @@ use crate::fault::CurveFault;
 use crate::wave::Wave;
 use decimal_text::rounded_short;
 use fixed_sine::reduce;
-use harmonics_text::{Station, ValidBook};
+use harmonics_book::{Station, ValidBook};
 use std::alloc::{AllocError, Global};
 
 /// The greatest sum of the amplitudes of a year, in millionths of the unit.

@@ -19,7 +19,7 @@ ghost use Rattle.std.specs.Prelude.{
   IfSome,
   slice_get,
 };
-ghost use Rattle.harmonics_text.specs.Books.{IsBook, IsStation};
+ghost use Rattle.harmonics_book.specs.Books.{IsBook, IsStation};
 ghost use Rattle.year_blend.specs.Years.{year_start_of};
 ghost use Rattle.year_blend.specs.declared.parts.Place.TheVariants.{Plain};
 ghost use Rattle.year_blend.specs.declared.spanning.TheConstants.{LONGEST_SPAN};
@@ -36,7 +36,7 @@ use crate::summing::{approximate_falls, approximate_heights, falls, heights, mea
 use crate::year_sums::Sums;
 use crate::years::{Year, years_of};
 use decimal_text::rounded;
-use harmonics_text::{Book, Station, ValidBook};
+use harmonics_book::{Book, Station, ValidBook};
 use std::alloc::{AllocError, Global};
 use std::marker::Model;
 use year_blend::{Place, Stretch, TOTAL_WEIGHT, place, stretch, weight, year_start};

@@ -3,7 +3,7 @@
 ghost use Rattle.std.specs.Prelude.{◌≡◌};
 ghost use Rattle.station_curve.specs.Curves.{is_hydraulic};
 
-use harmonics_text::Units;
+use harmonics_book::Units;
 use std::alloc::{AllocError, AllocFailed};
 use thiserror::Error;
 

@@ -1,7 +1,7 @@
 //! Examples of the definitions.
 
 ghost use Rattle.std.specs.Prelude.{◌≡◌, ◌-◌, ◌*◌, ◌^◌, true, false, [], ◌∷◌, Ok, Err, pos, negsuc};
-ghost use Rattle.harmonics_text.specs.declared.book.Units.TheVariants.{Feet, KnotsSquared};
+ghost use Rattle.harmonics_book.specs.declared.book.Units.TheVariants.{Feet, KnotsSquared};
 ghost use Rattle.station_curve.specs.declared.fault.CurveFault.TheVariants.{Hydraulic, TooLarge, TooSteep};
 ghost use Rattle.station_curve.specs.Curves.{waves_of, is_touched, waves_over, tide_of, curve_of};
 ghost use Rattle.station_curve.specs.Schureman.{amplitude_of, phase_of, predicted_level, predicted_slope, predicted_millionths};

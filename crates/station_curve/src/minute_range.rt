@@ -5,7 +5,7 @@ ghost use Rattle.year_blend.specs.Years.{year_start_of};
 
 use crate::constants::calendar_year;
 use crate::years::HOUR;
-use harmonics_text::ValidBook;
+use harmonics_book::ValidBook;
 use year_blend::year_start;
 
 /// The minutes from `first` to `last` for which a curve is requested.

@@ -1,7 +1,7 @@
 //! The waves of each year.
 
 ghost use Rattle.std.specs.Prelude.{◌≡◌, ◌^◌, ◌≤◌, ◌↔◌, IsTrue, length, Some, MatchResult, ◌⊎◌, pos, ◌+ℤ◌, ◌-ℤ◌, ◌≤ℤ◌, unsigned_abs};
-ghost use Rattle.harmonics_text.specs.Books.{IsStation};
+ghost use Rattle.harmonics_book.specs.Books.{IsStation};
 ghost use Rattle.station_curve.specs.Curves.{first_fault};
 ghost use Rattle.station_curve.specs.Workings.Prepared.{AreReady};
 ghost use Rattle.station_curve.specs.declared.fault.CurveFault.TheVariants.{NoMemory};
@@ -11,7 +11,7 @@ use crate::fault::CurveFault;
 use crate::minute_range::MinuteRange;
 use crate::wave::Wave;
 use crate::year_sums::{Sums, sums_of_waves};
-use harmonics_text::{Station, ValidBook};
+use harmonics_book::{Station, ValidBook};
 use std::alloc::Global;
 use year_blend::year_start;
 

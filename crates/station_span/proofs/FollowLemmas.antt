@@ -15,9 +15,9 @@ use Rattle.event_list.proofs.EventLemmas.{count-agrees, count-few, covers-accept
 use Rattle.event_list.proofs.NameLemmas.{events-lie, events-named}
 use Rattle.event_list.proofs.PlainLemmas.{plain-span, plain-merged}
 use Rattle.event_text.specs.Words.{has_word}
-use Rattle.harmonics_text.specs.declared.book.Book.{Book}
-use Rattle.harmonics_text.specs.declared.book.Units.{Units}
-use Rattle.harmonics_text.specs.declared.book.Units.TheVariants.{Feet, Meters, Knots, KnotsSquared}
+use Rattle.harmonics_book.specs.declared.book.Book.{Book}
+use Rattle.harmonics_book.specs.declared.book.Units.{Units}
+use Rattle.harmonics_book.specs.declared.book.Units.TheVariants.{Feet, Meters, Knots, KnotsSquared}
 use Rattle.event_text.specs.Lines.{IsListed}
 use Rattle.rate_bound.specs.declared.version.Version.{Version}
 use Rattle.rate_bound.specs.declared.version.Version.TheVariants.{Second}

@@ -1,9 +1,9 @@
 -- The results of the steps of a station's span.
 use Rattle.std.proofs.Common.{◌≡◌, ℕ, Bool, true, false, List, [], Option, Some, None, ℤ, Result, Ok, Err, slice_get, refl, arith}
 use Rattle.decimal_text.specs.Expected.{◌>>=◌, Excused}
-use Rattle.harmonics_text.specs.declared.book.Book.{Book}
-use Rattle.harmonics_text.specs.declared.book.Station.{Station}
-use Rattle.harmonics_text.specs.declared.book.Units.{Units}
+use Rattle.harmonics_book.specs.declared.book.Book.{Book}
+use Rattle.harmonics_book.specs.declared.book.Station.{Station}
+use Rattle.harmonics_book.specs.declared.book.Units.{Units}
 use Rattle.station_curve.specs.declared.fault.CurveFault.{CurveFault}
 use Rattle.station_curve.specs.Curves.{first_fault, is_hydraulic, tide_of, tide_or, tide_over, curve_of, curve_over}
 use Rattle.station_curve.specs.Waves.{Tide}

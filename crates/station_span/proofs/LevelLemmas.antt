@@ -7,7 +7,7 @@ use Rattle.std.proofs.lemmas.Nat.{le-div}
 use Rattle.curve_law.proofs.CoverLemmas.{by_test}
 use Rattle.decimal_text.specs.Rounding.{half_up, rounded_of}
 use Rattle.event_list.specs.Shifts.{greatest_add, least_add, scaled, slack_adds}
-use Rattle.harmonics_text.specs.declared.book.Book.{Book}
+use Rattle.harmonics_book.specs.declared.book.Book.{Book}
 use Rattle.station_curve.specs.Curves.{PredictsOver}
 use Rattle.station_curve.specs.Schureman.{predicted_level, predicted_millionths}
 use Rattle.station_table.specs.declared.basis.Basis.{Basis}

@@ -12,9 +12,9 @@ use Rattle.std.proofs.lemmas.Str.{IsUtf8-append, IsUtf8-encode, IsUtf8-nil, enco
 use Rattle.cert_text.specs.Certificates.{IsStationName}
 use Rattle.curve_law.proofs.CoverLemmas.{by_test}
 use Rattle.decimal_text.specs.Expected.{◌>>=◌}
-use Rattle.harmonics_text.specs.declared.book.Book.{Book}
-use Rattle.harmonics_text.specs.declared.book.Station.{Station}
-use Rattle.harmonics_text.specs.Books.{IsBook, IsName, IsLatinNameByte, IsStation}
+use Rattle.harmonics_book.specs.declared.book.Book.{Book}
+use Rattle.harmonics_book.specs.declared.book.Station.{Station}
+use Rattle.harmonics_book.specs.Books.{IsBook, IsName, IsLatinNameByte, IsStation}
 use Rattle.station_table.specs.declared.basis.Basis.{Basis}
 use Rattle.station_table.specs.declared.finding.FindFault.{FindFault}
 use Rattle.station_table.specs.declared.offsets.Offsets.{Offsets}

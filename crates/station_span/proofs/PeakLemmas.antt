@@ -5,7 +5,7 @@ use Rattle.std.proofs.lemmas.Int.{ints}
 use Rattle.cert_text.specs.Certificates.{IsStationName}
 use Rattle.curve_law.specs.Meaning.{Meaning, AgreeOver, IsLawful, IsSpan}
 use Rattle.decimal_text.specs.Expected.{Excused}
-use Rattle.harmonics_text.specs.declared.book.Book.{Book}
+use Rattle.harmonics_book.specs.declared.book.Book.{Book}
 use Rattle.highest_water.specs.declared.peak.Peak.{Peak}
 use Rattle.highest_water.specs.declared.verdict.PeakVerdict.TheVariants.{Accepted}
 use Rattle.highest_water.specs.Covers.{peak_of}

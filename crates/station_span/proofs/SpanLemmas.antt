@@ -3,8 +3,8 @@ use Rattle.std.proofs.Common.{◌≡◌, ℕ, ℤ, pos, ◌+ℤ◌, int_lt, Bool
 use Rattle.std.proofs.lemmas.Int.{ints}
 use Rattle.event_list.specs.Shifts.{HasOffsets}
 use Rattle.jiff_core.proofs.SignedLemmas.{signed_arith}
-use Rattle.harmonics_text.specs.declared.book.Book.{Book}
-use Rattle.harmonics_text.specs.Books.{IsBook}
+use Rattle.harmonics_book.specs.declared.book.Book.{Book}
+use Rattle.harmonics_book.specs.Books.{IsBook}
 use Rattle.station_table.specs.declared.basis.Basis.{Basis}
 use Rattle.station_table.specs.Bases.{IsBasis}
 use Rattle.year_blend.specs.Places.{AreYears, InDomain}

@@ -4,9 +4,9 @@ use Rattle.curve_law.specs.declared.event.Event.{Event}
 use Rattle.curve_law.specs.declared.tracks.Tracks.{Tracks}
 use Rattle.event_list.specs.Events.{Followed, station_events, covers_of, cell_count}
 use Rattle.event_list.specs.Shifts.{widened_of}
-use Rattle.harmonics_text.specs.declared.book.Book.{Book}
-use Rattle.harmonics_text.specs.declared.book.Units.{Units}
-use Rattle.harmonics_text.specs.declared.book.Units.TheVariants.{Knots}
+use Rattle.harmonics_book.specs.declared.book.Book.{Book}
+use Rattle.harmonics_book.specs.declared.book.Units.{Units}
+use Rattle.harmonics_book.specs.declared.book.Units.TheVariants.{Knots}
 use Rattle.rate_bound.specs.declared.version.Version.{Version}
 use Rattle.rate_bound.specs.declared.version.Version.TheVariants.{Second}
 use Rattle.rate_bound.specs.Meanings.{predicted_turn, predicted_mark}

@@ -1,7 +1,7 @@
 -- The level of a station at a minute (this project).
 use Rattle.std.specs.Prelude.{ℤ, pos, ◌-ℤ◌, int_lt, Bool, if◌then◌else◌, Result, Ok, Err}
 use Rattle.event_list.specs.Shifts.{scaled}
-use Rattle.harmonics_text.specs.declared.book.Book.{Book}
+use Rattle.harmonics_book.specs.declared.book.Book.{Book}
 use Rattle.station_curve.specs.Schureman.{predicted_slope, predicted_millionths}
 use Rattle.station_table.specs.declared.basis.Basis.{Basis}
 use Rattle.station_table.specs.Bases.{is_equal}

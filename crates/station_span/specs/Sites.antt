@@ -25,10 +25,10 @@ use Rattle.std.specs.Option.{ok_or}
 use Rattle.decimal_text.specs.Expected.{◌>>=◌}
 use Rattle.event_list.specs.declared.span.Span.{Span}
 use Rattle.event_list.specs.Shifts.{widened_of}
-use Rattle.harmonics_text.specs.declared.book.Book.{Book}
-use Rattle.harmonics_text.specs.declared.book.Station.{Station}
-use Rattle.harmonics_text.specs.declared.book.Units.{Units}
-use Rattle.harmonics_text.specs.declared.book.Units.TheVariants.{Feet, Meters, Knots, KnotsSquared}
+use Rattle.harmonics_book.specs.declared.book.Book.{Book}
+use Rattle.harmonics_book.specs.declared.book.Station.{Station}
+use Rattle.harmonics_book.specs.declared.book.Units.{Units}
+use Rattle.harmonics_book.specs.declared.book.Units.TheVariants.{Feet, Meters, Knots, KnotsSquared}
 use Rattle.station_curve.specs.declared.fault.CurveFault.{CurveFault}
 use Rattle.station_curve.specs.Curves.{curve_of}
 use Rattle.station_curve.specs.Waves.{Tide}

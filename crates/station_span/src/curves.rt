@@ -9,7 +9,7 @@ ghost use Rattle.station_span.specs.Workings.TrackMeanings.{tide_slack, tide_mar
 
 use crate::found_station::FoundStation;
 use curve_law::Curve;
-use harmonics_text::Units;
+use harmonics_book::Units;
 use rate_bound::{MarkCurve, TurnCurve, Version};
 use station_table::Basis;
 

@@ -21,7 +21,7 @@ use crate::station::find_station;
 use curve_law::{Curve, Events};
 use decimal_text::Text;
 use event_list::{Merge, Span, shifted};
-use harmonics_text::{Units, ValidBook};
+use harmonics_book::{Units, ValidBook};
 use interval_search::Search;
 use rate_bound::{MarkCurve, TurnCurve, Version};
 use station_table::OffsetTable;

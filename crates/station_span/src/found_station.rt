@@ -9,7 +9,7 @@ use crate::asked::Asked;
 use crate::origin::Origin;
 use crate::reach::Reach;
 use event_list::Span;
-use harmonics_text::Units;
+use harmonics_book::Units;
 use station_curve::StationCurve;
 use station_table::Basis;
 

@@ -2,10 +2,10 @@
 
 ghost use Rattle.std.specs.Prelude.{◌≡◌};
 ghost use Rattle.std.specs.Borrow.{ftrue};
-ghost use Rattle.harmonics_text.specs.declared.book.Book.{Book};
-ghost use Rattle.harmonics_text.specs.declared.book.Station.{Station};
+ghost use Rattle.harmonics_book.specs.declared.book.Book.{Book};
+ghost use Rattle.harmonics_book.specs.declared.book.Station.{Station};
 
-use harmonics_text::{Book, Station};
+use harmonics_book::{Book, Station};
 use std::marker::Model;
 
 /// A harmonics file and a station of it, for contracts alone. It allocates and copies nothing.

@@ -16,7 +16,7 @@ use crate::reach::Reach;
 use crate::station::find_station;
 use curve_law::Curve;
 use decimal_text::Text;
-use harmonics_text::ValidBook;
+use harmonics_book::ValidBook;
 use highest_water::{Peak, PeakVerdict, check_peak, find_peak, highest_point};
 use rate_bound::MarkCurve;
 use station_table::OffsetTable;

@@ -7,7 +7,7 @@ ghost use Rattle.station_span.specs.Workings.Finds.{FindsReference};
 
 use crate::station::{find_basis, level_units, station_at, whole_curve};
 use decimal_text::Text;
-use harmonics_text::{Station, ValidBook};
+use harmonics_book::{Station, ValidBook};
 use station_curve::StationCurve;
 use station_table::OffsetTable;
 use std::alloc::Global;

@@ -57,7 +57,7 @@ use crate::origin::Origin;
 use crate::reach::Reach;
 use decimal_text::Text;
 use event_list::{Span, widened};
-use harmonics_text::{Book, Station, Units, ValidBook};
+use harmonics_book::{Book, Station, Units, ValidBook};
 use station_curve::StationCurve;
 use station_table::{Basis, OffsetTable, find};
 use std::alloc::Global;

@@ -4,7 +4,7 @@ use Rattle.std.specs.Option.{ForSome, ok_or}
 use Rattle.std.specs.Ordering.{int_eq}
 use Rattle.std.specs.Str.{bytes_eq}
 use Rattle.decimal_text.specs.Expected.{◌>>=◌}
-use Rattle.harmonics_text.specs.declared.book.Book.{Book}
+use Rattle.harmonics_book.specs.declared.book.Book.{Book}
 use Rattle.station_table.specs.declared.basis.Basis.{Basis}
 use Rattle.station_table.specs.declared.finding.FindFault.{FindFault}
 use Rattle.station_table.specs.declared.finding.FindFault.TheVariants.{NoStation, NoReference}

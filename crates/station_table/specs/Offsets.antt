@@ -1,7 +1,7 @@
 -- The validity of a table: the ranges of its fields (this project).
 use Rattle.std.specs.Prelude.{ℕ, ℤ, pos, negsuc, ◌^◌, ◌<◌, ◌≤◌, ◌≢◌, List, length, All, IsUtf8}
 use Rattle.std.specs.Option.{ForSome}
-use Rattle.harmonics_text.specs.Books.{IsWithin}
+use Rattle.harmonics_book.specs.Books.{IsWithin}
 use Rattle.station_table.specs.declared.offset.Offset.{Offset}
 use Rattle.station_table.specs.declared.offset.Slack.{Slack}
 use Rattle.station_table.specs.declared.offsets.Offsets.{Offsets}

@@ -1,7 +1,7 @@
 //! The fields of a row.
 
 ghost use Rattle.std.specs.Prelude.{◌≡◌, pos, negsuc, IfOk, IsUtf8};
-ghost use Rattle.harmonics_text.specs.Books.{IsWithin};
+ghost use Rattle.harmonics_book.specs.Books.{IsWithin};
 ghost use Rattle.station_table.specs.Fields.{text_of, name_of, within, minutes_of_text, millionths_in, add_of, times_of, plus_of};
 ghost use Rattle.station_table.specs.Offsets.{IsAdd, IsTableName};
 ghost use Rattle.station_table.specs.Workings.Rows.{Reads};

@@ -1,7 +1,7 @@
 //! Finding the basis of a station by its name.
 
 ghost use Rattle.std.specs.Prelude.{◌≡◌, ◌<◌, IfOk, IfErr, IfSome, length};
-ghost use Rattle.harmonics_text.specs.Books.{IsBook};
+ghost use Rattle.harmonics_book.specs.Books.{IsBook};
 ghost use Rattle.station_table.specs.Bases.{IsBasis, IsFindFault, station_at, row_at, basis_in, basis_over, basis_of};
 ghost use Rattle.station_table.specs.Offsets.{IsOffsets};
 
@@ -10,7 +10,7 @@ use crate::offset::Offset;
 use crate::offsets::Offsets;
 use crate::table::OffsetTable;
 use decimal_text::Text;
-use harmonics_text::{Book, ValidBook};
+use harmonics_book::{Book, ValidBook};
 
 /// The reason why a name has no basis.
 #[derive(Clone, Copy, Debug, PartialEq, Eq)]

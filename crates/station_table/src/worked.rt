@@ -1,7 +1,7 @@
 //! Tables and bases that were computed by hand.
 
 ghost use Rattle.std.specs.Prelude.{◌≡◌, ◌++◌, [], ◌∷◌, codes, map, take, pos, negsuc, Ok, Err, Some, None};
-ghost use Rattle.harmonics_text.specs.Worked.{pier_book};
+ghost use Rattle.harmonics_book.specs.Worked.{pier_book};
 ghost use Rattle.station_table.specs.declared.fault.OffsetFault.{OffsetFault};
 ghost use Rattle.station_table.specs.declared.fault.OffsetWhy.{OffsetWhy};
 ghost use Rattle.station_table.specs.declared.finding.FindFault.{FindFault};

@@ -5,7 +5,7 @@ use Rattle.std.proofs.lemmas.Int.{ints}
 use Rattle.curve_law.specs.declared.event.Event.{Event}
 use Rattle.event_text.specs.Lines.{text_of_unit, level_text, padded, height_line_of, event_line_of, event_line_in}
 use Rattle.event_text.specs.Words.{word_of, word_text}
-use Rattle.harmonics_text.specs.declared.book.Units.{Units}
+use Rattle.harmonics_book.specs.declared.book.Units.{Units}
 use Rattle.listing.specs.declared.row.Row.{Row}
 use Rattle.listing.specs.Listings.{plain_events_of, plain_heights_of, row_line_in}
 use Rattle.text_laws.specs.Labels.{minute_of, DifferInLabel}

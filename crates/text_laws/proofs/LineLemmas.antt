@@ -13,8 +13,8 @@ use Rattle.event_text.specs.declared.event_word.EventWord.{EventWord}
 use Rattle.event_text.specs.declared.event_word.EventWord.TheVariants.{HighTide, LowTide, MaxFlood, MinFlood, MaxEbb, MinEbb, SlackFloodBegins, SlackEbbBegins, MarkRising, MarkFalling}
 use Rattle.event_text.specs.Lines.{event_line_in, event_line_of, height_line_of, level_text, padded, text_of_unit}
 use Rattle.event_text.specs.Words.{word_of, word_text}
-use Rattle.harmonics_text.specs.declared.book.Units.{Units}
-use Rattle.harmonics_text.specs.declared.book.Units.TheVariants.{Feet, Meters, Knots, KnotsSquared}
+use Rattle.harmonics_book.specs.declared.book.Units.{Units}
+use Rattle.harmonics_book.specs.declared.book.Units.TheVariants.{Feet, Meters, Knots, KnotsSquared}
 use Rattle.listing.specs.declared.row.Row.{Row}
 use Rattle.listing.specs.Listings.{row_line_in}
 use Rattle.text_laws.specs.Lines.{IsLevel, IsLine}

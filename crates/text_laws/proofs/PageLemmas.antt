@@ -9,7 +9,7 @@ use Rattle.std.proofs.lemmas.Int.{ints, fold-int_max_bounds, fold-int_max_reache
 use Rattle.std.proofs.lemmas.List.Elements.{All-cons, All-head, All-tail, All-map, All-filter, Contains-append_right}
 use Rattle.calendar_sheet.specs.Calendars.{calendar_text_of, day_in, day_line, days_from, days_shown, days_through, event_days, events_on, first_day, last_day}
 use Rattle.curve_law.specs.declared.event.Event.{Event}
-use Rattle.harmonics_text.specs.declared.book.Units.{Units}
+use Rattle.harmonics_book.specs.declared.book.Units.{Units}
 use Rattle.text_laws.specs.Lines.{listing_of, IsLevel}
 use Rattle.text_laws.specs.Pages.{CalendarLine, IsCalendar, IsLeast, IsGreatest, RunThrough, dates_of, day_until, line_of}
 use Rattle.text_laws.proofs.DateLemmas.{IsIn, placed-once, placed-ordered}

@@ -7,7 +7,7 @@ use Rattle.csv.specs.Writing.{default_writer, row_body, is_blank, fields_text, r
 use Rattle.csv.specs.declared.parser.State.TheVariants as st
 use Rattle.csv.proofs.RoundTrip.{read-write}
 use Rattle.curve_law.specs.declared.event.Event.{Event}
-use Rattle.harmonics_text.specs.declared.book.Units.{Units}
+use Rattle.harmonics_book.specs.declared.book.Units.{Units}
 use Rattle.listing.specs.declared.row.Row.{Row}
 use Rattle.listing.specs.Records.{record_of, csv_events_of, csv_heights_of, event_fields, event_header, row_fields, row_header}
 use Rattle.text_laws.specs.Rows.{records_in}

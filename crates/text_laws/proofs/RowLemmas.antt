@@ -3,7 +3,7 @@ use Rattle.std.proofs.Common.{ℕ, List, ◌++◌, map, All, refl, sym, ap}
 use Rattle.std.specs.Prelude.{codes}
 use Rattle.curve_law.specs.declared.event.Event.{Event}
 use Rattle.event_text.specs.Lines.{height_line_of, event_line_of, event_line_in}
-use Rattle.harmonics_text.specs.declared.book.Units.{Units}
+use Rattle.harmonics_book.specs.declared.book.Units.{Units}
 use Rattle.listing.specs.declared.row.Row.{Row}
 use Rattle.listing.specs.Listings.{plain_events_of, plain_heights_of, row_line_in}
 use Rattle.listing.specs.Records.{csv_events_of, csv_heights_of, event_fields, event_header, row_fields, row_header}

@@ -10,10 +10,10 @@ use Rattle.std.proofs.lemmas.List.Quantifiers.{position-Some}
 use Rattle.std.proofs.lemmas.Option.{none-some, slice_get_cases}
 use Rattle.std.proofs.lemmas.Slice.Eq.{bytes_eq-Decides}
 use Rattle.event_text.specs.Lines.{text_of_unit}
-use Rattle.harmonics_text.specs.declared.book.Book.{Book}
-use Rattle.harmonics_text.specs.declared.book.Station.{Station}
-use Rattle.harmonics_text.specs.declared.book.Units.{Units}
-use Rattle.harmonics_text.specs.declared.book.Units.TheVariants.{Feet, Meters, Knots, KnotsSquared}
+use Rattle.harmonics_book.specs.declared.book.Book.{Book}
+use Rattle.harmonics_book.specs.declared.book.Station.{Station}
+use Rattle.harmonics_book.specs.declared.book.Units.{Units}
+use Rattle.harmonics_book.specs.declared.book.Units.TheVariants.{Feet, Meters, Knots, KnotsSquared}
 use Rattle.listing.specs.StationLists.{reference_line, subordinate_line, stations_text_of}
 use Rattle.station_table.specs.declared.offsets.Offsets.{Offsets}
 use Rattle.station_table.specs.Bases.{basis_in, basis_of, basis_over}

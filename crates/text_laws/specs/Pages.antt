@@ -24,7 +24,7 @@ use Rattle.std.specs.List.{flat_map, AllPairs, Contains}
 use Rattle.std.specs.List.Sorted.{IsPermutation}
 use Rattle.calendar_sheet.specs.Calendars.{day_in, entry_in, event_days, events_on}
 use Rattle.curve_law.specs.declared.event.Event.{Event}
-use Rattle.harmonics_text.specs.declared.book.Units.{Units}
+use Rattle.harmonics_book.specs.declared.book.Units.{Units}
 use Rattle.text_laws.specs.Lines.{listing_of, IsLine}
 use Rattle.zone_time.specs.declared.zone.Zone.{Zone}
 use Rattle.zone_time.specs.Dates.{date_text}

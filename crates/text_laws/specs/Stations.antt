@@ -1,8 +1,8 @@
 -- The list of stations: its lines, and the stations and rows that their names find (this project).
 use Rattle.std.specs.Prelude.{◌≡◌, ℕ, List, ◌++◌, codes, map, Some, Result, Ok, Err, slice_get}
 use Rattle.event_text.specs.Lines.{text_of_unit}
-use Rattle.harmonics_text.specs.declared.book.Book.{Book}
-use Rattle.harmonics_text.specs.declared.book.Station.{Station}
+use Rattle.harmonics_book.specs.declared.book.Book.{Book}
+use Rattle.harmonics_book.specs.declared.book.Station.{Station}
 use Rattle.listing.specs.StationLists.{reference_line, subordinate_line, unit_in, unit_or_dash}
 use Rattle.station_table.specs.declared.basis.Basis.{Basis}
 use Rattle.station_table.specs.declared.finding.FindFault.{FindFault}

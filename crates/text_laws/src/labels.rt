@@ -2,7 +2,7 @@
 
 ghost use Rattle.std.specs.Prelude.{◌≡◌, ℕ, ℤ, pos, negsuc, All, List, slice_set};
 ghost use Rattle.curve_law.specs.declared.event.Event.{Event};
-ghost use Rattle.harmonics_text.specs.declared.book.Units.{Units};
+ghost use Rattle.harmonics_book.specs.declared.book.Units.{Units};
 ghost use Rattle.listing.specs.declared.row.Row.{Row};
 ghost use Rattle.listing.specs.Listings.{plain_events_of, plain_heights_of};
 ghost use Rattle.listing.specs.Records.{event_fields, row_fields, time_in};

@@ -3,7 +3,7 @@
 ghost use Rattle.std.specs.Prelude.{All};
 ghost use Rattle.curve_law.specs.declared.event.Event.{Event};
 ghost use Rattle.event_text.specs.Lines.{event_line_in};
-ghost use Rattle.harmonics_text.specs.declared.book.Units.{Units};
+ghost use Rattle.harmonics_book.specs.declared.book.Units.{Units};
 ghost use Rattle.listing.specs.declared.row.Row.{Row};
 ghost use Rattle.listing.specs.Listings.{row_line_in};
 ghost use Rattle.text_laws.specs.Lines.{IsLevel, IsLine};

@@ -5,7 +5,7 @@ ghost use Rattle.std.specs.List.{flat_map, AllPairs};
 ghost use Rattle.calendar_sheet.specs.Calendars.{calendar_text_of, day_in, days_through, events_on};
 ghost use Rattle.curve_law.specs.declared.event.Event.{Event};
 ghost use Rattle.event_text.specs.Worked.{high_tide, low_tide};
-ghost use Rattle.harmonics_text.specs.declared.book.Units.{Units};
+ghost use Rattle.harmonics_book.specs.declared.book.Units.{Units};
 ghost use Rattle.text_laws.specs.Lines.{listing_of, IsLevel};
 ghost use Rattle.text_laws.specs.Pages.{DatesAscend, IsCalendar};
 ghost use Rattle.text_laws.specs.Worked.{goes_back};

@@ -2,7 +2,7 @@
 
 ghost use Rattle.std.specs.Prelude.{◌≡◌, ℕ, List, [], ◌∷◌, All, map, codes};
 ghost use Rattle.curve_law.specs.declared.event.Event.{Event};
-ghost use Rattle.harmonics_text.specs.declared.book.Units.{Units};
+ghost use Rattle.harmonics_book.specs.declared.book.Units.{Units};
 ghost use Rattle.listing.specs.declared.row.Row.{Row};
 ghost use Rattle.listing.specs.Listings.{plain_events_of, plain_heights_of};
 ghost use Rattle.listing.specs.Records.{csv_events_of, csv_heights_of, event_fields, event_header, row_fields, row_header};

@@ -3,9 +3,9 @@
 ghost use Rattle.std.specs.Prelude.{◌≡◌, ◌≢◌, ◌⊎◌, ℕ, List, [], ◌∷◌, ◌++◌, All, codes, Err};
 ghost use Rattle.std.specs.List.{flat_map};
 ghost use Rattle.event_text.specs.Lines.{text_of_unit};
-ghost use Rattle.harmonics_text.specs.declared.book.Book.{Book};
-ghost use Rattle.harmonics_text.specs.declared.book.Units.{Units};
-ghost use Rattle.harmonics_text.specs.Worked.{pier_book};
+ghost use Rattle.harmonics_book.specs.declared.book.Book.{Book};
+ghost use Rattle.harmonics_book.specs.declared.book.Units.{Units};
+ghost use Rattle.harmonics_book.specs.Worked.{pier_book};
 ghost use Rattle.listing.specs.StationLists.{stations_text_of};
 ghost use Rattle.station_table.specs.declared.finding.FindFault.{FindFault};
 ghost use Rattle.station_table.specs.declared.offsets.Offsets.{Offsets};

@@ -22,7 +22,7 @@ use Rattle.event_list.specs.Events.{AreAccepted, AreShort, span_minutes, events_
 use Rattle.event_list.specs.Order.{ordered}
 use Rattle.event_list.specs.Shifts.{IsMovable, widened_of, moved_within, shifted_of}
 use Rattle.event_list.proofs.EventLemmas.{events_of as events_in, events-parts, shifted-events}
-use Rattle.harmonics_text.specs.declared.book.Book.{Book}
+use Rattle.harmonics_book.specs.declared.book.Book.{Book}
 use Rattle.rate_bound.specs.declared.version.Version.{Version}
 use Rattle.rate_bound.specs.declared.version.Version.TheVariants.{Second}
 use Rattle.rate_bound.specs.Meanings.{mark_meaning}

@@ -1,7 +1,7 @@
 -- The results of the steps of a list of levels, and of those of a station's clock.
 use Rattle.std.proofs.Common.{◌≡◌, ℕ, ℤ, Bool, false, List, Ok, refl}
 use Rattle.decimal_text.specs.Expected.{Excused}
-use Rattle.harmonics_text.specs.declared.book.Book.{Book}
+use Rattle.harmonics_book.specs.declared.book.Book.{Book}
 use Rattle.listing.specs.declared.row.Row.{Row}
 use Rattle.listing.specs.Listings.{clock_text_of}
 use Rattle.question.specs.declared.question.Layout.{Layout}

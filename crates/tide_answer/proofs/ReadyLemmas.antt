@@ -1,7 +1,7 @@
 -- The source of an answer, from the steps of its request.
 use Rattle.std.proofs.Common.{◌≡◌, ℕ, Bool, true, false, ◌&&◌, if◌then◌else◌, IsTrue, List, Option, Some, None, Ok, Err, refl}
 use Rattle.decimal_text.specs.Expected.{◌>>=◌, Excused}
-use Rattle.harmonics_text.specs.declared.book.Book.{Book}
+use Rattle.harmonics_book.specs.declared.book.Book.{Book}
 use Rattle.question.specs.declared.command.Command.{Command}
 use Rattle.question.specs.declared.command.Command.TheVariants.{Predict, Certify}
 use Rattle.question.specs.declared.question.Layout.{Layout}

@@ -9,8 +9,8 @@ use Rattle.decimal_text.specs.Expected.{Excused}
 use Rattle.event_list.specs.Events.{cells_in, cell_count}
 use Rattle.event_list.specs.Shifts.{widened_of}
 use Rattle.event_list.proofs.EventLemmas.{count-few}
-use Rattle.harmonics_text.specs.declared.book.Book.{Book}
-use Rattle.harmonics_text.specs.declared.book.Station.{Station}
+use Rattle.harmonics_book.specs.declared.book.Book.{Book}
+use Rattle.harmonics_book.specs.declared.book.Station.{Station}
 use Rattle.event_list.specs.declared.span.Span.{Span}
 use Rattle.station_span.specs.declared.reach.Reach.TheVariants.{Events}
 use Rattle.tide_fault.specs.declared.refusal.Refusal.{Refusal}

@@ -12,8 +12,8 @@ use Rattle.curve_law.specs.Meaning.{Meaning}
 use Rattle.event_list.specs.declared.span.Span.{Span}
 use Rattle.event_list.specs.Events.{Followed, events_over}
 use Rattle.event_list.specs.Shifts.{widened_of}
-use Rattle.harmonics_text.specs.declared.book.Book.{Book}
-use Rattle.harmonics_text.specs.Books.{IsBook}
+use Rattle.harmonics_book.specs.declared.book.Book.{Book}
+use Rattle.harmonics_book.specs.Books.{IsBook}
 use Rattle.question.specs.declared.question.Layout.TheVariants.{Plain}
 use Rattle.station_table.specs.declared.offsets.Offsets.{Offsets}
 use Rattle.station_table.specs.Offsets.{IsTable}

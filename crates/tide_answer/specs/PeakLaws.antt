@@ -1,8 +1,8 @@
 -- The laws of certificates of a highest water: what is certified is accepted and short, and what is
 -- accepted is the highest water of its own station and span (this project).
 use Rattle.std.specs.Prelude.{◌≡◌, ◌<◌, ℕ, ℤ, pos, ◌+ℤ◌, ◌*ℤ◌, ◌≤ℤ◌, ◌<ℤ◌, false, List, length, Ok}
-use Rattle.harmonics_text.specs.declared.book.Book.{Book}
-use Rattle.harmonics_text.specs.Books.{IsBook}
+use Rattle.harmonics_book.specs.declared.book.Book.{Book}
+use Rattle.harmonics_book.specs.Books.{IsBook}
 use Rattle.highest_water.specs.declared.certificate.PeakCertificate.{PeakCertificate}
 use Rattle.highest_water.specs.PeakSpelling.{IsPeakTextOf}
 use Rattle.station_curve.specs.Schureman.{predicted_level}

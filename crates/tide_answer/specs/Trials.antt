@@ -28,8 +28,8 @@ use Rattle.decimal_text.specs.Expected.{◌>>=◌}
 use Rattle.event_list.specs.declared.span.Span.{Span}
 use Rattle.event_list.specs.Events.{span_minutes, cells_in, tracks_of as tracks_in}
 use Rattle.event_list.specs.Shifts.{widened_of}
-use Rattle.harmonics_text.specs.declared.book.Book.{Book}
-use Rattle.harmonics_text.specs.declared.book.Station.{Station}
+use Rattle.harmonics_book.specs.declared.book.Book.{Book}
+use Rattle.harmonics_book.specs.declared.book.Station.{Station}
 use Rattle.harmonics_text.specs.Reading.{At, book_of}
 use Rattle.sample_tides.specs.File.{sample_of}
 use Rattle.station_span.specs.declared.asked.Asked.{Asked}

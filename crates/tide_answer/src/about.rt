@@ -7,7 +7,7 @@ ghost use Rattle.tide_fault.specs.Faults.{refusal_is_out_of_memory, IsPrintableR
 
 use crate::text::{Answer, text_alone};
 use decimal_text::Text;
-use harmonics_text::{Station, ValidBook};
+use harmonics_book::{Station, ValidBook};
 use listing::about_text;
 use slope_agreement::{agreement, predicted_agreements};
 use station_span::find_reference;

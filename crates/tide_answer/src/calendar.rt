@@ -9,7 +9,7 @@ ghost use Rattle.station_span.specs.Workings.Spans.{IsInRange};
 use crate::text::Answer;
 use calendar_sheet::calendar_text;
 use decimal_text::Text;
-use harmonics_text::ValidBook;
+use harmonics_book::ValidBook;
 use station_span::{Asked, list_station};
 use station_table::OffsetTable;
 use std::alloc::Global;

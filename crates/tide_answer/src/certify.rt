@@ -13,7 +13,7 @@ use crate::tracks::find_tracks;
 use cert_text::{Certificate, write_certificate};
 use curve_law::Tracks;
 use decimal_text::Text;
-use harmonics_text::ValidBook;
+use harmonics_book::ValidBook;
 use station_cells::cell_count;
 use station_span::{Asked, Reach, find_station};
 use station_table::OffsetTable;

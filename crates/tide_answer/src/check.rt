@@ -20,7 +20,7 @@ use crate::text::{Answer, accepted, rejected};
 use cert_text::{Certificate, certificates_have_one_text, read_certificate};
 use curve_law::Events;
 use event_list::{merged, shifted};
-use harmonics_text::ValidBook;
+use harmonics_book::ValidBook;
 use listing::plain_events;
 use station_cells::rejection_line;
 use station_span::{Asked, FoundStation, Reach, find_station};

@@ -9,7 +9,7 @@ ghost use Rattle.station_span.specs.Workings.Spans.{IsInRange};
 
 use crate::text::Answer;
 use decimal_text::Text;
-use harmonics_text::ValidBook;
+use harmonics_book::ValidBook;
 use listing::clock_text;
 use station_span::{Asked, Reach, check_level, find_events, find_station, is_rising, level_at};
 use station_table::OffsetTable;

@@ -2,7 +2,7 @@
 
 ghost use Rattle.std.specs.Prelude.{◌≡◌, IfErr, IfOk};
 ghost use Rattle.decimal_text.specs.Expected.{ReturnsUnless};
-ghost use Rattle.harmonics_text.specs.Books.{IsBook};
+ghost use Rattle.harmonics_book.specs.Books.{IsBook};
 ghost use Rattle.listing.specs.StationLists.{stations_text_of};
 ghost use Rattle.question.specs.Asked.{IsAsked};
 ghost use Rattle.tide_answer.specs.Answers.{answered, text_alone};
@@ -22,7 +22,7 @@ use crate::highest::{certify_peak, highest_answer};
 use crate::peak_check::check_peak_text;
 use crate::predict::predict;
 use crate::text::{Answer, text_alone};
-use harmonics_text::{Book, ValidBook};
+use harmonics_book::{Book, ValidBook};
 use listing::stations_text;
 use question::{Command, Question, ValidQuestion};
 use station_table::OffsetTable;

@@ -11,7 +11,7 @@ ghost use Rattle.zone_time.specs.Zones.{InZoneYears};
 
 use crate::text::{Answer, text_alone};
 use decimal_text::{Bytes, Text};
-use harmonics_text::{Units, ValidBook};
+use harmonics_book::{Units, ValidBook};
 use listing::{Row, Rows, csv_heights, plain_heights};
 use question::Layout;
 use station_span::{Asked, FoundStation, Reach, check_level, find_station, level_at};

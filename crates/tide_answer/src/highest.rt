@@ -12,7 +12,7 @@ ghost use Rattle.station_span.specs.Workings.Spans.{AreMoments, IsInRange};
 
 use crate::text::{Answer, text_alone};
 use decimal_text::{Bytes, Text};
-use harmonics_text::ValidBook;
+use harmonics_book::ValidBook;
 use highest_water::{Peak, PeakCertificate, write_peak};
 use listing::highest_text;
 use station_span::{

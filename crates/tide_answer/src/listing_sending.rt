@@ -10,7 +10,7 @@ use arrayvec::ArrayString;
 use curve_law::Event;
 use decimal_text::Text;
 use event_list::Merge;
-use harmonics_text::Units;
+use harmonics_book::Units;
 use listing::event_line;
 use rate_bound::{MarkCurve, TurnCurve};
 use station_cells::{LineBuffer, Sent, send_name};

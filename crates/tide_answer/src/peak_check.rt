@@ -15,7 +15,7 @@ ghost use Rattle.station_span.specs.Workings.Peaks.{IsSourceIn};
 use crate::asked_spans::asked_by_peak_certificate;
 use crate::highest::highest_text_at;
 use crate::text::{Answer, accepted, rejected};
-use harmonics_text::ValidBook;
+use harmonics_book::ValidBook;
 use highest_water::{
     PeakCertificate, PeakFault, PeakVerdict, peak_certificates_have_one_text, read_peak,
     verdict_line,

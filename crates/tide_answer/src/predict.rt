@@ -9,7 +9,7 @@ ghost use Rattle.station_span.specs.Workings.Spans.{IsInRange};
 
 use crate::text::Answer;
 use decimal_text::{Bytes, Text};
-use harmonics_text::ValidBook;
+use harmonics_book::ValidBook;
 use listing::{csv_events, plain_events};
 use question::Layout;
 use station_span::{Asked, FoundEvents, list_station};

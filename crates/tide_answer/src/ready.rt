@@ -3,7 +3,7 @@
 ghost use Rattle.std.specs.Prelude.{◌≡◌, if◌then◌else◌, Some, None, IsSome, IsTrue, IfErr, is_some};
 ghost use Rattle.std.specs.Option.{ForSome};
 ghost use Rattle.decimal_text.specs.Expected.{ReturnsUnless};
-ghost use Rattle.harmonics_text.specs.Books.{IsBook};
+ghost use Rattle.harmonics_book.specs.Books.{IsBook};
 ghost use Rattle.question.specs.Asked.{IsAsked};
 ghost use Rattle.tide_fault.specs.Faults.{refusal_is_out_of_memory, IsPrintableRefusal};
 ghost use Rattle.tide_answer.specs.Givens.{IsGiven};
@@ -14,7 +14,7 @@ use crate::asked_spans::{span_named, station_named};
 use crate::form::Form;
 use crate::given::Given;
 use crate::streaming::Stream;
-use harmonics_text::{Book, ValidBook};
+use harmonics_book::{Book, ValidBook};
 use question::{Command, Layout, Question, ValidQuestion};
 use station_span::{Reach, find_station};
 use station_table::{Basis, OffsetTable};

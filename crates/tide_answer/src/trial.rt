@@ -2,7 +2,7 @@
 
 ghost use Rattle.std.specs.Prelude.{◌≡◌, ◌<◌, ◌≤◌, ◌^◌, [], length, take, IfErr, IfOk};
 ghost use Rattle.decimal_text.specs.Expected.{ReturnsUnless};
-ghost use Rattle.harmonics_text.specs.Books.{IsBook};
+ghost use Rattle.harmonics_book.specs.Books.{IsBook};
 ghost use Rattle.harmonics_text.specs.Reading.{book_of};
 ghost use Rattle.tide_fault.specs.Faults.{refusal_is_out_of_memory, IsPrintableRefusal};
 ghost use Rattle.tide_answer.specs.Trials.{book_from, nothing, station_count, station_tally, tally_on, trial_of};
@@ -14,7 +14,8 @@ use crate::certify::certificate_of;
 use crate::tally::{Tally, tally_text};
 use crate::tracks::find_tracks;
 use decimal_text::{Bytes, Text};
-use harmonics_text::{Book, BookFault, Station, ValidBook, read_book};
+use harmonics_book::{Book, Station, ValidBook};
+use harmonics_text::{BookFault, read_book};
 use sample_tides::sample;
 use station_span::{Asked, Reach, find_events, find_station};
 use station_table::OffsetTable;

@@ -4,7 +4,7 @@ use Rattle.std.proofs.Common.{◌≡◌, ℕ, ℤ, ◌≤◌, false, List, [], �
 use Rattle.std.specs.Prelude.{IsSomeAnd}
 use Rattle.cert_text.specs.Texts.{ended, joined, IsTextBy}
 use Rattle.decimal_text.specs.declared.limits.TheConstants.{MOST_BYTES}
-use Rattle.harmonics_text.specs.declared.book.Book.{Book}
+use Rattle.harmonics_book.specs.declared.book.Book.{Book}
 use Rattle.question.specs.declared.command.Command.{Command}
 use Rattle.question.specs.declared.question.Question.{Question}
 use Rattle.report_sheets.specs.Sheets.{SheetMeaning}

@@ -12,9 +12,10 @@ use Rattle.highest_water.specs.declared.verdict.PeakVerdict.TheVariants.{WrongLe
 use Rattle.highest_water.specs.PeakReadings.{peak_of}
 use Rattle.highest_water.specs.VerdictLines.{verdict_line}
 use Rattle.event_text.specs.Lines.{text_of_unit}
-use Rattle.harmonics_text.specs.declared.book.Book.{Book}
+use Rattle.harmonics_book.specs.declared.book.Book.{Book}
 use Rattle.harmonics_text.specs.Reading.{book_of}
-use Rattle.harmonics_text.specs.Worked.{file_of, pier_book, pier_lines}
+use Rattle.harmonics_book.specs.Worked.{pier_book}
+use Rattle.harmonics_text.specs.Worked.{file_of, pier_lines}
 use Rattle.listing.specs.StationLists.{stations_text_of}
 use Rattle.named_files.specs.declared.materials.Materials.{Materials}
 use Rattle.named_files.specs.declared.no_answer.NoAnswer.{NoAnswer}

@@ -2,8 +2,8 @@
 use Rattle.std.proofs.Common.{◌≡◌, ℕ, ℤ, ◌≤◌, Bool, true, false, cond, List, [], length, nat_le, Option, Some, None, Result, Ok, Err, refl, subst, sym, ap, ◌∙◌, arith}
 use Rattle.std.proofs.lemmas.Bool.{leb-true, le-leb}
 use Rattle.std.proofs.lemmas.List.Elements.{All-nil}
-use Rattle.harmonics_text.specs.declared.book.Book.{Book as TheBook}
-use Rattle.harmonics_text.specs.Books.{IsBook}
+use Rattle.harmonics_book.specs.declared.book.Book.{Book as TheBook}
+use Rattle.harmonics_book.specs.Books.{IsBook}
 use Rattle.harmonics_text.specs.Reading.{At, book_of}
 use Rattle.harmonics_text.proofs.Readers.{book_valid}
 use Rattle.question.specs.declared.question.Question.{Question}

@@ -16,7 +16,7 @@ use Rattle.csv.specs.declared.parser.Config.{Config}
 use Rattle.csv.specs.declared.parser.State.{State}
 use Rattle.csv.specs.declared.parser.State.TheVariants as st
 use Rattle.decimal_text.specs.Decimal.{read_of}
-use Rattle.harmonics_text.specs.Books.{IsWithin}
+use Rattle.harmonics_book.specs.Books.{IsWithin}
 use Rattle.station_table.specs.declared.fault.OffsetWhy.{OffsetWhy}
 use Rattle.station_table.specs.declared.fault.OffsetWhy.TheVariants.{BadName, NotUtf8, OutOfRange}
 use Rattle.station_table.specs.declared.header.Header.{Header}

@@ -2,7 +2,7 @@
 -- `check` accepts is true (this project).
 use Rattle.std.specs.Prelude.{◌≡◌, ℕ, ℤ, false, List, ◌++◌, codes, Option, Some, None, IsSomeAnd, Ok}
 use Rattle.cert_text.specs.declared.certificate.Certificate.{Certificate}
-use Rattle.harmonics_text.specs.declared.book.Book.{Book}
+use Rattle.harmonics_book.specs.declared.book.Book.{Book}
 use Rattle.question.specs.declared.command.Command.{Command}
 use Rattle.question.specs.declared.command.Command.TheVariants.{Predict, Certify, Check}
 use Rattle.question.specs.declared.question.Layout.TheVariants.{Plain}

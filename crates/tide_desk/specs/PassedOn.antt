@@ -1,6 +1,6 @@
 -- A certificate that one run writes and the next one checks (this project).
 use Rattle.std.specs.Prelude.{◌≡◌, ℕ, IsTrue, List, [], Some, Ok}
-use Rattle.harmonics_text.specs.declared.book.Book.{Book}
+use Rattle.harmonics_book.specs.declared.book.Book.{Book}
 use Rattle.named_files.specs.declared.materials.Materials.{Materials}
 use Rattle.named_files.specs.Readings.{files_in, zone_named}
 use Rattle.question.specs.declared.command.Command.TheVariants.{Certify, Check, Peak, PeakCheck}

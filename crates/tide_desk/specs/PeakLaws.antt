@@ -1,7 +1,7 @@
 -- The laws of certificates of a highest water over files and command lines: `peakcheck` accepts what `peak`
 -- returned, and what `peakcheck` accepts is true (this project).
 use Rattle.std.specs.Prelude.{◌≡◌, ℕ, ℤ, false, List, Some, None, IsSomeAnd, Ok}
-use Rattle.harmonics_text.specs.declared.book.Book.{Book}
+use Rattle.harmonics_book.specs.declared.book.Book.{Book}
 use Rattle.highest_water.specs.declared.certificate.PeakCertificate.{PeakCertificate}
 use Rattle.question.specs.declared.command.Command.TheVariants.{Highest, Peak, PeakCheck}
 use Rattle.question.specs.declared.question.Question.{Question}

@@ -32,7 +32,7 @@ use crate::asking::read_words;
 use crate::reply::Reply;
 use crate::replying::reply_with;
 use decimal_text::{Text, Words};
-use harmonics_text::ValidBook;
+use harmonics_book::ValidBook;
 use named_files::{Materials, NoAnswer, read_files};
 use question::{Command, ValidQuestion};
 use report_sheets::Sheet;

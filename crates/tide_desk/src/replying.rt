@@ -12,7 +12,7 @@ ghost use Rattle.tide_desk.specs.Workings.Replies.{IsReply, answer_by, is_stream
 use crate::body::Body;
 use crate::reply::Reply;
 use crate::reporting::report;
-use harmonics_text::ValidBook;
+use harmonics_book::ValidBook;
 use question::{Command, Layout, Question, ValidQuestion};
 use report_sheets::Sheet;
 use station_table::OffsetTable;

@@ -3,14 +3,14 @@
 ghost use Rattle.std.specs.Prelude.{◌≡◌, ◌≢◌, ◌≤◌, [], All, IfErr, IfOk, map, unwrap_or};
 ghost use Rattle.decimal_text.specs.Expected.{ReturnsUnless};
 ghost use Rattle.event_text.specs.Lines.{IsListed};
-ghost use Rattle.harmonics_text.specs.declared.book.Units.{Units};
+ghost use Rattle.harmonics_book.specs.declared.book.Units.{Units};
 ghost use Rattle.report_sheets.specs.Pages.{pages_of};
 ghost use Rattle.tide_answer.specs.Givens.{IsGiven};
 ghost use Rattle.tide_desk.specs.Answers.{head_of, reported};
 ghost use Rattle.tide_fault.specs.Faults.{refusal_is_out_of_memory, IsPrintableRefusal};
 
 use decimal_text::{Bytes, Words};
-use harmonics_text::ValidBook;
+use harmonics_book::ValidBook;
 use question::ValidQuestion;
 use report_sheets::{Head, Sheet, fill};
 use station_table::OffsetTable;

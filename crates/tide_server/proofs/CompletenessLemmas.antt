@@ -5,7 +5,8 @@ use Rattle.std.specs.Prelude.{count_by}
 use Rattle.decimal_text.specs.Expected.{Excuses}
 use Rattle.harmonics_text.specs.declared.fault.BookFault.TheVariants as form
 use Rattle.harmonics_text.specs.Reading.{book_of}
-use Rattle.harmonics_text.specs.Worked.{file_of, pier_book, pier_lines}
+use Rattle.harmonics_book.specs.Worked.{pier_book}
+use Rattle.harmonics_text.specs.Worked.{file_of, pier_lines}
 use Rattle.named_files.specs.declared.no_answer.NoAnswer.{NoAnswer}
 use Rattle.named_files.specs.declared.no_answer.NoAnswer.TheVariants.{Unread, Faulty}
 use Rattle.named_files.specs.declared.no_answer.NoAnswer.TheVariants as none_of

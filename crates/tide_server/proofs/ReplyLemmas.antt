@@ -1,7 +1,7 @@
 -- Replies: one for each request, which further bytes don't change once they determine its row.
 use Rattle.std.proofs.Common.{◌≡◌, ℕ, ℤ, List, ◌++◌, Some, ap, ◌∙◌, sym, subst}
 use Rattle.std.specs.Prelude.{IsTrue, Result, Ok, Err, IfOk}
-use Rattle.harmonics_text.specs.declared.book.Book.{Book}
+use Rattle.harmonics_book.specs.declared.book.Book.{Book}
 use Rattle.station_table.specs.declared.offsets.Offsets.{Offsets}
 use Rattle.http_rows.specs.Heads.{head_end}
 use Rattle.tide_server.specs.Replies.{IsReply, reply_of}

@@ -4,7 +4,7 @@ use Rattle.std.specs.Prelude.{slice_get}
 use Rattle.std.specs.Option.{ForSome}
 use Rattle.std.specs.Result.{IsErrAnd}
 use Rattle.decimal_text.specs.Expected.{Excused, Meets}
-use Rattle.harmonics_text.specs.declared.book.Book.{Book}
+use Rattle.harmonics_book.specs.declared.book.Book.{Book}
 use Rattle.question.specs.declared.question.Question.{Question}
 use Rattle.station_table.specs.declared.offsets.Offsets.{Offsets as TableRow}
 use Rattle.tide_edge.specs.FileStates.{Opening, Openings, listed, openings_of}

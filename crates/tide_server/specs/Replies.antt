@@ -1,7 +1,7 @@
 -- The reply to a request, over harmonic constants, a table of offsets and the present minute (this
 -- project).
 use Rattle.std.specs.Prelude.{◌≡◌, ℕ, ℤ, Bool, List, [], codes, is_some, Result, Ok, Err}
-use Rattle.harmonics_text.specs.declared.book.Book.{Book}
+use Rattle.harmonics_book.specs.declared.book.Book.{Book}
 use Rattle.question.specs.declared.fault.AskFault.{AskFault}
 use Rattle.question.specs.declared.question.Layout.{Layout}
 use Rattle.question.specs.declared.question.Layout.TheVariants.{Plain, Csv}

@@ -1,7 +1,8 @@
 -- A server in memory worked out by hand: its files hold constants under the name `f`, and no call on it
 -- fails (this project).
 use Rattle.std.specs.Prelude.{ℕ, pos, List, [], ◌∷◌, codes}
-use Rattle.harmonics_text.specs.Worked.{file_of, pier_book, pier_lines}
+use Rattle.harmonics_book.specs.Worked.{pier_book}
+use Rattle.harmonics_text.specs.Worked.{file_of, pier_lines}
 use Rattle.tide_edge.specs.Calls.{HeldCalls}
 use Rattle.tide_edge.specs.Doors.{no_connections, not_listening}
 use Rattle.tide_edge.specs.FileStates.{no_openings}

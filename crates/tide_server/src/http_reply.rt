@@ -1,7 +1,7 @@
 //! The reply to a request.
 
 ghost use Rattle.std.specs.Prelude.{◌≡◌, ◌≤◌, false, length, IfOk};
-ghost use Rattle.harmonics_text.specs.Books.{IsBook};
+ghost use Rattle.harmonics_book.specs.Books.{IsBook};
 ghost use Rattle.question.specs.Asked.{IsZoneWord};
 ghost use Rattle.tide_answer.specs.Answers.{answered};
 ghost use Rattle.tide_fault.specs.Faults.{IsPrintable, refusal_is_out_of_memory};
@@ -17,7 +17,7 @@ ghost use Rattle.zone_time.specs.Zones.{IsZone};
 use crate::query::pairs_of;
 use arrayvec::ArrayString;
 use decimal_text::Bytes;
-use harmonics_text::{Book, ValidBook};
+use harmonics_book::{Book, ValidBook};
 use http_rows::{Asking, Code, ReplyRow, RequestRejection, Response, row_for, write_rejection};
 use question::{AskFault, Layout, ValidQuestion, ZoneWord, read_question};
 use station_table::OffsetTable;

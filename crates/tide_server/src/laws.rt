@@ -1,7 +1,7 @@
 //! Laws of requests and of their replies.
 
 ghost use Rattle.std.specs.Prelude.{◌≡◌, ℕ, ℤ, ◌≤◌, false, List, ◌++◌, length, Option, Some, None, Ok, IsTrue};
-ghost use Rattle.harmonics_text.specs.declared.book.Book.{Book};
+ghost use Rattle.harmonics_book.specs.declared.book.Book.{Book};
 ghost use Rattle.named_files.specs.NoAnswers.{is_read_fault};
 ghost use Rattle.question.specs.Questions.{question_of};
 ghost use Rattle.question.specs.declared.origin.Origin.{Origin};

@@ -1,9 +1,9 @@
 //! The data that a server serves.
 
 ghost use Rattle.std.specs.Prelude.{◌≡◌};
-ghost use Rattle.harmonics_text.specs.Books.{IsBook};
+ghost use Rattle.harmonics_book.specs.Books.{IsBook};
 
-use harmonics_text::{Book, ValidBook};
+use harmonics_book::{Book, ValidBook};
 use station_table::OffsetTable;
 use std::marker::Model;
 
@@ -26,7 +26,7 @@ pub struct ValidServedData {
 
 impl Model for ValidServedData {
     ghost use Rattle.tide_server.specs.declared.served_data.ServedData.{ServedData};
-    ghost use Rattle.harmonics_text.specs.Books.{IsBook};
+    ghost use Rattle.harmonics_book.specs.Books.{IsBook};
 
     ghost Value = { ServedData };
 

@@ -1,7 +1,7 @@
 //! Queries and replies worked out by hand.
 
 ghost use Rattle.std.specs.Prelude.{◌≡◌, ℤ, true, false, List, [], ◌∷◌, Some, codes};
-ghost use Rattle.harmonics_text.specs.declared.book.Book.{Book};
+ghost use Rattle.harmonics_book.specs.declared.book.Book.{Book};
 ghost use Rattle.station_table.specs.declared.offsets.Offsets.{Offsets};
 ghost use Rattle.tide_server.specs.Queries.{items_of, said_by};
 ghost use Rattle.tide_server.specs.Replies.{reply_of};

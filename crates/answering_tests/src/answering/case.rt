@@ -1,12 +1,12 @@
 //! A request with all inputs of its answer.
 
 ghost use Rattle.std.specs.Prelude.{IfOk};
-ghost use Rattle.harmonics_text.specs.Books.{IsBook};
+ghost use Rattle.harmonics_book.specs.Books.{IsBook};
 ghost use Rattle.question.specs.Asked.{IsAsked};
 ghost use Rattle.tide_answer.specs.Givens.{IsGiven};
 
 use decimal_text::{Bytes, MOST_BYTES};
-use harmonics_text::Book;
+use harmonics_book::Book;
 use question::{AskFault, Command, Question, pairs_of_words, read_question};
 use station_table::OffsetTable;
 use std::alloc::{AllocError, Global};

@@ -1,13 +1,14 @@
 //! Answers of the sizes that users have: a year, ten constituents, a name of 400 bytes.
 
 ghost use Rattle.std.specs.Prelude.{IfOk};
-ghost use Rattle.harmonics_text.specs.Books.{IsBook};
+ghost use Rattle.harmonics_book.specs.Books.{IsBook};
 ghost use Rattle.question.specs.Asked.{IsAsked};
 ghost use Rattle.tide_answer.specs.Givens.{IsGiven};
 
 use super::case::{Case, written};
 use decimal_text::Bytes;
-use harmonics_text::{Book, BookFault, read_book};
+use harmonics_book::Book;
+use harmonics_text::{BookFault, read_book};
 use station_table::{OffsetTable, read_offsets};
 use std::alloc::{AllocError, Global};
 use std::test::Fail;

@@ -2,7 +2,7 @@
 use Rattle.std.specs.Prelude.{ℕ, ℤ, ◌≤ℤ◌, List, [], ◌++◌, codes, map}
 use Rattle.std.specs.List.{flat_map}
 use Rattle.curve_law.specs.declared.event.Event.{Event}
-use Rattle.harmonics_text.specs.declared.book.Units.{Units}
+use Rattle.harmonics_book.specs.declared.book.Units.{Units}
 use Rattle.zone_time.specs.declared.zone.Zone.{Zone}
 use Rattle.zone_time.specs.Dates.{IsDay, date_text}
 use Rattle.calendar_sheet.specs.Calendars.{day_in, days_through, entry_in, events_on}

@@ -29,9 +29,9 @@ use Rattle.std.specs.Prelude.{
   length,
   All,
 }
-use Rattle.harmonics_text.specs.declared.book.Constituent.{Constituent}
-use Rattle.harmonics_text.specs.declared.book.Station.{Station}
-use Rattle.harmonics_text.specs.declared.book.Book.{Book}
+use Rattle.harmonics_book.specs.declared.book.Constituent.{Constituent}
+use Rattle.harmonics_book.specs.declared.book.Station.{Station}
+use Rattle.harmonics_book.specs.declared.book.Book.{Book}
 use Rattle.harmonics_text.specs.declared.heading.Heading.{Heading}
 use Rattle.harmonics_text.specs.declared.table.Table.{Table}
 use Rattle.harmonics_text.specs.declared.record.Constants.{Constants}
@@ -64,7 +64,7 @@ use Rattle.harmonics_text.specs.Rules.{
   pair_of,
 }
 use Rattle.std.specs.List.{list_all}
-use Rattle.harmonics_text.specs.Books.{IsWithin, IsName, IsConstituent, IsBook}
+use Rattle.harmonics_book.specs.Books.{IsWithin, IsName, IsConstituent, IsBook}
 
 -- from 1 to 500 valid constituents
 pub record AreConstituents (cs : List Constituent) : Type 0 where

@@ -1,6 +1,6 @@
 -- The invariant of a request's files.
 use Rattle.std.specs.Prelude.{◌≤◌, length}
-use Rattle.harmonics_text.specs.Books.{IsBook}
+use Rattle.harmonics_book.specs.Books.{IsBook}
 use Rattle.zone_time.specs.Zones.{IsZone}
 use Rattle.named_files.specs.declared.materials.Materials.{Materials}
 use Rattle.decimal_text.specs.declared.limits.TheConstants.{MOST_BYTES}

@@ -1,11 +1,12 @@
 //! Replies to requests over the pier and its table.
 
 ghost use Rattle.std.specs.Prelude.{IfOk};
-ghost use Rattle.harmonics_text.specs.Books.{IsBook};
+ghost use Rattle.harmonics_book.specs.Books.{IsBook};
 
 use arrayvec::ArrayString;
 use decimal_text::Bytes;
-use harmonics_text::{Book, BookFault, read_book};
+use harmonics_book::Book;
+use harmonics_text::{BookFault, read_book};
 use station_table::{OffsetFault, OffsetTable, read_offsets};
 use std::alloc::Global;
 use std::test::Fail;

@@ -1,7 +1,7 @@
 -- The years of a station as its curve stores them.
 use Rattle.std.specs.Prelude.{◌≡◌, ℕ, suc, ◌<◌, ◌==◌, not, Bool, List, length, filter, None, ℤ, pos, unsigned_abs, slice_index_or}
-use Rattle.harmonics_text.specs.declared.book.Station.{Station}
-use Rattle.harmonics_text.specs.declared.book.Book.{Book}
+use Rattle.harmonics_book.specs.declared.book.Station.{Station}
+use Rattle.harmonics_book.specs.declared.book.Book.{Book}
 use Rattle.year_blend.specs.Places.{start_of}
 use Rattle.station_curve.specs.declared.years.Year.{Year}
 use Rattle.station_curve.specs.Curves.{waves_over, first_fault}

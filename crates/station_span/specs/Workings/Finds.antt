@@ -4,7 +4,7 @@ use Rattle.curve_law.specs.declared.event.Event.{Event}
 use Rattle.decimal_text.specs.Expected.{Excused}
 use Rattle.event_list.specs.Events.{merged_of}
 use Rattle.event_text.specs.Lines.{IsListed}
-use Rattle.harmonics_text.specs.declared.book.Book.{Book}
+use Rattle.harmonics_book.specs.declared.book.Book.{Book}
 use Rattle.station_curve.specs.Curves.{Predicts}
 use Rattle.station_curve.specs.Limits.{IsWithinLimits}
 use Rattle.station_table.specs.Bases.{is_equal}

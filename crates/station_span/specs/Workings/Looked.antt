@@ -1,6 +1,6 @@
 -- The invariant of a station that was found.
-use Rattle.harmonics_text.specs.declared.book.Book.{Book}
-use Rattle.harmonics_text.specs.declared.book.Station.{Station}
+use Rattle.harmonics_book.specs.declared.book.Book.{Book}
+use Rattle.harmonics_book.specs.declared.book.Station.{Station}
 use Rattle.station_curve.specs.Waves.{Tide}
 use Rattle.station_table.specs.declared.basis.Basis.{Basis}
 use Rattle.station_span.specs.declared.asked.Asked.{Asked}

@@ -2,9 +2,9 @@
 use Rattle.std.specs.Prelude.{◌≡◌, ℤ, negsuc, pos, ◌-ℤ◌, ◌≤ℤ◌, ◌≤◌, unsigned_abs, length, Bool, true, false, IsTrue}
 use Rattle.std.specs.Option.{ForSome}
 use Rattle.event_list.specs.declared.span.Span.{Span}
-use Rattle.harmonics_text.specs.declared.book.Book.{Book}
-use Rattle.harmonics_text.specs.declared.book.Units.{Units}
-use Rattle.harmonics_text.specs.declared.book.Units.TheVariants.{Feet, Meters, Knots, KnotsSquared}
+use Rattle.harmonics_book.specs.declared.book.Book.{Book}
+use Rattle.harmonics_book.specs.declared.book.Units.{Units}
+use Rattle.harmonics_book.specs.declared.book.Units.TheVariants.{Feet, Meters, Knots, KnotsSquared}
 use Rattle.station_curve.specs.Curves.{PredictsOver}
 use Rattle.station_curve.specs.Limits.{IsWithinLimits}
 use Rattle.station_table.specs.declared.basis.Basis.{Basis}

@@ -1,5 +1,5 @@
 -- The tide that predicts a station.
-use Rattle.harmonics_text.specs.declared.book.Units.{Units}
+use Rattle.harmonics_book.specs.declared.book.Units.{Units}
 use Rattle.station_curve.specs.Waves.{Tide}
 use Rattle.station_table.specs.declared.basis.Basis.{Basis}
 

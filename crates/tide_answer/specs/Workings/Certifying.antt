@@ -4,7 +4,7 @@ use Rattle.cert_text.specs.declared.certificate.Certificate.{Certificate}
 use Rattle.curve_law.specs.declared.tracks.Tracks.{Tracks}
 use Rattle.decimal_text.specs.Expected.{◌>>=◌}
 use Rattle.event_list.specs.Shifts.{widened_of}
-use Rattle.harmonics_text.specs.declared.book.Book.{Book}
+use Rattle.harmonics_book.specs.declared.book.Book.{Book}
 use Rattle.station_table.specs.declared.offsets.Offsets.{Offsets}
 use Rattle.zone_time.specs.declared.zone.Zone.{Zone}
 use Rattle.station_span.specs.declared.asked.Asked.{Asked}

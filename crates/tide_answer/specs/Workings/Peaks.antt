@@ -1,7 +1,7 @@
 -- The certificate of a highest water, and the check of one that was read.
 use Rattle.std.specs.Prelude.{ℕ, List, Result, Ok}
 use Rattle.decimal_text.specs.Expected.{◌>>=◌}
-use Rattle.harmonics_text.specs.declared.book.Book.{Book}
+use Rattle.harmonics_book.specs.declared.book.Book.{Book}
 use Rattle.highest_water.specs.declared.certificate.PeakCertificate.{PeakCertificate}
 use Rattle.highest_water.specs.declared.peak.Peak.{Peak}
 use Rattle.station_table.specs.declared.offsets.Offsets.{Offsets}

@@ -2,7 +2,7 @@ use Rattle.std.proofs.Common.{◌≡◌, ℤ, [], pos, ◌+ℤ◌, ◌≤ℤ◌,
 use Rattle.std.specs.Fmt.{digits}
 use Rattle.std.specs.Prelude.{codes}
 use Rattle.std.specs.List.{slice_split}
-use Rattle.harmonics_text.specs.Worked.{pier_book as full_book}
+use Rattle.harmonics_book.specs.Worked.{pier_book as full_book}
 use Rattle.event_text.specs.Lines.{text_of_unit}
 use Rattle.listing.specs.Abouts.{about_text_of}
 use Rattle.question.specs.declared.command.Command.TheVariants.{About}

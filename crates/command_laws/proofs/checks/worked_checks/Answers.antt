@@ -1,7 +1,7 @@
 use Rattle.std.proofs.Common.{◌≡◌, ℕ, List, [], ◌∷◌, pos, false, Some, Result, Ok, refl, ap, ◌∙◌}
 use Rattle.std.specs.Prelude.{codes}
 use Rattle.std.specs.List.{slice_split}
-use Rattle.harmonics_text.specs.Worked.{pier_book}
+use Rattle.harmonics_book.specs.Worked.{pier_book}
 use Rattle.question.specs.declared.command.Command.TheVariants.{Certify, Check, Predict}
 use Rattle.question.specs.declared.question.Question.{Question}
 use Rattle.question.specs.Worked.{bare, is_space}

@@ -1,5 +1,5 @@
 use Rattle.std.proofs.Common.{◌≡◌, add-one, ap, inr, ◌∙◌, arith}
-use Rattle.harmonics_text.specs.declared.book.Book.{Book}
+use Rattle.harmonics_book.specs.declared.book.Book.{Book}
 use Rattle.year_blend.specs.Years.{year_start_of}
 use Rattle.station_curve.proofs.WithinLimits.{asked-amount, asked-steepness, asked-over}
 use Rattle.station_curve.proofs.Touched.{touched_by_ends}

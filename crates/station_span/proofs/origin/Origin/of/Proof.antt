@@ -26,8 +26,8 @@ use denote.Triple.Entry.{on_entry, alive, Args}
 use denote.Triple.Spec.{Meets, triple_of}
 use denote.Triple.Table.{entered}
 use denote.Triple.Walked.{says, stay_none_ref, Stays, walk_of, Walks, ends_at, walked, Goes-none_ref, walk_Meets}
-use Rattle.harmonics_text.specs.contracts.book.Book as book
-use Rattle.harmonics_text.specs.contracts.book.Station as station
+use Rattle.harmonics_book.specs.contracts.book.Book as book
+use Rattle.harmonics_book.specs.contracts.book.Station as station
 use Rattle.station_span.specs.contracts.origin.Origin as origin
 use Rattle.station_span.specs.contracts.origin.Origin.of.Key.{name as key}
 use Rattle.station_span.specs.contracts.origin.Origin.of as f

@@ -1,9 +1,9 @@
 -- The validity of a book: the counts, ranges and names that a file of harmonic constants can have (this
 -- project).
 use Rattle.std.specs.Prelude.{◌≡◌, ℕ, ℤ, pos, negsuc, ◌*◌, ◌≤◌, ◌≤ℤ◌, ◌⊎◌, List, length, All, encode_utf8_all}
-use Rattle.harmonics_text.specs.declared.book.Constituent.{Constituent}
-use Rattle.harmonics_text.specs.declared.book.Station.{Station}
-use Rattle.harmonics_text.specs.declared.book.Book.{Book}
+use Rattle.harmonics_book.specs.declared.book.Constituent.{Constituent}
+use Rattle.harmonics_book.specs.declared.book.Station.{Station}
+use Rattle.harmonics_book.specs.declared.book.Book.{Book}
 
 -- x is from low to high, both included
 pub record IsWithin (low high x : ℤ) : Type 0 where

@@ -14,7 +14,7 @@ pub struct Constituents {
 
 impl Model for Constituents {
     ghost use Rattle.std.specs.Prelude.{List};
-    ghost use Rattle.harmonics_text.specs.declared.book.Constituent.{Constituent};
+    ghost use Rattle.harmonics_book.specs.declared.book.Constituent.{Constituent};
 
     ghost Value = { List Constituent };
 
@@ -30,7 +30,7 @@ impl Constituents {
     }
 
     /// Returns the empty list. It doesn't allocate.
-    pub(crate) fn empty(alloc: Global) -> Constituents
+    pub fn empty(alloc: Global) -> Constituents
         ensures { result ≡ [] }
     {
         Constituents {
@@ -39,7 +39,7 @@ impl Constituents {
     }
 
     /// Appends `constituent`.
-    pub(crate) fn push(&mut self, constituent: Constituent) -> Result<(), AllocError>
+    pub fn push(&mut self, constituent: Constituent) -> Result<(), AllocError>
         ensures { OnOk result (self.new ≡ self.old ++ constituent ∷ []) }
     {
         self.items.push(constituent)?;
@@ -62,7 +62,7 @@ pub struct Stations {
 
 impl Model for Stations {
     ghost use Rattle.std.specs.Prelude.{List};
-    ghost use Rattle.harmonics_text.specs.declared.book.Station.{Station};
+    ghost use Rattle.harmonics_book.specs.declared.book.Station.{Station};
 
     ghost Value = { List Station };
 
@@ -78,7 +78,7 @@ impl Stations {
     }
 
     /// Returns the empty list. It doesn't allocate.
-    pub(crate) fn empty(alloc: Global) -> Stations
+    pub fn empty(alloc: Global) -> Stations
         ensures { result ≡ [] }
     {
         Stations {
@@ -87,7 +87,7 @@ impl Stations {
     }
 
     /// Appends `station`.
-    pub(crate) fn push(&mut self, station: Station) -> Result<(), AllocError>
+    pub fn push(&mut self, station: Station) -> Result<(), AllocError>
         ensures { OnOk result (self.new ≡ self.old ++ station ∷ []) }
     {
         self.items.push(station)?;

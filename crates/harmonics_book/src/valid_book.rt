@@ -1,7 +1,7 @@
 //! A book that is proved to be valid.
 
 ghost use Rattle.std.specs.Prelude.{◌≡◌};
-ghost use Rattle.harmonics_text.specs.Books.{IsBook};
+ghost use Rattle.harmonics_book.specs.Books.{IsBook};
 
 use crate::book::Book;
 use std::marker::Model;
@@ -14,11 +14,11 @@ pub struct ValidBook<'a> {
 }
 
 impl<'a> Model for ValidBook<'a> {
-    ghost use Rattle.harmonics_text.specs.declared.book.Book.{Book};
+    ghost use Rattle.harmonics_book.specs.declared.book.Book.{Book};
 
     ghost Value = { Book };
 
-    ghost use Rattle.harmonics_text.specs.Books.{IsBook};
+    ghost use Rattle.harmonics_book.specs.Books.{IsBook};
 
     ghost view = { λ valid. valid.book.now };
 

@@ -1,0 +1,23 @@
+-- A small book: one constituent, three years and one station (this project).
+use Rattle.std.specs.Prelude.{pos, [], ◌∷◌, codes}
+use Rattle.harmonics_book.specs.declared.book.Book.{Book}
+use Rattle.harmonics_book.specs.declared.book.Units.TheVariants.{Feet}
+
+-- the book of a pier with a tide of half a day
+abbrev pub pier_book : Book
+pier_book = record {
+  constituents = record { name = codes "S2"; speed = pos 300000000 } ∷ [];
+  first_year = pos 1999;
+  years = 3;
+  angles = pos 0 ∷ pos 0 ∷ pos 0 ∷ [];
+  factors = pos 1000000 ∷ pos 1000000 ∷ pos 1000000 ∷ [];
+  stations = record {
+    name = codes "Pier";
+    meridian = pos 0;
+    zone = codes "UTC";
+    datum = pos 0;
+    units = Feet;
+    amplitude = pos 1000000 ∷ [];
+    epoch = pos 0 ∷ [];
+  } ∷ [];
+}
