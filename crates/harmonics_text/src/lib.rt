@@ -21,6 +21,7 @@ mod progress;
 mod reading;
 mod record;
 mod scale;
+mod station_lines;
 mod table;
 
 pub use book_reader::BookReader;

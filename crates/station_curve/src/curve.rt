@@ -27,12 +27,13 @@ ghost use Rattle.year_blend.specs.Places.{InDomain};
 ghost use Rattle.year_blend.specs.Stretches.{stretch_of};
 ghost use Rattle.year_blend.specs.Weights.{total_weight};
 
+mod year_values;
+
 use crate::blend::{by_full_weight, drift, error_of, mixed, weighted};
 use crate::calendar::calendar_year_of;
 use crate::fault::{CurveFault, is_hydraulic};
 use crate::greatest::{Greatest, greatest_of_years};
 use crate::minute_range::{MinuteRange, all_minutes};
-use crate::summing::{approximate_falls, approximate_heights, falls, heights, mean_level};
 use crate::year_sums::Sums;
 use crate::years::{Year, years_of};
 use decimal_text::rounded;
@@ -73,27 +74,12 @@ impl StationCurve {
     ghost use Rattle.decimal_text.specs.Expected.{ReturnsUnless};
     ghost use Rattle.station_curve.specs.Curves.{tide_over, curve_of, curve_over, is_out_of_memory, Predicts, PredictsOver};
     ghost use Rattle.station_curve.specs.Workings.Prepared.{AreReady};
-    ghost use Rattle.station_curve.specs.Waves.{heights_of};
-    ghost use Rattle.station_curve.specs.Approximate.{
-      approximate_year_level,
-      approximate_year_slope,
-      approximate_level_of,
-      approximate_slope_of,
-    };
+    ghost use Rattle.station_curve.specs.Approximate.{approximate_level_of, approximate_slope_of};
     ghost use Rattle.station_curve.specs.Errors.{level_error_of, slope_error_of};
     ghost use Rattle.station_curve.specs.Limits.{IsWithinLimits, AreWithinLimits};
-    ghost use Rattle.station_curve.specs.Workings.NumberRanges.{IsWithinHourOfYear, IsPlaceInRange, IsPlainYear, IsAround};
+    ghost use Rattle.station_curve.specs.Workings.NumberRanges.{IsPlaceInRange, IsPlainYear, IsAround};
     ghost use Rattle.station_curve.specs.Sums.{sums_of};
-    ghost use Rattle.station_curve.specs.Levels.{
-      minutes_into,
-      waves_in,
-      place_in_tide,
-      year_level,
-      year_slope,
-      level_of,
-      slope_of,
-      millionths_of,
-    };
+    ghost use Rattle.station_curve.specs.Levels.{waves_in, place_in_tide, level_of, slope_of, millionths_of};
 
     /// Returns the curve of the station with index `station` in the book's list.
     ///
@@ -396,60 +382,5 @@ impl StationCurve {
     {
         let ended = m.abs_diff(self.years[0].start) / MEAN_YEAR;
         ended.min(self.years.len() as u64 - 1) as u32
-    }
-
-    /// Returns the level by the constants of year `year`.
-    fn year_level(&self, year: u32, m: i64) -> i128
-        requires year { year < length self.now.years }
-        requires in_range { IsWithinHourOfYear self.now.first_year year m }
-        ensures value { result ≡ year_level self.now m year }
-        ensures size { unsigned_abs result ≤ 11 * 10 ^ 18 }
-    {
-        mean_level(self.datum) + i128::from(self.year_heights(year, m))
-    }
-
-    /// Returns the approximate level by the constants of year `year`, by chords.
-    fn approximate_year_level(&self, year: u32, m: i64) -> i128
-        requires year { year < length self.now.years }
-        requires in_range { IsWithinHourOfYear self.now.first_year year m }
-        ensures value { result ≡ approximate_year_level self.now m year }
-        ensures size { unsigned_abs result ≤ 12 * 10 ^ 18 }
-    {
-        let year = &self.years[year as usize];
-        mean_level(self.datum)
-            + i128::from(approximate_heights(year.waves.as_slice(), year.minutes_to(m)))
-    }
-
-    /// Returns the approximate slope by the constants of year `year`, by chords.
-    fn approximate_year_slope(&self, year: u32, m: i64) -> i128
-        requires year { year < length self.now.years }
-        requires in_range { IsWithinHourOfYear self.now.first_year year m }
-        ensures value { result ≡ approximate_year_slope self.now m year }
-        ensures size { unsigned_abs result ≤ 2 * 10 ^ 26 }
-    {
-        let year = &self.years[year as usize];
-        -approximate_falls(year.waves.as_slice(), year.minutes_to(m))
-    }
-
-    /// Returns the slope by the constants of year `year`.
-    fn year_slope(&self, year: u32, m: i64) -> i128
-        requires year { year < length self.now.years }
-        requires in_range { IsWithinHourOfYear self.now.first_year year m }
-        ensures value { result ≡ year_slope self.now m year }
-        ensures size { unsigned_abs result ≤ 10 ^ 26 }
-    {
-        let year = &self.years[year as usize];
-        -falls(year.waves.as_slice(), year.minutes_to(m))
-    }
-
-    /// Returns the sum of the heights of the waves of year `year`.
-    fn year_heights(&self, year: u32, m: i64) -> i64
-        requires year { year < length self.now.years }
-        requires in_range { IsWithinHourOfYear self.now.first_year year m }
-        ensures value { result ≡ heights_of (minutes_into self.now.first_year year m) (waves_in self.now year) }
-        ensures size { unsigned_abs result ≤ 10 ^ 18 }
-    {
-        let year = &self.years[year as usize];
-        heights(year.waves.as_slice(), year.minutes_to(m))
     }
 }

@@ -19,6 +19,7 @@ mod peaks;
 mod reach;
 mod reference_station;
 mod station;
+mod station_curves;
 mod worked;
 
 pub use asked::Asked;

@@ -5,7 +5,8 @@ ghost use Rattle.tide_fault.specs.Faults.{IsPrintableRefusal};
 ghost use Rattle.station_span.specs.Sites.{station_in};
 ghost use Rattle.station_span.specs.Workings.Finds.{FindsReference};
 
-use crate::station::{find_basis, level_units, station_at, whole_curve};
+use crate::station::{find_basis, level_units, station_at};
+use crate::station_curves::whole_curve;
 use decimal_text::Text;
 use harmonics_book::{Station, ValidBook};
 use station_curve::StationCurve;

@@ -22,12 +22,9 @@ ghost use Rattle.std.specs.Prelude.{
 };
 ghost use Rattle.std.specs.Option.{ForSome};
 ghost use Rattle.cert_text.specs.Certificates.{IsStationName};
-ghost use Rattle.decimal_text.specs.Expected.{ReturnsUnless};
 ghost use Rattle.event_list.specs.Shifts.{HasOffsets};
-ghost use Rattle.station_curve.specs.Curves.{curve_of, curve_over, Predicts, PredictsOver};
-ghost use Rattle.station_curve.specs.Limits.{IsWithinLimits};
 ghost use Rattle.station_table.specs.Bases.{IsBasis, basis_of, is_equal};
-ghost use Rattle.tide_fault.specs.Faults.{refusal_is_out_of_memory, IsPrintableRefusal};
+ghost use Rattle.tide_fault.specs.Faults.{IsPrintableRefusal};
 ghost use Rattle.station_span.specs.Sites.{
   basis_from,
   site_in,
@@ -42,12 +39,10 @@ ghost use Rattle.station_span.specs.Sites.{
   length_in,
   mark_in,
   span_limit,
-  tide_from,
 };
 ghost use Rattle.station_span.specs.Workings.Finds.{FindsIn};
 ghost use Rattle.station_span.specs.Workings.Looked.{site_with};
 ghost use Rattle.station_span.specs.Workings.Spans.{IsBeside, IsInRange, IsSpanInRange, HasLevels, IsReached};
-ghost use Rattle.year_blend.specs.Places.{AreYears, InDomain};
 ghost use Rattle.year_blend.specs.Years.{year_start_of};
 ghost use Rattle.zone_time.specs.Moments.{IsMoment};
 
@@ -55,10 +50,10 @@ use crate::asked::Asked;
 use crate::found_station::FoundStation;
 use crate::origin::Origin;
 use crate::reach::Reach;
+use crate::station_curves::curve_over;
 use decimal_text::Text;
 use event_list::{Span, widened};
 use harmonics_book::{Book, Station, Units, ValidBook};
-use station_curve::StationCurve;
 use station_table::{Basis, OffsetTable, find};
 use std::alloc::Global;
 use tide_fault::Refusal;
@@ -316,59 +311,6 @@ fn last_minute(book: &ValidBook<'_>) -> i64
 {
     let book = book.get();
     year_start(book.first_year + book.years as i32)
-}
-
-// Returns the curve of `station`, which is at index `place` of `book`, for the minutes of `span`.
-fn curve_over(
-    alloc: Global,
-    book: &ValidBook<'_>,
-    place: u32,
-    station: &Station,
-    span: &Span,
-) -> Result<StationCurve, Refusal>
-    requires place { slice_get book.now.stations place ≡ Some station.now }
-    requires in_range { IsSpanInRange span.now }
-    ensures exact { ReturnsUnless refusal_is_out_of_memory
-        (tide_from (curve_over book.now station.now span.now.begin span.now.end)) result }
-    ensures predicts { IfOk result (PredictsOver book.now station.now span.now.begin span.now.end) }
-    ensures within_limits { IfOk result IsWithinLimits }
-    ensures years { AreYears book.now.first_year book.now.years }
-    ensures printable { IfErr result (IsPrintableRefusal []) }
-{
-    match StationCurve::over(alloc, book.get(), place, span.begin, span.end) {
-        Ok(curve) => {
-            curve.limits_hold();
-            Ok(curve)
-        }
-        Err(fault) => Err(Refusal::from(fault)),
-    }
-}
-
-/// Returns the curve of `station`, which is at index `place` of `book`, for all minutes.
-///
-/// # Errors
-/// [`Refusal::TooLarge`] or [`Refusal::TooSteep`] if its constants exceed a bound, and
-/// [`Refusal::NoMemory`].
-pub fn whole_curve(
-    alloc: Global,
-    book: &ValidBook<'_>,
-    place: u32,
-    station: &Station,
-) -> Result<StationCurve, Refusal>
-    requires place { slice_get book.now.stations place ≡ Some station.now }
-    ensures exact { ReturnsUnless refusal_is_out_of_memory (tide_from (curve_of book.now station.now)) result }
-    ensures predicts { IfOk result (Predicts book.now station.now) }
-    ensures within_limits { IfOk result IsWithinLimits }
-    ensures years { AreYears book.now.first_year book.now.years }
-    ensures printable { IfErr result (IsPrintableRefusal []) }
-{
-    match StationCurve::new(alloc, book.get(), place) {
-        Ok(curve) => {
-            curve.limits_hold();
-            Ok(curve)
-        }
-        Err(fault) => Err(Refusal::from(fault)),
-    }
 }
 
 /// Returns `Ok` if the span has at most 5,270,400 minutes.

@@ -5,7 +5,7 @@ use Rattle.std.proofs.lemmas.Int.{to_z-of_z}
 use Rattle.harmonics_text.proofs.Values.{pair_added, element_is}
 use Rattle.harmonics_text.proofs.Steps.{unnamed}
 use Rattle.harmonics_book.specs.declared.book.Constituent.{Constituent}
-use Rattle.harmonics_text.proofs.book_parser.add_pair.Goals as goal
+use Rattle.harmonics_text.proofs.station_lines.add_pair.Goals as goal
 
 pub returns-clause-exact : goal.returns-clause-exact
 returns-clause-exact c =

@@ -1,0 +1,68 @@
+//! The levels and slopes of a station by the constants of one year.
+
+ghost use Rattle.std.specs.Prelude.{◌≡◌, ◌*◌, ◌^◌, ◌<◌, ◌≤◌, length, unsigned_abs};
+
+use super::StationCurve;
+use crate::summing::{approximate_falls, approximate_heights, falls, heights, mean_level};
+
+impl StationCurve {
+    ghost use Rattle.station_curve.specs.Approximate.{approximate_year_level, approximate_year_slope};
+    ghost use Rattle.station_curve.specs.Levels.{minutes_into, waves_in, year_level, year_slope};
+    ghost use Rattle.station_curve.specs.Waves.{heights_of};
+    ghost use Rattle.station_curve.specs.Workings.NumberRanges.{IsWithinHourOfYear};
+
+    /// Returns the level by the constants of year `year`.
+    pub(super) fn year_level(&self, year: u32, m: i64) -> i128
+        requires year { year < length self.now.years }
+        requires in_range { IsWithinHourOfYear self.now.first_year year m }
+        ensures value { result ≡ year_level self.now m year }
+        ensures size { unsigned_abs result ≤ 11 * 10 ^ 18 }
+    {
+        mean_level(self.datum) + i128::from(self.year_heights(year, m))
+    }
+
+    /// Returns the approximate level by the constants of year `year`, by chords.
+    pub(super) fn approximate_year_level(&self, year: u32, m: i64) -> i128
+        requires year { year < length self.now.years }
+        requires in_range { IsWithinHourOfYear self.now.first_year year m }
+        ensures value { result ≡ approximate_year_level self.now m year }
+        ensures size { unsigned_abs result ≤ 12 * 10 ^ 18 }
+    {
+        let year = &self.years[year as usize];
+        mean_level(self.datum)
+            + i128::from(approximate_heights(year.waves.as_slice(), year.minutes_to(m)))
+    }
+
+    /// Returns the approximate slope by the constants of year `year`, by chords.
+    pub(super) fn approximate_year_slope(&self, year: u32, m: i64) -> i128
+        requires year { year < length self.now.years }
+        requires in_range { IsWithinHourOfYear self.now.first_year year m }
+        ensures value { result ≡ approximate_year_slope self.now m year }
+        ensures size { unsigned_abs result ≤ 2 * 10 ^ 26 }
+    {
+        let year = &self.years[year as usize];
+        -approximate_falls(year.waves.as_slice(), year.minutes_to(m))
+    }
+
+    /// Returns the slope by the constants of year `year`.
+    pub(super) fn year_slope(&self, year: u32, m: i64) -> i128
+        requires year { year < length self.now.years }
+        requires in_range { IsWithinHourOfYear self.now.first_year year m }
+        ensures value { result ≡ year_slope self.now m year }
+        ensures size { unsigned_abs result ≤ 10 ^ 26 }
+    {
+        let year = &self.years[year as usize];
+        -falls(year.waves.as_slice(), year.minutes_to(m))
+    }
+
+    /// Returns the sum of the heights of the waves of year `year`.
+    pub(super) fn year_heights(&self, year: u32, m: i64) -> i64
+        requires year { year < length self.now.years }
+        requires in_range { IsWithinHourOfYear self.now.first_year year m }
+        ensures value { result ≡ heights_of (minutes_into self.now.first_year year m) (waves_in self.now year) }
+        ensures size { unsigned_abs result ≤ 10 ^ 18 }
+    {
+        let year = &self.years[year as usize];
+        heights(year.waves.as_slice(), year.minutes_to(m))
+    }
+}

@@ -1,0 +1,69 @@
+//! The curve of a station, for the minutes of a span or for all.
+
+ghost use Rattle.std.specs.Prelude.{◌≡◌, [], IfErr, IfOk, Some, slice_get};
+ghost use Rattle.decimal_text.specs.Expected.{ReturnsUnless};
+ghost use Rattle.station_curve.specs.Curves.{curve_of, curve_over, Predicts, PredictsOver};
+ghost use Rattle.station_curve.specs.Limits.{IsWithinLimits};
+ghost use Rattle.station_span.specs.Sites.{tide_from};
+ghost use Rattle.station_span.specs.Workings.Spans.{IsSpanInRange};
+ghost use Rattle.tide_fault.specs.Faults.{refusal_is_out_of_memory, IsPrintableRefusal};
+ghost use Rattle.year_blend.specs.Places.{AreYears};
+
+use event_list::Span;
+use harmonics_book::{Station, ValidBook};
+use station_curve::StationCurve;
+use std::alloc::Global;
+use tide_fault::Refusal;
+
+/// Returns the curve of `station`, which is at index `place` of `book`, for the minutes of `span`.
+pub fn curve_over(
+    alloc: Global,
+    book: &ValidBook<'_>,
+    place: u32,
+    station: &Station,
+    span: &Span,
+) -> Result<StationCurve, Refusal>
+    requires place { slice_get book.now.stations place ≡ Some station.now }
+    requires in_range { IsSpanInRange span.now }
+    ensures exact { ReturnsUnless refusal_is_out_of_memory
+        (tide_from (curve_over book.now station.now span.now.begin span.now.end)) result }
+    ensures predicts { IfOk result (PredictsOver book.now station.now span.now.begin span.now.end) }
+    ensures within_limits { IfOk result IsWithinLimits }
+    ensures years { AreYears book.now.first_year book.now.years }
+    ensures printable { IfErr result (IsPrintableRefusal []) }
+{
+    match StationCurve::over(alloc, book.get(), place, span.begin, span.end) {
+        Ok(curve) => {
+            curve.limits_hold();
+            Ok(curve)
+        }
+        Err(fault) => Err(Refusal::from(fault)),
+    }
+}
+
+/// Returns the curve of `station`, which is at index `place` of `book`, for all minutes.
+///
+/// # Errors
+/// [`Refusal::TooLarge`] or [`Refusal::TooSteep`] if its constants exceed a bound, and
+/// [`Refusal::NoMemory`].
+pub fn whole_curve(
+    alloc: Global,
+    book: &ValidBook<'_>,
+    place: u32,
+    station: &Station,
+) -> Result<StationCurve, Refusal>
+    requires place { slice_get book.now.stations place ≡ Some station.now }
+    ensures exact { ReturnsUnless refusal_is_out_of_memory (tide_from (curve_of book.now station.now)) result }
+    ensures predicts { IfOk result (Predicts book.now station.now) }
+    ensures within_limits { IfOk result IsWithinLimits }
+    ensures years { AreYears book.now.first_year book.now.years }
+    ensures printable { IfErr result (IsPrintableRefusal []) }
+{
+    match StationCurve::new(alloc, book.get(), place) {
+        Ok(curve) => {
+            curve.limits_hold();
+            Ok(curve)
+        }
+        Err(fault) => Err(Refusal::from(fault)),
+    }
+}
