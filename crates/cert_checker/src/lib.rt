@@ -9,6 +9,3 @@ mod covering;
 mod finding;
 
 pub use checking::check_track;
-
-#[cfg(test)]
-mod tests;

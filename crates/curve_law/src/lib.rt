@@ -45,6 +45,3 @@ pub use tracks::Tracks;
 pub use verdict::Verdict;
 pub use worked::worked_rows;
 pub use worked_cells::{worked_covers, worked_quiet_cells, worked_verdicts};
-
-#[cfg(test)]
-mod tests;

@@ -21,6 +21,3 @@ pub use looking::Search;
 pub use piece::{block_end, halfway, minutes_to};
 pub use span_cells::search;
 pub use waiting::Waiting;
-
-#[cfg(test)]
-mod tests;

@@ -7,8 +7,6 @@ mod help;
 mod machine;
 mod responding;
 mod sheets;
-#[cfg(test)]
-mod tests;
 
 use machine::respond_here;
 use std::env;
