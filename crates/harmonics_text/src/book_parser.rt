@@ -26,7 +26,7 @@ use crate::lines::{is_all_blank, is_comment, is_too_long, only_token, without_cr
 use crate::numbers::{count, first_year};
 use crate::record::Record;
 use crate::scale::Scale;
-use crate::station_lines::after_record;
+use crate::station_lines::{add_pair, after_record};
 use crate::table::{Table, start_table, with_line};
 use decimal_text::Numbers;
 use harmonics_book::{Book, Constituents, Stations};

@@ -107,7 +107,7 @@ pub fn after_record(
 
 /// Appends the amplitude and the epoch of the next constituent to `station`.
 #[tactic(auto, unfolding(crate::specs::Workings::BookParsing::after_pair))]
-fn add_pair(book: &Book, station: &mut Constants, text: &[u8]) -> Result<(), LineFault>
+pub fn add_pair(book: &Book, station: &mut Constants, text: &[u8]) -> Result<(), LineFault>
     requires { length station.old.amplitude < length book.now.constituents }
     ensures exact { Follows (λ _. with_pair book.now station.new) result (after_pair book.now station.old text.now) }
     ensures one { IfOk result (λ _. length station.new.amplitude ≡ length station.old.amplitude + 1) }
