@@ -5,7 +5,7 @@ use mir.Val.{to_z, of_z}
 use Rattle.station_curve.specs.Waves.{falls_of}
 use Rattle.station_curve.specs.Levels.{minutes_into, waves_in, year_slope}
 use Rattle.station_curve.proofs.Ready.{year_of}
-use Rattle.station_curve.proofs.curve.year_values.StationCurve.year_slope.Goals as goal
+use Rattle.station_curve.proofs.curve.StationCurve.year_slope.Goals as goal
 
 pub minutes_to-requires-clause-least : goal.minutes_to-requires-clause-least
 minutes_to-requires-clause-least c =

@@ -4,7 +4,7 @@ use mir.Syntax.{w64, w128}
 use mir.Val.{to_z, of_z}
 use Rattle.station_curve.specs.Levels.{year_level}
 use Rattle.station_curve.proofs.Products.{cast_small}
-use Rattle.station_curve.proofs.curve.year_values.StationCurve.year_level.Goals as goal
+use Rattle.station_curve.proofs.curve.StationCurve.year_level.Goals as goal
 
 pub mean_level-requires : goal.mean_level-requires
 mean_level-requires c =

@@ -6,7 +6,7 @@ use Rattle.station_curve.specs.Levels.{minutes_into, waves_in}
 use Rattle.station_curve.specs.Approximate.{approximate_heights_of, approximate_year_level}
 use Rattle.station_curve.proofs.Products.{cast_small}
 use Rattle.station_curve.proofs.Ready.{year_of}
-use Rattle.station_curve.proofs.curve.year_values.StationCurve.approximate_year_level.Goals as goal
+use Rattle.station_curve.proofs.curve.StationCurve.approximate_year_level.Goals as goal
 
 pub approximate_heights-requires-clause-amount : goal.approximate_heights-requires-clause-amount
 approximate_heights-requires-clause-amount c =

@@ -5,7 +5,7 @@ use Rattle.station_curve.specs.Waves.{heights_of}
 use Rattle.station_curve.specs.Levels.{minutes_into, waves_in}
 use Rattle.station_curve.proofs.Products.{cast_small}
 use Rattle.station_curve.proofs.Ready.{year_of}
-use Rattle.station_curve.proofs.curve.year_values.StationCurve.year_heights.Goals as goal
+use Rattle.station_curve.proofs.curve.StationCurve.year_heights.Goals as goal
 
 pub minutes_to-requires-clause-least : goal.minutes_to-requires-clause-least
 minutes_to-requires-clause-least c =

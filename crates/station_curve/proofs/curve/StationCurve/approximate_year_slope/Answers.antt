@@ -5,7 +5,7 @@ use mir.Val.{to_z, of_z}
 use Rattle.station_curve.specs.Levels.{minutes_into, waves_in}
 use Rattle.station_curve.specs.Approximate.{approximate_falls_of, approximate_year_slope}
 use Rattle.station_curve.proofs.Ready.{year_of}
-use Rattle.station_curve.proofs.curve.year_values.StationCurve.approximate_year_slope.Goals as goal
+use Rattle.station_curve.proofs.curve.StationCurve.approximate_year_slope.Goals as goal
 
 pub approximate_falls-requires-clause-steepness : goal.approximate_falls-requires-clause-steepness
 approximate_falls-requires-clause-steepness c =
