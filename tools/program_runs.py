@@ -73,7 +73,7 @@ def constant(name):
 def pages(place):
     forty = ['x=1'] * 39
     wanted = [(['--help'], 'HELP'), (['-h'], 'HELP'), (['--version'], 'VERSION'), (['-V'], 'VERSION'), ([*forty, '--help'], 'HELP'),
-              (['predict', '-h'], 'HELP'), (['predict', 'file=none.txt', '-h'], 'HELP'), (['serve', '--help'], 'HELP'),
+              (['predict', '-h'], 'HELP'), (['predict', 'file=missing.txt', '-h'], 'HELP'), (['serve', '--help'], 'HELP'),
               (['--version', *forty], 'VERSION')]
     return '; '.join(filter(None, (difference(place.run(*words), 0, constant(name), b'') for words, name in wanted)))
 

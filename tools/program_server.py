@@ -4,6 +4,7 @@ import pathlib
 import select
 import signal
 import socket
+import subprocess
 import time
 
 from program_checks import LONG_NAME, LONGEST_REPLY, LONGEST_START, Server, Skipped, received, request, response, texted
@@ -50,6 +51,15 @@ def address(place):
         seen = sockets(server.process)
         wanted = [(f'0100007F:{server.port:04X}', '00000000:0000', '0A')]
         return '' if seen == wanted else f'{seen} in place of {wanted}'
+
+
+def no_port(place):
+    """A command that isn't `serve` has no socket, seen while its list waits for a reader."""
+    words = ('heights', 'file=daily.txt', 'station=Pier', 'begin=2010-01-01T00:00Z', 'end=2010-03-01T00:00Z', 'step=1')
+    with subprocess.Popen(place.command(words), cwd=place.folder, stdin=subprocess.DEVNULL, stdout=subprocess.PIPE) as process:
+        begin, seen = process.stdout.read(5), sockets(process)
+        process.kill()
+    return '' if (begin, seen) == (b'Pier\n', []) else f'{begin}, {seen}'
 
 
 def byte_by_byte(place):
@@ -326,6 +336,7 @@ TIMED = {
 
 QUICK = {
     'serve: bound to 127.0.0.1 alone': address,
+    'serve: another command opens no port': no_port,
     'serve: a request byte by byte': byte_by_byte,
     'serve: the commands, many replies': commands,
     'serve: refusals, many pairs': refusals,
