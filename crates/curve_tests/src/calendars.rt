@@ -1,12 +1,11 @@
 ghost use Rattle.zone_time.specs.Zones.{IsZone};
 
-use crate::lists::{TIDE, events_of, is_in_years};
+use crate::lists::{TIDE, events_of, is_in_years, is_text};
 use calendar_sheet::*;
 use curve_law::Kind;
 use decimal_text::Text;
 use harmonics_book::Units;
-use std::alloc::Global;
-use std::test::Fail;
+use std::alloc::{AllocError, Global};
 use zone_time::{Zone, read_zone};
 
 // A file of two offsets: six hours ahead of universal time, and one hour behind it from
@@ -30,7 +29,15 @@ fn zone_of(alloc: Global, ahead: Option<i32>) -> Zone
 }
 
 // The minutes by which a clock is ahead, the span's ends, events, and the calendar.
-const CALENDARS: &[(Option<i32>, i64, i64, &[(i64, Kind, i64)], &str)] = &[
+type Calendar = (
+    Option<i32>,
+    i64,
+    i64,
+    &'static [(i64, Kind, i64)],
+    &'static str,
+);
+
+const CALENDARS: &[Calendar] = &[
     (
         Some(0),
         15791040,
@@ -73,18 +80,28 @@ const CALENDARS: &[(Option<i32>, i64, i64, &[(i64, Kind, i64)], &str)] = &[
     ),
 ];
 
-#[test]
-fn dates_are_shown(rt: HostRuntime) -> Result<(), Fail> {
-    let alloc = rt.alloc();
-    let name = Text::from_str(alloc, "Pier")?;
-    for &(ahead, begin, end, items, expected) in CALENDARS {
-        let events = events_of(alloc, Units::Feet, items)?;
-        let zone = zone_of(alloc, ahead);
-        if is_in_years(begin) && is_in_years(end) && begin <= end {
-            let text = calendar_text(alloc, &name, Units::Feet, &events, &zone, begin, end)?;
-            assert_eq!(rt; text.as_slice(), expected.as_bytes());
-        }
+// Returns true if a calendar of the events has this text.
+fn is_calendar(alloc: Global, name: &Text, calendar: &Calendar) -> Result<bool, AllocError> {
+    let &(ahead, begin, end, items, expected) = calendar;
+    if !is_in_years(begin) || !is_in_years(end) || end < begin {
+        return Ok(false);
     }
-    worked_calendars();
+    let events = events_of(alloc, Units::Feet, items)?;
+    let zone = zone_of(alloc, ahead);
+    let text = calendar_text(alloc, name, Units::Feet, &events, &zone, begin, end);
+    Ok(is_text(text, expected))
+}
+
+#[test]
+fn dates_are_shown(rt: HostRuntime) -> Result<(), AllocError> {
+    let name = Text::from_str(rt.alloc(), "Pier")?;
+    for calendar in CALENDARS {
+        assert!(rt; is_calendar(rt.alloc(), &name, calendar)?, "{}", calendar.4);
+    }
     Ok(())
+}
+
+#[test]
+fn rows_stand(_rt: HostRuntime) {
+    worked_calendars();
 }

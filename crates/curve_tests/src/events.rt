@@ -5,29 +5,31 @@ ghost use Rattle.event_list.specs.Events.{AreShort};
 ghost use Rattle.event_list.specs.Shifts.{HasOffsets, IsMovable};
 
 use curve_law::samples::{Line, Ripple};
-use curve_law::{Cell, Cells, Curve, Event, Kind, Tracks};
+use curve_law::{Cell, Cells, Curve, Event, Events, Kind, Tracks};
 use event_list::*;
 use event_text::worked_words;
 use harmonics_book::Units;
 use interval_search::Search;
 use station_table::{Basis, Offset, Slack};
 use std::alloc::{AllocError, Global};
-use std::test::Fail;
+
+// A unit, an event's kind and level, and its name.
+const NAMES: &[(Units, Kind, i64, &str)] = &[
+    (Units::Feet, Kind::High, 999962, "High Tide"),
+    (Units::Meters, Kind::Low, -1000000, "Low Tide"),
+    (Units::Feet, Kind::MarkRising, 500000, "Mark Rising"),
+    (Units::Meters, Kind::MarkFalling, 507538, "Mark Falling"),
+    (Units::Knots, Kind::High, 999962, "Max Flood"),
+    (Units::Knots, Kind::High, 0, "Min Ebb"),
+    (Units::Knots, Kind::Low, 1000000, "Min Flood"),
+    (Units::Knots, Kind::Low, -1000000, "Max Ebb"),
+    (Units::Knots, Kind::FloodBegins, 0, "Slack Flood Begins"),
+    (Units::Knots, Kind::EbbBegins, 8727, "Slack Ebb Begins"),
+];
 
 #[test]
 fn names_go_by_the_unit(rt: HostRuntime) {
-    for (units, kind, level, name) in [
-        (Units::Feet, Kind::High, 999962, "High Tide"),
-        (Units::Meters, Kind::Low, -1000000, "Low Tide"),
-        (Units::Feet, Kind::MarkRising, 500000, "Mark Rising"),
-        (Units::Meters, Kind::MarkFalling, 507538, "Mark Falling"),
-        (Units::Knots, Kind::High, 999962, "Max Flood"),
-        (Units::Knots, Kind::High, 0, "Min Ebb"),
-        (Units::Knots, Kind::Low, 1000000, "Min Flood"),
-        (Units::Knots, Kind::Low, -1000000, "Max Ebb"),
-        (Units::Knots, Kind::FloodBegins, 0, "Slack Flood Begins"),
-        (Units::Knots, Kind::EbbBegins, 8727, "Slack Ebb Begins"),
-    ] {
+    for &(units, kind, level, name) in NAMES {
         assert!(rt; named(units, kind, level) == Some(name), "{name}");
     }
 }
@@ -132,79 +134,102 @@ fn current(alloc: Global) -> Result<Tracks, AllocError>
     })
 }
 
-#[test]
-fn currents_are_shifted(rt: HostRuntime) -> Result<(), Fail> {
-    let alloc = rt.alloc();
-    let gate = dock(Some(Slack {
+// Returns true if the events have these minutes, kinds and levels.
+fn are_events(events: &[Event], wanted: &[(i64, Kind, i64)]) -> bool {
+    for (place, &(minute, kind, level)) in wanted.iter().enumerate() {
+        if place >= events.len() || events[place] != event(minute, kind, level) {
+            return false;
+        }
+    }
+    events.len() == wanted.len()
+}
+
+// The events of the current at the gate.
+const SHIFTED: &[(i64, Kind, i64)] = &[
+    (29, Kind::High, 1199958),
+    (174, Kind::EbbBegins, 8727),
+    (350, Kind::Low, -900000),
+    (545, Kind::FloodBegins, 0),
+    (749, Kind::High, 1199958),
+    (1070, Kind::Low, -900000),
+];
+
+fn gate() -> Basis
+    ensures { HasOffsets result }
+{
+    dock(Some(Slack {
         flood_add: 5,
         ebb_add: -5,
-    }));
-    let span = widened(&gate, 0, 1440);
-    assert_eq!(rt;
-        span,
-        Span {
-            begin: -30,
-            end: 1450
-        }
-    );
-    let events = merged(alloc, &current(alloc)?, -30)?;
-    assert_eq!(rt; events.as_slice().len(), 7);
-    assert!(rt; are_movable(events.as_slice()));
-    let shifted = shifted(alloc, &events, &gate, 0, 1440)?;
-    assert_eq!(rt;
-        shifted.as_slice(),
-        [
-            event(29, Kind::High, 1199958),
-            event(174, Kind::EbbBegins, 8727),
-            event(350, Kind::Low, -900000),
-            event(545, Kind::FloodBegins, 0),
-            event(749, Kind::High, 1199958),
-            event(1070, Kind::Low, -900000),
-        ]
-        .as_slice()
-    );
-    Ok(())
+    }))
+}
+
+fn merged_current(alloc: Global) -> Result<Events, AllocError> {
+    let tracks = current(alloc)?;
+    merged(alloc, &tracks, -30)
+}
+
+fn are_shifted(alloc: Global, events: &Events) -> Result<bool, AllocError> {
+    if !are_movable(events.as_slice()) {
+        return Ok(false);
+    }
+    let shifted = shifted(alloc, events, &gate(), 0, 1440)?;
+    Ok(are_events(shifted.as_slice(), SHIFTED))
 }
 
 #[test]
-fn events_come_one_at_a_time(rt: HostRuntime) -> Result<(), Fail> {
-    let alloc = rt.alloc();
+fn currents_are_shifted(rt: HostRuntime) -> Result<(), AllocError> {
+    let span = widened(&gate(), 0, 1440);
+    assert!(rt; span.begin == -30 && span.end == 1450);
+    let events = merged_current(rt.alloc())?;
+    assert!(rt; events.as_slice().len() == 7);
+    assert!(rt; are_shifted(rt.alloc(), &events)?);
+    Ok(())
+}
+
+// Returns the merged events of a line and of a ripple from minute 0 to 3.
+fn line_and_ripple() -> Merge<Line, Ripple> {
     let turn = Line::new(-2, false, 1);
-    let mut merge = Merge::new(
+    let merge = Merge::new(
         Search::new(turn, 0, 3),
         Some(Search::new(Ripple::new(), 0, 3)),
         None,
     );
-    let events = taken(alloc, &mut merge)?;
-    assert_eq!(rt;
-        events.as_slice(),
-        [
-            event(0, Kind::MarkFalling, 0),
-            event(1, Kind::MarkRising, 0),
-            event(2, Kind::Low, 2),
-            event(2, Kind::MarkFalling, 0),
-        ]
-        .as_slice()
-    );
-    assert_eq!(rt; merge.cells(), 6);
+    merge
+}
+
+const MERGED: &[(i64, Kind, i64)] = &[
+    (0, Kind::MarkFalling, 0),
+    (1, Kind::MarkRising, 0),
+    (2, Kind::Low, 2),
+    (2, Kind::MarkFalling, 0),
+];
+
+#[test]
+fn events_come_one_at_a_time(rt: HostRuntime) -> Result<(), AllocError> {
+    let mut merge = line_and_ripple();
+    let events = taken(rt.alloc(), &mut merge)?;
+    assert!(rt; are_events(events.as_slice(), MERGED));
+    assert!(rt; merge.cells() == 6);
     assert!(rt; merge.next().is_none());
     Ok(())
 }
 
-// The number of cells that the searches have found after each event.
+// The minute of each event, and the number of cells that the searches have found after it.
+const FOUND: &[(i64, u64)] = &[(0, 4), (1, 5), (2, 6), (2, 6)];
+
+fn is_next<A: Curve, B: Curve>(merge: &mut Merge<A, B>, minute: i64, cells: u64) -> bool {
+    match merge.next() {
+        Some(event) => event.minute == minute && merge.cells() == cells,
+        None => false,
+    }
+}
+
 #[test]
 fn cells_are_counted_as_they_are_given(rt: HostRuntime) {
-    let turn = Line::new(-2, false, 1);
-    let mut merge = Merge::new(
-        Search::new(turn, 0, 3),
-        Some(Search::new(Ripple::new(), 0, 3)),
-        None,
-    );
-    assert_eq!(rt; merge.cells(), 0);
-    for (minute, cells) in [(0, 4), (1, 5), (2, 6), (2, 6)] {
-        let given = merge.next().map(|event| event.minute);
-        assert_eq!(rt; given, Some(minute));
-        assert_eq!(rt; merge.cells(), cells);
+    let mut merge = line_and_ripple();
+    assert!(rt; merge.cells() == 0);
+    for &(minute, cells) in FOUND {
+        assert!(rt; is_next(&mut merge, minute, cells), "at {minute}");
     }
 }
 

@@ -122,54 +122,60 @@ fn laws_and_rows_stand(_rt: HostRuntime) {
     worked_verdicts();
 }
 
+const SPANS: &[(i64, i64)] = &[
+    (0, 1),
+    (0, 1000),
+    (0, 1024),
+    (-5, 1020),
+    (700, 701),
+    (0, 700),
+    (701, 3000),
+    (-4000, 4000),
+];
+
+fn rising() -> Line {
+    Line::new(1, false, 3)
+}
+
+fn falling() -> Line {
+    Line::new(1, true, 1)
+}
+
 #[test]
 fn every_minute_agrees(rt: HostRuntime) -> Result<(), AllocError> {
     let alloc = rt.alloc();
-    let spans = [
-        (0, 1),
-        (0, 1000),
-        (0, 1024),
-        (-5, 1020),
-        (700, 701),
-        (0, 700),
-        (701, 3000),
-        (-4000, 4000),
-    ];
-    for (begin, end) in spans {
+    for &(begin, end) in SPANS {
         assert!(rt; finds(alloc, hills(), hills(), begin, end)?);
         assert!(rt; finds(alloc, equal_hills(), equal_hills(), begin, end)?);
-        let rising = Line::new(1, false, 3);
-        assert!(rt; finds(alloc, rising, Line::new(1, false, 3), begin, end)?);
-        let falling = Line::new(1, true, 1);
-        assert!(rt; finds(alloc, falling, Line::new(1, true, 1), begin, end)?);
+        assert!(rt; finds(alloc, rising(), rising(), begin, end)?);
+        assert!(rt; finds(alloc, falling(), falling(), begin, end)?);
         assert!(rt; finds(alloc, Ripple::new(), Ripple::new(), begin, end)?);
     }
     Ok(())
 }
 
-// Returns the number of evaluations of a search.
-fn asked<C: Curve + Drop>(
+// Returns true if a search evaluates the curve less than 7,000 times.
+fn asks_little<C: Curve + Drop>(
     alloc: Global,
     curve: C,
     begin: i64,
     end: i64,
-) -> Result<Option<u64>, AllocError> {
+) -> Result<bool, AllocError> {
     let mut curve = curve;
     if !can_find(&curve, begin, end) {
-        return Ok(None);
+        return Ok(false);
     }
     let _peak = find_peak(alloc, &mut curve, begin, end)?;
-    Ok(Some(curve.evaluations()))
+    Ok(curve.evaluations() < 7000)
 }
 
 // A search over some 2,000,000 minutes, which are 1,952 blocks.
 #[test]
 fn few_values_are_asked_for(rt: HostRuntime) -> Result<(), AllocError> {
     let alloc = rt.alloc();
-    let flat = asked(alloc, equal_hills(), -999_000, 999_000)?;
-    assert!(rt; flat.is_some_and(|count| count < 7000));
-    let rising = asked(alloc, Line::new(0, false, 1), -999_000, 999_000)?;
-    assert!(rt; rising.is_some_and(|count| count < 7000));
+    assert!(rt; asks_little(alloc, equal_hills(), -999_000, 999_000)?);
+    let rising = Line::new(0, false, 1);
+    assert!(rt; asks_little(alloc, rising, -999_000, 999_000)?);
     Ok(())
 }
 
@@ -200,17 +206,21 @@ fn covers<C: Curve + Drop>(
     )
 }
 
+const SINGLE: PeakCell = PeakCell::Single;
+
+const LAST: &[PeakCell] = &[PeakCell::Under(4), PeakCell::Under(2), SINGLE, SINGLE];
+
+const LONGEST: &[PeakCell] = &[PeakCell::Under(1024), SINGLE, SINGLE];
+
+const ODD: &[PeakCell] = &[SINGLE, SINGLE, PeakCell::Under(3)];
+
 #[test]
 fn covers_are_those_of_the_rule(rt: HostRuntime) -> Result<(), AllocError> {
     let alloc = rt.alloc();
-    let single = PeakCell::Single;
-    let last = [PeakCell::Under(4), PeakCell::Under(2), single, single];
-    assert!(rt; covers(alloc, Line::new(0, false, 1), 0, 8, &last)?);
-    let longest = [PeakCell::Under(1024), single, single];
-    assert!(rt; covers(alloc, Line::new(0, false, 1), 0, 1026, &longest)?);
-    let odd = [single, single, PeakCell::Under(3)];
-    assert!(rt; covers(alloc, Line::new(0, true, 1), 0, 5, &odd)?);
-    assert!(rt; covers(alloc, Ripple::new(), 4, 6, &[single, single])?);
+    assert!(rt; covers(alloc, Line::new(0, false, 1), 0, 8, LAST)?);
+    assert!(rt; covers(alloc, Line::new(0, false, 1), 0, 1026, LONGEST)?);
+    assert!(rt; covers(alloc, Line::new(0, true, 1), 0, 5, ODD)?);
+    assert!(rt; covers(alloc, Ripple::new(), 4, 6, &[SINGLE, SINGLE])?);
     Ok(())
 }
 
@@ -231,54 +241,47 @@ fn verdict(
     Ok(checked(&mut curve, &Peak { at, value, cells }, 0, 8))
 }
 
+const SINGLES: &[PeakCell] = &[SINGLE; 8];
+
+const BY_RULE: &[PeakCell] = &[SINGLE, SINGLE, SINGLE, SINGLE, PeakCell::Under(4)];
+
+const TOO_LONG: &[PeakCell] = &[PeakCell::Under(u32::MAX), PeakCell::Under(u32::MAX)];
+
+const TOO_HIGH: &[PeakCell] = &[PeakCell::Under(2), PeakCell::Under(6)];
+
+const WRONG_LENGTH: PeakVerdict = PeakVerdict::WrongLength {
+    covered: 1,
+    wanted: 8,
+};
+
+const WRONG_LENGTHS: PeakVerdict = PeakVerdict::WrongLength {
+    covered: 8_589_934_590,
+    wanted: 8,
+};
+
+const WRONG_VALUE: PeakVerdict = PeakVerdict::WrongValue {
+    written: 6,
+    computed: 5,
+};
+
+// A minute, its value, cells, and the verdict on them.
+const VERDICTS: &[(i64, i128, &[PeakCell], PeakVerdict)] = &[
+    (2, 5, BY_RULE, PeakVerdict::Accepted),
+    (2, 5, SINGLES, PeakVerdict::Accepted),
+    (9, 5, &[SINGLE], WRONG_LENGTH),
+    (2, 5, TOO_LONG, WRONG_LENGTHS),
+    (8, 3, SINGLES, PeakVerdict::Outside),
+    (2, 99, TOO_HIGH, PeakVerdict::NotUnder { cell: 2 }),
+    (2, 6, SINGLES, WRONG_VALUE),
+    (6, 5, SINGLES, PeakVerdict::Above { cell: 3 }),
+    (1, 4, SINGLES, PeakVerdict::Above { cell: 3 }),
+];
+
 #[test]
 fn verdicts_are_named(rt: HostRuntime) -> Result<(), AllocError> {
-    let single = PeakCell::Single;
-    let singles = [single; 8];
-    let by_rule = [single, single, single, single, PeakCell::Under(4)];
-    let longest = PeakCell::Under(u32::MAX);
-    let rows: [(i64, i128, &[PeakCell], PeakVerdict); 9] = [
-        (2, 5, &by_rule, PeakVerdict::Accepted),
-        (2, 5, &singles, PeakVerdict::Accepted),
-        (
-            9,
-            5,
-            &[single],
-            PeakVerdict::WrongLength {
-                covered: 1,
-                wanted: 8,
-            },
-        ),
-        (
-            2,
-            5,
-            &[longest, longest],
-            PeakVerdict::WrongLength {
-                covered: 8_589_934_590,
-                wanted: 8,
-            },
-        ),
-        (8, 3, &singles, PeakVerdict::Outside),
-        (
-            2,
-            99,
-            &[PeakCell::Under(2), PeakCell::Under(6)],
-            PeakVerdict::NotUnder { cell: 2 },
-        ),
-        (
-            2,
-            6,
-            &singles,
-            PeakVerdict::WrongValue {
-                written: 6,
-                computed: 5,
-            },
-        ),
-        (6, 5, &singles, PeakVerdict::Above { cell: 3 }),
-        (1, 4, &singles, PeakVerdict::Above { cell: 3 }),
-    ];
-    for (at, value, cells, wanted) in rows {
-        assert_eq!(rt; verdict(rt.alloc(), at, value, cells)?, Some(wanted));
+    for &(at, value, cells, wanted) in VERDICTS {
+        let is_right = verdict(rt.alloc(), at, value, cells)? == Some(wanted);
+        assert!(rt; is_right, "{wanted:?}");
     }
     Ok(())
 }

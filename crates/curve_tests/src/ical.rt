@@ -4,7 +4,7 @@ ghost use Rattle.std.specs.Prelude.{◌≡◌, IfOk, IsTrue};
 ghost use Rattle.harmonics_book.specs.declared.book.Units.{Units};
 ghost use Rattle.ical_sheet.specs.Folding.{IsContentLine};
 
-use crate::lists::is_listed;
+use crate::lists::{is_listed, is_text};
 use crate::reports::is_printable;
 use curve_law::{Event, Kind};
 use decimal_text::{Bytes, Text};
@@ -15,8 +15,7 @@ use ical_sheet::{
     worked_escapes, worked_folds, worked_stamps, worked_unfolds,
 };
 use report_sheets::{Head, Sheet, Taken};
-use std::alloc::Global;
-use std::test::Fail;
+use std::alloc::{AllocError, Global};
 
 type Item = (i64, Kind, i64);
 
@@ -30,11 +29,11 @@ const TIDE: &[Item] = &[
 const NOW: i64 = 15_791_220;
 
 // Returns a sheet that is opened for a station's name at a minute, with a limit.
-fn opened(alloc: Global, name: &str, now: i64, limit: u32) -> Result<IcalSheet, Fail>
+fn opened(alloc: Global, name: &str, now: i64, limit: u32) -> Result<IcalSheet, AllocError>
     ensures { IfOk result (λ sheet. (⟦<IcalSheet as Sheet>⟧.heading sheet).units ≡ Units.Feet) }
 {
     if !is_printable(name) || !(1..=1_000_000).contains(&limit) {
-        return Err(Fail::new("no such sheet"));
+        return Err(AllocError);
     }
     let mut sheet = IcalSheet::new(alloc, limit);
     let head = Head {
@@ -47,7 +46,7 @@ fn opened(alloc: Global, name: &str, now: i64, limit: u32) -> Result<IcalSheet, 
 }
 
 // Offers events to `sheet`, and returns the number of those that it took.
-fn give(sheet: &mut IcalSheet, items: &[Item]) -> Result<u32, Fail>
+fn give(sheet: &mut IcalSheet, items: &[Item]) -> Result<u32, AllocError>
     requires { (⟦<IcalSheet as Sheet>⟧.heading sheet.old).units ≡ Units.Feet }
 {
     let mut kept = 0;
@@ -67,10 +66,10 @@ fn give(sheet: &mut IcalSheet, items: &[Item]) -> Result<u32, Fail>
     Ok(kept)
 }
 
-fn calendar(alloc: Global, name: &str, now: i64, items: &[Item]) -> Result<Bytes, Fail> {
+fn calendar(alloc: Global, name: &str, now: i64, items: &[Item]) -> Result<Bytes, AllocError> {
     let mut sheet = opened(alloc, name, now, 100_000)?;
     give(&mut sheet, items)?;
-    Ok(sheet.text()?)
+    sheet.text()
 }
 
 fn is_content(line: &[u8]) -> bool
@@ -81,11 +80,11 @@ fn is_content(line: &[u8]) -> bool
         && (line.is_empty() || !matches!(line[0], b' ' | b'\t'))
 }
 
-fn escape_name(alloc: Global, name: &str) -> Result<Bytes, Fail> {
+fn escape_name(alloc: Global, name: &str) -> Result<Bytes, AllocError> {
     if !is_printable(name) {
-        return Err(Fail::new("control characters"));
+        return Err(AllocError);
     }
-    Ok(escape(alloc, &Text::from_str(alloc, name)?)?)
+    escape(alloc, &Text::from_str(alloc, name)?)
 }
 
 fn holds(text: &[u8], part: &str) -> bool {
@@ -93,140 +92,194 @@ fn holds(text: &[u8], part: &str) -> bool {
         .any(|bytes| bytes == part.as_bytes())
 }
 
-// Returns the lengths of the lines of `text`, if it is text.
-fn lengths(alloc: Global, text: &[u8]) -> Result<Vec<usize>, Fail> {
-    let text = std::str::from_utf8(text)?;
-    Ok(text.lines().map(|line| line.len()).collect(alloc)?)
+// Returns true if `text` is text whose lines have these lengths.
+fn has_lengths(text: &[u8], lengths: &[usize]) -> bool {
+    let Ok(text) = std::str::from_utf8(text) else {
+        return false;
+    };
+    let mut place = 0;
+    for line in text.lines() {
+        if place >= lengths.len() || line.len() != lengths[place] {
+            return false;
+        }
+        place += 1;
+    }
+    place == lengths.len()
 }
 
-fn folded(alloc: Global, line: &[u8]) -> Result<Bytes, Fail> {
-    if !is_content(line) {
-        return Err(Fail::new("no content line"));
+// Returns true if `text` is text whose lines have at most 75 bytes.
+fn has_short_lines(text: &[u8]) -> bool {
+    match std::str::from_utf8(text) {
+        Ok(text) => text.lines().all(|line| line.len() <= 75),
+        Err(_) => false,
     }
-    Ok(fold(alloc, line)?)
+}
+
+fn folded(alloc: Global, line: &[u8]) -> Result<Bytes, AllocError> {
+    if is_content(line) {
+        fold(alloc, line)
+    } else {
+        Err(AllocError)
+    }
+}
+
+const CALENDAR: &str =
+    "BEGIN:VCALENDAR\r\nVERSION:2.0\r\nPRODID:-//Tide desk//Tide predictor//EN\r\n\
+    BEGIN:VEVENT\r\nUID:15791400-1-50696572@tide.invalid\r\nDTSTAMP:20000110T030000Z\r\n\
+    DTSTART:20000110T060000Z\r\nSUMMARY:Pier Low Tide -1.00 feet\r\nEND:VEVENT\r\n\
+    BEGIN:VEVENT\r\nUID:15791759-0-50696572@tide.invalid\r\nDTSTAMP:20000110T030000Z\r\n\
+    DTSTART:20000110T115900Z\r\nSUMMARY:Pier High Tide 1.00 feet\r\nEND:VEVENT\r\n\
+    BEGIN:VEVENT\r\nUID:15792120-1-50696572@tide.invalid\r\nDTSTAMP:20000110T030000Z\r\n\
+    DTSTART:20000110T180000Z\r\nSUMMARY:Pier Low Tide -1.00 feet\r\nEND:VEVENT\r\n\
+    BEGIN:VEVENT\r\nUID:15792479-0-50696572@tide.invalid\r\nDTSTAMP:20000110T030000Z\r\n\
+    DTSTART:20000110T235900Z\r\nSUMMARY:Pier High Tide 1.00 feet\r\nEND:VEVENT\r\nEND:VCALENDAR\r\n";
+
+#[test]
+fn the_day_of_a_small_file_is_a_calendar(rt: HostRuntime) {
+    let alloc = rt.alloc();
+    assert!(rt; is_text(calendar(alloc, "Pier", NOW, TIDE), CALENDAR));
+    assert!(rt; is_text(calendar(alloc, "Pier", NOW, &[]), ""));
+}
+
+// A number of letters, and the lengths of their folded lines.
+const FOLDED: &[(usize, &[usize])] = &[
+    (0, &[0]),
+    (74, &[74]),
+    (75, &[75]),
+    (76, &[75, 2]),
+    (149, &[75, 75]),
+    (150, &[75, 75, 2]),
+];
+
+fn is_folded(alloc: Global, line: &[u8], lengths: &[usize]) -> Result<bool, AllocError> {
+    let text = folded(alloc, line)?;
+    Ok(has_lengths(text.as_slice(), lengths) && text.as_slice().ends_with(b"\r\n"))
 }
 
 #[test]
-fn the_day_of_a_small_file_is_a_calendar(rt: HostRuntime) -> Result<(), Fail> {
-    let alloc = rt.alloc();
-    let text = calendar(alloc, "Pier", NOW, TIDE)?;
-    let expected = "BEGIN:VCALENDAR\r\nVERSION:2.0\r\nPRODID:-//Tide desk//Tide predictor//EN\r\n\
-        BEGIN:VEVENT\r\nUID:15791400-1-50696572@tide.invalid\r\nDTSTAMP:20000110T030000Z\r\n\
-        DTSTART:20000110T060000Z\r\nSUMMARY:Pier Low Tide -1.00 feet\r\nEND:VEVENT\r\n\
-        BEGIN:VEVENT\r\nUID:15791759-0-50696572@tide.invalid\r\nDTSTAMP:20000110T030000Z\r\n\
-        DTSTART:20000110T115900Z\r\nSUMMARY:Pier High Tide 1.00 feet\r\nEND:VEVENT\r\n\
-        BEGIN:VEVENT\r\nUID:15792120-1-50696572@tide.invalid\r\nDTSTAMP:20000110T030000Z\r\n\
-        DTSTART:20000110T180000Z\r\nSUMMARY:Pier Low Tide -1.00 feet\r\nEND:VEVENT\r\n\
-        BEGIN:VEVENT\r\nUID:15792479-0-50696572@tide.invalid\r\nDTSTAMP:20000110T030000Z\r\n\
-        DTSTART:20000110T235900Z\r\nSUMMARY:Pier High Tide 1.00 feet\r\nEND:VEVENT\r\nEND:VCALENDAR\r\n";
-    assert_eq!(rt; text.as_slice(), expected.as_bytes());
-    let none = calendar(alloc, "Pier", NOW, &[])?;
-    assert_eq!(rt; none.as_slice().len(), 0);
+fn lines_are_folded(rt: HostRuntime) -> Result<(), AllocError> {
+    for &(count, lengths) in FOLDED {
+        let line = "a".repeat(rt.alloc(), count)?;
+        assert!(rt;
+            is_folded(rt.alloc(), line.as_bytes(), lengths)?,
+            "{count} letters"
+        );
+    }
     Ok(())
 }
 
-#[test]
-fn lines_are_folded(rt: HostRuntime) -> Result<(), Fail> {
-    let alloc = rt.alloc();
-    let cases: [(usize, &[usize]); 6] = [
-        (0, &[0]),
-        (74, &[74]),
-        (75, &[75]),
-        (76, &[75, 2]),
-        (149, &[75, 75]),
-        (150, &[75, 75, 2]),
-    ];
-    for (count, expected) in cases {
-        let line = vec![in alloc; b'a'; count]?;
-        let text = folded(alloc, &line)?;
-        assert_eq!(rt; lengths(alloc, text.as_slice())?.as_slice(), expected);
-        assert_eq!(rt; text.as_slice().ends_with(b"\r\n"), true);
-    }
-    let letters = "\u{e9}".repeat(alloc, 200)?;
-    let text = folded(alloc, letters.as_bytes())?;
-    let expected = [74, 75, 75, 75, 75, 31];
-    assert_eq!(rt;
-        lengths(alloc, text.as_slice())?.as_slice(),
-        expected.as_slice()
-    );
-    let mut line = unfold(alloc, text.as_slice())?;
-    assert_eq!(rt;
-        line.as_slice().strip_suffix(b"\r\n"),
-        Some(letters.as_bytes())
-    );
-    line = unfold(alloc, b"a\r\n b\r\n\tc\r\nd")?;
-    assert_eq!(rt; line.as_slice(), b"abc\r\nd".as_slice());
-    worked_folds();
-    worked_unfolds();
-    Ok(())
+// Returns true if a line is unfolded to what it was before it was folded.
+fn is_unfolded(alloc: Global, line: &[u8]) -> Result<bool, AllocError> {
+    let text = folded(alloc, line)?;
+    let unfolded = unfold(alloc, text.as_slice())?;
+    Ok(unfolded.as_slice().strip_suffix(b"\r\n") == Some(line))
 }
 
 #[test]
-fn names_are_escaped(rt: HostRuntime) -> Result<(), Fail> {
+fn letters_are_not_cut(rt: HostRuntime) -> Result<(), AllocError> {
+    let letters = "\u{e9}".repeat(rt.alloc(), 200)?;
+    let line = letters.as_bytes();
+    assert!(rt; is_folded(rt.alloc(), line, &[74, 75, 75, 75, 75, 31])?);
+    assert!(rt; is_unfolded(rt.alloc(), line)?);
+    assert!(rt; is_text(unfold(rt.alloc(), b"a\r\n b\r\n\tc\r\nd"), "abc\r\nd"));
+    Ok(())
+}
+
+// A name, and how it stands in a calendar.
+const NAMES: &[(&str, &str)] = &[
+    ("Pier, North; A\\B", "Pier\\, North\\; A\\\\B"),
+    ("C\u{e1}diz: \"old\"", "C\u{e1}diz: \"old\""),
+    ("\\n;,", "\\\\n\\;\\,"),
+];
+
+// Returns true if the calendar of a tide has a part.
+fn has_part(alloc: Global, name: &str, now: i64, part: &str) -> Result<bool, AllocError> {
+    let text = calendar(alloc, name, now, TIDE)?;
+    Ok(holds(text.as_slice(), part))
+}
+
+#[test]
+fn names_are_escaped(rt: HostRuntime) -> Result<(), AllocError> {
     let alloc = rt.alloc();
-    for (name, expected) in [
-        ("Pier, North; A\\B", "Pier\\, North\\; A\\\\B"),
-        ("C\u{e1}diz: \"old\"", "C\u{e1}diz: \"old\""),
-        ("\\n;,", "\\\\n\\;\\,"),
-    ] {
-        let escaped = escape_name(alloc, name)?;
-        assert_eq!(rt; escaped.as_slice(), expected.as_bytes());
-        let text = calendar(alloc, name, NOW, TIDE)?;
+    for &(name, expected) in NAMES {
+        assert!(rt; is_text(escape_name(alloc, name), expected), "{name}");
         let summary = format!(in alloc; "\r\nSUMMARY:{expected} Low Tide -1.00 feet\r\n")?;
-        assert_eq!(rt; holds(text.as_slice(), summary.as_str()), true, "{name}");
+        assert!(rt; has_part(alloc, name, NOW, summary.as_str())?, "{name}");
     }
-    worked_escapes();
     Ok(())
 }
 
+// Returns true if the lines of a text, unfolded, have a part.
+fn has_unfolded(alloc: Global, text: &[u8], part: &str) -> Result<bool, AllocError> {
+    let lines = unfold(alloc, text)?;
+    Ok(holds(lines.as_slice(), part))
+}
+
 #[test]
-fn a_long_name_is_folded_between_its_letters(rt: HostRuntime) -> Result<(), Fail> {
+fn a_long_name_is_folded_between_its_letters(rt: HostRuntime) -> Result<(), AllocError> {
     let alloc = rt.alloc();
     let name = "\u{e9}".repeat(alloc, 200)?;
     let text = calendar(alloc, name.as_str(), NOW, TIDE)?;
-    let lengths = lengths(alloc, text.as_slice())?;
-    assert_eq!(rt; lengths.iter().all(|length| *length <= 75), true);
-    let lines = unfold(alloc, text.as_slice())?;
+    assert!(rt; has_short_lines(text.as_slice()));
     let summary = format!(in alloc; "\r\nSUMMARY:{name} High Tide 1.00 feet\r\n")?;
-    assert_eq!(rt; holds(lines.as_slice(), summary.as_str()), true);
+    assert!(rt; has_unfolded(alloc, text.as_slice(), summary.as_str())?);
     let digits = "c3a9".repeat(alloc, 200)?;
     let uid = format!(in alloc; "\r\nUID:15791400-1-{digits}@tide.invalid\r\n")?;
-    assert_eq!(rt; holds(lines.as_slice(), uid.as_str()), true);
-    worked_calendars();
+    assert!(rt; has_unfolded(alloc, text.as_slice(), uid.as_str())?);
     Ok(())
 }
 
-#[test]
-fn a_full_sheet_has_the_first_events(rt: HostRuntime) -> Result<(), Fail> {
-    let alloc = rt.alloc();
+// Returns the text of a sheet with a limit of 2, if it took two events.
+fn full_sheet(alloc: Global) -> Result<Bytes, AllocError> {
     let mut sheet = opened(alloc, "Pier", NOW, 2)?;
-    assert_eq!(rt; give(&mut sheet, TIDE)?, 2);
-    let text = sheet.text()?;
-    let two = calendar(alloc, "Pier", NOW, &TIDE[..2])?;
-    assert_eq!(rt; text.as_slice(), two.as_slice());
-    assert_eq!(rt; sheet.named(&Text::from_str(alloc, "ical")?), true);
-    assert_eq!(rt; sheet.named(&Text::from_str(alloc, "first")?), false);
+    if give(&mut sheet, TIDE)? != 2 {
+        return Err(AllocError);
+    }
+    sheet.text()
+}
+
+fn is_named(alloc: Global, word: &str) -> Result<bool, AllocError> {
+    let word = Text::from_str(alloc, word)?;
+    Ok(IcalSheet::new(alloc, 2).named(&word))
+}
+
+#[test]
+fn a_full_sheet_has_the_first_events(rt: HostRuntime) -> Result<(), AllocError> {
+    let text = full_sheet(rt.alloc())?;
+    let two = calendar(rt.alloc(), "Pier", NOW, &TIDE[..2])?;
+    assert!(rt; text.as_slice() == two.as_slice());
+    assert!(rt; is_named(rt.alloc(), "ical")?);
+    assert!(rt; !is_named(rt.alloc(), "first")?);
+    Ok(())
+}
+
+// A minute, and the stamp of a calendar that is made then.
+const STAMPS: &[(i64, &str)] = &[
+    (i64::MIN, "DTSTAMP:00010101T000000Z\r\n"),
+    (-1_035_593_281, "DTSTAMP:00010101T000000Z\r\n"),
+    (-1_035_593_279, "DTSTAMP:00010101T000100Z\r\n"),
+    (4_223_371_679, "DTSTAMP:99991231T235900Z\r\n"),
+    (i64::MAX, "DTSTAMP:99991231T235900Z\r\n"),
+];
+
+#[test]
+fn clocks_are_kept_within_the_years(rt: HostRuntime) -> Result<(), AllocError> {
+    for &(now, stamp) in STAMPS {
+        assert!(rt; has_part(rt.alloc(), "Pier", now, stamp)?, "{now}");
+    }
     Ok(())
 }
 
 #[test]
-fn clocks_are_kept_within_the_years(rt: HostRuntime) -> Result<(), Fail> {
-    let alloc = rt.alloc();
-    for (now, stamp) in [
-        (i64::MIN, "DTSTAMP:00010101T000000Z\r\n"),
-        (-1_035_593_281, "DTSTAMP:00010101T000000Z\r\n"),
-        (-1_035_593_279, "DTSTAMP:00010101T000100Z\r\n"),
-        (4_223_371_679, "DTSTAMP:99991231T235900Z\r\n"),
-        (i64::MAX, "DTSTAMP:99991231T235900Z\r\n"),
-    ] {
-        let text = calendar(alloc, "Pier", now, TIDE)?;
-        assert_eq!(rt; holds(text.as_slice(), stamp), true, "{now}");
-    }
+fn laws_and_rows_stand(_rt: HostRuntime) {
+    worked_calendars();
+    worked_escapes();
+    worked_folds();
     worked_stamps();
+    worked_unfolds();
     folded_lines_unfold();
     calendars_unfold();
     lines_are_cut_between_characters();
     calendars_are_sheets();
     identifiers_are_unique();
-    Ok(())
 }

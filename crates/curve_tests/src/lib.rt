@@ -1,5 +1,5 @@
-//! Tests of the crates of curves: of levels and rates, of events and highest waters, and of
-//! listings and sheets.
+//! Tests of the crates of curves: of levels and rates, of cells and verdicts, of events and highest
+//! waters, and of listings and sheets.
 //!
 //! They use only the public items of those crates. They are in a crate of their own because a crate
 //! with tests is proved twice: with and without them.
@@ -7,6 +7,10 @@
 
 #[cfg(test)]
 mod calendars;
+#[cfg(test)]
+mod checks;
+#[cfg(test)]
+mod curves;
 #[cfg(test)]
 mod events;
 #[cfg(test)]
@@ -24,6 +28,8 @@ mod rates;
 #[cfg(test)]
 mod reports;
 #[cfg(test)]
+mod searches;
+#[cfg(test)]
 mod sheets;
 #[cfg(test)]
 mod sines;
@@ -31,6 +37,8 @@ mod sines;
 mod sizes;
 #[cfg(test)]
 mod slope_bounds;
+#[cfg(test)]
+mod station_lists;
 #[cfg(test)]
 mod stations;
 #[cfg(test)]

@@ -4,14 +4,11 @@ ghost use Rattle.zone_time.specs.Zones.{IsZone, InZoneYears};
 
 use arrayvec::ArrayString;
 use curve_law::{Event, Events, Kind};
-use decimal_text::Text;
-use event_text::{worked_levels, worked_lines};
+use decimal_text::{Bytes, Text};
+use event_text::{height_line, worked_levels, worked_lines};
 use harmonics_book::Units;
-use harmonics_text::read_book;
 use listing::*;
-use station_table::read_offsets;
 use std::alloc::{AllocError, Global};
-use std::test::Fail;
 use zone_time::{Label, Local, Zone};
 
 pub fn is_in_years(minute: i64) -> bool
@@ -99,8 +96,25 @@ const CURRENT: &[(i64, Kind, i64)] = &[
     (15791580, Kind::FloodBegins, 0),
 ];
 
+// Returns true if a text was made, and is the expected one.
+pub fn is_text(made: Result<Bytes, AllocError>, expected: &str) -> bool {
+    match made {
+        Ok(text) => text.as_slice() == expected.as_bytes(),
+        Err(_) => false,
+    }
+}
+
 // A station, its unit, the minutes by which a clock is ahead, events, and both listings of them.
-const EVENTS: &[(&str, Units, i32, &[(i64, Kind, i64)], &str, &str)] = &[
+type EventLists = (
+    &'static str,
+    Units,
+    i32,
+    &'static [(i64, Kind, i64)],
+    &'static str,
+    &'static str,
+);
+
+const EVENTS: &[EventLists] = &[
     (
         "Pier",
         Units::Feet,
@@ -152,23 +166,28 @@ const EVENTS: &[(&str, Units, i32, &[(i64, Kind, i64)], &str, &str)] = &[
     ),
 ];
 
+fn are_event_lists(alloc: Global, lists: &EventLists) -> Result<bool, AllocError> {
+    let &(name, units, ahead, items, plain, csv) = lists;
+    let name = Text::from_str(alloc, name)?;
+    let events = events_of(alloc, units, items)?;
+    let zone = zone_of(ahead);
+    let text = plain_events(alloc, &name, units, &events, &zone);
+    let records = csv_events(alloc, &name, units, &events, &zone);
+    Ok(is_text(text, plain) && is_text(records, csv))
+}
+
 #[test]
-fn events_are_listed(rt: HostRuntime) -> Result<(), Fail> {
-    let alloc = rt.alloc();
-    for &(name, units, ahead, items, plain, csv) in EVENTS {
-        let name = Text::from_str(alloc, name)?;
-        let events = events_of(alloc, units, items)?;
-        let zone = zone_of(ahead);
-        let text = plain_events(alloc, &name, units, &events, &zone)?;
-        assert_eq!(rt; text.as_slice(), plain.as_bytes());
-        let text = csv_events(alloc, &name, units, &events, &zone)?;
-        assert_eq!(rt; text.as_slice(), csv.as_bytes());
+fn events_are_listed(rt: HostRuntime) -> Result<(), AllocError> {
+    for lists in EVENTS {
+        assert!(rt; are_event_lists(rt.alloc(), lists)?, "{}", lists.4);
     }
     Ok(())
 }
 
 // The minutes by which a clock is ahead, levels, and both listings of them.
-const HEIGHTS: &[(i32, &[(i64, i64)], &str, &str)] = &[
+type HeightLists = (i32, &'static [(i64, i64)], &'static str, &'static str);
+
+const HEIGHTS: &[HeightLists] = &[
     (
         -300,
         &[(15791040, 1000000), (15791400, -1000000)],
@@ -188,23 +207,28 @@ const HEIGHTS: &[(i32, &[(i64, i64)], &str, &str)] = &[
     ),
 ];
 
+fn are_height_lists(alloc: Global, name: &Text, lists: &HeightLists) -> Result<bool, AllocError> {
+    let &(ahead, items, plain, csv) = lists;
+    let rows = rows_of(alloc, items)?;
+    let zone = zone_of(ahead);
+    let text = plain_heights(alloc, name, Units::Feet, &rows, &zone);
+    let records = csv_heights(alloc, name, Units::Feet, &rows, &zone);
+    Ok(is_text(text, plain) && is_text(records, csv))
+}
+
 #[test]
-fn heights_are_listed(rt: HostRuntime) -> Result<(), Fail> {
-    let alloc = rt.alloc();
-    let name = Text::from_str(alloc, "Pier")?;
-    for &(ahead, items, plain, csv) in HEIGHTS {
-        let rows = rows_of(alloc, items)?;
-        let zone = zone_of(ahead);
-        let text = plain_heights(alloc, &name, Units::Feet, &rows, &zone)?;
-        assert_eq!(rt; text.as_slice(), plain.as_bytes());
-        let text = csv_heights(alloc, &name, Units::Feet, &rows, &zone)?;
-        assert_eq!(rt; text.as_slice(), csv.as_bytes());
+fn heights_are_listed(rt: HostRuntime) -> Result<(), AllocError> {
+    let name = Text::from_str(rt.alloc(), "Pier")?;
+    for lists in HEIGHTS {
+        assert!(rt; are_height_lists(rt.alloc(), &name, lists)?, "{}", lists.2);
     }
     Ok(())
 }
 
 // A direction, the minutes by which a clock is ahead, events, and the listing of the level now.
-const CLOCKS: &[(bool, i32, &[(i64, Kind, i64)], &str)] = &[
+type Clock = (bool, i32, &'static [(i64, Kind, i64)], &'static str);
+
+const CLOCKS: &[Clock] = &[
     (
         false,
         0,
@@ -224,132 +248,67 @@ const CLOCKS: &[(bool, i32, &[(i64, Kind, i64)], &str)] = &[
     ),
 ];
 
+fn is_clock(alloc: Global, name: &Text, clock: &Clock) -> Result<bool, AllocError> {
+    let &(rising, ahead, items, expected) = clock;
+    let events = events_of(alloc, Units::Feet, items)?;
+    let zone = zone_of(ahead);
+    let now = 15_791_220;
+    let text = clock_text(alloc, name, Units::Feet, now, 0, rising, &events, &zone);
+    Ok(is_text(text, expected))
+}
+
 #[test]
-fn clocks_are_printed(rt: HostRuntime) -> Result<(), Fail> {
-    let alloc = rt.alloc();
-    let name = Text::from_str(alloc, "Pier")?;
-    for &(rising, ahead, items, expected) in CLOCKS {
-        let events = events_of(alloc, Units::Feet, items)?;
-        let zone = zone_of(ahead);
-        let text = clock_text(
-            alloc,
-            &name,
-            Units::Feet,
-            15791220,
-            0,
-            rising,
-            &events,
-            &zone,
-        )?;
-        assert_eq!(rt; text.as_slice(), expected.as_bytes());
+fn clocks_are_printed(rt: HostRuntime) -> Result<(), AllocError> {
+    let name = Text::from_str(rt.alloc(), "Pier")?;
+    for clock in CLOCKS {
+        assert!(rt; is_clock(rt.alloc(), &name, clock)?, "{}", clock.3);
     }
     Ok(())
 }
 
-pub const BOOK: &[u8] = b"1\nS2 30\n1999\n1\nS2\n0\n*END*\n1\nS2\n1\n*END*\n\
-    Pier\n0:00 :UTC\n0 feet\nS2 1 0\n\
-    Gate\n0:00 :UTC\n0 knots^2\nS2 1 0\n\
-    Pier\n0:00 :UTC\n0 meters\nS2 1 0\n";
-
-pub const TABLE: &[u8] =
-    b"name,reference,high_add,low_add,high_times,low_times,high_plus,low_plus\n\
-    Dock,Pier,0:30,-0:10,1.1,0.9,0.1,0\n\
-    \"Outer, east\",Gate,,,,,,\n\
-    Lost,Nowhere,,,,,,\n\
-    Pier,Dock,,,,,,\n";
-
-// The listing of a highest water by two clocks, and the facts of a station whose name has commas.
-#[test]
-fn stations_are_described(rt: HostRuntime) -> Result<(), Fail> {
-    let alloc = rt.alloc();
-    let name = Text::from_str(alloc, "Boston, Boston Harbor")?;
-    let reference = Text::from_str(alloc, "Pier")?;
-    for (ahead, line) in [
-        (
-            0,
-            "Boston, Boston Harbor\nHighest 2025-04-29 04:33 UTC      12.22 feet\n",
-        ),
-        (
-            -300,
-            "Boston, Boston Harbor\nHighest 2025-04-28 23:33 -05:00      12.22 feet\n",
-        ),
-    ] {
-        let text = highest_text(
-            alloc,
-            &name,
-            Units::Feet,
-            29_098_353,
-            12_220_455,
-            &zone_of(ahead),
-        )?;
-        assert_eq!(rt; text.as_slice(), line.as_bytes());
-    }
-    let text = about_text(
-        alloc,
-        &name,
-        &reference,
+// A level, its unit, and the line of it.
+const LEVELS: &[(i64, Units, &str)] = &[
+    (
+        -15000,
+        Units::Meters,
+        "2000-01-10 00:00 +05:45      -0.02 meters",
+    ),
+    (
+        14999,
+        Units::Knots,
+        "2000-01-10 00:00 +05:45       0.01 knots",
+    ),
+    (
+        -4999,
         Units::Feet,
-        30,
-        98_943_212_089_632_423_480_202_598_400_000,
-    )?;
-    let expected = "Boston, Boston Harbor\n\
-        reference Pier\n\
-        units feet\n\
-        constituents 30\n\
-        agreement 98943212089632423480202598400000\n";
-    assert_eq!(rt; text.as_slice(), expected.as_bytes());
-    Ok(())
-}
+        "2000-01-10 00:00 +05:45       0.00 feet",
+    ),
+    (
+        i64::MIN,
+        Units::KnotsSquared,
+        "2000-01-10 00:00 +05:45  -9223372036854.78 knots^2",
+    ),
+];
 
-#[test]
-fn stations_are_listed(rt: HostRuntime) -> Result<(), Fail> {
-    let alloc = rt.alloc();
-    let book = read_book(alloc, BOOK).ok().ok_or("a book")?;
-    let table = read_offsets(alloc, TABLE).ok().ok_or("a table")?;
-    let text = stations_text(alloc, &book, &table)?;
-    let expected = "Ref feet Pier\n\
-        Ref knots^2 Gate\n\
-        Ref meters Pier\n\
-        Sub feet Dock (Pier)\n\
-        Sub knots^2 Outer, east (Gate)\n\
-        Sub - Lost (Nowhere)\n\
-        Sub - Pier (Dock)\n";
-    assert_eq!(rt; text.as_slice(), expected.as_bytes());
-    Ok(())
+fn is_level_line(level: i64, units: Units, line: &str) -> bool {
+    let local = Local {
+        minute: 15791040,
+        label: Label::Minutes(345),
+    };
+    let mut out = ArrayString::new();
+    height_line(&local, level, units, &mut out);
+    out.as_str() == line
 }
 
 #[test]
 fn levels_are_rounded(rt: HostRuntime) {
-    for (level, units, line) in [
-        (
-            -15000,
-            Units::Meters,
-            "2000-01-10 00:00 +05:45      -0.02 meters",
-        ),
-        (
-            14999,
-            Units::Knots,
-            "2000-01-10 00:00 +05:45       0.01 knots",
-        ),
-        (
-            -4999,
-            Units::Feet,
-            "2000-01-10 00:00 +05:45       0.00 feet",
-        ),
-        (
-            i64::MIN,
-            Units::KnotsSquared,
-            "2000-01-10 00:00 +05:45  -9223372036854.78 knots^2",
-        ),
-    ] {
-        let local = Local {
-            minute: 15791040,
-            label: Label::Minutes(345),
-        };
-        let mut out = ArrayString::new();
-        height_line(&local, level, units, &mut out);
-        assert_eq!(rt; out.as_str(), line);
+    for &(level, units, line) in LEVELS {
+        assert!(rt; is_level_line(level, units, line), "{line}");
     }
+}
+
+#[test]
+fn rows_stand(_rt: HostRuntime) {
     worked_lines();
     worked_levels();
     worked_listings();

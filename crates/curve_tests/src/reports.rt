@@ -2,18 +2,16 @@
 
 ghost use Rattle.std.specs.Prelude.{◌≢◌, ◌≤◌, All, IsTrue};
 
-use crate::lists::{TIDE, events_of};
+use crate::lists::{TIDE, events_of, is_text};
 use crate::sheets::{Counter, Refusal, Refusing};
 use curve_law::Kind;
-use decimal_text::{Text, Words};
+use decimal_text::{Bytes, Text, Words};
 use harmonics_book::Units;
 use report_sheets::{
     FirstLines, Head, Ranges, Sheet, Tally, fill, missing, pages_show_the_first_events,
     sheets_write_their_layouts, worked_pages, worked_ranges, worked_tallies, worked_words,
 };
 use std::alloc::{AllocError, Global};
-use std::process::Abort;
-use std::test::Fail;
 
 pub fn is_printable(name: &str) -> bool
     ensures { IsTrue result → All (λ b. (32 ≤ b) × (b ≢ 127)) name.now }
@@ -29,26 +27,57 @@ fn words_of(alloc: Global, words: &[&str]) -> Result<Words, AllocError> {
     Ok(Words::from_vec(texts))
 }
 
-// Returns the text of a report, if its head and events are in range.
+// Returns the text of the sheets `wanted`, if the name and the events are in range.
 fn report(
-    rt: &impl Abort,
     alloc: Global,
     sheets: Vec<Box<dyn Sheet>>,
     wanted: &[&str],
     name: &str,
-    events: &[(i64, Kind, i64)],
-) -> Result<Vec<u8>, AllocError> {
-    assert!(rt; is_printable(name));
+    items: &[(i64, Kind, i64)],
+) -> Result<Bytes, AllocError> {
+    if !is_printable(name) {
+        return Err(AllocError);
+    }
+    let name = Text::from_str(alloc, name)?;
+    let events = events_of(alloc, Units::Feet, items)?;
+    let words = words_of(alloc, wanted)?;
     let head = Head {
-        name: Text::from_str(alloc, name)?,
+        name,
         units: Units::Feet,
         now: 15791220,
     };
-    let events = events_of(alloc, Units::Feet, events)?;
-    let words = words_of(alloc, wanted)?;
-    fill(alloc, sheets, &words, &head, &events)?
-        .as_slice()
-        .to_vec(alloc)
+    fill(alloc, sheets, &words, &head, &events)
+}
+
+// Returns the text of the three sheets of the program, of which `first` has a limit of its own.
+fn report_of_three(
+    alloc: Global,
+    limits: (u32, u32),
+    wanted: &[&str],
+    name: &str,
+    items: &[(i64, Kind, i64)],
+) -> Result<Bytes, AllocError> {
+    let (limit, first) = limits;
+    if !(1..=1_000_000).contains(&limit) || !(1..=1_000_000).contains(&first) {
+        return Err(AllocError);
+    }
+    let mut sheets: Vec<Box<dyn Sheet>> = Vec::new(alloc);
+    sheets.push(Box::new(alloc, Tally::new(alloc, limit))?)?;
+    sheets.push(Box::new(alloc, Ranges::new(alloc, limit))?)?;
+    sheets.push(Box::new(alloc, FirstLines::new(alloc, first))?)?;
+    report(alloc, sheets, wanted, name, items)
+}
+
+// Returns true if a text consists of these parts.
+fn consists_of(text: &[u8], parts: &[&str]) -> bool {
+    let mut left = text;
+    for part in parts {
+        match left.strip_prefix(part.as_bytes()) {
+            Some(rest) => left = rest,
+            None => return false,
+        }
+    }
+    left.is_empty()
 }
 
 const TALLY: &str = "Pier\n2 High Tide\n2 Low Tide\n";
@@ -78,49 +107,27 @@ const REPORTS: &[(&[&str], u32, &[&str])] = &[
 ];
 
 #[test]
-fn reports_are_filled(rt: HostRuntime) -> Result<(), Fail> {
-    let alloc = rt.alloc();
+fn reports_are_filled(rt: HostRuntime) -> Result<(), AllocError> {
     for &(wanted, limit, parts) in REPORTS {
-        assert!(rt; 1 <= limit && limit <= 1_000_000);
-        let mut sheets: Vec<Box<dyn Sheet>> = Vec::new(alloc);
-        sheets.push(Box::new(alloc, Tally::new(alloc, 1_000_000))?)?;
-        sheets.push(Box::new(alloc, Ranges::new(alloc, 1_000_000))?)?;
-        sheets.push(Box::new(alloc, FirstLines::new(alloc, limit))?)?;
-        let text = report(&rt, alloc, sheets, wanted, "Pier", TIDE)?;
-        let mut expected = Vec::new(alloc);
-        for part in parts {
-            expected.extend_from_slice(part.as_bytes())?;
-        }
-        assert_eq!(rt; text.as_slice(), expected.as_slice());
+        let text = report_of_three(rt.alloc(), (1_000_000, limit), wanted, "Pier", TIDE)?;
+        assert!(rt; consists_of(text.as_slice(), parts));
     }
     Ok(())
 }
 
 #[test]
-fn empty_lists_leave_the_name(rt: HostRuntime) -> Result<(), Fail> {
-    let alloc = rt.alloc();
-    let long = vec![in alloc; b'a'; 400]?;
-    let mut name = String::new(alloc);
-    for _ in 0..long.len() {
-        name.push('a')?;
-    }
-    let mut sheets: Vec<Box<dyn Sheet>> = Vec::new(alloc);
-    sheets.push(Box::new(alloc, Tally::new(alloc, 1))?)?;
-    sheets.push(Box::new(alloc, Ranges::new(alloc, 1))?)?;
-    sheets.push(Box::new(alloc, FirstLines::new(alloc, 1))?)?;
+fn empty_lists_leave_the_name(rt: HostRuntime) -> Result<(), AllocError> {
+    let name = "a".repeat(rt.alloc(), 400)?;
     let wanted = ["first", "range", "tally"].as_slice();
-    let text = report(&rt, alloc, sheets, wanted, name.as_str(), &[])?;
-    let mut expected = Vec::new(alloc);
-    for _ in 0..3 {
-        expected.extend_from_slice(long.as_slice())?;
-        expected.push(b'\n')?;
-    }
-    assert_eq!(rt; text.as_slice(), expected.as_slice());
+    let text = report_of_three(rt.alloc(), (1, 1), wanted, name.as_str(), &[])?;
+    let name = name.as_str();
+    let parts = [name, "\n", name, "\n", name, "\n"];
+    assert!(rt; consists_of(text.as_slice(), &parts));
     Ok(())
 }
 
 #[test]
-fn sheets_of_any_kind_are_filled(rt: HostRuntime) -> Result<(), Fail> {
+fn sheets_of_any_kind_are_filled(rt: HostRuntime) -> Result<(), AllocError> {
     let alloc = rt.alloc();
     let mut sheets: Vec<Box<dyn Sheet>> = Vec::new(alloc);
     sheets.push(Box::new(alloc, Counter::new(alloc, "few", 1)?)?)?;
@@ -128,45 +135,55 @@ fn sheets_of_any_kind_are_filled(rt: HostRuntime) -> Result<(), Fail> {
     sheets.push(Box::new(alloc, Counter::new(alloc, "none", 9)?)?)?;
     sheets.push(Box::new(alloc, Counter::new(alloc, "many", 1_000_000)?)?)?;
     let wanted = ["many", "four", "few"].as_slice();
-    let text = report(&rt, alloc, sheets, wanted, "Pier", TIDE)?;
-    assert_eq!(rt; text.as_slice(), b"few 1\nfour 4\nmany 4\n".as_slice());
+    let text = report(alloc, sheets, wanted, "Pier", TIDE);
+    assert!(rt; is_text(text, "few 1\nfour 4\nmany 4\n"));
     Ok(())
 }
 
+// Returns the text of a sheet that runs out of memory and of one before it.
+fn refused(alloc: Global, at: Refusal) -> Result<Bytes, AllocError> {
+    let mut sheets: Vec<Box<dyn Sheet>> = Vec::new(alloc);
+    sheets.push(Box::new(alloc, Tally::new(alloc, 4))?)?;
+    sheets.push(Box::new(alloc, Refusing::new(alloc, at))?)?;
+    let wanted = ["tally", "refusing"].as_slice();
+    report(alloc, sheets, wanted, "Pier", TIDE)
+}
+
 #[test]
-fn refusals_leave_no_text(rt: HostRuntime) -> Result<(), Fail> {
-    let alloc = rt.alloc();
+fn refusals_leave_no_text(rt: HostRuntime) {
     for at in [Refusal::Open, Refusal::Take, Refusal::Text] {
-        let mut sheets: Vec<Box<dyn Sheet>> = Vec::new(alloc);
-        sheets.push(Box::new(alloc, Tally::new(alloc, 4))?)?;
-        sheets.push(Box::new(alloc, Refusing::new(alloc, at))?)?;
-        let wanted = ["tally", "refusing"].as_slice();
-        let text = report(&rt, alloc, sheets, wanted, "Pier", TIDE);
-        assert!(rt; text.is_err());
+        assert!(rt; refused(rt.alloc(), at).is_err(), "at {at:?}");
     }
-    Ok(())
 }
 
+// Requested words, and the place of the first one that no sheet has.
+const MISSING: &[(&[&str], Option<u64>)] = &[
+    (&["tally", "few"], None),
+    (&["few", "tally"], None),
+    (&["few", "graph", "table"], Some(1)),
+    (&["Tally"], Some(0)),
+    (&[], None),
+];
+
 #[test]
-fn unknown_words_are_missing(rt: HostRuntime) -> Result<(), Fail> {
+fn unknown_words_are_missing(rt: HostRuntime) -> Result<(), AllocError> {
     let alloc = rt.alloc();
     let mut sheets: Vec<Box<dyn Sheet>> = Vec::new(alloc);
     sheets.push(Box::new(alloc, Tally::new(alloc, 4))?)?;
     sheets.push(Box::new(alloc, Counter::new(alloc, "few", 1)?)?)?;
-    for (wanted, place) in [
-        (["tally", "few"].as_slice(), None),
-        (["few", "tally"].as_slice(), None),
-        (["few", "graph", "table"].as_slice(), Some(1)),
-        (["Tally"].as_slice(), Some(0)),
-        ([].as_slice(), None),
-    ] {
-        assert_eq!(rt; missing(&sheets, &words_of(alloc, wanted)?), place);
+    for &(wanted, place) in MISSING {
+        let words = words_of(alloc, wanted)?;
+        assert!(rt; missing(&sheets, &words) == place);
     }
+    Ok(())
+}
+
+#[test]
+fn laws_and_rows_stand(_rt: HostRuntime) {
     worked_tallies();
     worked_ranges();
     worked_pages();
     worked_words();
     pages_show_the_first_events();
     sheets_write_their_layouts();
-    Ok(())
 }

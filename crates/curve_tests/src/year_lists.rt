@@ -7,11 +7,10 @@ ghost use Rattle.zone_time.specs.Zones.{InZoneYears};
 use crate::lists::{events_of, rows_of};
 use calendar_sheet::calendar_text;
 use curve_law::{Events, Kind};
-use decimal_text::Text;
+use decimal_text::{Bytes, Text};
 use harmonics_book::Units;
 use listing::{Rows, clock_text, csv_events, csv_heights, plain_events, plain_heights};
 use std::alloc::{AllocError, Global};
-use std::test::Fail;
 use zone_time::Zone;
 
 // The year from 2000-01-01T00:00Z up to 2001-01-01T00:00Z.
@@ -59,32 +58,38 @@ fn rows_of_year(alloc: Global) -> Result<Rows, AllocError>
     rows_of(alloc, items.as_slice())
 }
 
+// Returns true if a text was made, and has this length.
+fn has_length(made: Result<Bytes, AllocError>, length: usize) -> bool {
+    match made {
+        Ok(text) => text.as_slice().len() == length,
+        Err(_) => false,
+    }
+}
+
 #[test]
-fn years_are_listed_below_a_long_name(rt: HostRuntime) -> Result<(), Fail> {
-    let alloc = rt.alloc();
+fn events_of_a_year_are_listed_below_a_long_name(rt: HostRuntime) -> Result<(), AllocError> {
+    let (alloc, units, zone) = (rt.alloc(), Units::Feet, Zone::Utc);
     let name = Text::from_str(alloc, NAME)?;
     let events = events_of_year(alloc)?;
+    let plain = plain_events(alloc, &name, units, &events, &zone);
+    assert!(rt; has_length(plain, 67_471));
+    let csv = csv_events(alloc, &name, units, &events, &zone);
+    assert!(rt; has_length(csv, 649_559));
+    let clock = clock_text(alloc, &name, units, BEGIN, 0, false, &events, &zone);
+    assert!(rt; has_length(clock, 67_521));
+    let calendar = calendar_text(alloc, &name, units, &events, &zone, BEGIN, END);
+    assert!(rt; has_length(calendar, 35_491));
+    Ok(())
+}
+
+#[test]
+fn levels_of_a_year_are_listed_below_a_long_name(rt: HostRuntime) -> Result<(), AllocError> {
+    let (alloc, units, zone) = (rt.alloc(), Units::Feet, Zone::Utc);
+    let name = Text::from_str(alloc, NAME)?;
     let rows = rows_of_year(alloc)?;
-    let plain = plain_events(alloc, &name, Units::Feet, &events, &Zone::Utc)?;
-    assert_eq!(rt; plain.as_slice().len(), 67_471);
-    let csv = csv_events(alloc, &name, Units::Feet, &events, &Zone::Utc)?;
-    assert_eq!(rt; csv.as_slice().len(), 649_559);
-    let heights = plain_heights(alloc, &name, Units::Feet, &rows, &Zone::Utc)?;
-    assert_eq!(rt; heights.as_slice().len(), 325_409);
-    let records = csv_heights(alloc, &name, Units::Feet, &rows, &Zone::Utc)?;
-    assert_eq!(rt; records.as_slice().len(), 3_957_225);
-    let clock = clock_text(
-        alloc,
-        &name,
-        Units::Feet,
-        BEGIN,
-        0,
-        false,
-        &events,
-        &Zone::Utc,
-    )?;
-    assert_eq!(rt; clock.as_slice().len(), 67_521);
-    let calendar = calendar_text(alloc, &name, Units::Feet, &events, &Zone::Utc, BEGIN, END)?;
-    assert_eq!(rt; calendar.as_slice().len(), 35_491);
+    let heights = plain_heights(alloc, &name, units, &rows, &zone);
+    assert!(rt; has_length(heights, 325_409));
+    let records = csv_heights(alloc, &name, units, &rows, &zone);
+    assert!(rt; has_length(records, 3_957_225));
     Ok(())
 }

@@ -1,0 +1,153 @@
+//! The laws of cells and curves, and small curves.
+
+use curve_law::samples::{Line, Ripple};
+use curve_law::*;
+use std::alloc::AllocError;
+
+#[test]
+fn laws_and_rows_stand(_rt: HostRuntime) {
+    plain_list_of_one_minute();
+    plain_list_of_two_spans();
+    plain_list_of_quiet_minutes();
+    events_pass_zero();
+    cells_are_halved();
+    spans_are_cut_into_blocks();
+    quiet_cells_have_no_event();
+    accepted_cells_are_exact();
+    covers_are_accepted();
+    agreeing_curves_have_one_answer();
+    worked_rows();
+    worked_quiet_cells();
+    worked_covers();
+    worked_verdicts();
+}
+
+#[test]
+fn kinds_go_by_the_side(rt: HostRuntime) {
+    assert!(rt; kind_after(true, Kind::Low, Kind::High) == Kind::High);
+    assert!(rt; kind_after(false, Kind::Low, Kind::High) == Kind::Low);
+}
+
+// Returns the sum of all values from `begin` to `end`, or `None` if the curve was evaluated too often
+// before.
+fn sum<C: Curve>(curve: &mut C, begin: i64, end: i64) -> Option<i128> {
+    let mut sum: i128 = 0;
+    for m in begin..end {
+        if m < curve.first() || curve.last() < m || curve.evaluations() > 1000 {
+            return None;
+        }
+        sum = sum.checked_add(curve.value(m))?;
+    }
+    Some(sum)
+}
+
+// Returns true if the sum is the expected one.
+fn has_sum<C: Curve>(curve: &mut C, begin: i64, end: i64, wanted: i128) -> bool {
+    sum(curve, begin, end) == Some(wanted)
+}
+
+fn has_kinds<C: Curve>(curve: &C, rising: Kind, falling: Kind) -> bool {
+    curve.rising() == rising && curve.falling() == falling
+}
+
+#[test]
+fn lines_return_their_values(rt: HostRuntime) {
+    let mut line = Line::new(3, true, 5);
+    assert!(rt; has_sum(&mut line, 0, 6, 3));
+    assert!(rt; line.evaluations() == 6);
+    assert!(rt; line.rate(0, 8) == Some(5));
+    assert!(rt; line.note(-7) == -7);
+    assert!(rt; has_kinds(&line, Kind::Low, Kind::High));
+}
+
+#[test]
+fn ripples_return_their_values(rt: HostRuntime) {
+    let mut ripple = Ripple::new();
+    assert!(rt; has_sum(&mut ripple, -3, 4, -1));
+    assert!(rt; ripple.evaluations() == 7);
+    assert!(rt; ripple.rate(0, 8).is_none());
+    assert!(rt; has_kinds(&ripple, Kind::MarkRising, Kind::MarkFalling));
+}
+
+// Returns whether the eight minutes from 0 on are quiet, and the cell of the first one, by approximate
+// values.
+fn decided<C: Curve>(curve: &mut C) -> Option<(bool, Cell)> {
+    if 0 < curve.first() || curve.last() < 8 || curve.evaluations() > 1000 {
+        return None;
+    }
+    let approximate = curve.approximate_value(0);
+    let approximate_next = curve.approximate_value(1);
+    let approximate_end = curve.approximate_value(8);
+    Some((
+        is_quiet_from_approximate(curve, 0, 8, approximate, approximate_end),
+        unit_cell_from_approximate(curve, 0, approximate, approximate_next),
+    ))
+}
+
+// Returns the value at minute 0 by way of an approximate one.
+fn exact<C: Curve>(curve: &mut C) -> Option<i128> {
+    if 0 < curve.first() || curve.last() < 0 || curve.evaluations() > 1000 {
+        return None;
+    }
+    let approximate = curve.approximate_value(0);
+    Some(curve.exact_value(0, approximate))
+}
+
+// The value of a line at minute 0, true if it falls, its rate, whether the eight minutes from 0 on are quiet,
+// and the cell of the first one.
+const DECIDED: &[(i64, bool, i64, bool, Cell)] = &[
+    (1, false, 1, true, Cell::Still),
+    (-8, false, 1, true, Cell::Still),
+    (0, false, 1, false, Cell::Turn(Kind::Low, 0)),
+    (30, true, 6, true, Cell::Still),
+    (28, true, 6, false, Cell::Still),
+    (28, true, 7, false, Cell::Still),
+    (100, true, 2, true, Cell::Still),
+];
+
+fn is_decided<C: Curve + Drop>(curve: C, is_quiet: bool, cell: Cell) -> bool {
+    let mut curve = curve;
+    match decided(&mut curve) {
+        Some(found) => found.0 == is_quiet && found.1 == cell && curve.evaluations() == 3,
+        None => false,
+    }
+}
+
+// Returns true if the eight minutes from 0 on of a line are as expected.
+fn is_line_decided(start: i64, falls: bool, rate: i64, is_quiet: bool, cell: Cell) -> bool {
+    if start.unsigned_abs() > 1000 || !(1..=1000).contains(&rate) {
+        return false;
+    }
+    is_decided(Line::new(start, falls, rate), is_quiet, cell)
+}
+
+#[test]
+fn approximate_values_decide_cells(rt: HostRuntime) {
+    for &(start, falls, rate, is_quiet, cell) in DECIDED {
+        assert!(rt;
+            is_line_decided(start, falls, rate, is_quiet, cell),
+            "from {start}"
+        );
+    }
+    assert!(rt; Line::new(1, false, 1).error() == 1);
+    assert!(rt; is_decided(Ripple::new(), false, Cell::Turn(Kind::MarkFalling, 0)));
+    assert!(rt; exact(&mut Line::new(4, true, 1)) == Some(4));
+    assert!(rt; exact(&mut Ripple::new()) == Some(1));
+}
+
+const CELLS: &[Cell] = &[Cell::Quiet(2), Cell::Turn(Kind::Low, -1)];
+
+const EVENTS: &[Event] = &[Event {
+    minute: 2,
+    kind: Kind::Low,
+    level: -1,
+}];
+
+#[test]
+fn lists_keep_their_items(rt: HostRuntime) -> Result<(), AllocError> {
+    let cells = Cells::from_vec(Vec::from_slice(rt.alloc(), CELLS)?);
+    assert!(rt; cells.as_slice() == CELLS);
+    let events = Events::from_vec(Vec::from_slice(rt.alloc(), EVENTS)?);
+    assert!(rt; events.as_slice() == EVENTS);
+    Ok(())
+}

@@ -1,0 +1,119 @@
+//! The cells of spans, found at once and in steps.
+
+ghost use Rattle.std.specs.Prelude.{◌≡◌, ◌≤ℤ◌, IsTrue};
+
+use curve_law::samples::{Line, Ripple};
+use curve_law::{Cell, Curve, Kind};
+use interval_search::{Found, Search, search};
+use std::alloc::Global;
+
+// Returns true if a search may begin on `curve`, not yet evaluated.
+fn can_search<C: Curve>(curve: &C, begin: i64, end: i64) -> bool
+    ensures { IsTrue result → (begin ≤ℤ end) × ((C.state curve.now).facts.meaning.first ≤ℤ begin)
+        × (end ≤ℤ (C.state curve.now).facts.meaning.last) × ((C.state curve.now).count ≡ 0) }
+{
+    begin <= end && curve.first() <= begin && end <= curve.last() && curve.evaluations() == 0
+}
+
+// Returns true if the search returns the cells `wanted`, and evaluates at most once a cell and once more.
+fn has_cells<C: Curve + Drop>(
+    alloc: Global,
+    curve: C,
+    begin: i64,
+    end: i64,
+    wanted: &[Cell],
+) -> bool {
+    let mut curve = curve;
+    if !can_search(&curve, begin, end) {
+        return false;
+    }
+    match search(alloc, &mut curve, begin, end) {
+        Ok(cells) => cells.as_slice() == wanted && curve.evaluations() as usize <= wanted.len() + 1,
+        Err(_) => false,
+    }
+}
+
+// Returns true if a search in steps returns `wanted`, and nothing after that.
+fn has_steps<C: Curve + Drop>(curve: C, begin: i64, end: i64, wanted: &[Found]) -> bool {
+    if !can_search(&curve, begin, end) {
+        return false;
+    }
+    let mut search = Search::new(curve, begin, end);
+    for found in wanted {
+        if search.next() != Some(*found) {
+            return false;
+        }
+    }
+    let asked = search.evaluations() as usize;
+    search.next().is_none() && search.next().is_none() && asked <= wanted.len() + 1
+}
+
+const ABOVE: &[Cell] = &[Cell::Still, Cell::Still, Cell::Quiet(2), Cell::Quiet(4)];
+
+const RISING: &[Cell] = &[
+    Cell::Quiet(2),
+    Cell::Turn(Kind::Low, 2),
+    Cell::Still,
+    Cell::Quiet(4),
+];
+
+const ODD: &[Cell] = &[Cell::Still, Cell::Quiet(2)];
+
+const BLOCKS: &[Cell] = &[Cell::Quiet(1024), Cell::Quiet(1024), Cell::Still];
+
+const TURNS: &[Cell] = &[
+    Cell::Turn(Kind::MarkFalling, 0),
+    Cell::Turn(Kind::MarkRising, 0),
+];
+
+fn rising() -> Line {
+    Line::new(-2, false, 1)
+}
+
+#[test]
+fn spans_have_their_cells(rt: HostRuntime) {
+    let alloc = rt.alloc();
+    assert!(rt; has_cells(alloc, Line::new(1, false, 3), 0, 8, ABOVE));
+    assert!(rt; has_cells(alloc, rising(), 0, 8, RISING));
+    assert!(rt; has_cells(alloc, Line::new(2, false, 3), 0, 3, ODD));
+    assert!(rt; has_cells(alloc, Line::new(10_000, true, 1), -7, 2042, BLOCKS));
+    assert!(rt; has_cells(alloc, Ripple::new(), 4, 6, TURNS));
+    assert!(rt; has_cells(alloc, Ripple::new(), 5, 5, &[]));
+}
+
+const RISING_STEPS: &[Found] = &[
+    Found {
+        at: 0,
+        cell: Cell::Quiet(2),
+    },
+    Found {
+        at: 2,
+        cell: Cell::Turn(Kind::Low, 2),
+    },
+    Found {
+        at: 3,
+        cell: Cell::Still,
+    },
+    Found {
+        at: 4,
+        cell: Cell::Quiet(4),
+    },
+];
+
+const TURN_STEPS: &[Found] = &[
+    Found {
+        at: -1,
+        cell: Cell::Turn(Kind::MarkRising, 0),
+    },
+    Found {
+        at: 0,
+        cell: Cell::Turn(Kind::MarkFalling, 0),
+    },
+];
+
+#[test]
+fn steps_give_the_same_cells(rt: HostRuntime) {
+    assert!(rt; has_steps(rising(), 0, 8, RISING_STEPS));
+    assert!(rt; has_steps(Ripple::new(), -1, 1, TURN_STEPS));
+    assert!(rt; has_steps(Ripple::new(), 5, 5, &[]));
+}
