@@ -9,7 +9,7 @@ use cert_text::{
 };
 use curve_law::{Cell, Kind};
 use decimal_text::MOST_BYTES;
-use std::alloc::Global;
+use std::alloc::{AllocError, Global};
 use std::test::Fail;
 
 const PIER: &str =
@@ -34,7 +34,7 @@ fn fault(alloc: Global, bytes: &[u8]) -> u32 {
 
 /// The number of a line of the first certificate, a text in its place, and the line of the fault: 0
 /// if there is none.
-const CHANGED_LINES: [(usize, &str, u32); 58] = [
+const CHANGED_LINES: &[(usize, &str, u32)] = &[
     (1, "tide certificate 2", 0),
     (1, "tide certificate 3", 1),
     (1, "tide certificate 01", 1),
@@ -95,95 +95,122 @@ const CHANGED_LINES: [(usize, &str, u32); 58] = [
     (11, "done\r", 11),
 ];
 
+/// The same for the second certificate.
+const CHANGED_TRACKS: &[(usize, &str, u32)] = &[
+    (5, "mark none", 13),
+    (9, "track mark", 10),
+    (9, "done", 9),
+    (13, "done", 13),
+    (13, "track slack", 13),
+    (14, "t high 1", 14),
+    (16, "done", 17),
+    (17, "track slack", 17),
+    (17, "track mark", 17),
+    (17, "", 17),
+];
+
+/// Returns the line of the fault of `text` with `other` in place of line `line`.
+fn fault_of_change(alloc: Global, text: &str, line: usize, other: &str) -> Result<u32, AllocError> {
+    let text = changed(alloc, text, line, other)?;
+    Ok(fault(alloc, text.as_bytes()))
+}
+
 #[test]
 fn changed_lines_are_found(rt: HostRuntime) -> Result<(), Fail> {
-    let alloc = rt.alloc();
     for (line, other, at) in CHANGED_LINES {
-        let text = changed(alloc, PIER, line, other)?;
-        assert!(rt; fault(alloc, text.as_str().as_bytes()) == at, "{other}");
+        let found = fault_of_change(rt.alloc(), PIER, *line, other)?;
+        assert!(rt; found == *at, "line {line}: {other}");
     }
     Ok(())
 }
 
 #[test]
 fn changed_tracks_are_found(rt: HostRuntime) -> Result<(), Fail> {
-    let alloc = rt.alloc();
-    for (line, other, at) in [
-        (5, "mark none", 13),
-        (9, "track mark", 10),
-        (9, "done", 9),
-        (13, "done", 13),
-        (13, "track slack", 13),
-        (14, "t high 1", 14),
-        (16, "done", 17),
-        (17, "track slack", 17),
-        (17, "track mark", 17),
-        (17, "", 17),
-    ] {
-        let text = changed(alloc, NARROWS, line, other)?;
-        assert!(rt; fault(alloc, text.as_str().as_bytes()) == at, "{other}");
+    for (line, other, at) in CHANGED_TRACKS {
+        let found = fault_of_change(rt.alloc(), NARROWS, *line, other)?;
+        assert!(rt; found == *at, "line {line}: {other}");
     }
     Ok(())
 }
+
+/// A number of bytes of the first certificate, and the line of the fault.
+const ENDS: &[(usize, u32)] = &[
+    (0, 1),
+    (18, 1),
+    (19, 2),
+    (110, 10),
+    (111, 11),
+    (114, 11),
+    (115, 11),
+];
 
 #[test]
 fn other_ends_are_found(rt: HostRuntime) {
     let bytes = PIER.as_bytes();
-    for (end, line) in [
-        (0, 1),
-        (18, 1),
-        (19, 2),
-        (110, 10),
-        (111, 11),
-        (114, 11),
-        (115, 11),
-    ] {
-        if end <= bytes.len() {
-            assert!(rt; fault(rt.alloc(), bytes.split_at(end).0) == line, "{end}");
-        }
+    for (end, line) in ENDS {
+        assert!(rt; *end <= bytes.len());
+        let front = bytes.split_at(*end).0;
+        assert!(rt; fault(rt.alloc(), front) == *line, "{end}");
     }
-    assert_eq!(rt; fault(rt.alloc(), b"\n"), 1);
-    assert_eq!(rt; fault(rt.alloc(), b"tide certificate 1\nstation \xe9\n"), 2);
+}
+
+#[test]
+fn other_bytes_are_refused(rt: HostRuntime) {
+    assert!(rt; fault(rt.alloc(), b"\n") == 1);
+    assert!(rt; fault(rt.alloc(), b"tide certificate 1\nstation \xe9\n") == 2);
+}
+
+/// Returns true if the certificate of `text` is written as `text`.
+fn is_rewritten(alloc: Global, text: &[u8]) -> Result<bool, Fail> {
+    if text.len() > MOST_BYTES {
+        return Ok(false);
+    }
+    let cert = read_certificate(alloc, text)?;
+    let written = write_certificate(alloc, &cert)?;
+    Ok(written.as_slice() == text)
 }
 
 #[test]
 fn what_is_read_is_written(rt: HostRuntime) -> Result<(), Fail> {
-    let alloc = rt.alloc();
     for text in [PIER, NARROWS] {
-        let cert = read_certificate(alloc, text.as_bytes())
-            .ok()
-            .ok_or("it is a certificate")?;
-        let written = write_certificate(alloc, &cert)?;
-        assert!(rt; written.as_slice() == text.as_bytes(), "{text}");
-        let mut longer = changed(alloc, text, 0, "")?;
-        longer.push_str("done\n")?;
-        assert!(rt;
-            fault(alloc, longer.as_str().as_bytes()) == text.lines().count() as u32 + 1,
-            "{text}"
-        );
+        assert!(rt; is_rewritten(rt.alloc(), text.as_bytes())?, "{text}");
     }
     Ok(())
 }
 
 #[test]
+fn another_last_line_is_found(rt: HostRuntime) -> Result<(), Fail> {
+    for text in [PIER, NARROWS] {
+        let mut longer = changed(rt.alloc(), text, 0, "")?;
+        longer.push_str("done\n")?;
+        let line = text.lines().count() as u32 + 1;
+        assert!(rt; fault(rt.alloc(), longer.as_bytes()) == line, "{text}");
+    }
+    Ok(())
+}
+
+/// A cell, and its line.
+const CELLS: &[(Cell, &str)] = &[
+    (Cell::Quiet(2), "q 2\n"),
+    (Cell::Quiet(1024), "q 1024\n"),
+    (Cell::Still, "s\n"),
+    (Cell::Turn(Kind::High, 0), "t high 0\n"),
+    (Cell::Turn(Kind::Low, -1_000_000), "t low -1000000\n"),
+    (
+        Cell::Turn(Kind::FloodBegins, -99_999_999_999_999),
+        "t flood -99999999999999\n",
+    ),
+    (Cell::Turn(Kind::MarkFalling, 7), "t fall 7\n"),
+];
+
+#[test]
 fn cells_are_written(rt: HostRuntime) {
-    for (cell, text) in [
-        (Cell::Quiet(2), "q 2\n"),
-        (Cell::Quiet(1024), "q 1024\n"),
-        (Cell::Still, "s\n"),
-        (Cell::Turn(Kind::High, 0), "t high 0\n"),
-        (Cell::Turn(Kind::Low, -1_000_000), "t low -1000000\n"),
-        (
-            Cell::Turn(Kind::FloodBegins, -99_999_999_999_999),
-            "t flood -99999999999999\n",
-        ),
-        (Cell::Turn(Kind::MarkFalling, 7), "t fall 7\n"),
-    ] {
+    for (cell, text) in CELLS {
         let mut out = ArrayString::new();
-        if has_line(&cell) {
-            cell_line(&cell, &mut out);
+        if has_line(cell) {
+            cell_line(cell, &mut out);
         }
-        assert_eq!(rt; out.as_str(), text);
+        assert!(rt; out.as_str() == *text, "{text}");
     }
 }
 
@@ -196,25 +223,33 @@ fn has_line(cell: &Cell) -> bool {
 }
 
 #[test]
-fn other_lines_are_written(rt: HostRuntime) {
+fn first_and_last_lines_are_written(rt: HostRuntime) {
     let mut out = ArrayString::new();
     title_line(2, &mut out);
-    assert_eq!(rt; out.as_str(), "tide certificate 2\n");
-    out.clear();
-    begin_line(15791040, &mut out);
-    assert_eq!(rt; out.as_str(), "begin 2000-01-10T00:00Z\n");
-    out.clear();
-    end_line(15791048, &mut out);
-    assert_eq!(rt; out.as_str(), "end 2000-01-10T00:08Z\n");
-    out.clear();
-    mark_line(Some(-500_000), &mut out);
-    assert_eq!(rt; out.as_str(), "mark -500000\n");
-    out.clear();
-    heading_line(track_of(Kind::EbbBegins), &mut out);
-    assert_eq!(rt; out.as_str(), "track slack\n");
+    assert!(rt; out.as_str() == "tide certificate 2\n");
     out.clear();
     last_line(&mut out);
-    assert_eq!(rt; out.as_str(), "done\n");
+    assert!(rt; out.as_str() == "done\n");
+}
+
+#[test]
+fn lines_of_a_span_are_written(rt: HostRuntime) {
+    let mut out = ArrayString::new();
+    begin_line(15791040, &mut out);
+    assert!(rt; out.as_str() == "begin 2000-01-10T00:00Z\n");
+    out.clear();
+    end_line(15791048, &mut out);
+    assert!(rt; out.as_str() == "end 2000-01-10T00:08Z\n");
+}
+
+#[test]
+fn lines_of_marks_and_tracks_are_written(rt: HostRuntime) {
+    let mut out = ArrayString::new();
+    mark_line(Some(-500_000), &mut out);
+    assert!(rt; out.as_str() == "mark -500000\n");
+    out.clear();
+    heading_line(track_of(Kind::EbbBegins), &mut out);
+    assert!(rt; out.as_str() == "track slack\n");
 }
 
 #[test]

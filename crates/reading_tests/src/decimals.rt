@@ -3,17 +3,32 @@ use decimal_text::*;
 use std::test::Fail;
 
 #[test]
-fn copies_are_equal(rt: HostRuntime) -> Result<(), Fail> {
-    let alloc = rt.alloc();
-    assert_eq!(rt; Text::empty(alloc).as_str(), "");
-    let text = Text::from_str(alloc, "Pier")?.copy()?;
-    assert_eq!(rt; text.as_str(), "Pier");
-    let numbers = Numbers::from_vec(vec![in alloc; -1, 2]?).copy()?;
-    assert_eq!(rt; numbers.as_slice(), [-1, 2].as_slice());
-    let bytes = Bytes::from_vec(vec![in alloc; 1, 2]?).copy()?;
-    assert_eq!(rt; bytes.as_slice(), [1, 2].as_slice());
-    let words = Words::from_vec(vec![in alloc; text]?).copy()?;
-    assert_eq!(rt; words.as_slice().len(), 1);
+fn copies_of_texts_are_equal(rt: HostRuntime) -> Result<(), Fail> {
+    assert!(rt; Text::empty(rt.alloc()).as_str() == "");
+    let text = Text::from_str(rt.alloc(), "Pier")?.copy()?;
+    assert!(rt; text.as_str() == "Pier");
+    Ok(())
+}
+
+#[test]
+fn copies_of_numbers_are_equal(rt: HostRuntime) -> Result<(), Fail> {
+    let numbers = Numbers::from_vec(vec![in rt.alloc(); -1, 2]?).copy()?;
+    assert!(rt; numbers.as_slice() == [-1, 2].as_slice());
+    Ok(())
+}
+
+#[test]
+fn copies_of_bytes_are_equal(rt: HostRuntime) -> Result<(), Fail> {
+    let bytes = Bytes::from_vec(vec![in rt.alloc(); 1, 2]?).copy()?;
+    assert!(rt; bytes.as_slice() == [1, 2].as_slice());
+    Ok(())
+}
+
+#[test]
+fn copies_of_words_are_equal(rt: HostRuntime) -> Result<(), Fail> {
+    let text = Text::from_str(rt.alloc(), "Pier")?;
+    let words = Words::from_vec(vec![in rt.alloc(); text]?).copy()?;
+    assert!(rt; words.as_slice().len() == 1);
     Ok(())
 }
 
@@ -25,71 +40,97 @@ fn bytes_of_names_are_kept(rt: HostRuntime) {
     assert!(rt; !are_name_bytes(b"Pier\x7f"));
 }
 
+/// A text, the number of places, and the value or the fault.
+const DECIMALS: &[(&[u8], u32, Result<i128, DecimalFault>)] = &[
+    (b"-1.50", 2, Ok(-150)),
+    (b".5", 6, Ok(500_000)),
+    (b"5.", 1, Ok(50)),
+    (b"+1.230", 2, Ok(123)),
+    (b"1.234", 2, Err(DecimalFault::TooFine)),
+    (b"", 2, Err(DecimalFault::BadForm)),
+    (b".", 2, Err(DecimalFault::BadForm)),
+    (b"1234567890123456789", 2, Err(DecimalFault::TooLong)),
+    (b"1234567890123456789x", 2, Err(DecimalFault::BadForm)),
+];
+
 #[test]
 fn decimals_are_read(rt: HostRuntime) {
-    assert_eq!(rt; read(b"-1.50", 2), Ok(-150));
-    assert_eq!(rt; read(b".5", 6), Ok(500_000));
-    assert_eq!(rt; read(b"5.", 1), Ok(50));
-    assert_eq!(rt; read(b"+1.230", 2), Ok(123));
-    assert_eq!(rt; read(b"1.234", 2), Err(DecimalFault::TooFine));
-    assert_eq!(rt; read(b"", 2), Err(DecimalFault::BadForm));
-    assert_eq!(rt; read(b".", 2), Err(DecimalFault::BadForm));
-    assert_eq!(rt; read(b"1234567890123456789", 2), Err(DecimalFault::TooLong));
-    assert_eq!(rt;
-        read(b"1234567890123456789x", 2),
-        Err(DecimalFault::BadForm)
-    );
+    for (text, places, value) in DECIMALS {
+        assert!(rt; *places <= 6);
+        assert!(rt; read(text, *places) == *value, "{text:?}");
+    }
 }
+
+/// A text, the most digits, and the value.
+const WHOLE_NUMBERS: &[(&[u8], usize, Option<u64>)] = &[
+    (b"0019", 4, Some(19)),
+    (b"00019", 4, None),
+    (b"", 4, None),
+    (b"1x", 4, None),
+    (b"999999999999999999", 18, Some(999_999_999_999_999_999)),
+];
 
 #[test]
 fn whole_numbers_are_read(rt: HostRuntime) {
-    assert_eq!(rt; digits(b"0019", 4), Some(19));
-    assert_eq!(rt; digits(b"00019", 4), None);
-    assert_eq!(rt; digits(b"", 4), None);
-    assert_eq!(rt; digits(b"1x", 4), None);
-    assert_eq!(rt;
-        digits(b"999999999999999999", 18),
-        Some(999_999_999_999_999_999)
-    );
-    assert_eq!(rt; are_digits(b"+1"), false);
-    assert_eq!(rt; digits_value(b"0123"), 123);
-    assert_eq!(rt;
-        wide_digits(b"12345678901234567890123456789012345678", 38),
-        Some(12_345_678_901_234_567_890_123_456_789_012_345_678)
-    );
-    assert_eq!(rt;
-        wide_digits(b"10000000000000000009", 20),
-        Some(10_000_000_000_000_000_009)
-    );
-    assert_eq!(rt; wide_digits(b"10000000000000000009", 19), None);
-    assert_eq!(rt;
-        wide_digits_value(b"99999999999999999999"),
-        99_999_999_999_999_999_999
-    );
+    for (text, most, value) in WHOLE_NUMBERS {
+        assert!(rt; *most <= 18);
+        assert!(rt; digits(text, *most) == *value, "{text:?}");
+    }
+}
+
+/// A text, the most digits, and the value.
+const WIDE_NUMBERS: &[(&[u8], usize, Option<u128>)] = &[
+    (
+        b"12345678901234567890123456789012345678",
+        38,
+        Some(12_345_678_901_234_567_890_123_456_789_012_345_678),
+    ),
+    (
+        b"10000000000000000009",
+        20,
+        Some(10_000_000_000_000_000_009),
+    ),
+    (b"10000000000000000009", 19, None),
+];
+
+#[test]
+fn wide_numbers_are_read(rt: HostRuntime) {
+    for (text, most, value) in WIDE_NUMBERS {
+        assert!(rt; *most <= 38);
+        assert!(rt; wide_digits(text, *most) == *value, "{text:?}");
+    }
 }
 
 #[test]
+fn digits_have_their_value(rt: HostRuntime) {
+    assert!(rt; !are_digits(b"+1"));
+    assert!(rt; digits_value(b"0123") == 123);
+    assert!(rt; wide_digits_value(b"99999999999999999999") == 99_999_999_999_999_999_999);
+}
+
+/// A value, the number of places, and the text.
+const WRITTEN: &[(i64, u32, &str)] = &[
+    (-5, 2, "-0.05"),
+    (0, 2, "0.00"),
+    (0, 0, "0"),
+    (-7, 0, "-7"),
+    (1_004_334, 6, "1.004334"),
+    (i64::MIN, 6, "-9223372036854.775808"),
+];
+
+#[test]
 fn decimals_are_written(rt: HostRuntime) {
-    let cases = [
-        (-5i64, 2u32, "-0.05"),
-        (0, 2, "0.00"),
-        (0, 0, "0"),
-        (-7, 0, "-7"),
-        (1_004_334, 6, "1.004334"),
-        (i64::MIN, 6, "-9223372036854.775808"),
-    ];
-    for (value, places, text) in cases {
+    for (value, places, text) in WRITTEN {
+        assert!(rt; *places <= 6);
         let mut out = ArrayString::new();
-        if places <= 6 {
-            write(value, places, &mut out);
-        }
-        assert_eq!(rt; out.as_str(), text);
+        write(*value, *places, &mut out);
+        assert!(rt; out.as_str() == *text, "{text}");
     }
 }
 
 #[test]
 fn fractions_are_rounded(rt: HostRuntime) {
-    assert_eq!(rt; rounded(15, 10), 2);
-    assert_eq!(rt; rounded(-15, 10), -2);
-    assert_eq!(rt; rounded(-14, 10), -1);
+    assert!(rt; rounded(15, 10) == 2);
+    assert!(rt; rounded(-15, 10) == -2);
+    assert!(rt; rounded(-14, 10) == -1);
 }

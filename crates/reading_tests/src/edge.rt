@@ -13,25 +13,30 @@ use std::io::{Read, Write};
 use std::net::{Ipv4Addr, TcpStream};
 use std::test::Fail;
 use tide_edge::{
-    Clock, Door, Failed, FixedClock, HostClock, HostDoor, HostFiles, HostSink, MemoryDoor,
+    Clock, Door, Failed, Files, FixedClock, HostClock, HostDoor, HostFiles, HostSink, MemoryDoor,
     MemoryFiles, MemorySink, NamedFile, ReadAllFault, WriteFailed, read_all, write_all,
 };
 
 const PIER: [u8; 10] = *b"pier files";
 
+/// Appends the file `name` to `files`.
+fn add_file(
+    alloc: Global,
+    files: &mut Vec<NamedFile>,
+    name: &str,
+    bytes: Vec<u8>,
+) -> Result<(), AllocError> {
+    let name = Text::from_str(alloc, name)?;
+    let bytes = Bytes::from_vec(bytes);
+    Ok(files.push(NamedFile { name, bytes })?)
+}
+
 /// Returns a folder with the file `pier`, another one that can't be opened, and a long one.
 fn folder(alloc: Global, fails: &[u64]) -> Result<MemoryFiles, AllocError> {
     let mut files = Vec::new(alloc);
-    for (name, bytes) in [
-        ("pier", PIER.to_vec(alloc)?),
-        ("pier", b"hidden".to_vec(alloc)?),
-        ("long", vec![in alloc; 7; 131_073]?),
-    ] {
-        files.push(NamedFile {
-            name: Text::from_str(alloc, name)?,
-            bytes: Bytes::from_vec(bytes),
-        })?;
-    }
+    add_file(alloc, &mut files, "pier", PIER.to_vec(alloc)?)?;
+    add_file(alloc, &mut files, "pier", b"hidden".to_vec(alloc)?)?;
+    add_file(alloc, &mut files, "long", vec![in alloc; 7; 131_073]?)?;
     Ok(MemoryFiles::new(files, fails.to_vec(alloc)?))
 }
 
@@ -48,113 +53,144 @@ fn read_steady(
     read_all(alloc, files, name, limit)
 }
 
+/// Returns the number of bytes of the file `name`.
+fn length_read<F: Files>(
+    alloc: Global,
+    files: &mut F,
+    name: &str,
+    limit: u64,
+) -> Result<usize, ReadAllFault> {
+    let name = Text::from_str(alloc, name)?;
+    let bytes = read_all(alloc, files, &name, limit)?;
+    Ok(bytes.as_slice().len())
+}
+
+/// A name, the limit, the call that fails, and the number of bytes or the fault.
+const MEMORY_FILES: &[(&str, u64, u64, Result<usize, ReadAllFault>)] = &[
+    ("pier", 10, 0, Ok(10)),
+    ("pier", 9, 0, Err(ReadAllFault::TooLong)),
+    ("quay", 10, 0, Err(ReadAllFault::Failed)),
+    ("long", 131_073, 0, Ok(131_073)),
+    ("long", 131_072, 0, Err(ReadAllFault::TooLong)),
+    ("pier", 10, 1, Err(ReadAllFault::Failed)),
+    ("pier", 10, 2, Err(ReadAllFault::Failed)),
+    ("pier", 10, 3, Err(ReadAllFault::Failed)),
+    ("pier", 10, 4, Ok(10)),
+    ("pier", 9, 3, Err(ReadAllFault::TooLong)),
+];
+
 #[test]
 fn a_file_is_read_whole_or_not_at_all(rt: HostRuntime) -> Result<(), Fail> {
-    let alloc = rt.alloc();
-    for (name, limit, failing, expected) in [
-        ("pier", 10, 0, Ok(10)),
-        ("pier", 9, 0, Err(ReadAllFault::TooLong)),
-        ("quay", 10, 0, Err(ReadAllFault::Failed)),
-        ("long", 131_073, 0, Ok(131_073)),
-        ("long", 131_072, 0, Err(ReadAllFault::TooLong)),
-        ("pier", 10, 1, Err(ReadAllFault::Failed)),
-        ("pier", 10, 2, Err(ReadAllFault::Failed)),
-        ("pier", 10, 3, Err(ReadAllFault::Failed)),
-        ("pier", 10, 4, Ok(10)),
-        ("pier", 9, 3, Err(ReadAllFault::TooLong)),
-    ] {
-        let mut files = folder(alloc, &[failing])?;
-        let name = Text::from_str(alloc, name)?;
-        let read = read_all(alloc, &mut files, &name, limit);
-        assert_eq!(rt;
-            read.map(|bytes| bytes.as_slice().len()),
-            expected,
-            "limit {limit}, call {failing} fails"
-        );
+    for (name, limit, failing, expected) in MEMORY_FILES {
+        let mut files = folder(rt.alloc(), &[*failing])?;
+        let read = length_read(rt.alloc(), &mut files, name, *limit);
+        assert!(rt; read == *expected, "limit {limit}, call {failing} fails");
     }
     Ok(())
 }
 
 #[test]
 fn the_bytes_of_steady_files_are_known(rt: HostRuntime) -> Result<(), Fail> {
-    let alloc = rt.alloc();
-    let mut files = folder(alloc, &[])?;
-    let name = Text::from_str(alloc, "pier")?;
-    let bytes = read_all(alloc, &mut files, &name, 10)?;
-    assert_eq!(rt; bytes.as_slice(), PIER.as_slice());
+    let mut files = folder(rt.alloc(), &[])?;
+    let name = Text::from_str(rt.alloc(), "pier")?;
+    let bytes = read_all(rt.alloc(), &mut files, &name, 10)?;
+    assert!(rt; bytes.as_slice() == PIER.as_slice());
+    Ok(())
+}
+
+/// Writes to `sink`, and returns the number of bytes sent if a call fails.
+fn count_sent(sink: &mut MemorySink) -> Option<u64> {
+    match write_all(sink, &PIER) {
+        Ok(()) => None,
+        Err(fault) => Some(fault.sent),
+    }
+}
+
+fn has_taken(sink: &MemorySink, count: u64) -> bool {
+    sink.bytes().len() as u64 == count && PIER.starts_with(sink.bytes())
+}
+
+/// The room of a sink, the call that fails, and the number of bytes sent before a failure.
+const SINKS: &[(u64, u64, Option<u64>)] = &[
+    (10, 0, None),
+    (10, 1, Some(0)),
+    (10, 2, Some(3)),
+    (10, 3, Some(6)),
+    (10, 4, Some(9)),
+    (10, 5, None),
+    (7, 0, Some(7)),
+    (0, 0, Some(0)),
+];
+
+#[test]
+fn a_failed_write_is_the_last(rt: HostRuntime) -> Result<(), Fail> {
+    for (room, failing, sent) in SINKS {
+        let fails = [*failing].to_vec(rt.alloc())?;
+        let mut sink = MemorySink::new(rt.alloc(), 3, *room, fails)?;
+        let found = count_sent(&mut sink);
+        assert!(rt; found == *sent, "room {room}, call {failing} fails");
+        assert!(rt; has_taken(&sink, sent.unwrap_or(10)), "room {room}");
+    }
     Ok(())
 }
 
 #[test]
-fn a_failed_write_is_the_last(rt: HostRuntime) -> Result<(), Fail> {
-    let alloc = rt.alloc();
-    for (room, failing, sent) in [
-        (10, 0, None),
-        (10, 1, Some(0)),
-        (10, 2, Some(3)),
-        (10, 3, Some(6)),
-        (10, 4, Some(9)),
-        (10, 5, None),
-        (7, 0, Some(7)),
-        (0, 0, Some(0)),
-    ] {
-        let mut sink = MemorySink::new(alloc, 3, room, [failing].to_vec(alloc)?)?;
-        let written = write_all(&mut sink, &PIER);
-        assert_eq!(rt;
-            written.err().map(|fault| fault.sent),
-            sent,
-            "room {room}, call {failing} fails"
-        );
-        let taken = sent.unwrap_or(10);
-        assert_eq!(rt; sink.bytes().len() as u64, taken);
-        assert!(rt; PIER.starts_with(sink.bytes()));
-    }
-    let mut closed = MemorySink::new(alloc, 1, 0, [1].to_vec(alloc)?)?;
-    assert_eq!(rt; write_all(&mut closed, &[]), Ok(()));
+fn an_empty_write_calls_nothing(rt: HostRuntime) -> Result<(), Fail> {
+    let fails = [1].to_vec(rt.alloc())?;
+    let mut closed = MemorySink::new(rt.alloc(), 1, 0, fails)?;
+    assert!(rt; write_all(&mut closed, &[]) == Ok(()));
     Ok(())
 }
 
 #[test]
 fn a_fixed_clock_fails_as_required(rt: HostRuntime) -> Result<(), Fail> {
     let mut clock = FixedClock::new(-10_000_000_000, [2].to_vec(rt.alloc())?);
-    assert_eq!(rt; clock.minute(), Ok(-10_000_000_000));
-    assert_eq!(rt; clock.minute(), Err(Failed));
-    assert_eq!(rt; clock.minute(), Ok(-10_000_000_000));
+    assert!(rt; clock.minute() == Ok(-10_000_000_000));
+    assert!(rt; clock.minute() == Err(Failed));
+    assert!(rt; clock.minute() == Ok(-10_000_000_000));
     Ok(())
 }
 
+/// A name, and the number of bytes or the fault.
+const MACHINE_FILES: &[(&str, Result<usize, ReadAllFault>)] = &[
+    ("/dev/null", Ok(0)),
+    ("/dev/zero", Err(ReadAllFault::TooLong)),
+    ("/", Err(ReadAllFault::Failed)),
+    ("/no/such/file", Err(ReadAllFault::Failed)),
+];
+
 #[test]
 fn the_files_of_the_machine_are_read(rt: HostRuntime) -> Result<(), Fail> {
-    let alloc = rt.alloc();
     let mut files = HostFiles::new(rt.clone()?);
-    for (name, expected) in [
-        ("/dev/null", Ok(0)),
-        ("/dev/zero", Err(ReadAllFault::TooLong)),
-        ("/", Err(ReadAllFault::Failed)),
-        ("/no/such/file", Err(ReadAllFault::Failed)),
-    ] {
-        let name = Text::from_str(alloc, name)?;
-        let read = read_all(alloc, &mut files, &name, 1_000_000);
-        assert_eq!(rt; read.map(|bytes| bytes.as_slice().len()), expected);
+    for (name, expected) in MACHINE_FILES {
+        let read = length_read(rt.alloc(), &mut files, name, 1_000_000);
+        assert!(rt; read == *expected, "{name}");
     }
     Ok(())
 }
 
 #[test]
-fn a_closed_pipe_and_a_full_disk_fail(rt: HostRuntime) -> Result<(), Fail> {
+fn a_closed_pipe_fails(rt: HostRuntime) -> Result<(), Fail> {
     let (reader, writer) = io::pipe(&rt)?;
     let mut pipe = HostSink::new(writer);
-    assert_eq!(rt; write_all(&mut pipe, &PIER), Ok(()));
+    assert!(rt; write_all(&mut pipe, &PIER) == Ok(()));
     drop(reader);
-    assert_eq!(rt; write_all(&mut pipe, &PIER), Err(WriteFailed { sent: 0 }));
-    let full = OpenOptions::new().write(true).open(&rt, "/dev/full")?;
-    assert_eq!(rt;
-        write_all(&mut HostSink::new(full), &PIER),
-        Err(WriteFailed { sent: 0 })
-    );
-    assert_eq!(rt; write_all(&mut HostSink::new(rt.stdout()), b"\n"), Ok(()));
-    assert_eq!(rt; write_all(&mut HostSink::new(rt.stderr()), b"\n"), Ok(()));
+    assert!(rt; write_all(&mut pipe, &PIER) == Err(WriteFailed { sent: 0 }));
     Ok(())
+}
+
+#[test]
+fn a_full_disk_fails(rt: HostRuntime) -> Result<(), Fail> {
+    let full = OpenOptions::new().write(true).open(&rt, "/dev/full")?;
+    let mut full = HostSink::new(full);
+    assert!(rt; write_all(&mut full, &PIER) == Err(WriteFailed { sent: 0 }));
+    Ok(())
+}
+
+#[test]
+fn the_streams_of_the_machine_are_written(rt: HostRuntime) {
+    assert!(rt; write_all(&mut HostSink::new(rt.stdout()), b"\n") == Ok(()));
+    assert!(rt; write_all(&mut HostSink::new(rt.stderr()), b"\n") == Ok(()));
 }
 
 #[test]
@@ -197,9 +233,21 @@ fn requests(alloc: Global) -> Result<Vec<Vec<Bytes>>, AllocError>
     Ok(requests)
 }
 
+/// Returns the outcomes of three connections.
+fn echo_thrice<D: Door>(door: &mut D) -> [Result<bool, Failed>; 3]
+    requires listens { IsTrue (D.state door.old).doorway.listens }
+    requires none_open { (D.state door.old).doorway.is_open ≡ false }
+{
+    [echo(door), echo(door), echo(door)]
+}
+
+fn has_reply(door: &MemoryDoor, i: u64, text: &str) -> bool {
+    door.reply(i).is_some_and(|reply| reply == text.as_bytes())
+}
+
 /// The room for replies, the call that fails, the outcomes of three connections, and the first
 /// reply.
-const DOORS: [(u64, u64, [Result<bool, Failed>; 3], &str); 7] = [
+const DOORS: &[(u64, u64, [Result<bool, Failed>; 3], &str)] = &[
     (4, 0, [Ok(true), Ok(true), Ok(false)], "pier"),
     (4, 2, [Err(Failed), Ok(true), Ok(true)], "pier"),
     (4, 3, [Err(Failed), Ok(true), Ok(false)], ""),
@@ -211,34 +259,44 @@ const DOORS: [(u64, u64, [Result<bool, Failed>; 3], &str); 7] = [
 
 #[test]
 fn a_door_in_memory_fails_as_required(rt: HostRuntime) -> Result<(), Fail> {
-    let alloc = rt.alloc();
-    for (room, failing, expected, first) in &DOORS {
-        let mut door = MemoryDoor::new(alloc, requests(alloc)?, *room, [*failing].to_vec(alloc)?)?;
-        assert_eq!(rt; door.listen(80), Ok(()));
-        let outcomes = [echo(&mut door), echo(&mut door), echo(&mut door)];
-        assert_eq!(rt; outcomes, *expected, "room {room}, call {failing} fails");
-        assert_eq!(rt; door.reply(0), Some(first.as_bytes()));
-        assert_eq!(rt; door.reply(1), Some(b"".as_slice()));
-        assert_eq!(rt; door.reply(2), None);
+    for (room, failing, expected, first) in DOORS {
+        let fails = [*failing].to_vec(rt.alloc())?;
+        let mut door = MemoryDoor::new(rt.alloc(), requests(rt.alloc())?, *room, fails)?;
+        assert!(rt; door.listen(80) == Ok(()));
+        let outcomes = echo_thrice(&mut door);
+        assert!(rt; outcomes == *expected, "room {room}, call {failing} fails");
+        assert!(rt; has_reply(&door, 0, first) && has_reply(&door, 1, ""));
+        assert!(rt; door.reply(2) == None);
     }
-    let mut shut = MemoryDoor::new(alloc, Vec::new(alloc), 0, [1].to_vec(alloc)?)?;
-    assert_eq!(rt; shut.listen(80), Err(Failed));
     Ok(())
 }
 
 #[test]
+fn a_shut_door_fails(rt: HostRuntime) -> Result<(), Fail> {
+    let fails = [1].to_vec(rt.alloc())?;
+    let mut shut = MemoryDoor::new(rt.alloc(), Vec::new(rt.alloc()), 0, fails)?;
+    assert!(rt; shut.listen(80) == Err(Failed));
+    Ok(())
+}
+
+/// Returns the bytes that are left of `peer`.
+fn rest_of<P: Read>(alloc: Global, peer: &mut P) -> Result<Bytes, Fail> {
+    let mut answer = Vec::new(alloc);
+    peer.read_to_end(&mut answer)?;
+    Ok(Bytes::from_vec(answer))
+}
+
+#[test]
 fn a_port_of_the_machine_takes_a_connection(rt: HostRuntime) -> Result<(), Fail> {
-    let alloc = rt.alloc();
     for port in 47_100..47_200 {
         let mut door = HostDoor::new(rt.clone()?);
         if door.listen(port).is_ok() {
-            assert_eq!(rt; HostDoor::new(rt.clone()?).listen(port), Err(Failed));
+            assert!(rt; HostDoor::new(rt.clone()?).listen(port) == Err(Failed));
             let mut peer = TcpStream::connect(&rt, (Ipv4Addr::LOCALHOST, port))?;
             peer.write_all(b"pier")?;
-            assert_eq!(rt; echo(&mut door), Ok(true));
-            let mut answer = Vec::new(alloc);
-            peer.read_to_end(&mut answer)?;
-            assert_eq!(rt; answer.as_slice(), b"pier".as_slice());
+            assert!(rt; echo(&mut door) == Ok(true));
+            let answer = rest_of(rt.alloc(), &mut peer)?;
+            assert!(rt; answer.as_slice() == b"pier".as_slice());
             return Ok(());
         }
     }

@@ -1,13 +1,14 @@
 //! Files of harmonic constants, and the faults of others.
 
-ghost use Rattle.std.specs.Prelude.{◌<◌, ◌≤◌, length};
+ghost use Rattle.std.specs.Prelude.{◌<◌, ◌≤◌, ◌+◌, length};
 ghost use Rattle.decimal_text.specs.declared.limits.TheConstants.{MOST_BYTES};
 
 use crate::texts::{PIER, changed};
 use decimal_text::{MOST_BYTES, Text};
-use harmonics_book::{Book, Constituent, Constituents, Stations, Units};
+use harmonics_book::{Book, Constituent, Constituents, Station, Stations, Units};
 use harmonics_text::{BookFault, BookReader, Why, read_book, worked_files, worked_lines};
 use std::alloc::{AllocError, Global};
+use std::process::Abort;
 use std::test::Fail;
 
 /// Returns the line and the number of the fault of `bytes`, or two zeros if they are a harmonics
@@ -24,22 +25,23 @@ fn fault(alloc: Global, bytes: &[u8]) -> (u32, u32) {
 }
 
 #[test]
-fn the_pier_is_read(rt: HostRuntime) -> Result<(), Fail> {
-    let book = read_book(rt.alloc(), PIER.as_bytes())
-        .ok()
-        .ok_or("the file has a book")?;
-    assert_eq!(rt; book.first_year, 1999);
-    assert_eq!(rt; book.years, 3);
-    assert_eq!(rt; book.angles.as_slice(), [0, 0, 0].as_slice());
-    assert_eq!(rt;
-        book.factors.as_slice(),
-        [1_000_000, 1_000_000, 1_000_000].as_slice()
-    );
+fn the_years_of_the_pier_are_read(rt: HostRuntime) -> Result<(), Fail> {
+    let book = read_book(rt.alloc(), PIER.as_bytes())?;
+    assert!(rt; book.first_year == 1999);
+    assert!(rt; book.years == 3);
+    assert!(rt; book.angles.as_slice() == [0, 0, 0].as_slice());
+    assert!(rt; book.factors.as_slice() == [1_000_000, 1_000_000, 1_000_000].as_slice());
+    Ok(())
+}
+
+#[test]
+fn the_constituent_of_the_pier_is_read(rt: HostRuntime) -> Result<(), Fail> {
+    let book = read_book(rt.alloc(), PIER.as_bytes())?;
     for constituent in book.constituents.as_slice() {
-        assert_eq!(rt; constituent.name.as_str(), "S2");
-        assert_eq!(rt; constituent.speed, 300_000_000);
+        assert!(rt; constituent.name.as_str() == "S2");
+        assert!(rt; constituent.speed == 300_000_000);
     }
-    assert_eq!(rt; book.stations.as_slice().len(), 1);
+    assert!(rt; book.stations.as_slice().len() == 1);
     Ok(())
 }
 
@@ -55,32 +57,34 @@ const ELEVEN_YEARS: &str =
 
 #[test]
 fn a_file_as_people_write_it(rt: HostRuntime) -> Result<(), Fail> {
-    let book = read_book(rt.alloc(), &REAL)
-        .ok()
-        .ok_or("the file has a book")?;
-    assert_eq!(rt; book.constituents.as_slice().len(), 2);
-    assert_eq!(rt; book.angles.as_slice(), [1_205_000_000, 0].as_slice());
-    assert_eq!(rt; book.factors.as_slice(), [985_000, 1_000_000].as_slice());
+    let book = read_book(rt.alloc(), &REAL)?;
+    assert!(rt; book.constituents.as_slice().len() == 2);
+    assert!(rt; book.angles.as_slice() == [1_205_000_000, 0].as_slice());
+    assert!(rt; book.factors.as_slice() == [985_000, 1_000_000].as_slice());
+    Ok(())
+}
+
+#[test]
+fn a_station_as_people_write_it(rt: HostRuntime) -> Result<(), Fail> {
+    let book = read_book(rt.alloc(), &REAL)?;
     for station in book.stations.as_slice() {
-        assert_eq!(rt; station.name.as_str(), "Port\u{e9}, Bay");
-        assert_eq!(rt; station.meridian, -300);
-        assert_eq!(rt; station.zone.as_str(), "America/New_York");
-        assert_eq!(rt; station.datum, 2_500_000);
-        assert_eq!(rt; station.units, Units::Feet);
-        assert_eq!(rt;
-            station.amplitude.as_slice(),
-            [1_234_000, 400_000].as_slice()
-        );
-        assert_eq!(rt;
-            station.epoch.as_slice(),
-            [450_000_000, 3_000_000_000].as_slice()
-        );
+        check_head(&rt, station);
+        assert!(rt; station.amplitude.as_slice() == [1_234_000, 400_000].as_slice());
+        assert!(rt; station.epoch.as_slice() == [450_000_000, 3_000_000_000].as_slice());
     }
     Ok(())
 }
 
+fn check_head(rt: &impl Abort, station: &Station) {
+    assert!(rt; station.name.as_str() == "Port\u{e9}, Bay");
+    assert!(rt; station.meridian == -300);
+    assert!(rt; station.zone.as_str() == "America/New_York");
+    assert!(rt; station.datum == 2_500_000);
+    assert!(rt; station.units == Units::Feet);
+}
+
 /// The number of a line, its text, and the line and the number of the fault.
-const CHANGES: [(usize, &str, u32, u32); 43] = [
+const CHANGES: &[(usize, &str, u32, u32)] = &[
     (2, "2", 4, 3),
     (2, "0000000001", 2, 1),
     (2, "000000001", 0, 0),
@@ -126,15 +130,31 @@ const CHANGES: [(usize, &str, u32, u32); 43] = [
     (16, "# S2 1 0", 17, 11),
 ];
 
+/// Returns the line and the number of the fault of the pier with `text` in place of line `line`.
+fn fault_of_change(alloc: Global, line: usize, text: &str) -> Result<(u32, u32), AllocError> {
+    let file = changed(alloc, PIER, line, text)?;
+    Ok(fault(alloc, file.as_bytes()))
+}
+
 #[test]
 fn changes_of_a_line(rt: HostRuntime) -> Result<(), Fail> {
-    for (line, text, at, number) in &CHANGES {
-        let file = changed(rt.alloc(), PIER, *line, text)?;
-        assert_eq!(rt;
-            fault(rt.alloc(), file.as_bytes()),
-            (*at, *number),
-            "line {line}: {text}"
-        );
+    for (line, text, at, number) in CHANGES {
+        let found = fault_of_change(rt.alloc(), *line, text)?;
+        assert!(rt; found == (*at, *number), "line {line}: {text}");
+    }
+    Ok(())
+}
+
+/// Passes `bytes` to `reader` in pieces of `count` bytes.
+fn feed_pieces(reader: &mut BookReader, bytes: &[u8], count: usize) -> Result<(), BookFault>
+    requires count_bound { length reader.old.bytes + length bytes.now ≤ MOST_BYTES }
+    requires some { 0 < count }
+{
+    let mut rest = bytes;
+    'pieces: while !rest.is_empty() {
+        let (piece, after) = rest.split_at(count.min(rest.len()));
+        reader.feed(piece)?;
+        rest = after;
     }
     Ok(())
 }
@@ -145,13 +165,8 @@ fn read_in_pieces(alloc: Global, bytes: &[u8], count: usize) -> Result<Book, Boo
     requires some { 0 < count }
 {
     let mut reader = BookReader::new(alloc)?;
-    let mut rest = bytes;
-    'pieces: while !rest.is_empty() {
-        let (piece, after) = rest.split_at(count.min(rest.len()));
-        reader.feed(piece)?;
-        rest = after;
-    }
-    reader.finish()
+    let fed = feed_pieces(&mut reader, bytes, count);
+    fed.and(reader.finish())
 }
 
 /// Returns the harmonic constants of `bytes`, fed in pieces of `count` bytes, as text, or their
@@ -163,33 +178,40 @@ pub fn printed_in_pieces(alloc: Global, bytes: &[u8], count: usize) -> Result<St
     format!(in alloc; "{:?}", read_in_pieces(alloc, bytes, count))
 }
 
+/// Returns true if `file` is read in pieces of 1 and of 7 bytes as it is read whole.
+fn may_be_cut(alloc: Global, file: &[u8]) -> Result<bool, AllocError> {
+    let whole = printed_in_pieces(alloc, file, file.len())?;
+    Ok(
+        printed_in_pieces(alloc, file, 1)?.as_str() == whole.as_str()
+            && printed_in_pieces(alloc, file, 7)?.as_str() == whole.as_str(),
+    )
+}
+
 #[test]
 fn a_file_may_be_cut_anywhere(rt: HostRuntime) -> Result<(), Fail> {
-    let alloc = rt.alloc();
     for file in [PIER.as_bytes(), REAL.as_slice(), ELEVEN_YEARS.as_bytes()] {
-        let whole = printed_in_pieces(alloc, file, file.len())?;
+        let whole = printed_in_pieces(rt.alloc(), file, file.len())?;
         assert!(rt; whole.starts_with("Ok("));
-        for count in [1, 7] {
-            assert_eq!(rt;
-                printed_in_pieces(alloc, file, count)?.as_str(),
-                whole.as_str()
-            );
-        }
+        assert!(rt; may_be_cut(rt.alloc(), file)?);
     }
-    for (line, text, _, _) in &CHANGES {
-        let file = changed(alloc, PIER, *line, text)?;
-        let whole = printed_in_pieces(alloc, file.as_bytes(), file.len())?;
-        for count in [1, 7] {
-            let printed = printed_in_pieces(alloc, file.as_bytes(), count)?;
-            assert_eq!(rt; printed.as_str(), whole.as_str(), "line {line}: {text}");
-        }
+    Ok(())
+}
+
+#[test]
+fn a_changed_file_may_be_cut_anywhere(rt: HostRuntime) -> Result<(), Fail> {
+    for (line, text, _, _) in CHANGES {
+        let file = changed(rt.alloc(), PIER, *line, text)?;
+        assert!(rt;
+            may_be_cut(rt.alloc(), file.as_bytes())?,
+            "line {line}: {text}"
+        );
     }
     Ok(())
 }
 
 /// The number of a line, the text before that many letters, their number, the text after them, and
 /// the line and the number of the fault.
-const LETTERS: [(usize, &str, u32, &str, u32, u32); 10] = [
+const LETTERS: &[(usize, &str, u32, &str, u32, u32)] = &[
     (3, "", 32, "", 3, 3),
     (3, "", 33, "", 3, 2),
     (13, "", 200, "", 0, 0),
@@ -202,66 +224,91 @@ const LETTERS: [(usize, &str, u32, &str, u32, u32); 10] = [
     (14, "0:00 :", 100, "", 14, 9),
 ];
 
+/// Returns `count` letters between `before` and `behind`.
+fn with_letters(
+    alloc: Global,
+    before: &str,
+    count: u32,
+    behind: &str,
+) -> Result<String, AllocError> {
+    let mut text = String::from_str(alloc, before)?;
+    for _ in 0..count {
+        text.push_str("a")?;
+    }
+    text.push_str(behind)?;
+    Ok(text)
+}
+
 #[test]
 fn long_lines(rt: HostRuntime) -> Result<(), Fail> {
-    for (line, before, count, behind, at, number) in &LETTERS {
-        let mut text = String::from_str(rt.alloc(), before)?;
-        for _ in 0..*count {
-            text.push_str("a")?;
-        }
-        text.push_str(behind)?;
-        let file = changed(rt.alloc(), PIER, *line, text.as_str())?;
-        assert_eq!(rt;
-            fault(rt.alloc(), file.as_bytes()),
-            (*at, *number),
-            "line {line}: {count} letters"
-        );
+    for (line, before, count, behind, at, number) in LETTERS {
+        let text = with_letters(rt.alloc(), before, *count, behind)?;
+        let found = fault_of_change(rt.alloc(), *line, text.as_str())?;
+        assert!(rt; found == (*at, *number), "line {line}: {count} letters");
     }
     Ok(())
 }
 
-#[test]
-fn many_stations(rt: HostRuntime) -> Result<(), Fail> {
-    let mut file = String::from_str(rt.alloc(), PIER)?;
-    for _ in 1..20_000u32 {
+/// Returns a file with `count` stations.
+fn stations(alloc: Global, count: u32) -> Result<String, AllocError> {
+    let mut file = String::from_str(alloc, PIER)?;
+    for _ in 1..count {
         file.push_str("Pier\n0:00 :UTC\n0 feet\nS2 1 0\n")?;
     }
-    assert_eq!(rt; fault(rt.alloc(), file.as_bytes()), (0, 0));
+    Ok(file)
+}
+
+#[test]
+fn many_stations(rt: HostRuntime) -> Result<(), Fail> {
+    let mut file = stations(rt.alloc(), 20_000)?;
+    assert!(rt; fault(rt.alloc(), file.as_bytes()) == (0, 0));
     file.push_str("Pier\n")?;
-    assert_eq!(rt; fault(rt.alloc(), file.as_bytes()), (80_013, 12));
+    assert!(rt; fault(rt.alloc(), file.as_bytes()) == (80_013, 12));
     Ok(())
 }
 
 #[test]
 fn lists_of_vectors(rt: HostRuntime) -> Result<(), Fail> {
-    let alloc = rt.alloc();
-    let mut items = Vec::new(alloc);
-    items.push(Constituent {
-        name: Text::from_str(alloc, "M2")?,
-        speed: 289_841_042,
-    })?;
-    assert_eq!(rt; Constituents::from_vec(items).as_slice().len(), 1);
-    assert!(rt; Stations::from_vec(Vec::new(alloc)).as_slice().is_empty());
+    let name = Text::from_str(rt.alloc(), "M2")?;
+    let speed = 289_841_042;
+    let items = vec![in rt.alloc(); Constituent { name, speed }]?;
+    assert!(rt; Constituents::from_vec(items).as_slice().len() == 1);
+    assert!(rt;
+        Stations::from_vec(Vec::new(rt.alloc()))
+            .as_slice()
+            .is_empty()
+    );
     Ok(())
 }
 
 #[test]
 fn prefixes(rt: HostRuntime) {
     let pier = PIER.as_bytes();
-    assert_eq!(rt; pier.len(), 96);
-    assert_eq!(rt; fault(rt.alloc(), b""), (1, 11));
     for end in 0..97usize {
         let whole = end == 66 || end == 67 || end == 95 || end == 96;
         let (front, _) = pier.split_at(end.min(pier.len()));
-        assert_eq!(rt; fault(rt.alloc(), front) == (0, 0), whole, "{end} bytes");
+        assert!(rt;
+            (fault(rt.alloc(), front) == (0, 0)) == whole,
+            "{end} bytes"
+        );
     }
 }
 
 #[test]
+fn the_pier_and_an_empty_file_have_their_length(rt: HostRuntime) {
+    assert!(rt; PIER.len() == 96);
+    assert!(rt; fault(rt.alloc(), b"") == (1, 11));
+}
+
+#[test]
 fn reasons_in_words(rt: HostRuntime) {
-    assert_eq!(rt; Why::BadCount.text(), "bad count");
-    assert_eq!(rt; Why::LineTooLong.text(), "line too long");
-    assert_eq!(rt; Why::LineTooLong.number(), 13);
+    assert!(rt; Why::BadCount.text() == "bad count");
+    assert!(rt; Why::LineTooLong.text() == "line too long");
+    assert!(rt; Why::LineTooLong.number() == 13);
+}
+
+#[test]
+fn worked_rows_stand(_rt: HostRuntime) {
     worked_lines();
     worked_files();
 }

@@ -1,5 +1,8 @@
 //! Harmonic constants, loaded from files in memory.
 
+ghost use Rattle.std.specs.Prelude.{◌≤◌};
+ghost use Rattle.decimal_text.specs.declared.limits.TheConstants.{MOST_BYTES};
+
 use book_loading::{LoadFault, load_book};
 use decimal_text::{Bytes, MOST_BYTES, Text};
 use harmonics_text::{BookFault, Why};
@@ -17,50 +20,71 @@ const FAULT: LoadFault = LoadFault::Book(BookFault::At {
     why: Why::BadNumber,
 });
 
-/// Returns a folder with the file `pier`, a bad one, and one of three pieces.
-fn folder(alloc: Global, failing: u64) -> Result<MemoryFiles, AllocError> {
+/// Appends the file `name` to `files`.
+fn add_file(
+    alloc: Global,
+    files: &mut Vec<NamedFile>,
+    name: &str,
+    bytes: Vec<u8>,
+) -> Result<(), AllocError> {
+    let name = Text::from_str(alloc, name)?;
+    let bytes = Bytes::from_vec(bytes);
+    Ok(files.push(NamedFile { name, bytes })?)
+}
+
+/// Returns the harmonics file after a long comment.
+fn long_file(alloc: Global) -> Result<Vec<u8>, AllocError> {
     let mut long = vec![in alloc; b'#'; 131_072]?;
     long.push(b'\n')?;
     long.extend_from_slice(PIER)?;
+    Ok(long)
+}
+
+/// Returns a folder with the file `pier`, a bad one, and one of three pieces.
+fn folder(alloc: Global, failing: u64) -> Result<MemoryFiles, AllocError> {
     let mut files = Vec::new(alloc);
-    for (name, bytes) in [
-        ("pier", PIER.to_vec(alloc)?),
-        ("bad", BAD.to_vec(alloc)?),
-        ("long", long),
-    ] {
-        files.push(NamedFile {
-            name: Text::from_str(alloc, name)?,
-            bytes: Bytes::from_vec(bytes),
-        })?;
-    }
+    add_file(alloc, &mut files, "pier", PIER.to_vec(alloc)?)?;
+    add_file(alloc, &mut files, "bad", BAD.to_vec(alloc)?)?;
+    add_file(alloc, &mut files, "long", long_file(alloc)?)?;
     Ok(MemoryFiles::new(files, [failing].to_vec(alloc)?))
 }
 
+/// Returns the number of stations of the file `name`.
+fn stations_loaded(
+    alloc: Global,
+    files: &mut MemoryFiles,
+    name: &str,
+    limit: u64,
+) -> Result<usize, LoadFault>
+    requires { limit ≤ MOST_BYTES }
+{
+    let name = Text::from_str(alloc, name)?;
+    let book = load_book(alloc, files, &name, limit)?;
+    Ok(book.stations.as_slice().len())
+}
+
+/// A file, a limit, the call that fails, and the number of stations or the fault.
+const LOADINGS: &[(&str, u64, u64, Result<usize, LoadFault>)] = &[
+    ("pier", MOST_BYTES as u64, 0, Ok(1)),
+    ("pier", 10, 0, Err(LoadFault::TooLong)),
+    ("quay", 10, 0, Err(LoadFault::Failed)),
+    ("long", 140_000, 0, Ok(1)),
+    ("long", 131_072, 0, Err(LoadFault::TooLong)),
+    ("long", 140_000, 4, Err(LoadFault::Failed)),
+    ("bad", 15, 0, Err(FAULT)),
+    ("bad", 14, 0, Err(LoadFault::TooLong)),
+    ("bad", 15, 1, Err(LoadFault::Failed)),
+    ("bad", 15, 3, Err(LoadFault::Failed)),
+    ("bad", 15, 4, Err(FAULT)),
+];
+
 #[test]
 fn a_book_is_loaded_in_pieces(rt: HostRuntime) -> Result<(), Fail> {
-    let alloc = rt.alloc();
-    // a file, a limit, the call that fails, and the number of stations
-    for (name, limit, failing, expected) in [
-        ("pier", MOST_BYTES as u64, 0, Ok(1)),
-        ("pier", 10, 0, Err(LoadFault::TooLong)),
-        ("quay", 10, 0, Err(LoadFault::Failed)),
-        ("long", 140_000, 0, Ok(1)),
-        ("long", 131_072, 0, Err(LoadFault::TooLong)),
-        ("long", 140_000, 4, Err(LoadFault::Failed)),
-        ("bad", 15, 0, Err(FAULT)),
-        ("bad", 14, 0, Err(LoadFault::TooLong)),
-        ("bad", 15, 1, Err(LoadFault::Failed)),
-        ("bad", 15, 3, Err(LoadFault::Failed)),
-        ("bad", 15, 4, Err(FAULT)),
-    ] {
-        let mut files = folder(alloc, failing)?;
-        let name = Text::from_str(alloc, name)?;
-        let loaded = load_book(alloc, &mut files, &name, limit);
-        assert_eq!(rt;
-            loaded.map(|book| book.stations.as_slice().len()),
-            expected,
-            "limit {limit}, call {failing} fails"
-        );
+    for (name, limit, failing, expected) in LOADINGS {
+        assert!(rt; *limit <= MOST_BYTES as u64);
+        let mut files = folder(rt.alloc(), *failing)?;
+        let loaded = stations_loaded(rt.alloc(), &mut files, name, *limit);
+        assert!(rt; loaded == *expected, "limit {limit}, call {failing} fails");
     }
     Ok(())
 }

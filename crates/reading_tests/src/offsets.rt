@@ -4,10 +4,11 @@ use crate::texts::PIER;
 use decimal_text::{MOST_BYTES, Text};
 use harmonics_text::read_book;
 use station_table::{
-    Basis, FindFault, Offset, OffsetFault, OffsetTable, OffsetWhy, Slack, find, read_offsets,
-    worked_bases, worked_fields, worked_rows, worked_tables,
+    Basis, FindFault, Offset, OffsetFault, OffsetTable, OffsetWhy, Offsets, Slack, find,
+    read_offsets, worked_bases, worked_fields, worked_rows, worked_tables,
 };
 use std::alloc::{AllocError, Global};
+use std::process::Abort;
 use std::test::Fail;
 
 const PLAIN: &[u8] = b"name,reference,high_add,low_add,high_times,low_times,high_plus,low_plus";
@@ -40,53 +41,60 @@ fn joined(alloc: Global, pieces: &[&[u8]]) -> Result<Vec<u8>, AllocError> {
     Ok(text)
 }
 
+/// Returns the row and the number of the fault of the text of `pieces`.
+fn fault_of_pieces(alloc: Global, pieces: &[&[u8]]) -> Result<(u32, u32), AllocError> {
+    let text = joined(alloc, pieces)?;
+    Ok(fault(alloc, text.as_slice()))
+}
+
 #[test]
 fn rows_are_read(rt: HostRuntime) -> Result<(), Fail> {
-    let alloc = rt.alloc();
-    let table = read_offsets(alloc, DOCKS).ok().ok_or("a table")?;
+    let table = read_offsets(rt.alloc(), DOCKS)?;
     let rows = table.as_slice();
-    assert_eq!(rt; rows.len(), 5);
-    assert_eq!(rt; rows[0].name.as_str(), "Dock");
-    assert_eq!(rt; rows[0].reference.as_str(), "Pier");
-    assert_eq!(rt;
-        rows[0].high,
-        Offset {
-            add: 30,
-            times: 1_100_000,
-            plus: 100_000
-        }
-    );
-    assert_eq!(rt;
-        rows[0].low,
-        Offset {
-            add: -10,
-            times: 900_000,
-            plus: 0
-        }
-    );
-    assert_eq!(rt; rows[0].slack, None);
-    assert_eq!(rt; rows[1].name.as_str(), "Outer, east");
-    assert_eq!(rt; rows[1].high, Offset::USUAL);
-    assert_eq!(rt; OffsetTable::new(alloc).as_slice().len(), 0);
+    assert!(rt; rows.len() == 5);
+    check_dock(&rt, &rows[0]);
+    assert!(rt; rows[1].name.as_str() == "Outer, east");
+    assert!(rt; rows[1].high == Offset::USUAL);
     Ok(())
+}
+
+fn check_dock(rt: &impl Abort, dock: &Offsets) {
+    let high = Offset {
+        add: 30,
+        times: 1_100_000,
+        plus: 100_000,
+    };
+    let low = Offset {
+        add: -10,
+        times: 900_000,
+        plus: 0,
+    };
+    assert!(rt; dock.name.as_str() == "Dock");
+    assert!(rt; dock.reference.as_str() == "Pier");
+    assert!(rt; dock.high == high);
+    assert!(rt; dock.low == low);
+    assert!(rt; dock.slack == None);
+}
+
+#[test]
+fn a_new_table_is_empty(rt: HostRuntime) {
+    assert!(rt; OffsetTable::new(rt.alloc()).as_slice().len() == 0);
 }
 
 #[test]
 fn slack_times_are_read(rt: HostRuntime) -> Result<(), Fail> {
-    let table = read_offsets(rt.alloc(), GATES).ok().ok_or("a table")?;
+    let table = read_offsets(rt.alloc(), GATES)?;
     let rows = table.as_slice();
-    assert_eq!(rt; rows.len(), 2);
-    let own = Slack {
-        flood_add: 5,
-        ebb_add: -1440,
-    };
-    assert_eq!(rt; rows[0].slack, Some(own));
-    assert_eq!(rt; rows[1].slack, None);
+    assert!(rt; rows.len() == 2);
+    let flood_add = 5;
+    let ebb_add = -1440;
+    assert!(rt; rows[0].slack == Some(Slack { flood_add, ebb_add }));
+    assert!(rt; rows[1].slack == None);
     Ok(())
 }
 
 /// The text after the header without slacks, and the row and the number of the fault.
-const FILES: [(&[u8], u32, u32); 13] = [
+const FILES: &[(&[u8], u32, u32)] = &[
     (b"", 0, 0),
     (b",flood_add,ebb_add", 0, 0),
     (b",flood_add", 1, 1),
@@ -104,20 +112,22 @@ const FILES: [(&[u8], u32, u32); 13] = [
 
 #[test]
 fn files_are_refused(rt: HostRuntime) -> Result<(), Fail> {
-    let alloc = rt.alloc();
     for (end, row, number) in FILES {
-        let text = joined(alloc, &[PLAIN, end])?;
-        let found = fault(alloc, text.as_slice());
-        assert!(rt; found == (row, number), "{end:?} gives {found:?}");
-    }
-    for text in [b"".as_slice(), b"\n\r\n", b"name"] {
-        assert_eq!(rt; fault(alloc, text), (1, 1));
+        let found = fault_of_pieces(rt.alloc(), &[PLAIN, end])?;
+        assert!(rt; found == (*row, *number), "{end:?} gives {found:?}");
     }
     Ok(())
 }
 
+#[test]
+fn other_headers_are_refused(rt: HostRuntime) {
+    for text in [b"".as_slice(), b"\n\r\n", b"name"] {
+        assert!(rt; fault(rt.alloc(), text) == (1, 1), "{text:?}");
+    }
+}
+
 /// The text before a field and after it, the field, and the number of the fault.
-const FIELDS: [(&[u8], &[u8], &[u8], u32); 50] = [
+const FIELDS: &[(&[u8], &[u8], &[u8], u32)] = &[
     (b"", b"a", b",Pier,,,,,,,,", 0),
     (b"", b"", b",Pier,,,,,,,,", 7),
     (b"", b"\x1f", b",Pier,,,,,,,,", 7),
@@ -170,17 +180,15 @@ const FIELDS: [(&[u8], &[u8], &[u8], u32); 50] = [
     (b"Gate,Pier,,,,,,,,", b"\xff", b"", 6),
 ];
 
+const OWN_SLACKS: &[u8] = b",flood_add,ebb_add\n";
+
 #[test]
 fn fields_are_read(rt: HostRuntime) -> Result<(), Fail> {
-    let alloc = rt.alloc();
     for (before, field, after, number) in FIELDS {
-        let text = joined(
-            alloc,
-            &[PLAIN, b",flood_add,ebb_add\n", before, field, after],
-        )?;
-        let found = fault(alloc, text.as_slice());
-        let row = if number == 0 { 0 } else { 2 };
-        assert!(rt; found == (row, number), "{field:?} gives {found:?}");
+        let pieces = [PLAIN, OWN_SLACKS, before, field, after];
+        let found = fault_of_pieces(rt.alloc(), &pieces)?;
+        let row = if *number == 0 { 0 } else { 2 };
+        assert!(rt; found == (row, *number), "{field:?} gives {found:?}");
     }
     Ok(())
 }
@@ -197,27 +205,32 @@ fn found(alloc: Global, name: &str) -> Result<Result<Basis, FindFault>, Fail> {
     Ok(find(&book, &table, &name))
 }
 
+/// A name, its row in the table, and the minutes added to high waters.
+const NAMES: &[(&str, Option<u32>, i32)] = &[
+    ("Pier", None, 0),
+    ("Dock", Some(0), 30),
+    ("Outer, east", Some(1), 0),
+];
+
 #[test]
 fn names_are_found(rt: HostRuntime) -> Result<(), Fail> {
-    let alloc = rt.alloc();
-    for (name, row, add) in [
-        ("Pier", None, 0),
-        ("Dock", Some(0), 30),
-        ("Outer, east", Some(1), 0),
-    ] {
-        let basis = found(alloc, name)?.ok().ok_or("a basis")?;
-        assert_eq!(rt; basis.station, 0);
-        assert_eq!(rt; basis.row, row);
-        assert_eq!(rt; basis.high.add, add);
-        assert_eq!(rt; basis.equal(), add == 0);
-        assert_eq!(rt; basis.plain(), add == 0);
+    for (name, row, add) in NAMES {
+        let basis = found(rt.alloc(), name)?.ok().ok_or("a basis")?;
+        assert!(rt; basis.station == 0, "{name}");
+        assert!(rt; basis.row == *row, "{name}");
+        assert!(rt; basis.high.add == *add, "{name}");
+        assert!(rt; basis.equal() == (*add == 0), "{name}");
+        assert!(rt; basis.plain() == (*add == 0), "{name}");
     }
-    assert_eq!(rt;
-        found(alloc, "Buoy")?,
-        Err(FindFault::NoReference { row: 4 })
-    );
-    assert_eq!(rt; found(alloc, "pier")?, Err(FindFault::NoStation));
-    assert_eq!(rt; OffsetWhy::NotUtf8.text(), "not UTF-8");
+    Ok(())
+}
+
+#[test]
+fn other_names_are_refused(rt: HostRuntime) -> Result<(), Fail> {
+    let lost = FindFault::NoReference { row: 4 };
+    assert!(rt; found(rt.alloc(), "Buoy")? == Err(lost));
+    assert!(rt; found(rt.alloc(), "pier")? == Err(FindFault::NoStation));
+    assert!(rt; OffsetWhy::NotUtf8.text() == "not UTF-8");
     Ok(())
 }
 

@@ -6,7 +6,7 @@ use highest_water::{
     PeakCell, PeakFault, peak_certificates_have_one_text, peak_readings_go_by_the_grammar,
     peak_texts_are_short, read_peak, worked_peak_readings, worked_peak_texts, write_peak,
 };
-use std::alloc::Global;
+use std::alloc::{AllocError, Global};
 use std::test::Fail;
 
 const PIER: &str =
@@ -27,7 +27,7 @@ fn fault(alloc: Global, bytes: &[u8]) -> u32 {
 }
 
 /// The number of a line, a text in its place, and the line of the fault: 0 if there is none.
-const CHANGED_LINES: [(usize, &str, u32); 44] = [
+const CHANGED_LINES: &[(usize, &str, u32)] = &[
     (1, "tide certificate 2", 1),
     (1, "peak certificate 2", 1),
     (1, "peak certificate 1 ", 1),
@@ -74,60 +74,88 @@ const CHANGED_LINES: [(usize, &str, u32); 44] = [
     (31, "Done", 31),
 ];
 
+/// Returns the line of the fault of the certificate with `other` in place of line `line`.
+fn fault_of_change(alloc: Global, line: usize, other: &str) -> Result<u32, AllocError> {
+    let text = changed(alloc, PIER, line, other)?;
+    Ok(fault(alloc, text.as_bytes()))
+}
+
 #[test]
 fn changed_lines_are_found(rt: HostRuntime) -> Result<(), Fail> {
-    let alloc = rt.alloc();
     for (line, other, at) in CHANGED_LINES {
-        let text = changed(alloc, PIER, line, other)?;
-        assert!(rt; fault(alloc, text.as_str().as_bytes()) == at, "{other}");
+        let found = fault_of_change(rt.alloc(), *line, other)?;
+        assert!(rt; found == *at, "line {line}: {other}");
     }
     Ok(())
 }
 
+/// The number of bytes that are left out at the end, and the line of the fault.
+const LEFT_OUT: &[(usize, u32)] = &[(0, 0), (1, 31), (4, 31), (5, 31), (6, 30), (PIER.len(), 1)];
+
 #[test]
-fn other_ends_are_found(rt: HostRuntime) -> Result<(), Fail> {
-    let alloc = rt.alloc();
+fn other_ends_are_found(rt: HostRuntime) {
     let bytes = PIER.as_bytes();
-    for (left_out, line) in [(0, 0), (1, 31), (4, 31), (5, 31), (6, 30), (bytes.len(), 1)] {
-        if left_out <= bytes.len() {
-            let front = bytes.split_at(bytes.len() - left_out).0;
-            assert!(rt; fault(alloc, front) == line, "{left_out}");
-        }
+    for (left_out, line) in LEFT_OUT {
+        assert!(rt; *left_out <= bytes.len());
+        let front = bytes.split_at(bytes.len() - *left_out).0;
+        assert!(rt; fault(rt.alloc(), front) == *line, "{left_out}");
     }
+}
+
+#[test]
+fn further_lines_are_found(rt: HostRuntime) -> Result<(), Fail> {
     for more in ["done\n", "m\n", "\n", "m"] {
-        let mut text = String::from_str(alloc, PIER)?;
+        let mut text = String::from_str(rt.alloc(), PIER)?;
         text.push_str(more)?;
-        assert!(rt; fault(alloc, text.as_str().as_bytes()) == 32, "{more}");
+        assert!(rt; fault(rt.alloc(), text.as_bytes()) == 32, "{more}");
     }
     Ok(())
 }
+
+/// Returns true if the certificate of `text` is written as `text`.
+fn is_rewritten(alloc: Global, text: &[u8]) -> Result<bool, Fail> {
+    if text.len() > MOST_BYTES {
+        return Ok(false);
+    }
+    let cert = read_peak(alloc, text)?;
+    let written = write_peak(alloc, &cert)?;
+    Ok(written.as_slice() == text)
+}
+
+/// The number of a line, and a text in its place.
+const OTHER_LINES: &[(usize, &str)] = &[
+    (0, ""),
+    (6, "value 0"),
+    (6, "value -9999999999999999999999999999999999999"),
+    (7, "u 1024"),
+];
 
 #[test]
 fn what_is_read_is_written(rt: HostRuntime) -> Result<(), Fail> {
-    let alloc = rt.alloc();
-    let least = "value -9999999999999999999999999999999999999";
-    for (line, other) in [(0, ""), (6, "value 0"), (6, least), (7, "u 1024")] {
-        let text = changed(alloc, PIER, line, other)?;
-        let bytes = text.as_str().as_bytes();
-        assert!(rt; bytes.len() < 1_000);
-        let cert = read_peak(alloc, bytes).ok().ok_or("it is a certificate")?;
-        assert!(rt; write_peak(alloc, &cert)?.as_slice() == bytes, "{other}");
+    for (line, other) in OTHER_LINES {
+        let text = changed(rt.alloc(), PIER, *line, other)?;
+        assert!(rt; is_rewritten(rt.alloc(), text.as_bytes())?, "{other}");
     }
-    let cert = read_peak(alloc, PIER.as_bytes())?;
-    assert_eq!(rt; cert.station.as_str(), "Pier");
-    assert_eq!(rt; (cert.begin, cert.end), (15_791_040, 15_791_104));
-    assert_eq!(rt; cert.peak.at, 15_791_040);
-    assert_eq!(rt; cert.peak.value, 4_147_200_000_000_000_000_000_000_000_000);
-    let cells = cert.peak.cells.as_slice();
-    assert_eq!(rt; cells.len(), 24);
-    assert_eq!(rt; cells[0], PeakCell::Single);
-    assert_eq!(rt; cells[23], PeakCell::Under(16));
     Ok(())
 }
 
 #[test]
-fn a_million_minutes_are_read_and_written(rt: HostRuntime) -> Result<(), Fail> {
-    let alloc = rt.alloc();
+fn a_certificate_has_its_values(rt: HostRuntime) -> Result<(), Fail> {
+    let cert = read_peak(rt.alloc(), PIER.as_bytes())?;
+    assert!(rt; cert.station.as_str() == "Pier");
+    assert!(rt; (cert.begin, cert.end) == (15_791_040, 15_791_104));
+    assert!(rt; cert.peak.at == 15_791_040);
+    assert!(rt; cert.peak.value == 4_147_200_000_000_000_000_000_000_000_000);
+    assert!(rt; are_the_cells(cert.peak.cells.as_slice()));
+    Ok(())
+}
+
+fn are_the_cells(cells: &[PeakCell]) -> bool {
+    cells.len() == 24 && cells[0] == PeakCell::Single && cells[23] == PeakCell::Under(16)
+}
+
+/// Returns the text of a certificate with a million cells.
+fn million_minutes(alloc: Global) -> Result<String, AllocError> {
     let mut text = String::from_str(
         alloc,
         "peak certificate 1\nstation Pier\nbegin 2000-01-10T00:00Z\nend 2001-12-04T10:40Z\nat 2000-01-10T00:00Z\nvalue -1\n",
@@ -136,11 +164,16 @@ fn a_million_minutes_are_read_and_written(rt: HostRuntime) -> Result<(), Fail> {
         text.push_str("m\n")?;
     }
     text.push_str("done\n")?;
+    Ok(text)
+}
+
+#[test]
+fn a_million_minutes_are_read_and_written(rt: HostRuntime) -> Result<(), Fail> {
+    let text = million_minutes(rt.alloc())?;
     assert!(rt; text.len() < 3_000_000);
-    let bytes = text.as_str().as_bytes();
-    let cert = read_peak(alloc, bytes).ok().ok_or("it is a certificate")?;
-    assert_eq!(rt; cert.peak.cells.as_slice().len(), 1_000_000);
-    assert!(rt; write_peak(alloc, &cert)?.as_slice() == bytes);
+    let cert = read_peak(rt.alloc(), text.as_bytes())?;
+    assert!(rt; cert.peak.cells.as_slice().len() == 1_000_000);
+    assert!(rt; write_peak(rt.alloc(), &cert)?.as_slice() == text.as_bytes());
     Ok(())
 }
 

@@ -7,6 +7,7 @@ use question::{
     worked_words,
 };
 use std::alloc::{AllocError, Global};
+use std::process::Abort;
 use std::test::Fail;
 
 // Arguments, separated by `|`, and their fault.
@@ -246,45 +247,64 @@ fn line(alloc: Global, words: &str) -> Result<Question, Fail> {
 }
 
 #[test]
-fn each_fault_is_reported(rt: HostRuntime) -> Result<(), Fail> {
-    let alloc = rt.alloc();
-    for &(words, fault) in LINES {
-        assert!(rt;
-            asked(alloc, Origin::Line, words)?.err() == fault,
-            "{words}"
-        );
+fn faults_of_command_lines_are_reported(rt: HostRuntime) -> Result<(), Fail> {
+    for (words, fault) in LINES {
+        let found = asked(rt.alloc(), Origin::Line, words)?.err();
+        assert!(rt; found == *fault, "{words}");
     }
-    for &(words, fault) in QUERIES {
-        assert!(rt;
-            asked(alloc, Origin::Query, words)?.err() == fault,
-            "{words}"
-        );
-    }
-    let none = pairs_of_words(alloc, &Words::from_vec(Vec::new(alloc)))?;
-    assert!(rt; read_question(alloc, &none).err() == Some(AskFault::NoCommand));
     Ok(())
 }
 
 #[test]
+fn faults_of_queries_are_reported(rt: HostRuntime) -> Result<(), Fail> {
+    for (words, fault) in QUERIES {
+        let found = asked(rt.alloc(), Origin::Query, words)?.err();
+        assert!(rt; found == *fault, "{words}");
+    }
+    Ok(())
+}
+
+#[test]
+fn no_command_is_reported(rt: HostRuntime) -> Result<(), Fail> {
+    let none = pairs_of_words(rt.alloc(), &Words::from_vec(Vec::new(rt.alloc())))?;
+    assert!(rt; read_question(rt.alloc(), &none).err() == Some(AskFault::NoCommand));
+    Ok(())
+}
+
+/// Returns true if `name` is `text`.
+fn is_name(name: &Option<Text>, text: &str) -> bool {
+    matches!(name, Some(name) if name.as_str() == text)
+}
+
+#[test]
 fn questions_have_their_values(rt: HostRuntime) -> Result<(), Fail> {
-    let alloc = rt.alloc();
     let plain = line(
-        alloc,
+        rt.alloc(),
         "predict|file=pier.txt|station=Pier|begin=2000-01-10T00:00Z|end=2000-01-11T00:00Z",
     )?;
-    assert_eq!(rt; plain.command, Command::Predict);
-    assert!(rt; matches!(&plain.file, Some(name) if name.as_str() == "pier.txt"));
-    assert!(rt; matches!(&plain.station, Some(name) if name.as_str() == "Pier"));
-    assert_eq!(rt; plain.begin, Some(15_791_040));
-    assert_eq!(rt; plain.end, Some(15_792_480));
-    assert_eq!(rt; plain.mark, None);
-    assert_eq!(rt; plain.step, 60);
-    assert!(rt; matches!(&plain.zone, ZoneWord::Utc));
-    assert_eq!(rt; plain.layout, Layout::Plain);
-    assert_eq!(rt; plain.seed, None);
-    assert_eq!(rt; plain.port, 8080);
-    assert!(rt; plain.offsets.is_none() && plain.certificate.is_none() && plain.sheets.is_none());
+    check_words(&rt, &plain);
+    check_usual(&rt, &plain);
+    assert!(rt; plain.offsets.is_none());
+    assert!(rt; plain.certificate.is_none());
+    assert!(rt; plain.sheets.is_none());
     Ok(())
+}
+
+fn check_words(rt: &impl Abort, plain: &Question) {
+    assert!(rt; plain.command == Command::Predict);
+    assert!(rt; is_name(&plain.file, "pier.txt"));
+    assert!(rt; is_name(&plain.station, "Pier"));
+    assert!(rt; plain.begin == Some(15_791_040));
+    assert!(rt; plain.end == Some(15_792_480));
+}
+
+fn check_usual(rt: &impl Abort, plain: &Question) {
+    assert!(rt; plain.mark == None);
+    assert!(rt; plain.step == 60);
+    assert!(rt; matches!(&plain.zone, ZoneWord::Utc));
+    assert!(rt; plain.layout == Layout::Plain);
+    assert!(rt; plain.seed == None);
+    assert!(rt; plain.port == 8080);
 }
 
 #[test]
@@ -293,12 +313,16 @@ fn a_question_about_a_span_is_read(rt: HostRuntime) -> Result<(), Fail> {
         rt.alloc(),
         "predict|end=2000-01-11T00:00Z|begin=2000-01-10T00:00Z|station=Pier|file=a=b|mark=-0.5|zone=-05:30|layout=csv|offsets=o.csv",
     )?;
-    assert!(rt; matches!(&full.file, Some(name) if name.as_str() == "a=b"));
-    assert!(rt; matches!(&full.offsets, Some(name) if name.as_str() == "o.csv"));
-    assert_eq!(rt; full.mark, Some(-500_000));
-    assert!(rt; matches!(&full.zone, ZoneWord::Fixed(-330)));
-    assert_eq!(rt; full.layout, Layout::Csv);
+    check_full(&rt, &full);
     Ok(())
+}
+
+fn check_full(rt: &impl Abort, full: &Question) {
+    assert!(rt; is_name(&full.file, "a=b"));
+    assert!(rt; is_name(&full.offsets, "o.csv"));
+    assert!(rt; full.mark == Some(-500_000));
+    assert!(rt; matches!(&full.zone, ZoneWord::Fixed(-330)));
+    assert!(rt; full.layout == Layout::Csv);
 }
 
 #[test]
@@ -309,25 +333,32 @@ fn names_of_files_are_read(rt: HostRuntime) -> Result<(), Fail> {
 }
 
 #[test]
-fn values_of_single_commands_are_read(rt: HostRuntime) -> Result<(), Fail> {
-    let alloc = rt.alloc();
+fn sheets_are_read(rt: HostRuntime) -> Result<(), Fail> {
     let report = line(
-        alloc,
+        rt.alloc(),
         "report|file=f|station=s|begin=2000-01-10T00:00Z|end=2000-01-11T00:00Z|sheets=first,tally,range",
     )?;
     assert!(rt; matches!(&report.sheets, Some(words) if words.as_slice().len() == 3));
-    assert_eq!(rt;
-        line(alloc, "sample|seed=18446744073709551615")?.seed,
-        Some(u64::MAX)
-    );
-    assert_eq!(rt; line(alloc, "serve|file=f|port=65535")?.port, 65535);
     Ok(())
 }
 
 #[test]
-fn names_and_rows_stand(rt: HostRuntime) {
-    assert_eq!(rt; Command::PeakCheck.text(), "peakcheck");
-    assert_eq!(rt; Key::Certificate.text(), "certificate");
+fn seeds_and_ports_are_read(rt: HostRuntime) -> Result<(), Fail> {
+    let seed = line(rt.alloc(), "sample|seed=18446744073709551615")?.seed;
+    assert!(rt; seed == Some(u64::MAX));
+    let port = line(rt.alloc(), "serve|file=f|port=65535")?.port;
+    assert!(rt; port == 65535);
+    Ok(())
+}
+
+#[test]
+fn names_stand(rt: HostRuntime) {
+    assert!(rt; Command::PeakCheck.text() == "peakcheck");
+    assert!(rt; Key::Certificate.text() == "certificate");
+}
+
+#[test]
+fn worked_rows_stand(_rt: HostRuntime) {
     worked_questions();
     worked_faults();
     worked_query_faults();

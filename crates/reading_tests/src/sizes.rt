@@ -1,14 +1,16 @@
 //! Files, tables, requests and certificates of the sizes that users have.
 
 use crate::harmonics::printed_in_pieces;
-use cert_text::{read_certificate, write_certificate};
+use cert_text::{Certificate, read_certificate, write_certificate};
 use curve_law::{Cell, Kind};
 use decimal_text::{Bytes, Numbers, Text, Words};
+use harmonics_book::Constituent;
 use harmonics_text::read_book;
 use question::{Layout, Question, ZoneWord, pairs_of_words, read_question};
 use sample_tides::sample;
-use station_table::read_offsets;
+use station_table::{Offsets, read_offsets};
 use std::alloc::{AllocError, Global};
+use std::process::Abort;
 use std::test::Fail;
 
 /// Returns `count` letters.
@@ -34,27 +36,47 @@ fn filled(alloc: Global, text: &str) -> Result<String, AllocError> {
 }
 
 #[test]
-fn long_lists_are_copied(rt: HostRuntime) -> Result<(), Fail> {
-    let alloc = rt.alloc();
-    let long = letters(alloc, 400)?;
-    let text = Text::from_str(alloc, long.as_str())?.copy()?;
-    assert_eq!(rt; text.as_str(), long.as_str());
-    let mut bytes = Vec::new(alloc);
-    let mut numbers = Vec::new(alloc);
-    let mut words = Vec::new(alloc);
-    for number in 0..10_000u16 {
-        bytes.push(b'a')?;
-        numbers.push(i64::from(number) - 5_000)?;
-        words.push(text.copy()?)?;
-    }
-    let bytes = Bytes::from_vec(bytes);
+fn long_texts_are_copied(rt: HostRuntime) -> Result<(), Fail> {
+    let long = letters(rt.alloc(), 400)?;
+    let text = Text::from_str(rt.alloc(), long.as_str())?.copy()?;
+    assert!(rt; text.as_str() == long.as_str());
+    Ok(())
+}
+
+#[test]
+fn long_bytes_are_copied(rt: HostRuntime) -> Result<(), Fail> {
+    let bytes = Bytes::from_vec(vec![in rt.alloc(); b'a'; 10_000]?);
     assert!(rt; bytes.copy()?.as_slice() == bytes.as_slice());
+    Ok(())
+}
+
+#[test]
+fn long_lists_of_numbers_are_copied(rt: HostRuntime) -> Result<(), Fail> {
+    let mut numbers = Vec::new(rt.alloc());
+    for number in 0..10_000u16 {
+        numbers.push(i64::from(number) - 5_000)?;
+    }
     let numbers = Numbers::from_vec(numbers);
     assert!(rt; numbers.copy()?.as_slice() == numbers.as_slice());
-    let words = Words::from_vec(words).copy()?;
-    assert_eq!(rt; words.as_slice().len(), 10_000);
+    Ok(())
+}
+
+/// Returns 10,000 words `text`.
+fn many_words(alloc: Global, text: &str) -> Result<Words, AllocError> {
+    let mut words = Vec::new(alloc);
+    for _ in 0..10_000u16 {
+        words.push(Text::from_str(alloc, text)?)?;
+    }
+    Ok(Words::from_vec(words))
+}
+
+#[test]
+fn long_lists_of_words_are_copied(rt: HostRuntime) -> Result<(), Fail> {
+    let long = letters(rt.alloc(), 400)?;
+    let words = many_words(rt.alloc(), long.as_str())?.copy()?;
+    assert!(rt; words.as_slice().len() == 10_000);
     for word in words.as_slice() {
-        assert_eq!(rt; word.as_str(), long.as_str());
+        assert!(rt; word.as_str() == long.as_str());
     }
     Ok(())
 }
@@ -62,20 +84,30 @@ fn long_lists_are_copied(rt: HostRuntime) -> Result<(), Fail> {
 // The sample file has as many lines as the harmonics file of a harbour office.
 #[test]
 fn a_file_of_many_stations_is_read(rt: HostRuntime) -> Result<(), Fail> {
-    let alloc = rt.alloc();
-    let file = sample(alloc, 0)?;
+    let file = sample(rt.alloc(), 0)?;
     let text = file.as_slice();
-    assert_eq!(rt; text.split(|byte| *byte == b'\n').count(), 8_193);
-    let book = read_book(alloc, text).ok().ok_or("the file has a book")?;
-    assert_eq!(rt; book.constituents.as_slice().len(), 37);
-    assert_eq!(rt; book.constituents.as_slice()[5].name.as_str(), "C6");
-    assert_eq!(rt; book.constituents.as_slice()[5].speed, 273_128_346);
-    assert_eq!(rt; book.angles.as_slice().len(), 1_110);
-    assert_eq!(rt; book.factors.as_slice().len(), 1_110);
-    assert_eq!(rt; book.stations.as_slice().len(), 200);
-    let whole = printed_in_pieces(alloc, text, text.len())?;
+    assert!(rt; text.split(|byte| *byte == b'\n').count() == 8_193);
+    let book = read_book(rt.alloc(), text)?;
+    check_constituents(&rt, book.constituents.as_slice());
+    assert!(rt; book.angles.as_slice().len() == 1_110);
+    assert!(rt; book.factors.as_slice().len() == 1_110);
+    assert!(rt; book.stations.as_slice().len() == 200);
+    Ok(())
+}
+
+fn check_constituents(rt: &impl Abort, constituents: &[Constituent]) {
+    assert!(rt; constituents.len() == 37);
+    assert!(rt; constituents[5].name.as_str() == "C6");
+    assert!(rt; constituents[5].speed == 273_128_346);
+}
+
+#[test]
+fn a_file_of_many_stations_is_read_in_pieces(rt: HostRuntime) -> Result<(), Fail> {
+    let file = sample(rt.alloc(), 0)?;
+    let text = file.as_slice();
+    let whole = printed_in_pieces(rt.alloc(), text, text.len())?;
     assert!(rt; whole.starts_with("Ok("));
-    let printed = printed_in_pieces(alloc, text, 4_096)?;
+    let printed = printed_in_pieces(rt.alloc(), text, 4_096)?;
     assert!(rt; printed.as_str() == whole.as_str());
     Ok(())
 }
@@ -83,9 +115,8 @@ fn a_file_of_many_stations_is_read(rt: HostRuntime) -> Result<(), Fail> {
 const HEADER: &str =
     "name,reference,high_add,low_add,high_times,low_times,high_plus,low_plus,flood_add,ebb_add";
 
-#[test]
-fn a_table_of_many_rows_is_read(rt: HostRuntime) -> Result<(), Fail> {
-    let alloc = rt.alloc();
+/// Returns a table of 1,200 rows, whose names have 400 letters.
+fn long_table(alloc: Global) -> Result<String, AllocError> {
     let row = filled(
         alloc,
         "\n\"%\",%,-23:59,+24:00,100.000000,0.000001,-10000.000000,10000.000000,0:05,-0:05",
@@ -94,17 +125,27 @@ fn a_table_of_many_rows_is_read(rt: HostRuntime) -> Result<(), Fail> {
     for _ in 0..1_200u32 {
         text.push_str(row.as_str())?;
     }
+    Ok(text)
+}
+
+#[test]
+fn a_table_of_many_rows_is_read(rt: HostRuntime) -> Result<(), Fail> {
+    let text = long_table(rt.alloc())?;
     assert!(rt; text.len() < 2_000_000);
-    let table = read_offsets(alloc, text.as_bytes()).ok().ok_or("a table")?;
-    assert_eq!(rt; table.as_slice().len(), 1_200);
+    let table = read_offsets(rt.alloc(), text.as_bytes())?;
+    assert!(rt; table.as_slice().len() == 1_200);
     for row in table.as_slice() {
-        assert_eq!(rt; row.name.as_str().len(), 400);
-        assert_eq!(rt; row.reference.as_str().len(), 400);
-        assert_eq!(rt; (row.high.add, row.low.add), (-1_439, 1_440));
-        assert_eq!(rt; (row.high.times, row.low.times), (100_000_000, 1));
-        assert!(rt; row.slack.is_some());
+        check_row(&rt, row);
     }
     Ok(())
+}
+
+fn check_row(rt: &impl Abort, row: &Offsets) {
+    assert!(rt; row.name.as_str().len() == 400);
+    assert!(rt; row.reference.as_str().len() == 400);
+    assert!(rt; (row.high.add, row.low.add) == (-1_439, 1_440));
+    assert!(rt; (row.high.times, row.low.times) == (100_000_000, 1));
+    assert!(rt; row.slack.is_some());
 }
 
 /// Returns the request of the arguments in `line`, separated by `|`, whose names have 400 letters.
@@ -119,7 +160,7 @@ fn long_question(alloc: Global, line: &str) -> Result<Question, Fail> {
 }
 
 /// Command lines with every key of a command.
-const LONGEST: [&str; 9] = [
+const LONGEST: &[&str] = &[
     "predict|file=%|offsets=%|station=%|begin=0001-01-01T00:00Z|end=9999-12-31T23:59Z|mark=-10000.000000|zone=@%|layout=csv",
     "certify|file=%|offsets=%|station=%|begin=0001-01-01T00:00Z|end=9999-12-31T23:59Z|mark=-10000.000000",
     "check|file=%|offsets=%|certificate=%|zone=@%",
@@ -138,26 +179,34 @@ fn is_long(name: &Option<Text>) -> bool {
     }
 }
 
+/// Checks that `name` has 400 letters if `line` has the key, and is none otherwise.
+fn check_name(rt: &impl Abort, name: &Option<Text>, line: &str, key: &str) {
+    assert!(rt; is_long(name) == line.contains(key), "{line}");
+    assert!(rt; name.is_some() == line.contains(key), "{line}");
+}
+
+fn check_names(rt: &impl Abort, asked: &Question, line: &str) {
+    check_name(rt, &asked.file, line, "|file=");
+    check_name(rt, &asked.offsets, line, "|offsets=");
+    check_name(rt, &asked.station, line, "|station=");
+    check_name(rt, &asked.certificate, line, "|certificate=");
+}
+
+fn check_others(rt: &impl Abort, asked: &Question, line: &str) {
+    let step = if line.contains("|step=") { 44_640 } else { 60 };
+    assert!(rt; asked.step == step, "{line}");
+    let is_named = matches!(&asked.zone, ZoneWord::Named(name) if name.as_str().len() == 400);
+    assert!(rt; is_named == line.contains("|zone=@"), "{line}");
+    let is_csv = asked.layout == Layout::Csv;
+    assert!(rt; is_csv == line.contains("|layout=csv"), "{line}");
+}
+
 #[test]
 fn long_words_are_read(rt: HostRuntime) -> Result<(), Fail> {
-    let alloc = rt.alloc();
     for line in LONGEST {
-        let asked = long_question(alloc, line)?;
-        for (name, key) in [
-            (&asked.file, "|file="),
-            (&asked.offsets, "|offsets="),
-            (&asked.station, "|station="),
-            (&asked.certificate, "|certificate="),
-        ] {
-            assert!(rt; is_long(name) == line.contains(key), "{line}");
-            assert!(rt; name.is_some() == line.contains(key), "{line}");
-        }
-        let step = if line.contains("|step=") { 44_640 } else { 60 };
-        assert!(rt; asked.step == step, "{line}");
-        let is_named = matches!(&asked.zone, ZoneWord::Named(name) if name.as_str().len() == 400);
-        assert!(rt; is_named == line.contains("|zone=@"), "{line}");
-        let is_csv = asked.layout == Layout::Csv;
-        assert!(rt; is_csv == line.contains("|layout=csv"), "{line}");
+        let asked = long_question(rt.alloc(), line)?;
+        check_names(&rt, &asked, line);
+        check_others(&rt, &asked, line);
     }
     Ok(())
 }
@@ -181,25 +230,21 @@ fn long_certificate(alloc: Global) -> Result<String, AllocError> {
 
 #[test]
 fn a_long_certificate_is_read_and_written(rt: HostRuntime) -> Result<(), Fail> {
-    let alloc = rt.alloc();
-    let text = long_certificate(alloc)?;
+    let text = long_certificate(rt.alloc())?;
     assert!(rt; text.len() < 1_000_000);
-    let cert = read_certificate(alloc, text.as_bytes())
-        .ok()
-        .ok_or("it is a certificate")?;
-    assert_eq!(rt; cert.station.as_str().len(), 400);
-    assert_eq!(rt; cert.tracks.turn.as_slice().len(), 20_000);
-    assert_eq!(rt;
-        cert.tracks.turn.as_slice()[19_998],
-        Cell::Turn(Kind::High, 99_999_999_999_999)
-    );
-    let slack = cert
-        .tracks
-        .slack
-        .as_ref()
-        .map_or(0, |cells| cells.as_slice().len());
-    assert_eq!(rt; slack, 10_000);
-    let written = write_certificate(alloc, &cert)?;
+    let cert = read_certificate(rt.alloc(), text.as_bytes())?;
+    assert!(rt; cert.station.as_str().len() == 400);
+    check_tracks(&rt, &cert);
+    let written = write_certificate(rt.alloc(), &cert)?;
     assert!(rt; written.as_slice() == text.as_bytes());
     Ok(())
+}
+
+fn check_tracks(rt: &impl Abort, cert: &Certificate) {
+    let turn = cert.tracks.turn.as_slice();
+    assert!(rt; turn.len() == 20_000);
+    assert!(rt; turn[19_998] == Cell::Turn(Kind::High, 99_999_999_999_999));
+    let slack = cert.tracks.slack.as_ref();
+    let slack = slack.map_or(0, |cells| cells.as_slice().len());
+    assert!(rt; slack == 10_000);
 }

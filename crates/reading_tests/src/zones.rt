@@ -10,54 +10,63 @@ use zone_time::{
     worked_zone_files, write_local, write_moment, zone_files_go_by_jiff,
 };
 
+/// A text, and its moment.
+const READINGS: &[(&str, Option<i64>)] = &[
+    ("2000-01-10T00:00Z", Some(15791040)),
+    ("1970-01-01T00:00Z", Some(0)),
+    ("1969-12-31T23:59Z", Some(-1)),
+    ("2000-02-29T23:59Z", Some(15864479)),
+    ("0001-01-01T00:00Z", Some(-1035593280)),
+    ("9999-12-31T23:59Z", Some(4223371679)),
+    ("", None),
+    ("2000-01-10", None),
+    ("2000-01-10T00:00", None),
+    ("2000-01-10T00:00Z ", None),
+    ("2000-01-10T00:00z", None),
+    ("2000-01-10t00:00Z", None),
+    ("2000-01-10 00:00Z", None),
+    ("2000-1-10T00:00Z", None),
+    ("+2000-01-10T0:00Z", None),
+    ("2000-01-10T00.00Z", None),
+    ("200a-01-10T00:00Z", None),
+    ("0000-12-31T23:59Z", None),
+    ("2000-00-10T00:00Z", None),
+    ("2000-13-10T00:00Z", None),
+    ("2000-01-00T00:00Z", None),
+    ("2000-04-31T00:00Z", None),
+    ("1900-02-29T00:00Z", None),
+    ("2000-01-10T24:00Z", None),
+    ("2000-01-10T23:60Z", None),
+];
+
 #[test]
 fn moments_are_read(rt: HostRuntime) {
-    for (text, moment) in [
-        ("2000-01-10T00:00Z", Some(15791040)),
-        ("1970-01-01T00:00Z", Some(0)),
-        ("1969-12-31T23:59Z", Some(-1)),
-        ("2000-02-29T23:59Z", Some(15864479)),
-        ("0001-01-01T00:00Z", Some(-1035593280)),
-        ("9999-12-31T23:59Z", Some(4223371679)),
-        ("", None),
-        ("2000-01-10", None),
-        ("2000-01-10T00:00", None),
-        ("2000-01-10T00:00Z ", None),
-        ("2000-01-10T00:00z", None),
-        ("2000-01-10t00:00Z", None),
-        ("2000-01-10 00:00Z", None),
-        ("2000-1-10T00:00Z", None),
-        ("+2000-01-10T0:00Z", None),
-        ("2000-01-10T00.00Z", None),
-        ("200a-01-10T00:00Z", None),
-        ("0000-12-31T23:59Z", None),
-        ("2000-00-10T00:00Z", None),
-        ("2000-13-10T00:00Z", None),
-        ("2000-01-00T00:00Z", None),
-        ("2000-04-31T00:00Z", None),
-        ("1900-02-29T00:00Z", None),
-        ("2000-01-10T24:00Z", None),
-        ("2000-01-10T23:60Z", None),
-    ] {
-        assert!(rt; read_moment(text.as_bytes()) == moment, "{text}");
+    for (text, moment) in READINGS {
+        assert!(rt; read_moment(text.as_bytes()) == *moment, "{text}");
+    }
+}
+
+/// A moment, and its text.
+const WRITINGS: &[(i64, &str)] = &[
+    (15791040, "2000-01-10T00:00Z"),
+    (-1, "1969-12-31T23:59Z"),
+    (15864479, "2000-02-29T23:59Z"),
+    (-1035593280, "0001-01-01T00:00Z"),
+    (4223371679, "9999-12-31T23:59Z"),
+];
+
+#[test]
+fn moments_are_written(rt: HostRuntime) {
+    for (moment, text) in WRITINGS {
+        assert!(rt; (-1035593280..=4223371679).contains(moment));
+        let mut out = ArrayString::new();
+        write_moment(*moment, &mut out);
+        assert!(rt; out.as_str() == *text, "{text}");
     }
 }
 
 #[test]
-fn moments_are_written(rt: HostRuntime) {
-    for (moment, text) in [
-        (15791040, "2000-01-10T00:00Z"),
-        (-1, "1969-12-31T23:59Z"),
-        (15864479, "2000-02-29T23:59Z"),
-        (-1035593280, "0001-01-01T00:00Z"),
-        (4223371679, "9999-12-31T23:59Z"),
-    ] {
-        if (-1035593280..=4223371679).contains(&moment) {
-            let mut out = ArrayString::new();
-            write_moment(moment, &mut out);
-            assert_eq!(rt; out.as_str(), text);
-        }
-    }
+fn laws_and_rows_stand(_rt: HostRuntime) {
     days_have_their_date();
     moments_have_one_text();
     worked_texts();
@@ -68,43 +77,26 @@ fn moments_are_written(rt: HostRuntime) {
     zone_files_go_by_jiff();
 }
 
+/// A local minute, its label, and the text.
+const LOCALS: &[(i64, Label, &str)] = &[
+    (15791400, Label::Utc, "2000-01-10 06:00 UTC"),
+    (15791100, Label::Minutes(-300), "2000-01-10 01:00 -05:00"),
+    (15881280, Label::Minutes(-240), "2000-03-12 16:00 -04:00"),
+    (-1036120320, Label::Minutes(1560), "0000-01-01 00:00 +26:00"),
+];
+
 #[test]
 fn local_times_are_written(rt: HostRuntime) {
-    for (local, text) in [
-        (
-            Local {
-                minute: 15791400,
-                label: Label::Utc,
-            },
-            "2000-01-10 06:00 UTC",
-        ),
-        (
-            Local {
-                minute: 15791100,
-                label: Label::Minutes(-300),
-            },
-            "2000-01-10 01:00 -05:00",
-        ),
-        (
-            Local {
-                minute: 15881280,
-                label: Label::Minutes(-240),
-            },
-            "2000-03-12 16:00 -04:00",
-        ),
-        (
-            Local {
-                minute: -1036120320,
-                label: Label::Minutes(1560),
-            },
-            "0000-01-01 00:00 +26:00",
-        ),
-    ] {
+    for (minute, label, text) in LOCALS {
+        let local = Local {
+            minute: *minute,
+            label: *label,
+        };
         let mut out = ArrayString::<23>::new();
         if is_written(&local) {
             write_local(&local, &mut out);
         }
-        assert_eq!(rt; out.as_str(), text);
+        assert!(rt; out.as_str() == *text, "{text}");
     }
 }
 
@@ -136,25 +128,28 @@ fn new_york(alloc: Global, footer: &[u8]) -> Result<Vec<u8>, Fail> {
     Ok(bytes)
 }
 
-fn check_new_york(rt: &impl Abort, clock: &ZoneClock<'_>) -> Result<(), Fail> {
-    for (minute, ahead) in [
-        (-63113760, -297),
-        (-45294181, -297),
-        (-45294180, -300),
-        (15386820, -240),
-        (15699239, -240),
-        (15699240, -300),
-        (15880739, -300),
-        (15880740, -240),
-        (16223399, -240),
-        (16223400, -300),
-    ] {
-        assert!(rt; (-1035069120..=3855733919).contains(&minute));
-        let local = clock.local(minute);
-        assert!(rt; local.label == Label::Minutes(ahead), "{minute}");
-        assert!(rt; local.minute == minute + i64::from(ahead), "{minute}");
+/// A minute, and the minutes that New York is ahead of UTC.
+const NEW_YORK: &[(i64, i32)] = &[
+    (-63113760, -297),
+    (-45294181, -297),
+    (-45294180, -300),
+    (15386820, -240),
+    (15699239, -240),
+    (15699240, -300),
+    (15880739, -300),
+    (15880740, -240),
+    (16223399, -240),
+    (16223400, -300),
+];
+
+/// Checks that `zone` shows each minute of `times` with its offset.
+fn check_times(rt: &impl Abort, clock: &ZoneClock<'_>, times: &[(i64, i32)]) {
+    for (minute, ahead) in times {
+        assert!(rt; (-1035069120..=3855733919).contains(minute));
+        let local = clock.local(*minute);
+        assert!(rt; local.label == Label::Minutes(*ahead), "{minute}");
+        assert!(rt; local.minute == *minute + i64::from(*ahead), "{minute}");
     }
-    Ok(())
 }
 
 #[test]
@@ -162,13 +157,17 @@ fn zones_show_local_times(rt: HostRuntime) -> Result<(), Fail> {
     let bytes = new_york(rt.alloc(), b"\nEST5EDT,M3.2.0,M11.1.0\n")?;
     let zone = read_zone(rt.alloc(), bytes.as_slice())?;
     let clock = zone.clock();
-    check_new_york(&rt, &clock)?;
+    check_times(&rt, &clock, NEW_YORK);
     assert!(rt; matches!(clock.zone(), Zone::File(_)));
+    Ok(())
+}
+
+#[test]
+fn other_zones_show_local_times(rt: HostRuntime) {
     let local = Zone::Fixed(-300).local(15791400);
     assert!(rt; local.minute == 15791100 && local.label == Label::Minutes(-300));
     let local = Zone::Utc.local(15791400);
     assert!(rt; local.minute == 15791400 && local.label == Label::Utc);
-    Ok(())
 }
 
 const LONG_HEAD: &[u8] =
@@ -192,45 +191,47 @@ fn changed_often(alloc: Global) -> Result<Vec<u8>, Fail> {
     Ok(bytes)
 }
 
+/// A minute, and the minutes that the zone of many changes is ahead of UTC.
+const MANY_CHANGES: &[(i64, i32)] = &[
+    (-36290881, -297),
+    (-36290880, -300),
+    (-5543281, -300),
+    (-5543280, -240),
+    (25204319, -240),
+    (25204320, -300),
+    (25467119, -300),
+    (25467120, -240),
+    (25688519, -240),
+    (25688520, -300),
+];
+
 #[test]
 fn zones_of_many_changes_show_local_times(rt: HostRuntime) -> Result<(), Fail> {
     let bytes = changed_often(rt.alloc())?;
     let zone = read_zone(rt.alloc(), bytes.as_slice())?;
-    for (minute, ahead) in [
-        (-36290881, -297),
-        (-36290880, -300),
-        (-5543281, -300),
-        (-5543280, -240),
-        (25204319, -240),
-        (25204320, -300),
-        (25467119, -300),
-        (25467120, -240),
-        (25688519, -240),
-        (25688520, -300),
-    ] {
-        assert!(rt; (-1035069120..=3855733919).contains(&minute));
-        let local = zone.local(minute);
-        assert!(rt; local.label == Label::Minutes(ahead), "{minute}");
-        assert!(rt; local.minute == minute + i64::from(ahead), "{minute}");
+    for (minute, ahead) in MANY_CHANGES {
+        assert!(rt; (-1035069120..=3855733919).contains(minute));
+        let local = zone.local(*minute);
+        assert!(rt; local.label == Label::Minutes(*ahead), "{minute}");
+        assert!(rt; local.minute == *minute + i64::from(*ahead), "{minute}");
     }
     Ok(())
 }
 
+const BAD_FOOTERS: &[&str] = &[
+    "\nEST5EDT,M3.2.0,M12.1.0\n",
+    "\nEST5EDT,M3.2.0,M11.1.0",
+    "EST5EDT,M3.2.0,M11.1.0\n",
+    "\nEST5EDT\n",
+    "",
+];
+
 #[test]
 fn bad_zone_files_are_refused(rt: HostRuntime) -> Result<(), Fail> {
-    for footer in [
-        "\nEST5EDT,M3.2.0,M12.1.0\n",
-        "\nEST5EDT,M3.2.0,M11.1.0",
-        "EST5EDT,M3.2.0,M11.1.0\n",
-        "\nEST5EDT\n",
-        "",
-    ] {
+    for footer in BAD_FOOTERS {
         let bytes = new_york(rt.alloc(), footer.as_bytes())?;
-        let refused = matches!(
-            read_zone(rt.alloc(), bytes.as_slice()),
-            Err(ZoneFault::BadZone)
-        );
-        assert!(rt; refused, "{footer}");
+        let read = read_zone(rt.alloc(), bytes.as_slice());
+        assert!(rt; matches!(read, Err(ZoneFault::BadZone)), "{footer}");
     }
     Ok(())
 }
