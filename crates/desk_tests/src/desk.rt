@@ -6,9 +6,9 @@ mod passing_on;
 mod reports;
 mod rows;
 
+use crate::asserts::{assert_bytes, assert_count, assert_holds};
 use decimal_text::{Bytes, Text};
 use files::*;
-use report_sheets::Sheet;
 use rows::*;
 use std::alloc::{AllocError, Global};
 use std::process::Abort;
@@ -18,12 +18,20 @@ use tide_answer::Status;
 use tide_desk::run;
 use tide_edge::{FixedClock, MemoryFiles, MemorySink, NamedFile};
 
-// The result of a run: its status, and what it wrote to `out` and to `err`.
-#[derive(Debug, Drop)]
+// The files of a run, its outputs, and its clock.
+#[derive(Drop)]
+struct Desk {
+    files: MemoryFiles,
+    out: MemorySink,
+    err: MemorySink,
+    clock: FixedClock,
+}
+
+// The status of a run, and what it has left.
+#[derive(Drop)]
 struct Outcome {
     status: Status,
-    out: Bytes,
-    err: Bytes,
+    left: Desk,
 }
 
 // Returns the pier's file with one line changed; lines are counted from 1, and line 0 changes
@@ -67,93 +75,133 @@ fn named(alloc: Global, name: &str, bytes: Bytes) -> Result<NamedFile, AllocErro
     })
 }
 
-// The outputs of a run, and its clock.
-#[derive(Drop)]
-struct Ends {
-    out: MemorySink,
-    err: MemorySink,
-    clock: FixedClock,
+fn named_text(alloc: Global, name: &str, text: &[u8]) -> Result<NamedFile, AllocError> {
+    named(alloc, name, Bytes::from_vec(text.to_vec(alloc)?))
 }
 
-fn ends_of(alloc: Global, most: u64, fails: Fails) -> Result<Ends, AllocError> {
-    let clock = FixedClock::new(15_791_220, only(alloc, fails.clock)?);
-    let err = MemorySink::new(alloc, most.max(1), 4096, only(alloc, fails.err)?)?;
-    let out = MemorySink::new(alloc, most.max(1), 1_000_000, only(alloc, fails.out)?)?;
-    Ok(Ends { out, err, clock })
+// Adds a file to those that are held.
+fn hold(
+    alloc: Global,
+    held: &mut Vec<NamedFile>,
+    name: &str,
+    text: &[u8],
+) -> Result<(), AllocError> {
+    held.push(named_text(alloc, name, text)?)?;
+    Ok(())
 }
 
-fn outcome_of(alloc: Global, status: Status, ends: &Ends) -> Result<Outcome, AllocError> {
-    Ok(Outcome {
-        status,
-        out: Bytes::from_vec(Vec::from_slice(alloc, ends.out.bytes())?),
-        err: Bytes::from_vec(Vec::from_slice(alloc, ends.err.bytes())?),
+// Returns a file `pier.txt`.
+fn only_pier(alloc: Global, file: Bytes) -> Result<Vec<NamedFile>, AllocError> {
+    let mut held = Vec::new(alloc);
+    held.push(named(alloc, "pier.txt", file)?)?;
+    Ok(held)
+}
+
+// Returns the pier's file with one line changed.
+fn held_with(alloc: Global, line: usize, text: &str) -> Result<Vec<NamedFile>, AllocError> {
+    only_pier(alloc, pier_with(alloc, line, text)?)
+}
+
+// Returns an output that takes at most `most` bytes in a write.
+fn sink_of(alloc: Global, most: u64, room: u64, fails: u64) -> Result<MemorySink, AllocError> {
+    MemorySink::new(alloc, most.max(1), room, only(alloc, fails)?)
+}
+
+fn files_of(alloc: Global, held: Vec<NamedFile>, fails: u64) -> Result<MemoryFiles, AllocError> {
+    Ok(MemoryFiles::new(held, only(alloc, fails)?))
+}
+
+// Returns files, outputs that take at most `most` bytes in a write, and a clock at 2000-01-10T03:00Z.
+fn desk_of(
+    alloc: Global,
+    held: Vec<NamedFile>,
+    most: u64,
+    fails: Fails,
+) -> Result<Desk, AllocError> {
+    Ok(Desk {
+        files: files_of(alloc, held, fails.files)?,
+        out: sink_of(alloc, most, 1_000_000, fails.out)?,
+        err: sink_of(alloc, most, 4096, fails.err)?,
+        clock: FixedClock::new(15_791_220, only(alloc, fails.clock)?),
     })
 }
 
-// Runs over a file `pier.txt`. A write takes at most `most` bytes.
-fn run_over(
-    alloc: Global,
-    file: Bytes,
-    line: &str,
-    most: u64,
-    fails: Fails,
-) -> Result<Outcome, AllocError> {
-    let mut held = Vec::new(alloc);
-    held.push(named(alloc, "pier.txt", file)?)?;
-    run_over_all(alloc, held, line, most, fails)
-}
-
-// Runs over files, without a sheet.
-fn run_over_all(
-    alloc: Global,
-    held: Vec<NamedFile>,
-    line: &str,
-    most: u64,
-    fails: Fails,
-) -> Result<Outcome, AllocError> {
-    run_with(alloc, held, line, most, fails, Vec::new(alloc))
-}
-
-// Runs over files, with a clock at 2000-01-10T03:00Z and these sheets.
-fn run_with(
-    alloc: Global,
-    held: Vec<NamedFile>,
-    line: &str,
-    most: u64,
-    fails: Fails,
-    sheets: Vec<Box<dyn Sheet>>,
-) -> Result<Outcome, AllocError> {
+// Runs without a sheet.
+fn run_line(alloc: Global, line: &str, desk: &mut Desk) -> Result<Status, AllocError> {
     let words = words_of(alloc, line)?;
-    let mut ends = ends_of(alloc, most, fails)?;
-    let mut files = MemoryFiles::new(held, only(alloc, fails.files)?);
-    let status = run(
+    let sheets = Vec::new(alloc);
+    Ok(run(
         alloc,
         &words,
-        &mut files,
-        &mut ends.out,
-        &mut ends.err,
-        &mut ends.clock,
+        &mut desk.files,
+        &mut desk.out,
+        &mut desk.err,
+        &mut desk.clock,
         sheets,
-    );
-    outcome_of(alloc, status, &ends)
+    ))
 }
 
-fn assert_outcome(rt: &impl Abort, outcome: &Outcome, status: u8, out: &str, err: &str) {
-    assert_eq!(rt; outcome.status.number(), status);
-    assert_eq!(rt; outcome.out.as_slice(), out.as_bytes());
-    assert_eq!(rt; outcome.err.as_slice(), err.as_bytes());
+// Runs over files, without a sheet. A write takes at most `most` bytes.
+fn run_over(
+    alloc: Global,
+    held: Vec<NamedFile>,
+    line: &str,
+    most: u64,
+    fails: Fails,
+) -> Result<Outcome, AllocError> {
+    let mut left = desk_of(alloc, held, most, fails)?;
+    let status = run_line(alloc, line, &mut left)?;
+    Ok(Outcome { status, left })
+}
+
+// Asserts the status of a run, and what it wrote to `out` and to `err`.
+fn assert_outcome(
+    rt: &impl Abort,
+    outcome: &Outcome,
+    case: &str,
+    (status, out, err): (u8, &str, &str),
+) {
+    let seen = usize::from(outcome.status.number());
+    assert_count(rt, seen, usize::from(status), case);
+    assert_bytes(rt, outcome.left.out.bytes(), out.as_bytes(), case);
+    assert_bytes(rt, outcome.left.err.bytes(), err.as_bytes(), case);
+}
+
+fn assert_run_with(
+    rt: &impl Abort,
+    alloc: Global,
+    held: Vec<NamedFile>,
+    line: &str,
+    fails: Fails,
+    expected: (u8, &str, &str),
+) -> Result<(), AllocError> {
+    let outcome = run_over(alloc, held, line, 4096, fails)?;
+    assert_outcome(rt, &outcome, line, expected);
+    Ok(())
+}
+
+fn assert_run(
+    rt: &impl Abort,
+    alloc: Global,
+    held: Vec<NamedFile>,
+    line: &str,
+    expected: (u8, &str, &str),
+) -> Result<(), AllocError> {
+    assert_run_with(rt, alloc, held, line, NONE, expected)
+}
+
+// Returns the arguments that predict a span of the pier.
+fn predict(alloc: Global, begin: &str, end: &str) -> Result<String, AllocError> {
+    format!(in alloc; "predict|file=pier.txt|station=Pier|begin={begin}|end={end}")
 }
 
 #[test]
 fn a_span_lists_its_events(rt: HostRuntime) -> Result<(), Fail> {
     let alloc = rt.alloc();
     for &(line, text, begin, end, expected) in LISTINGS {
-        let file = pier_with(alloc, line, text)?;
-        let words = format!(in alloc;
-            "predict|file=pier.txt|station=Pier|begin={begin}|end={end}"
-        )?;
-        let outcome = run_over(alloc, file, words.as_str(), 4096, NONE)?;
-        assert_outcome(&rt, &outcome, 0, expected, "");
+        let words = predict(alloc, begin, end)?;
+        let held = held_with(alloc, line, text)?;
+        assert_run(&rt, alloc, held, words.as_str(), (0, expected, ""))?;
     }
     Ok(())
 }
@@ -162,28 +210,28 @@ fn a_span_lists_its_events(rt: HostRuntime) -> Result<(), Fail> {
 fn each_refusal_has_its_line(rt: HostRuntime) -> Result<(), Fail> {
     let alloc = rt.alloc();
     for &(line, text, words, status, expected) in REFUSALS {
-        let file = pier_with(alloc, line, text)?;
-        let outcome = run_over(alloc, file, words, 4096, NONE)?;
-        assert_outcome(&rt, &outcome, status, "", expected);
+        let held = held_with(alloc, line, text)?;
+        assert_run(&rt, alloc, held, words, (status, "", expected))?;
     }
     Ok(())
+}
+
+// Returns a file of eleven years whose tide has this amplitude.
+fn eleven_years_of(alloc: Global, amplitude: &str) -> Result<Vec<NamedFile>, AllocError> {
+    let file = format!(in alloc;
+        "1\nS2 30\n1999\n11\nS2\n0 0 0 0 0 0 0 0 0 0 0\n*END*\n11\nS2\n1 1 1 1 1 1 1 1 1 1 1\n*END*\nPier\n0:00\n\
+        0 feet\nS2 {amplitude} 0\n"
+    )?;
+    only_pier(alloc, Bytes::from_vec(file.into_bytes()))
 }
 
 #[test]
 fn a_span_of_too_many_minutes_is_refused(rt: HostRuntime) -> Result<(), Fail> {
     let alloc = rt.alloc();
     let words = "predict|file=pier.txt|station=Pier|begin=1999-01-02T00:00Z|end=2009-01-09T00:01Z";
-    for (amplitude, line) in [
-        ("1", "limit: span of 5270401 minutes\n"),
-        ("400", "limit: too steep in 1999\n"),
-    ] {
-        let file = format!(in alloc;
-            "1\nS2 30\n1999\n11\nS2\n0 0 0 0 0 0 0 0 0 0 0\n*END*\n11\nS2\n1 1 1 1 1 1 1 1 1 1 1\n*END*\nPier\n0:00\n\
-            0 feet\nS2 {amplitude} 0\n"
-        )?;
-        let bytes = Bytes::from_vec(file.into_bytes());
-        let outcome = run_over(alloc, bytes, words, 4096, NONE)?;
-        assert_outcome(&rt, &outcome, 5, "", line);
+    for &(amplitude, line) in TOO_MANY_MINUTES {
+        let held = eleven_years_of(alloc, amplitude)?;
+        assert_run(&rt, alloc, held, words, (5, "", line))?;
     }
     Ok(())
 }
@@ -191,19 +239,17 @@ fn a_span_of_too_many_minutes_is_refused(rt: HostRuntime) -> Result<(), Fail> {
 #[test]
 fn stations_are_listed(rt: HostRuntime) -> Result<(), Fail> {
     let alloc = rt.alloc();
-    let file = pier_with(alloc, 16, "S2 1 0\nQuay\n0:00\n2 knots^2\nx 0 0")?;
-    let outcome = run_over(alloc, file, "stations|file=pier.txt", 4096, NONE)?;
-    assert_outcome(&rt, &outcome, 0, "Ref feet Pier\nRef knots^2 Quay\n", "");
-    Ok(())
+    let held = held_with(alloc, 16, "S2 1 0\nQuay\n0:00\n2 knots^2\nx 0 0")?;
+    let listed = "Ref feet Pier\nRef knots^2 Quay\n";
+    Ok(assert_run(&rt, alloc, held, "stations|file=pier.txt", (0, listed, ""))?)
 }
 
 #[test]
 fn the_clock_is_asked_for_its_minute(rt: HostRuntime) -> Result<(), Fail> {
     let alloc = rt.alloc();
     let words = "clock|file=pier.txt|station=Pier";
-    let outcome = run_over(alloc, pier_with(alloc, 0, "")?, words, 4096, NONE)?;
-    assert_outcome(&rt, &outcome, 0, NOW, "");
-    Ok(())
+    let held = held_with(alloc, 0, "")?;
+    Ok(assert_run(&rt, alloc, held, words, (0, NOW, ""))?)
 }
 
 #[test]
@@ -211,126 +257,148 @@ fn pairs_stand_in_any_order(rt: HostRuntime) -> Result<(), Fail> {
     let alloc = rt.alloc();
     let words =
         "predict|end=2000-01-11T00:00Z|station=Pier|zone=UTC|begin=2000-01-10T00:00Z|file=pier.txt";
-    let outcome = run_over(alloc, pier_with(alloc, 0, "")?, words, 4096, NONE)?;
-    assert_outcome(&rt, &outcome, 0, DAY, "");
-    Ok(())
+    let held = held_with(alloc, 0, "")?;
+    Ok(assert_run(&rt, alloc, held, words, (0, DAY, ""))?)
+}
+
+// Returns a file of three years whose tide has these node factors.
+fn three_years_of(alloc: Global, factors: &str) -> Result<Vec<NamedFile>, AllocError> {
+    let file = format!(in alloc;
+        "1\nS2 30\n1999\n3\nS2\n0 0 0\n*END*\n3\nS2\n{factors}\n*END*\nPier\n0:00\n0 feet\nS2 800 0\n"
+    )?;
+    only_pier(alloc, Bytes::from_vec(file.into_bytes()))
 }
 
 #[test]
 fn the_first_year_beyond_a_limit_is_named(rt: HostRuntime) -> Result<(), Fail> {
     let alloc = rt.alloc();
-    for (factors, line) in [
-        ("0.5 2 2", "limit: too steep in 1999\n"),
-        ("0.1 2 0.5", "limit: too large in 2000\n"),
-        ("0.1 0.5 2", "limit: too steep in 2000\n"),
-    ] {
-        let file = format!(in alloc;
-            "1\nS2 30\n1999\n3\nS2\n0 0 0\n*END*\n3\nS2\n{factors}\n*END*\nPier\n0:00\n0 feet\nS2 800 0\n"
-        )?;
-        let bytes = Bytes::from_vec(file.into_bytes());
-        let outcome = run_over(alloc, bytes, PREDICT, 4096, NONE)?;
-        assert_outcome(&rt, &outcome, 5, "", line);
+    for &(factors, line) in BEYOND_A_LIMIT {
+        let held = three_years_of(alloc, factors)?;
+        assert_run(&rt, alloc, held, PREDICT, (5, "", line))?;
     }
     Ok(())
+}
+
+// Returns a file of eleven years of a pier.
+fn eleven_years(alloc: Global) -> Result<Vec<NamedFile>, AllocError> {
+    let file = String::from_str(alloc, ELEVEN_YEARS)?;
+    only_pier(alloc, Bytes::from_vec(file.into_bytes()))
+}
+
+// Asserts the number of bytes and lines of a long listing, and its first and last event.
+fn assert_long_listing(
+    rt: &impl Abort,
+    out: &[u8],
+    case: &str,
+    bytes: usize,
+    lines: usize,
+    (first, last): (&str, &str),
+) {
+    assert_count(rt, out.len(), bytes, case);
+    assert_count(rt, out.iter().filter(|b| **b == b'\n').count(), lines, case);
+    assert_holds(rt, out.starts_with(first.as_bytes()), case);
+    assert_holds(rt, out.ends_with(last.as_bytes()), case);
 }
 
 #[test]
 fn years_are_listed(rt: HostRuntime) -> Result<(), Fail> {
     let alloc = rt.alloc();
     for &(begin, end, bytes, lines, first, last) in LONG_LISTINGS {
-        let file = String::from_str(alloc, ELEVEN_YEARS)?;
-        let words = format!(in alloc;
-            "predict|file=pier.txt|station=Pier|begin={begin}|end={end}"
-        )?;
-        let outcome = run_over(
-            alloc,
-            Bytes::from_vec(file.into_bytes()),
-            words.as_str(),
-            65_536,
-            NONE,
-        )?;
-        assert_eq!(rt; outcome.status.number(), 0);
-        let out = outcome.out.as_slice();
-        assert_eq!(rt; out.len(), bytes);
-        assert_eq!(rt; out.iter().filter(|b| **b == b'\n').count(), lines);
-        assert_eq!(rt; out.starts_with(first.as_bytes()), true);
-        assert_eq!(rt; out.ends_with(last.as_bytes()), true);
+        let words = predict(alloc, begin, end)?;
+        let outcome = run_over(alloc, eleven_years(alloc)?, words.as_str(), 65_536, NONE)?;
+        assert_count(&rt, usize::from(outcome.status.number()), 0, begin);
+        let out = outcome.left.out.bytes();
+        assert_long_listing(&rt, out, begin, bytes, lines, (first, last));
     }
     Ok(())
+}
+
+// Returns the pier's file behind a comment, so that it has `length` bytes.
+fn pier_behind_a_comment(alloc: Global, length: usize) -> Result<Bytes, AllocError> {
+    let mut bytes = vec![in alloc; b'#'; length.saturating_sub(PIER.len() + 1)]?;
+    bytes.push(b'\n')?;
+    bytes.extend_from_slice(PIER.as_bytes())?;
+    Ok(Bytes::from_vec(bytes))
 }
 
 #[test]
 fn a_file_may_have_67108864_bytes(rt: HostRuntime) -> Result<(), Fail> {
     let alloc = rt.alloc();
-    for (length, status, out, line) in [
-        (67_108_864, 0, "Ref feet Pier\n", ""),
-        (67_108_865, 3, "", "file: too long\n"),
-    ] {
-        let mut bytes = vec![in alloc; b'#'; length - PIER.len() - 1]?;
-        bytes.push(b'\n')?;
-        bytes.extend_from_slice(PIER.as_bytes())?;
-        let outcome = run_over(
+    for &(length, status, out, line) in LENGTHS {
+        let held = only_pier(alloc, pier_behind_a_comment(alloc, length)?)?;
+        assert_run(
+            &rt,
             alloc,
-            Bytes::from_vec(bytes),
+            held,
             "stations|file=pier.txt",
-            4096,
-            NONE,
+            (status, out, line),
         )?;
-        assert_outcome(&rt, &outcome, status, out, line);
     }
     Ok(())
+}
+
+// Returns the files of a case.
+fn held_for(alloc: Global, case: &FileCase) -> Result<Vec<NamedFile>, AllocError> {
+    let mut held = held_with(alloc, case.line, case.text)?;
+    if let Some(text) = case.offsets {
+        hold(alloc, &mut held, "o.csv", text.as_bytes())?;
+    }
+    if let Some(text) = case.zone {
+        hold(alloc, &mut held, "zone", text.as_bytes())?;
+    }
+    Ok(held)
 }
 
 #[test]
 fn each_file_has_its_place_in_the_order(rt: HostRuntime) -> Result<(), Fail> {
     let alloc = rt.alloc();
     for case in FILE_CASES {
-        let mut held = Vec::new(alloc);
-        let pier = pier_with(alloc, case.line, case.text)?;
-        held.push(named(alloc, "pier.txt", pier)?)?;
-        for (name, file) in [("o.csv", case.offsets), ("zone", case.zone)] {
-            if let Some(text) = file {
-                let bytes = Bytes::from_vec(text.as_bytes().to_vec(alloc)?);
-                held.push(named(alloc, name, bytes)?)?;
-            }
-        }
         let fails = Fails {
             clock: case.clock_fails,
             ..NONE
         };
-        let outcome = run_over_all(alloc, held, case.words, 4096, fails)?;
-        assert_outcome(&rt, &outcome, case.status, "", case.line_printed);
+        let expected = (case.status, "", case.line_printed);
+        let held = held_for(alloc, case)?;
+        assert_run_with(&rt, alloc, held, case.words, fails, expected)?;
     }
     Ok(())
+}
+
+// Returns the pier's file, and one more.
+fn held_beside(alloc: Global, name: &str, text: &[u8]) -> Result<Vec<NamedFile>, AllocError> {
+    let mut held = held_with(alloc, 0, "")?;
+    hold(alloc, &mut held, name, text)?;
+    Ok(held)
 }
 
 #[test]
 fn false_certificates_are_rejected(rt: HostRuntime) -> Result<(), Fail> {
     let alloc = rt.alloc();
     for &(words, text, printed) in REJECTIONS {
-        let mut held = Vec::new(alloc);
-        held.push(named(alloc, "pier.txt", pier_with(alloc, 0, "")?)?)?;
-        let bytes = Bytes::from_vec(text.as_bytes().to_vec(alloc)?);
-        held.push(named(alloc, "cert", bytes)?)?;
-        let outcome = run_over_all(alloc, held, words, 4096, NONE)?;
-        assert_outcome(&rt, &outcome, 1, printed, "");
+        let held = held_beside(alloc, "cert", text.as_bytes())?;
+        assert_run(&rt, alloc, held, words, (1, printed, ""))?;
     }
     Ok(())
+}
+
+// Returns the pier's file, and one of `length` bytes.
+fn held_beside_long(
+    alloc: Global,
+    name: &str,
+    length: usize,
+) -> Result<Vec<NamedFile>, AllocError> {
+    let bytes = Bytes::from_vec(vec![in alloc; b'#'; length]?);
+    let mut held = held_with(alloc, 0, "")?;
+    held.push(named(alloc, name, bytes)?)?;
+    Ok(held)
 }
 
 #[test]
 fn files_have_limits(rt: HostRuntime) -> Result<(), Fail> {
     let alloc = rt.alloc();
-    for (name, length, words, line) in [
-        ("o.csv", 67_108_865, OFFSETS, "offsets: too long\n"),
-        ("zone", 1_048_577, ZONE, "zone: too long\n"),
-    ] {
-        let mut held = Vec::new(alloc);
-        held.push(named(alloc, "pier.txt", pier_with(alloc, 0, "")?)?)?;
-        let bytes = Bytes::from_vec(vec![in alloc; b'#'; length]?);
-        held.push(named(alloc, name, bytes)?)?;
-        let outcome = run_over_all(alloc, held, words, 4096, NONE)?;
-        assert_outcome(&rt, &outcome, 3, "", line);
+    for &(name, length, words, line) in FILE_LIMITS {
+        let held = held_beside_long(alloc, name, length)?;
+        assert_run(&rt, alloc, held, words, (3, "", line))?;
     }
     Ok(())
 }

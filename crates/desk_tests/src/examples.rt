@@ -1,19 +1,25 @@
 //! The example in the documentation of `run`, over a file in memory.
 
+use crate::asserts::assert_bytes;
 use decimal_text::{Bytes, Text};
+use std::alloc::{AllocError, Global};
 use std::test::Fail;
 use texts_for_tests::{DAY, PIER, words_of};
 use tide_answer::Status;
 use tide_desk::run;
 use tide_edge::{FixedClock, MemoryFiles, MemorySink, NamedFile};
 
+fn pier(alloc: Global) -> Result<NamedFile, AllocError> {
+    Ok(NamedFile {
+        name: Text::from_str(alloc, "pier.txt")?,
+        bytes: Bytes::from_vec(PIER.as_bytes().to_vec(alloc)?),
+    })
+}
+
 #[test]
 fn a_command_line_is_answered(rt: HostRuntime) -> Result<(), Fail> {
     let alloc = rt.alloc();
-    let pier = NamedFile {
-        name: Text::from_str(alloc, "pier.txt")?,
-        bytes: Bytes::from_vec(PIER.as_bytes().to_vec(alloc)?),
-    };
+    let pier = pier(alloc)?;
     let line = "predict|file=pier.txt|station=Pier|begin=2000-01-10T00:00Z|end=2000-01-11T00:00Z";
     let words = words_of(alloc, line)?;
     let mut files = MemoryFiles::new(vec![in alloc; pier]?, Vec::new(alloc));
@@ -25,6 +31,6 @@ fn a_command_line_is_answered(rt: HostRuntime) -> Result<(), Fail> {
         alloc, &words, &mut files, &mut out, &mut err, &mut clock, sheets,
     );
     assert_eq!(rt; status, Status::Done);
-    assert_eq!(rt; out.bytes(), DAY.as_bytes());
+    assert_bytes(&rt, out.bytes(), DAY.as_bytes(), line);
     Ok(())
 }

@@ -58,77 +58,159 @@ const LINES: &[(&str, u64, u8, &str)] = &[
     (PREDICT, 1, 7, "write fault\n"),
 ];
 
-// Runs `words` over the pier, a table, a certificate and a zone. A write takes at most ten bytes.
-fn run_words(alloc: Global, words: &str, fails: Fails) -> Result<Outcome, AllocError> {
-    let mut held = Vec::new(alloc);
-    held.push(named(alloc, "pier.txt", pier_with(alloc, 0, "")?)?)?;
-    for (name, text) in [
-        ("o.csv", DOCKS),
-        ("cert", CERTIFICATE),
-        ("hour", HOUR_AHEAD),
-    ] {
-        let bytes = Bytes::from_vec(text.as_bytes().to_vec(alloc)?);
-        held.push(named(alloc, name, bytes)?)?;
+// The files beside the pier's.
+const MORE: &[(&str, &str)] = &[
+    ("o.csv", DOCKS),
+    ("cert", CERTIFICATE),
+    ("hour", HOUR_AHEAD),
+];
+
+// Returns the pier, a table, a certificate and a zone.
+fn all_held(alloc: Global) -> Result<Vec<NamedFile>, AllocError> {
+    let mut held = held_with(alloc, 0, "")?;
+    for &(name, text) in MORE {
+        hold(alloc, &mut held, name, text.as_bytes())?;
     }
-    run_over_all(alloc, held, words, 10, fails)
+    Ok(held)
+}
+
+// Runs `words` over all files. A write takes at most ten bytes.
+fn run_words(alloc: Global, words: &str, fails: Fails) -> Result<Outcome, AllocError> {
+    run_over(alloc, all_held(alloc)?, words, 10, fails)
+}
+
+fn assert_words(
+    rt: &impl Abort,
+    alloc: Global,
+    words: &str,
+    fails: Fails,
+    expected: (u8, &str, &str),
+) -> Result<(), AllocError> {
+    let outcome = run_words(alloc, words, fails)?;
+    assert_outcome(rt, &outcome, words, expected);
+    Ok(())
+}
+
+// Asserts the output of a run whose call `files` to the files fails, if it makes so many.
+fn assert_call(
+    rt: &impl Abort,
+    alloc: Global,
+    &(words, calls, text): &(&str, u64, &str),
+    files: u64,
+) -> Result<(), AllocError> {
+    let fails = Fails { files, ..NONE };
+    if files <= calls {
+        return assert_words(rt, alloc, words, fails, (6, "", "read fault\n"));
+    }
+    assert_words(rt, alloc, words, fails, (0, text, ""))
 }
 
 #[test]
 fn each_call_of_the_files_may_fail(rt: HostRuntime) -> Result<(), Fail> {
-    for &(words, calls, text) in WHOLE {
+    for case in WHOLE {
         for files in 1..8 {
-            let outcome = run_words(rt.alloc(), words, Fails { files, ..NONE })?;
-            if files <= calls {
-                assert_outcome(&rt, &outcome, 6, "", "read fault\n");
-            } else {
-                assert_outcome(&rt, &outcome, 0, text, "");
-            }
+            assert_call(&rt, rt.alloc(), case, files)?;
         }
     }
     Ok(())
+}
+
+// Asserts that `out` has a part of `text`: at most ten bytes more than those of the writes `before`,
+// or none if the first write failed.
+fn assert_cut(rt: &impl Abort, out: &[u8], text: &[u8], before: Option<usize>, case: &str) {
+    assert_holds(rt, out.len() < text.len() && text.starts_with(out), case);
+    match before {
+        Some(before) => {
+            let is_more = out.len() > before && out.len() - before <= 10;
+            assert_holds(rt, is_more, case);
+        }
+        None => assert_count(rt, out.len(), 0, case),
+    }
+}
+
+// Asserts the outcome of a run with a write that fails, and returns the number of bytes written
+// before it: None if no write failed.
+fn written_in(
+    rt: &impl Abort,
+    outcome: &Outcome,
+    (words, text): (&str, &str),
+    before: Option<usize>,
+) -> Option<usize> {
+    if outcome.status.number() == 0 {
+        assert_outcome(rt, outcome, words, (0, text, ""));
+        return None;
+    }
+    let out = outcome.left.out.bytes();
+    assert_cut(rt, out, text.as_bytes(), before, words);
+    assert_count(rt, usize::from(outcome.status.number()), 7, words);
+    assert_bytes(rt, outcome.left.err.bytes(), b"write fault\n", words);
+    Some(out.len())
+}
+
+fn written_before(
+    rt: &impl Abort,
+    alloc: Global,
+    (words, text): (&str, &str),
+    fails: Fails,
+    before: Option<usize>,
+) -> Result<Option<usize>, AllocError> {
+    let outcome = run_words(alloc, words, fails)?;
+    Ok(written_in(rt, &outcome, (words, text), before))
 }
 
 #[test]
 fn each_write_may_fail(rt: HostRuntime) -> Result<(), Fail> {
     for &(words, _, text) in WHOLE {
-        let mut most = 0;
-        let mut is_whole = false;
-        for failing in 1..100 {
-            let fails = Fails {
-                out: failing,
-                ..NONE
-            };
-            let outcome = run_words(rt.alloc(), words, fails)?;
-            let out = outcome.out.as_slice();
-            if outcome.status.number() == 0 {
-                assert_outcome(&rt, &outcome, 0, text, "");
-                is_whole = true;
+        let mut before = None;
+        for out in 1..100 {
+            let fails = Fails { out, ..NONE };
+            before = written_before(&rt, rt.alloc(), (words, text), fails, before)?;
+            if before.is_none() {
                 break;
             }
-            assert_eq!(rt; outcome.status.number(), 7);
-            assert!(rt; out.len() < text.len() && text.as_bytes().starts_with(out));
-            // the bytes of the writes before, each at most ten
-            assert!(rt; failing == 1 || out.len() > most && out.len() - most <= 10);
-            assert_eq!(rt; outcome.err.as_slice(), b"write fault\n".as_slice());
-            most = out.len();
         }
-        assert!(rt; is_whole);
+        assert_holds(&rt, before.is_none(), words);
     }
+    Ok(())
+}
+
+// Asserts what a run has left if `err` failed after ten times `taken` bytes of its line.
+fn assert_front(
+    rt: &impl Abort,
+    outcome: &Outcome,
+    &(words, _, status, line): &(&str, u64, u8, &str),
+    taken: u8,
+) {
+    let front = line.len().min(usize::from(taken) * 10);
+    let seen = usize::from(outcome.status.number());
+    assert_count(rt, seen, usize::from(status), words);
+    assert_count(rt, outcome.left.out.bytes().len(), 0, words);
+    assert_bytes(
+        rt,
+        outcome.left.err.bytes(),
+        &line.as_bytes()[..front],
+        words,
+    );
+}
+
+fn assert_line_cut(
+    rt: &impl Abort,
+    alloc: Global,
+    case: &(&str, u64, u8, &str),
+    taken: u8,
+) -> Result<(), AllocError> {
+    let (out, err) = (case.1, u64::from(taken) + 1);
+    let outcome = run_words(alloc, case.0, Fails { out, err, ..NONE })?;
+    assert_front(rt, &outcome, case, taken);
     Ok(())
 }
 
 #[test]
 fn a_line_that_fails_changes_no_status(rt: HostRuntime) -> Result<(), Fail> {
-    for &(words, out, status, line) in LINES {
+    for case in LINES {
         // a line has at most 90 bytes
         for taken in 0..10_u8 {
-            let err = u64::from(taken) + 1;
-            let fails = Fails { out, err, ..NONE };
-            let outcome = run_words(rt.alloc(), words, fails)?;
-            let front = line.len().min(usize::from(taken) * 10);
-            assert_eq!(rt; outcome.status.number(), status);
-            assert_eq!(rt; outcome.out.as_slice().len(), 0);
-            assert_eq!(rt; outcome.err.as_slice(), &line.as_bytes()[..front]);
+            assert_line_cut(&rt, rt.alloc(), case, taken)?;
         }
     }
     Ok(())

@@ -14,11 +14,17 @@ pub struct FileCase {
     pub line_printed: &'static str,
 }
 
-pub const OFFSETS: &str =
+const OFFSETS: &str =
     "predict|file=pier.txt|offsets=o.csv|station=Lost|begin=2000-01-10T00:00Z|end=2000-01-11T00:00Z";
 
-pub const ZONE: &str =
+const ZONE: &str =
     "predict|file=pier.txt|zone=@zone|station=Pier|begin=2000-01-10T00:00Z|end=2000-01-11T00:00Z";
+
+/// A file that is too long, its number of bytes, the arguments, and the line that follows.
+pub const FILE_LIMITS: &[(&str, usize, &str, &str)] = &[
+    ("o.csv", 67_108_865, OFFSETS, "offsets: too long\n"),
+    ("zone", 1_048_577, ZONE, "zone: too long\n"),
+];
 
 const BOTH: &str =
     "heights|file=pier.txt|zone=@zone|offsets=o.csv|station=Pier|begin=2000-01-10T00:00Z|end=2000-01-11T00:00Z";

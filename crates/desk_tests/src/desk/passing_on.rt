@@ -24,17 +24,30 @@ const PASSED_ON: &[(&str, &str, &str)] = &[
     ),
 ];
 
+// Runs the arguments that certify, and returns the pier's file and the certificate.
+fn held_by(rt: &impl Abort, alloc: Global, certify: &str) -> Result<Vec<NamedFile>, AllocError> {
+    let made = run_over(alloc, held_with(alloc, 0, "")?, certify, 10, NONE)?;
+    assert_count(rt, usize::from(made.status.number()), 0, certify);
+    held_beside(alloc, "cert", made.left.out.bytes())
+}
+
+fn assert_accepted(
+    rt: &impl Abort,
+    alloc: Global,
+    held: Vec<NamedFile>,
+    check: &str,
+    text: &str,
+) -> Result<(), AllocError> {
+    let outcome = run_over(alloc, held, check, 10, NONE)?;
+    assert_outcome(rt, &outcome, check, (0, text, ""));
+    Ok(())
+}
+
 #[test]
 fn what_was_written_is_accepted(rt: HostRuntime) -> Result<(), Fail> {
-    let alloc = rt.alloc();
     for &(certify, check, text) in PASSED_ON {
-        let made = run_over(alloc, pier_with(alloc, 0, "")?, certify, 10, NONE)?;
-        assert_eq!(rt; made.status.number(), 0);
-        let mut held = Vec::new(alloc);
-        held.push(named(alloc, "pier.txt", pier_with(alloc, 0, "")?)?)?;
-        held.push(named(alloc, "cert", made.out)?)?;
-        let outcome = run_over_all(alloc, held, check, 10, NONE)?;
-        assert_outcome(&rt, &outcome, 0, text, "");
+        let held = held_by(&rt, rt.alloc(), certify)?;
+        assert_accepted(&rt, rt.alloc(), held, check, text)?;
     }
     Ok(())
 }

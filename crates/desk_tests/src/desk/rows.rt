@@ -122,6 +122,25 @@ pub const LONG_LISTINGS: &[(&str, &str, usize, usize, &str, &str)] = &[
     ),
 ];
 
+// The amplitude of a tide, and the line for too many minutes of it.
+pub const TOO_MANY_MINUTES: &[(&str, &str)] = &[
+    ("1", "limit: span of 5270401 minutes\n"),
+    ("400", "limit: too steep in 1999\n"),
+];
+
+// The node factors of three years, and the line for them.
+pub const BEYOND_A_LIMIT: &[(&str, &str)] = &[
+    ("0.5 2 2", "limit: too steep in 1999\n"),
+    ("0.1 2 0.5", "limit: too large in 2000\n"),
+    ("0.1 0.5 2", "limit: too steep in 2000\n"),
+];
+
+// The number of bytes of a file, and the status and the texts that follow.
+pub const LENGTHS: &[(usize, u8, &str, &str)] = &[
+    (67_108_864, 0, "Ref feet Pier\n", ""),
+    (67_108_865, 3, "", "file: too long\n"),
+];
+
 // The number of a line of the file and its text, the arguments, and the status and the line that
 // follow, in the order of refusals.
 pub const REFUSALS: &[(usize, &str, &str, u8, &str)] = &[
