@@ -4,6 +4,7 @@ ghost use Rattle.std.specs.Prelude.{IsTrue, IfOk};
 ghost use Rattle.std.specs.List.{list_all};
 ghost use Rattle.tide_edge.specs.Memory.{are_pieces};
 
+use crate::asserts::assert_bytes;
 use decimal_text::{Bytes, Text};
 use harmonics_text::read_book;
 use station_table::OffsetTable;
@@ -26,6 +27,13 @@ fn requests(alloc: Global) -> Result<Vec<Vec<Bytes>>, AllocError>
     Ok(requests)
 }
 
+fn pier(alloc: Global) -> Result<NamedFile, AllocError> {
+    Ok(NamedFile {
+        name: Text::from_str(alloc, "pier.txt")?,
+        bytes: Bytes::from_vec(PIER.as_bytes().to_vec(alloc)?),
+    })
+}
+
 #[test]
 fn a_request_has_its_reply(rt: HostRuntime) -> Result<(), Fail> {
     let alloc = rt.alloc();
@@ -40,10 +48,7 @@ fn a_request_has_its_reply(rt: HostRuntime) -> Result<(), Fail> {
 #[test]
 fn a_server_serves(rt: HostRuntime) -> Result<(), Fail> {
     let alloc = rt.alloc();
-    let pier = NamedFile {
-        name: Text::from_str(alloc, "pier.txt")?,
-        bytes: Bytes::from_vec(PIER.as_bytes().to_vec(alloc)?),
-    };
+    let pier = pier(alloc)?;
     let words = words_of(alloc, "serve|file=pier.txt|port=8080")?;
     let mut files = MemoryFiles::new(vec![in alloc; pier]?, Vec::new(alloc));
     let mut door = MemoryDoor::new(alloc, requests(alloc)?, 4_096, Vec::new(alloc))?;
@@ -51,6 +56,6 @@ fn a_server_serves(rt: HostRuntime) -> Result<(), Fail> {
     let mut clock = FixedClock::new(15_791_220, Vec::new(alloc));
     let status = serve(alloc, &words, &mut files, &mut door, &mut err, &mut clock);
     assert_eq!(rt; status, Status::Done);
-    assert_eq!(rt; err.bytes(), b"http://127.0.0.1:8080/\n".as_slice());
+    assert_bytes(&rt, err.bytes(), b"http://127.0.0.1:8080/\n", "serve");
     Ok(())
 }

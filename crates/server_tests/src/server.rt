@@ -6,8 +6,10 @@ mod minute_transcript;
 mod replies;
 mod serving;
 
+use crate::asserts::{assert_bytes, assert_holds};
 use arrayvec::ArrayString;
 use std::alloc::{AllocError, Global};
+use std::process::Abort;
 use std::test::Fail;
 use tide_edge::{FixedClock, MemoryDoor, MemoryFiles, MemorySink};
 use tide_server::{enough, fixed_reply, servers_are_complete, unavailable_reply, worked_servers};
@@ -22,44 +24,50 @@ fn with_fields(alloc: Global, count: u32) -> Result<Vec<u8>, AllocError> {
     Ok(request)
 }
 
+/// Requests, and the whole of their fixed replies.
+const FIXED: &[(&str, &str)] = &[
+    (
+        "GET /tides HTTP/1.1\r\nHost: a\r\n\r\n",
+        "HTTP/1.1 404 Not Found\r\nContent-Type: text/plain; charset=utf-8\r\nContent-Length: 10\r\n\
+        Connection: close\r\n\r\nnot found\n",
+    ),
+    (
+        "HEAD /tides HTTP/1.1\r\nHost: a\r\n\r\n",
+        "HTTP/1.1 404 Not Found\r\nContent-Type: text/plain; charset=utf-8\r\nContent-Length: 10\r\nConnection: close\r\n\r\n",
+    ),
+    (
+        "GET /check HTTP/1.1\nhOST: a\n\n",
+        "HTTP/1.1 405 Method Not Allowed\r\nContent-Type: text/plain; charset=utf-8\r\nContent-Length: 19\r\n\
+        Allow: POST\r\nConnection: close\r\n\r\nmethod not allowed\n",
+    ),
+    (
+        "PUT /clock?a=b HTTP/1.0\r\n\r\n",
+        "HTTP/1.1 405 Method Not Allowed\r\nContent-Type: text/plain; charset=utf-8\r\nContent-Length: 19\r\n\
+        Allow: GET, HEAD\r\nConnection: close\r\n\r\nmethod not allowed\n",
+    ),
+    (
+        "HEAD /clock HTTP/1.1 \r\nHost: a\r\n\r\n",
+        "HTTP/1.1 400 Bad Request\r\nContent-Type: text/plain; charset=utf-8\r\nContent-Length: 12\r\n\
+        Connection: close\r\n\r\nbad request\n",
+    ),
+];
+
+fn assert_fixed(rt: &impl Abort, request: &str, expected: &str) {
+    let mut out = ArrayString::new();
+    assert_holds(rt, enough(request.as_bytes()), request);
+    assert_holds(rt, fixed_reply(request.as_bytes(), &mut out), request);
+    assert_bytes(rt, out.as_bytes(), expected.as_bytes(), request);
+}
+
 #[test]
-fn fixed_rows_are_found_by_their_bytes(rt: HostRuntime) -> Result<(), Fail> {
-    for (request, expected) in [
-        (
-            "GET /tides HTTP/1.1\r\nHost: a\r\n\r\n",
-            "HTTP/1.1 404 Not Found\r\nContent-Type: text/plain; charset=utf-8\r\nContent-Length: 10\r\n\
-            Connection: close\r\n\r\nnot found\n",
-        ),
-        (
-            "HEAD /tides HTTP/1.1\r\nHost: a\r\n\r\n",
-            "HTTP/1.1 404 Not Found\r\nContent-Type: text/plain; charset=utf-8\r\nContent-Length: 10\r\nConnection: close\r\n\r\n",
-        ),
-        (
-            "GET /check HTTP/1.1\nhOST: a\n\n",
-            "HTTP/1.1 405 Method Not Allowed\r\nContent-Type: text/plain; charset=utf-8\r\nContent-Length: 19\r\n\
-            Allow: POST\r\nConnection: close\r\n\r\nmethod not allowed\n",
-        ),
-        (
-            "PUT /clock?a=b HTTP/1.0\r\n\r\n",
-            "HTTP/1.1 405 Method Not Allowed\r\nContent-Type: text/plain; charset=utf-8\r\nContent-Length: 19\r\n\
-            Allow: GET, HEAD\r\nConnection: close\r\n\r\nmethod not allowed\n",
-        ),
-        (
-            "HEAD /clock HTTP/1.1 \r\nHost: a\r\n\r\n",
-            "HTTP/1.1 400 Bad Request\r\nContent-Type: text/plain; charset=utf-8\r\nContent-Length: 12\r\n\
-            Connection: close\r\n\r\nbad request\n",
-        ),
-    ] {
-        let mut out = ArrayString::new();
-        assert!(rt; enough(request.as_bytes()));
-        assert!(rt; fixed_reply(request.as_bytes(), &mut out));
-        assert_eq!(rt; out.as_str(), expected, "{request}");
+fn fixed_rows_are_found_by_their_bytes(rt: HostRuntime) {
+    for &(request, expected) in FIXED {
+        assert_fixed(&rt, request, expected);
     }
-    Ok(())
 }
 
 /// Requests with a fixed reply, whether they are enough, and the status of the reply.
-const FIRST_ROWS: [(&str, bool, &str); 16] = [
+const FIRST_ROWS: &[(&str, bool, &str)] = &[
     ("", false, "400"),
     ("GET /clock HTTP/1.1\r\nHost: a\r\n\r", false, "400"),
     ("\n\nGET /clock HTTP/1.0\r\n\r\n", true, "400"),
@@ -110,45 +118,61 @@ const FIRST_ROWS: [(&str, bool, &str); 16] = [
     ),
 ];
 
-#[test]
-fn the_first_row_that_fits_answers(rt: HostRuntime) -> Result<(), Fail> {
-    for (request, settled, status) in FIRST_ROWS {
-        let mut out = ArrayString::new();
-        assert_eq!(rt; enough(request.as_bytes()), settled, "{request}");
-        assert!(rt; fixed_reply(request.as_bytes(), &mut out));
-        assert!(rt; out.as_str().contains(status), "{request}");
-    }
-    Ok(())
+/// Asserts whether `request` is enough, and the status of its fixed reply: none if it is empty.
+fn assert_status(rt: &impl Abort, request: &[u8], settled: bool, status: &str, case: &str) {
+    let mut out = ArrayString::new();
+    assert_holds(rt, enough(request) == settled, case);
+    assert_holds(
+        rt,
+        fixed_reply(request, &mut out) != status.is_empty(),
+        case,
+    );
+    assert_holds(rt, out.as_str().contains(status), case);
 }
 
 #[test]
-fn other_rows_ask(rt: HostRuntime) -> Result<(), Fail> {
-    for request in [
-        "\nGET /predict?station=Pier HTTP/1.0\r\n\r\n",
-        "HEAD /stations HTTP/1.1\r\nHost: a\r\nContent-Length: x\r\n\r\n",
-        "POST /check HTTP/1.0\r\nContent-Length: 005\r\n\r\nabcde and more",
-    ] {
-        let mut out = ArrayString::new();
-        assert!(rt; enough(request.as_bytes()));
-        assert!(rt; !fixed_reply(request.as_bytes(), &mut out));
-        assert_eq!(rt; out.as_str(), "", "{request}");
+fn the_first_row_that_fits_answers(rt: HostRuntime) {
+    for &(request, settled, status) in FIRST_ROWS {
+        assert_status(&rt, request.as_bytes(), settled, status, request);
     }
-    Ok(())
+}
+
+/// Requests without a fixed reply.
+const ASKING: &[&str] = &[
+    "\nGET /predict?station=Pier HTTP/1.0\r\n\r\n",
+    "HEAD /stations HTTP/1.1\r\nHost: a\r\nContent-Length: x\r\n\r\n",
+    "POST /check HTTP/1.0\r\nContent-Length: 005\r\n\r\nabcde and more",
+];
+
+fn assert_asks(rt: &impl Abort, request: &str) {
+    let mut out = ArrayString::new();
+    assert_holds(rt, enough(request.as_bytes()), request);
+    assert_holds(rt, !fixed_reply(request.as_bytes(), &mut out), request);
+    assert_bytes(rt, out.as_bytes(), b"", request);
+}
+
+#[test]
+fn other_rows_ask(rt: HostRuntime) {
+    for request in ASKING {
+        assert_asks(&rt, request);
+    }
 }
 
 #[test]
 fn large_heads_are_rejected(rt: HostRuntime) -> Result<(), Fail> {
     let alloc = rt.alloc();
-    for (request, settled, expected) in [
-        (vec![in alloc; b'a'; 8_191]?, false, "400"),
-        (vec![in alloc; b'a'; 8_192]?, true, "431"),
-        (with_fields(alloc, 65)?, true, "431"),
-        (with_fields(alloc, 64)?, true, ""),
-    ] {
-        let mut out = ArrayString::new();
-        assert_eq!(rt; enough(&request), settled);
-        assert_eq!(rt; fixed_reply(&request, &mut out), !expected.is_empty());
-        assert!(rt; out.as_str().contains(expected));
+    let head = vec![in alloc; b'a'; 8_191]?;
+    assert_status(&rt, &head, false, "400", "8,191 bytes");
+    let head = vec![in alloc; b'a'; 8_192]?;
+    assert_status(&rt, &head, true, "431", "8,192 bytes");
+    Ok(())
+}
+
+#[test]
+fn heads_of_many_fields_are_rejected(rt: HostRuntime) -> Result<(), Fail> {
+    for (count, status) in [(65, "431"), (64, "")] {
+        let request = with_fields(rt.alloc(), count)?;
+        assert_status(&rt, &request, true, status, "many fields");
     }
     Ok(())
 }
@@ -157,28 +181,31 @@ fn large_heads_are_rejected(rt: HostRuntime) -> Result<(), Fail> {
 fn a_request_is_enough_once_it_is_whole(rt: HostRuntime) {
     let request = b"POST /check HTTP/1.1\r\nHost: a\r\nContent-Length: 5\r\n\r\nabcde".as_slice();
     for length in 0..request.len() {
-        assert!(rt; !enough(&request[..length]));
+        assert_holds(&rt, !enough(&request[..length]), "a part of a request");
     }
-    assert!(rt; enough(request));
+    assert_holds(&rt, enough(request), "a request");
 }
+
+/// Requests, and their replies if memory runs out.
+const UNAVAILABLE: &[(&str, &str)] = &[
+    (
+        "GET /stations HTTP/1.1\r\nHost: a\r\n\r\n",
+        "HTTP/1.1 503 Service Unavailable\r\nContent-Type: text/plain; charset=utf-8\r\nContent-Length: 10\r\n\
+        Connection: close\r\n\r\nno memory\n",
+    ),
+    (
+        "HEAD /stations HTTP/1.1\r\nHost: a\r\n\r\n",
+        "HTTP/1.1 503 Service Unavailable\r\nContent-Type: text/plain; charset=utf-8\r\nContent-Length: 10\r\n\
+        Connection: close\r\n\r\n",
+    ),
+];
 
 #[test]
 fn out_of_memory_has_a_reply(rt: HostRuntime) {
-    for (request, expected) in [
-        (
-            "GET /stations HTTP/1.1\r\nHost: a\r\n\r\n",
-            "HTTP/1.1 503 Service Unavailable\r\nContent-Type: text/plain; charset=utf-8\r\nContent-Length: 10\r\n\
-            Connection: close\r\n\r\nno memory\n",
-        ),
-        (
-            "HEAD /stations HTTP/1.1\r\nHost: a\r\n\r\n",
-            "HTTP/1.1 503 Service Unavailable\r\nContent-Type: text/plain; charset=utf-8\r\nContent-Length: 10\r\n\
-            Connection: close\r\n\r\n",
-        ),
-    ] {
+    for &(request, expected) in UNAVAILABLE {
         let mut out = ArrayString::new();
         unavailable_reply(request.as_bytes(), &mut out);
-        assert_eq!(rt; out.as_str(), expected);
+        assert_bytes(&rt, out.as_bytes(), expected.as_bytes(), request);
     }
 }
 

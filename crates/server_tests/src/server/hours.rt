@@ -2,11 +2,11 @@
 
 use super::coming::Coming;
 use super::minute_transcript::MinuteTranscript;
-use super::serving::{ASKED, NONE, Outcome, serve_by, serve_over};
+use super::serving::{ASKED, NONE, Outcome, assert_done, serve_by, serve_over};
+use crate::asserts::{assert_count, assert_holds};
 use std::alloc::Global;
 use std::process::Abort;
 use std::test::Fail;
-use tide_answer::Status;
 use tide_edge::{Clock, Failed};
 
 /// The number of hours that the test's own clock shows, one after the other, before it stops.
@@ -50,9 +50,15 @@ fn assert_says(
     line: &str,
 ) -> Result<(), Fail> {
     let reply = String::from_utf8(outcome.door.reply(i).unwrap_or(b"").to_vec(alloc)?)?;
-    assert!(rt; reply.as_str().contains(line), "reply {i}");
+    assert_holds(rt, reply.as_str().contains(line), line);
     Ok(())
 }
+
+/// The number of a reply, and a line of it.
+const SHOWN: &[(u64, &str)] = &[
+    (0, "\nNow 2000-01-10 03:00 UTC       0.00 feet  Falling\n"),
+    (2, "\nNow 2000-01-10 04:00 UTC      -0.50 feet  Falling\n"),
+];
 
 #[test]
 fn each_request_is_answered_at_its_own_minute(rt: HostRuntime) -> Result<(), Fail> {
@@ -63,11 +69,8 @@ fn each_request_is_answered_at_its_own_minute(rt: HostRuntime) -> Result<(), Fai
         given: MinuteTranscript::new(),
     };
     let outcome = serve_by(alloc, ASKED, &requests, 4096, NONE, &mut clock)?;
-    assert_eq!(rt; outcome.status, Status::Done);
-    for (i, line) in [
-        (0, "\nNow 2000-01-10 03:00 UTC       0.00 feet  Falling\n"),
-        (2, "\nNow 2000-01-10 04:00 UTC      -0.50 feet  Falling\n"),
-    ] {
+    assert_done(&rt, &outcome, ASKED);
+    for &(i, line) in SHOWN {
         assert_says(&rt, alloc, &outcome, i, line)?;
     }
     Ok(())
@@ -83,9 +86,10 @@ const LINES: usize = 5 + 1 + 4 * 366;
 #[test]
 fn a_list_of_a_year_is_sent_whole(rt: HostRuntime) -> Result<(), Fail> {
     let outcome = serve_over(rt.alloc(), ASKED, &[Coming::Whole(YEAR)], 1_000_000, NONE)?;
-    assert_eq!(rt; outcome.status, Status::Done);
+    assert_done(&rt, &outcome, ASKED);
     let reply = outcome.door.reply(0).unwrap_or(b"");
-    assert!(rt; reply.starts_with(b"HTTP/1.1 200 OK\r\n".as_slice()));
-    assert_eq!(rt; reply.iter().filter(|byte| **byte == b'\n').count(), LINES);
+    assert_holds(&rt, reply.starts_with(b"HTTP/1.1 200 OK\r\n"), YEAR);
+    let lines = reply.iter().filter(|byte| **byte == b'\n').count();
+    assert_count(&rt, lines, LINES, YEAR);
     Ok(())
 }

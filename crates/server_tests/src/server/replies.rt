@@ -3,12 +3,14 @@
 ghost use Rattle.std.specs.Prelude.{IfOk};
 ghost use Rattle.harmonics_book.specs.Books.{IsBook};
 
+use crate::asserts::{assert_bytes, assert_holds};
 use arrayvec::ArrayString;
 use decimal_text::Bytes;
 use harmonics_book::Book;
 use harmonics_text::{BookFault, read_book};
 use station_table::{OffsetFault, OffsetTable, read_offsets};
-use std::alloc::Global;
+use std::alloc::{AllocError, Global};
+use std::process::Abort;
 use std::test::Fail;
 use texts_for_tests::{DAY, PIER};
 use tide_server::{fixed_reply, reply};
@@ -178,8 +180,8 @@ fn table(alloc: Global) -> Result<OffsetTable, OffsetFault> {
 
 // Returns the reply to `request` over the pier and its table.
 fn replied(alloc: Global, request: &str) -> Result<Bytes, Fail> {
-    let book = pier(alloc)?;
     let table = table(alloc)?;
+    let book = pier(alloc)?;
     Ok(reply(alloc, &book, &table, request.as_bytes(), NOW)?)
 }
 
@@ -197,33 +199,56 @@ fn response(
     )?)
 }
 
+fn assert_reply(rt: &impl Abort, alloc: Global, request: &str, expected: &str) -> Result<(), Fail> {
+    let seen = replied(alloc, request)?;
+    assert_bytes(rt, seen.as_slice(), expected.as_bytes(), request);
+    Ok(())
+}
+
+// Asserts the reply to `method` of a target: its status, its type, and what is sent of its body.
+fn assert_target(
+    rt: &impl Abort,
+    alloc: Global,
+    method: &str,
+    &(target, status, kind, body): &(&str, &str, &str, &str),
+    sent: &str,
+) -> Result<(), Fail> {
+    let request = format!(in alloc; "{method} {target} HTTP/1.1\r\nHost: a\r\n\r\n")?;
+    let expected = response(alloc, status, kind, body, sent)?;
+    assert_reply(rt, alloc, request.as_str(), expected.as_str())
+}
+
 #[test]
 fn targets_are_answered(rt: HostRuntime) -> Result<(), Fail> {
-    let alloc = rt.alloc();
-    for (target, status, kind, body) in READ {
-        let get = format!(in alloc; "GET {target} HTTP/1.1\r\nHost: a\r\n\r\n")?;
-        let whole = response(alloc, status, kind, body, body)?;
-        assert_eq!(rt; replied(alloc, get.as_str())?.as_slice(), whole.as_bytes());
-        let head = format!(in alloc; "HEAD {target} HTTP/1.1\r\nHost: a\r\n\r\n")?;
-        let bare = response(alloc, status, kind, body, "")?;
-        assert_eq!(rt; replied(alloc, head.as_str())?.as_slice(), bare.as_bytes());
+    for row in READ {
+        assert_target(&rt, rt.alloc(), "GET", row, row.3)?;
+        assert_target(&rt, rt.alloc(), "HEAD", row, "")?;
     }
     Ok(())
 }
 
+// Returns a request with a certificate of these cells, and bytes after it.
+fn post_of(alloc: Global, cells: &str, behind: &str) -> Result<String, AllocError> {
+    let size = CERTIFICATE.len() + cells.len();
+    format!(in alloc;
+        "POST /check HTTP/1.0\r\nContent-Length: {size}\r\n\r\n{CERTIFICATE}{cells}{behind}"
+    )
+}
+
+fn assert_judged(
+    rt: &impl Abort,
+    alloc: Global,
+    &(cells, behind, body): &(&str, &str, &str),
+) -> Result<(), Fail> {
+    let request = post_of(alloc, cells, behind)?;
+    let expected = response(alloc, "200 OK", "text/plain", body, body)?;
+    assert_reply(rt, alloc, request.as_str(), expected.as_str())
+}
+
 #[test]
 fn posted_certificates_are_judged(rt: HostRuntime) -> Result<(), Fail> {
-    let alloc = rt.alloc();
-    for (cells, behind, body) in POSTED {
-        let size = CERTIFICATE.len() + cells.len();
-        let request = format!(in alloc;
-            "POST /check HTTP/1.0\r\nContent-Length: {size}\r\n\r\n{CERTIFICATE}{cells}{behind}"
-        )?;
-        let expected = response(alloc, "200 OK", "text/plain", body, body)?;
-        assert_eq!(rt;
-            replied(alloc, request.as_str())?.as_slice(),
-            expected.as_bytes()
-        );
+    for row in POSTED {
+        assert_judged(&rt, rt.alloc(), row)?;
     }
     Ok(())
 }
@@ -234,22 +259,23 @@ fn what_is_no_certificate_is_refused(rt: HostRuntime) -> Result<(), Fail> {
     let line = "certificate: line 1\n";
     let expected = response(alloc, "422 Unprocessable Content", "text/plain", line, line)?;
     let request = "POST /check HTTP/1.1\r\nHost: a\r\nContent-Length: 5\r\n\r\nabcde";
-    assert_eq!(rt; replied(alloc, request)?.as_slice(), expected.as_bytes());
-    Ok(())
+    assert_reply(&rt, alloc, request, expected.as_str())
 }
+
+/// Requests with fixed replies.
+const FIXED: &[&str] = &[
+    "GET /predict?station=Pier HTTP/1.1\r\n\r\n",
+    "GET /tides HTTP/1.1\r\nHost: a\r\n\r\n",
+    "HEAD /check HTTP/1.1\r\nHost: a\r\n\r\n",
+    "POST /check HTTP/1.1\r\nHost: a\r\n\r\n",
+];
 
 #[test]
 fn fixed_rows_are_replies(rt: HostRuntime) -> Result<(), Fail> {
-    let alloc = rt.alloc();
-    for request in [
-        "GET /predict?station=Pier HTTP/1.1\r\n\r\n",
-        "GET /tides HTTP/1.1\r\nHost: a\r\n\r\n",
-        "HEAD /check HTTP/1.1\r\nHost: a\r\n\r\n",
-        "POST /check HTTP/1.1\r\nHost: a\r\n\r\n",
-    ] {
+    for request in FIXED {
         let mut out = ArrayString::new();
-        assert!(rt; fixed_reply(request.as_bytes(), &mut out));
-        assert_eq!(rt; replied(alloc, request)?.as_slice(), out.as_bytes());
+        assert_holds(&rt, fixed_reply(request.as_bytes(), &mut out), request);
+        assert_reply(&rt, rt.alloc(), request, out.as_str())?;
     }
     Ok(())
 }

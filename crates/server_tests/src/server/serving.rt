@@ -5,6 +5,7 @@ ghost use Rattle.std.specs.Prelude.{◌≡◌, IfOk, None};
 
 use super::coming::{Coming, requests_of};
 use super::with_fields;
+use crate::asserts::{assert_bytes, assert_count, assert_holds};
 use decimal_text::{Bytes, Text};
 use std::alloc::{AllocError, Global};
 use std::process::Abort;
@@ -52,7 +53,7 @@ const NOTICE: &str = "http://127.0.0.1:8080/\n";
 const FAILED: &str = "http://127.0.0.1:8080/\nread fault\n";
 
 /// The numbers of the calls that fail, counted from 1 for each object.
-#[derive(Clone, Copy, Debug)]
+#[derive(Clone, Copy)]
 pub(super) struct Fails {
     files: u64,
     door: u64,
@@ -75,20 +76,36 @@ pub(super) struct Outcome {
     err: MemorySink,
 }
 
-fn files_of(alloc: Global, fails: u64) -> Result<MemoryFiles, AllocError> {
+/// The names and texts of the files.
+const FILES: &[(&str, &str)] = &[
+    ("pier.txt", PIER),
+    ("short.txt", SHORT),
+    ("empty.csv", ""),
+    ("dock.csv", DOCK),
+];
+
+fn named(alloc: Global, name: &str, text: &str) -> Result<NamedFile, AllocError> {
+    Ok(NamedFile {
+        name: Text::from_str(alloc, name)?,
+        bytes: Bytes::from_vec(text.as_bytes().to_vec(alloc)?),
+    })
+}
+
+fn held(alloc: Global) -> Result<Vec<NamedFile>, AllocError> {
     let mut files = Vec::new(alloc);
-    for (name, text) in [
-        ("pier.txt", PIER),
-        ("short.txt", SHORT),
-        ("empty.csv", ""),
-        ("dock.csv", DOCK),
-    ] {
-        files.push(NamedFile {
-            name: Text::from_str(alloc, name)?,
-            bytes: Bytes::from_vec(text.as_bytes().to_vec(alloc)?),
-        })?;
+    for &(name, text) in FILES {
+        files.push(named(alloc, name, text)?)?;
     }
-    Ok(MemoryFiles::new(files, [fails].to_vec(alloc)?))
+    Ok(files)
+}
+
+fn files_of(alloc: Global, fails: u64) -> Result<MemoryFiles, AllocError> {
+    let fails = [fails].to_vec(alloc)?;
+    Ok(MemoryFiles::new(held(alloc)?, fails))
+}
+
+fn err_of(alloc: Global, fails: u64) -> Result<MemorySink, AllocError> {
+    MemorySink::new(alloc, 4096, 4096, [fails].to_vec(alloc)?)
 }
 
 /// Returns a port that receives the requests, with `room` bytes for all replies.
@@ -114,9 +131,9 @@ pub(super) fn serve_by<K: Clock>(
     clock: &mut K,
 ) -> Result<Outcome, AllocError> {
     let words = words_of(alloc, line)?;
-    let mut err = MemorySink::new(alloc, 4096, 4096, [fails.err].to_vec(alloc)?)?;
-    let mut door = door_of(alloc, requests, room, fails.door)?;
     let mut files = files_of(alloc, fails.files)?;
+    let mut err = err_of(alloc, fails.err)?;
+    let mut door = door_of(alloc, requests, room, fails.door)?;
     let status = serve(alloc, &words, &mut files, &mut door, &mut err, clock);
     Ok(Outcome { status, door, err })
 }
@@ -133,31 +150,46 @@ pub(super) fn serve_over(
     serve_by(alloc, line, requests, room, fails, &mut clock)
 }
 
-fn assert_reply(rt: &impl Abort, outcome: &Outcome, i: u64, expected: Option<&str>) {
+fn assert_reply(rt: &impl Abort, outcome: &Outcome, i: u64, expected: Option<&str>, case: &str) {
     match outcome.door.reply(i) {
-        Some(reply) => assert_eq!(rt; reply, expected.unwrap_or("none").as_bytes(), "reply {i}"),
-        None => assert!(rt; expected.is_none(), "reply {i}"),
+        Some(reply) => assert_bytes(rt, reply, expected.unwrap_or("none").as_bytes(), case),
+        None => assert_holds(rt, expected.is_none(), case),
     }
+}
+
+/// Asserts that there are these replies, from the first on, and no further one.
+fn assert_replies(rt: &impl Abort, outcome: &Outcome, replies: &[&str], case: &str) {
+    for (i, reply) in replies.iter().enumerate() {
+        assert_reply(rt, outcome, i as u64, Some(reply), case);
+    }
+    assert_reply(rt, outcome, replies.len() as u64, None, case);
+}
+
+/// Asserts the status and what was written to standard error.
+fn assert_end(rt: &impl Abort, outcome: &Outcome, status: u8, printed: &str, case: &str) {
+    let seen = usize::from(outcome.status.number());
+    assert_count(rt, seen, usize::from(status), case);
+    assert_bytes(rt, outcome.err.bytes(), printed.as_bytes(), case);
+}
+
+/// Asserts that the server has ended without a fault.
+pub(super) fn assert_done(rt: &impl Abort, outcome: &Outcome, case: &str) {
+    assert_end(rt, outcome, 0, NOTICE, case);
 }
 
 pub(super) const ASKED: &str = "serve|file=pier.txt";
 
 #[test]
 fn each_connection_has_its_reply(rt: HostRuntime) -> Result<(), Fail> {
-    let alloc = rt.alloc();
     let requests = [
         Coming::Whole(LOST),
         Coming::Whole(""),
         Coming::ByBytes(LOST),
         Coming::Whole("GET"),
     ];
-    let outcome = serve_over(alloc, ASKED, &requests, 4096, NONE)?;
-    assert_eq!(rt; outcome.status, Status::Done);
-    assert_eq!(rt; outcome.err.bytes(), NOTICE.as_bytes());
-    for (i, expected) in [NOT_FOUND, "", NOT_FOUND, BAD].into_iter().enumerate() {
-        assert_reply(&rt, &outcome, i as u64, Some(expected));
-    }
-    assert_reply(&rt, &outcome, 4, None);
+    let outcome = serve_over(rt.alloc(), ASKED, &requests, 4096, NONE)?;
+    assert_done(&rt, &outcome, ASKED);
+    assert_replies(&rt, &outcome, &[NOT_FOUND, "", NOT_FOUND, BAD], ASKED);
     Ok(())
 }
 
@@ -172,20 +204,28 @@ const QUESTIONS: &[(&str, &str, &str)] = &[
     ),
 ];
 
+/// Asserts the replies to two connections, and that there are no more.
+fn assert_served(
+    rt: &impl Abort,
+    alloc: Global,
+    words: &str,
+    requests: &[Coming<'_>],
+    replies: &[&str],
+) -> Result<(), Fail> {
+    let outcome = serve_over(alloc, words, requests, 4096, NONE)?;
+    assert_done(rt, &outcome, words);
+    assert_replies(rt, &outcome, replies, words);
+    Ok(())
+}
+
 #[test]
 fn a_question_is_answered_however_it_comes(rt: HostRuntime) -> Result<(), Fail> {
     let alloc = rt.alloc();
     for &(words, request, reply) in QUESTIONS {
-        for requests in [
-            [Coming::Whole(request), Coming::Whole("")],
-            [Coming::ByBytes(request), Coming::Whole("")],
-        ] {
-            let outcome = serve_over(alloc, words, &requests, 4096, NONE)?;
-            assert_eq!(rt; outcome.status, Status::Done);
-            assert_reply(&rt, &outcome, 0, Some(reply));
-            assert_reply(&rt, &outcome, 1, Some(""));
-            assert_reply(&rt, &outcome, 2, None);
-        }
+        let whole = [Coming::Whole(request), Coming::Whole("")];
+        assert_served(&rt, alloc, words, &whole, &[reply, ""])?;
+        let by_bytes = [Coming::ByBytes(request), Coming::Whole("")];
+        assert_served(&rt, alloc, words, &by_bytes, &[reply, ""])?;
     }
     Ok(())
 }
@@ -216,75 +256,90 @@ const HOSTILE: &[(&str, &str)] = &[
 
 #[test]
 fn hostile_requests_are_answered(rt: HostRuntime) -> Result<(), Fail> {
-    let alloc = rt.alloc();
     for &(request, expected) in HOSTILE {
         let requests = [Coming::Whole(request), Coming::Whole(LOST)];
-        let outcome = serve_over(alloc, ASKED, &requests, 4096, NONE)?;
-        assert_reply(&rt, &outcome, 0, Some(expected));
-        assert_reply(&rt, &outcome, 1, Some(NOT_FOUND));
+        let replies = [expected, NOT_FOUND];
+        assert_served(&rt, rt.alloc(), ASKED, &requests, &replies)?;
     }
     Ok(())
+}
+
+// Asserts that a head is too large, and that the next request has its reply.
+fn assert_too_large(rt: &impl Abort, alloc: Global, head: &[u8]) -> Result<(), Fail> {
+    let requests = [Coming::Bytes(head), Coming::Whole(LOST)];
+    assert_served(rt, alloc, ASKED, &requests, &[FIELDS_TOO_LARGE, NOT_FOUND])
 }
 
 #[test]
 fn heads_that_are_too_large_are_answered(rt: HostRuntime) -> Result<(), Fail> {
     let alloc = rt.alloc();
-    for head in [vec![in alloc; b'a'; 8_192]?, with_fields(alloc, 65)?] {
-        let requests = [Coming::Bytes(&head), Coming::Whole(LOST)];
-        let outcome = serve_over(alloc, ASKED, &requests, 4096, NONE)?;
-        assert_reply(&rt, &outcome, 0, Some(FIELDS_TOO_LARGE));
-        assert_reply(&rt, &outcome, 1, Some(NOT_FOUND));
-    }
-    Ok(())
+    let head = vec![in alloc; b'a'; 8_192]?;
+    assert_too_large(&rt, alloc, &head)?;
+    let head = with_fields(alloc, 65)?;
+    assert_too_large(&rt, alloc, &head)
 }
 
-/// A call that fails among those of three connections, and the status, the lines and the replies
-/// that follow.
-const FAILING: &[(Fails, Status, &str, &[&str])] = &[
+/// A call that fails among those of three connections, its name, and the status, the lines and the
+/// replies that follow.
+const FAILING: &[(&str, Fails, Status, &str, &[&str])] = &[
     (
+        "call 1 of door",
         Fails { door: 1, ..NONE },
         Status::ReadFault,
         "read fault\n",
         &[],
     ),
-    (Fails { door: 2, ..NONE }, Status::ReadFault, FAILED, &[]),
     (
+        "call 2 of door",
+        Fails { door: 2, ..NONE },
+        Status::ReadFault,
+        FAILED,
+        &[],
+    ),
+    (
+        "call 5 of door",
         Fails { door: 5, ..NONE },
         Status::ReadFault,
         FAILED,
         &[NOT_FOUND],
     ),
     (
+        "call 6 of door",
         Fails { door: 6, ..NONE },
         Status::Done,
         NOTICE,
         &[NOT_FOUND, "", NOT_FOUND],
     ),
     (
+        "call 7 of door",
         Fails { door: 7, ..NONE },
         Status::Done,
         NOTICE,
         &[NOT_FOUND, "", NOT_FOUND],
     ),
     (
+        "call 11 of door",
         Fails { door: 11, ..NONE },
         Status::ReadFault,
         FAILED,
         &[NOT_FOUND, NOT_FOUND, NOT_FOUND],
     ),
     (
+        "call 2 of clock",
         Fails { clock: 2, ..NONE },
         Status::ReadFault,
         FAILED,
         &[NOT_FOUND, ""],
     ),
     (
+        "call 1 of err",
         Fails { err: 1, ..NONE },
         Status::Done,
         "",
         &[NOT_FOUND, NOT_FOUND, NOT_FOUND],
     ),
     (
+        "call 1 of files",
         Fails { files: 1, ..NONE },
         Status::ReadFault,
         "read fault\n",
@@ -294,32 +349,26 @@ const FAILING: &[(Fails, Status, &str, &[&str])] = &[
 
 #[test]
 fn a_failed_call_ends_what_it_is_of(rt: HostRuntime) -> Result<(), Fail> {
-    let alloc = rt.alloc();
     let requests = [
         Coming::Whole(LOST),
         Coming::Whole(LOST),
         Coming::Whole(LOST),
     ];
-    for &(fails, status, printed, replies) in FAILING {
-        let outcome = serve_over(alloc, ASKED, &requests, 4096, fails)?;
-        assert_eq!(rt; outcome.status, status, "{fails:?}");
-        assert_eq!(rt; outcome.err.bytes(), printed.as_bytes(), "{fails:?}");
-        for (i, reply) in replies.iter().enumerate() {
-            assert_reply(&rt, &outcome, i as u64, Some(reply));
-        }
-        assert_reply(&rt, &outcome, replies.len() as u64, None);
+    for &(case, fails, status, printed, replies) in FAILING {
+        let outcome = serve_over(rt.alloc(), ASKED, &requests, 4096, fails)?;
+        assert_end(&rt, &outcome, status.number(), printed, case);
+        assert_replies(&rt, &outcome, replies, case);
     }
     Ok(())
 }
 
 #[test]
 fn a_full_line_cuts_the_reply_short(rt: HostRuntime) -> Result<(), Fail> {
-    let alloc = rt.alloc();
     let requests = [Coming::Whole(LOST), Coming::Whole(LOST)];
-    let outcome = serve_over(alloc, ASKED, &requests, 10, NONE)?;
-    assert_eq!(rt; outcome.status, Status::Done);
-    assert_reply(&rt, &outcome, 0, Some("HTTP/1.1 4"));
-    assert_reply(&rt, &outcome, 1, Some(""));
+    let outcome = serve_over(rt.alloc(), ASKED, &requests, 10, NONE)?;
+    assert_done(&rt, &outcome, ASKED);
+    assert_reply(&rt, &outcome, 0, Some("HTTP/1.1 4"), ASKED);
+    assert_reply(&rt, &outcome, 1, Some(""), ASKED);
     Ok(())
 }
 
@@ -356,12 +405,10 @@ const REFUSED: &[(&str, u8, &str)] = &[
 
 #[test]
 fn what_keeps_the_server_from_serving_is_printed(rt: HostRuntime) -> Result<(), Fail> {
-    let alloc = rt.alloc();
     for &(line, status, printed) in REFUSED {
-        let outcome = serve_over(alloc, line, &[Coming::Whole(LOST)], 4096, NONE)?;
-        assert_eq!(rt; outcome.status.number(), status, "{line}");
-        assert_eq!(rt; outcome.err.bytes(), printed.as_bytes(), "{line}");
-        assert_reply(&rt, &outcome, 0, None);
+        let outcome = serve_over(rt.alloc(), line, &[Coming::Whole(LOST)], 4096, NONE)?;
+        assert_end(&rt, &outcome, status, printed, line);
+        assert_reply(&rt, &outcome, 0, None, line);
     }
     Ok(())
 }
