@@ -10,6 +10,7 @@ ghost use Rattle.question.specs.Asked.{IsAsked};
 ghost use Rattle.tide_answer.specs.Givens.{IsGiven};
 ghost use Rattle.tide_fault.specs.Faults.{IsPrintable};
 
+use crate::asserts::{assert_bytes, assert_count, assert_holds, lines_of};
 use case::{Case, asked, written};
 use decimal_text::{Bytes, Text};
 use harmonics_book::Book;
@@ -73,11 +74,27 @@ fn printed(alloc: Global, line: &str, certificate: &str) -> Result<Bytes, Fail> 
     pier_case(alloc, line, certificate)?.printed(alloc)
 }
 
+fn assert_printed(
+    rt: &impl Abort,
+    alloc: Global,
+    line: &str,
+    certificate: &str,
+    expected: &str,
+) -> Result<(), Fail> {
+    let text = printed(alloc, line, certificate)?;
+    let case = if certificate.is_empty() {
+        line
+    } else {
+        certificate
+    };
+    assert_bytes(rt, text.as_slice(), expected.as_bytes(), case);
+    Ok(())
+}
+
 #[test]
 fn questions_have_their_answers(rt: HostRuntime) -> Result<(), Fail> {
     for &(line, expected) in ANSWERS {
-        let text = printed(rt.alloc(), line, "")?;
-        assert_eq!(rt; text.as_slice(), expected.as_bytes());
+        assert_printed(&rt, rt.alloc(), line, "", expected)?;
     }
     Ok(())
 }
@@ -93,11 +110,10 @@ fn listed(alloc: Global, line: &str) -> Result<Listed, Fail> {
 
 #[test]
 fn a_report_has_the_events_of_a_question(rt: HostRuntime) -> Result<(), Fail> {
-    let alloc = rt.alloc();
     let line = "report|file=f|station=Outer|begin=2000-01-10T00:00Z|end=2000-01-10T12:00Z|sheets=a";
-    let listed = listed(alloc, line)?;
-    assert_eq!(rt; listed.name.as_str(), "Outer");
-    assert_eq!(rt; listed.events.as_slice().len(), 2);
+    let listed = listed(rt.alloc(), line)?;
+    assert_bytes(&rt, listed.name.as_str().as_bytes(), b"Outer", line);
+    assert_count(&rt, listed.events.as_slice().len(), 2, line);
     Ok(())
 }
 
@@ -108,103 +124,184 @@ fn streamed(
     most: u64,
     failing: u64,
 ) -> Result<(MemorySink, Option<u64>), Fail> {
-    let sink = MemorySink::new(alloc, most.max(1), 100_000, [failing].to_vec(alloc)?)?;
     let ready = pier_case(alloc, line, "")?.ready(alloc)?;
+    let sink = MemorySink::new(alloc, most.max(1), 100_000, [failing].to_vec(alloc)?)?;
     Ok(written(&ready, sink)?)
+}
+
+// Asserts which bytes of an answer were `taken`, whose write `failing` fails after `expected` bytes.
+fn assert_taken(
+    rt: &impl Abort,
+    taken: &[u8],
+    sent: Option<u64>,
+    text: &[u8],
+    line: &str,
+    &(most, failing, expected): &(u64, u64, Option<u64>),
+) {
+    assert_eq!(rt;
+        sent,
+        expected,
+        "{line}, call {failing} of {most} bytes fails"
+    );
+    let count = expected.unwrap_or(text.len() as u64);
+    assert_holds(rt, taken.len() as u64 == count, line);
+    assert_holds(rt, text.starts_with(taken), line);
+}
+
+fn assert_streamed(
+    rt: &impl Abort,
+    alloc: Global,
+    line: &str,
+    text: &[u8],
+    call: &(u64, u64, Option<u64>),
+) -> Result<(), Fail> {
+    let (sink, sent) = streamed(alloc, line, call.0, call.1)?;
+    assert_taken(rt, sink.bytes(), sent, text, line, call);
+    Ok(())
+}
+
+fn assert_streams(
+    rt: &impl Abort,
+    alloc: Global,
+    line: &str,
+    calls: &[(u64, u64, Option<u64>)],
+) -> Result<(), Fail> {
+    let text = printed(alloc, line, "")?;
+    for call in calls {
+        assert_streamed(rt, alloc, line, text.as_slice(), call)?;
+    }
+    Ok(())
 }
 
 #[test]
 fn answers_are_written_as_they_are_found(rt: HostRuntime) -> Result<(), Fail> {
-    let alloc = rt.alloc();
     for &(line, calls) in STREAMS {
-        let text = printed(alloc, line, "")?;
-        for &(most, failing, expected) in calls {
-            let (sink, sent) = streamed(alloc, line, most, failing)?;
-            assert_eq!(rt;
-                sent,
-                expected,
-                "{line}, call {failing} of {most} bytes fails"
-            );
-            let taken = expected.unwrap_or(text.as_slice().len() as u64);
-            assert_eq!(rt; sink.bytes().len() as u64, taken);
-            assert!(rt; text.as_slice().starts_with(sink.bytes()));
-        }
+        assert_streams(&rt, rt.alloc(), line, calls)?;
     }
     Ok(())
 }
 
 #[test]
 fn certificates_are_judged(rt: HostRuntime) -> Result<(), Fail> {
-    for (line, verdicts) in [
-        ("check|file=f|certificate=c", VERDICTS),
-        ("peakcheck|file=f|certificate=c", PEAK_VERDICTS),
-    ] {
-        for &(certificate, expected) in verdicts {
-            let text = printed(rt.alloc(), line, certificate)?;
-            assert_eq!(rt; text.as_slice(), expected.as_bytes());
-        }
+    for &(certificate, expected) in VERDICTS {
+        let line = "check|file=f|certificate=c";
+        assert_printed(&rt, rt.alloc(), line, certificate, expected)?;
     }
+    Ok(())
+}
+
+#[test]
+fn certificates_of_a_highest_water_are_judged(rt: HostRuntime) -> Result<(), Fail> {
+    for &(certificate, expected) in PEAK_VERDICTS {
+        let line = "peakcheck|file=f|certificate=c";
+        assert_printed(&rt, rt.alloc(), line, certificate, expected)?;
+    }
+    Ok(())
+}
+
+// Returns the text of an answer for which no file is read.
+fn printed_alone(alloc: Global, line: &str) -> Result<Bytes, Fail> {
+    let question = asked(alloc, line)?;
+    match answer_alone(alloc, &ValidQuestion::new(&question)) {
+        Ok(answer) => Ok(answer.text),
+        Err(_) => Err(Fail::from(AllocError)),
+    }
+}
+
+#[test]
+fn a_trial_needs_no_file(rt: HostRuntime) -> Result<(), Fail> {
+    let line = "trial|seed=0";
+    let alone = printed_alone(rt.alloc(), line)?;
+    assert_bytes(&rt, alone.as_slice(), TRIAL.as_bytes(), line);
     Ok(())
 }
 
 #[test]
 fn seeds_have_their_trials(rt: HostRuntime) -> Result<(), Fail> {
-    let alloc = rt.alloc();
-    let question = asked(alloc, "trial|seed=0")?;
-    match answer_alone(alloc, &ValidQuestion::new(&question)) {
-        Ok(answer) => assert_eq!(rt; answer.text.as_slice(), TRIAL),
-        Err(_) => return Err(Fail::from(AllocError)),
-    }
-    assert_eq!(rt; printed(alloc, "trial|seed=0", "")?.as_slice(), TRIAL);
-    let sample = printed(alloc, "sample|seed=0", "")?;
-    assert_eq!(rt;
-        sample.as_slice().iter().filter(|b| **b == b'\n').count(),
-        8192
-    );
+    assert_printed(&rt, rt.alloc(), "trial|seed=0", "", TRIAL)
+}
+
+#[test]
+fn seeds_have_their_files(rt: HostRuntime) -> Result<(), Fail> {
+    let line = "sample|seed=0";
+    let sample = printed(rt.alloc(), line, "")?;
+    assert_count(&rt, lines_of(sample.as_slice()), 8192, line);
     Ok(())
 }
 
-const TRIAL: &[u8] = b"seed 0\nstations 40\nminutes 4285440\nevents 10902\ncells 325629\n\
+const TRIAL: &str = "seed 0\nstations 40\nminutes 4285440\nevents 10902\ncells 325629\n\
     quiet 237516\naccepted 40\n";
 
-fn assert_printed(
+fn assert_line(
     rt: &impl Abort,
     alloc: Global,
-    fault: &Fault,
+    fault: Fault,
     status: u8,
     line: &str,
 ) -> Result<(), AllocError>
-    requires { IsPrintable [] fault.now }
+    requires { IsPrintable [] fault }
 {
-    let printed = fault_line(alloc, fault, &OffsetTable::new(alloc))?;
-    assert_eq!(rt; fault_status(fault).number(), status);
-    assert_eq!(rt; printed.as_slice(), line.as_bytes());
+    let printed = fault_line(alloc, &fault, &OffsetTable::new(alloc))?;
+    assert_count(
+        rt,
+        usize::from(fault_status(&fault).number()),
+        usize::from(status),
+        line,
+    );
+    assert_bytes(rt, printed.as_slice(), line.as_bytes(), line);
     Ok(())
 }
 
 #[test]
-fn faults_have_their_lines(rt: HostRuntime) -> Result<(), Fail> {
-    let alloc = rt.alloc();
+fn faults_of_arguments_have_their_lines(rt: HostRuntime) -> Result<(), Fail> {
     for &(fault, status, line) in ASK_FAULTS {
-        assert_printed(&rt, alloc, &Fault::Ask(fault), status, line)?;
+        assert_line(&rt, rt.alloc(), Fault::Ask(fault), status, line)?;
     }
+    Ok(())
+}
+
+#[test]
+fn refusals_have_their_lines(rt: HostRuntime) -> Result<(), Fail> {
     for &(refusal, status, line) in REFUSALS {
-        assert_printed(&rt, alloc, &Fault::Refused(refusal), status, line)?;
+        assert_line(&rt, rt.alloc(), Fault::Refused(refusal), status, line)?;
     }
+    Ok(())
+}
+
+#[test]
+fn an_unknown_sheet_has_its_line(rt: HostRuntime) -> Result<(), Fail> {
+    let alloc = rt.alloc();
     let word = Text::from_str(alloc, "graph")?;
-    for (fault, status, line) in [
-        (Fault::NoSheet { word }, 4, "refused: no sheet graph\n"),
-        (Fault::TooLong(Slot::Zone), 3, "zone: too long\n"),
-        (Fault::Book(CUT_SHORT), 3, "file: line 16: cut short (11)\n"),
-        (
-            Fault::Offsets(HALF_SLACK),
-            3,
-            "offsets: row 2: half slack (8)\n",
-        ),
-        (Fault::BadZone, 3, "zone: bad zone file\n"),
-    ] {
-        assert_printed(&rt, alloc, &fault, status, line)?;
-    }
+    let line = "refused: no sheet graph\n";
+    assert_line(&rt, alloc, Fault::NoSheet { word }, 4, line)?;
+    Ok(())
+}
+
+#[test]
+fn faults_of_files_have_their_lines(rt: HostRuntime) -> Result<(), Fail> {
+    let alloc = rt.alloc();
+    assert_line(
+        &rt,
+        alloc,
+        Fault::Book(CUT_SHORT),
+        3,
+        "file: line 16: cut short (11)\n",
+    )?;
+    assert_line(
+        &rt,
+        alloc,
+        Fault::Offsets(HALF_SLACK),
+        3,
+        "offsets: row 2: half slack (8)\n",
+    )?;
+    assert_line(&rt, alloc, Fault::BadZone, 3, "zone: bad zone file\n")?;
+    assert_line(
+        &rt,
+        alloc,
+        Fault::TooLong(Slot::Zone),
+        3,
+        "zone: too long\n",
+    )?;
     Ok(())
 }
 

@@ -3,7 +3,9 @@
 ghost use Rattle.std.specs.Prelude.{IfOk};
 ghost use Rattle.harmonics_book.specs.Books.{IsBook};
 ghost use Rattle.question.specs.Asked.{IsAsked};
+ghost use Rattle.tide_answer.specs.Givens.{IsGiven};
 
+use crate::asserts::{assert_bytes, assert_holds};
 use calendar_sheet::calendar_text;
 use cert_text::{CertFault, read_certificate, write_certificate};
 use decimal_text::{Bytes, Text};
@@ -16,6 +18,7 @@ use station_span::{
 };
 use station_table::OffsetTable;
 use std::alloc::Global;
+use std::process::Abort;
 use std::test::Fail;
 use texts_for_tests::{DAY, PIER, words_of};
 use tide_answer::{Given, Refusal, answer, station_events};
@@ -54,13 +57,32 @@ const CERTIFICATE: &str =
     "tide certificate 2\nstation Pier\nbegin 2000-01-10T00:00Z\nend 2000-01-10T00:08Z\n\
     mark none\ntrack turn\ns\ns\nq 2\nq 4\ndone\n";
 
-#[test]
-fn a_station_has_its_events(rt: HostRuntime) -> Result<(), Refusal> {
-    let alloc = rt.alloc();
-    let book = pier(alloc)?;
-    let book = ValidBook::new(&book);
-    let table = OffsetTable::new(alloc);
-    let name = Text::from_str(alloc, "Pier")?;
+// A book, a table without a row, and a request for a day.
+#[derive(Drop)]
+struct Sources {
+    book: Book,
+    table: OffsetTable,
+    question: Question,
+}
+
+fn pier_sources(alloc: Global) -> Result<Sources, Refusal>
+    ensures book { IfOk result (λ sources. IsBook sources.book) }
+    ensures question { IfOk result (λ sources. IsAsked sources.question) }
+{
+    Ok(Sources {
+        question: request(alloc, DAY_OF_PIER)?,
+        book: pier(alloc)?,
+        table: OffsetTable::new(alloc),
+    })
+}
+
+fn find_day(
+    rt: &impl Abort,
+    alloc: Global,
+    book: &ValidBook<'_>,
+    table: &OffsetTable,
+    name: &Text,
+) -> Result<(), Refusal> {
     let asked = Asked {
         begin: 15_791_040,
         end: 15_792_480,
@@ -73,12 +95,21 @@ fn a_station_has_its_events(rt: HostRuntime) -> Result<(), Refusal> {
 }
 
 #[test]
-fn a_span_has_its_highest_water(rt: HostRuntime) -> Result<(), Refusal> {
+fn a_station_has_its_events(rt: HostRuntime) -> Result<(), Refusal> {
     let alloc = rt.alloc();
-    let book = pier(alloc)?;
-    let book = ValidBook::new(&book);
-    let table = OffsetTable::new(alloc);
     let name = Text::from_str(alloc, "Pier")?;
+    let book = pier(alloc)?;
+    let table = OffsetTable::new(alloc);
+    find_day(&rt, alloc, &ValidBook::new(&book), &table, &name)
+}
+
+fn find_highest_water(
+    rt: &impl Abort,
+    alloc: Global,
+    book: &ValidBook<'_>,
+    table: &OffsetTable,
+    name: &Text,
+) -> Result<(), Refusal> {
     let asked = Asked {
         begin: 15_791_040,
         end: 15_792_480,
@@ -92,11 +123,24 @@ fn a_span_has_its_highest_water(rt: HostRuntime) -> Result<(), Refusal> {
 }
 
 #[test]
-fn a_request_is_answered(rt: HostRuntime) -> Result<(), Refusal> {
+fn a_span_has_its_highest_water(rt: HostRuntime) -> Result<(), Refusal> {
     let alloc = rt.alloc();
+    let name = Text::from_str(alloc, "Pier")?;
     let book = pier(alloc)?;
     let table = OffsetTable::new(alloc);
-    let question = request(alloc, DAY_OF_PIER)?;
+    find_highest_water(&rt, alloc, &ValidBook::new(&book), &table, &name)
+}
+
+fn answer_day(
+    rt: &impl Abort,
+    alloc: Global,
+    book: &Book,
+    table: &OffsetTable,
+    question: &Question,
+) -> Result<(), Refusal>
+    requires book { IsBook book.now }
+    requires question { IsAsked question.now }
+{
     let given = Given {
         zone: Zone::Utc,
         certificate: Bytes::from_vec(Vec::new(alloc)),
@@ -108,10 +152,25 @@ fn a_request_is_answered(rt: HostRuntime) -> Result<(), Refusal> {
 }
 
 #[test]
-fn a_certificate_is_checked(rt: HostRuntime) -> Result<(), Refusal> {
-    let alloc = rt.alloc();
-    let book = pier(alloc)?;
-    let table = OffsetTable::new(alloc);
+fn a_request_is_answered(rt: HostRuntime) -> Result<(), Refusal> {
+    let sources = pier_sources(rt.alloc())?;
+    answer_day(
+        &rt,
+        rt.alloc(),
+        &sources.book,
+        &sources.table,
+        &sources.question,
+    )
+}
+
+fn check_certificate(
+    rt: &impl Abort,
+    alloc: Global,
+    book: &Book,
+    table: &OffsetTable,
+) -> Result<(), Refusal>
+    requires { IsBook book.now }
+{
     let question = request(alloc, "check|file=f|certificate=c")?;
     let given = Given {
         zone: Zone::Utc,
@@ -120,33 +179,69 @@ fn a_certificate_is_checked(rt: HostRuntime) -> Result<(), Refusal> {
     };
     let checked = answer(alloc, &book, &table, &question, &given)?;
     assert!(rt; !checked.rejected);
-    assert_eq!(rt; checked.text.as_slice(), b"Accepted\nPier\n".as_slice());
+    assert_bytes(rt, checked.text.as_slice(), b"Accepted\nPier\n", "check");
+    Ok(())
+}
+
+#[test]
+fn a_certificate_is_checked(rt: HostRuntime) -> Result<(), Refusal> {
+    let book = pier(rt.alloc())?;
+    let table = OffsetTable::new(rt.alloc());
+    check_certificate(&rt, rt.alloc(), &book, &table)
+}
+
+fn list_day(
+    rt: &impl Abort,
+    alloc: Global,
+    book: &Book,
+    table: &OffsetTable,
+    question: &Question,
+    given: &Given,
+) -> Result<(), Refusal>
+    requires book { IsBook book.now }
+    requires question { IsAsked question.now }
+    requires given { IsGiven given.now }
+{
+    let listed = station_events(alloc, &book, &table, &question, &given)?;
+    let (name, units, events) = (&listed.name, listed.units, &listed.events);
+    let lines = plain_events(alloc, name, units, events, &Zone::Utc)?;
+    assert_eq!(rt; lines.as_slice(), DAY.as_bytes());
+    Ok(())
+}
+
+fn list_dates(
+    rt: &impl Abort,
+    alloc: Global,
+    book: &Book,
+    table: &OffsetTable,
+    question: &Question,
+    given: &Given,
+) -> Result<(), Refusal>
+    requires book { IsBook book.now }
+    requires question { IsAsked question.now }
+    requires given { IsGiven given.now }
+{
+    let listed = station_events(alloc, book, table, question, given)?;
+    let (name, units, events) = (&listed.name, listed.units, &listed.events);
+    let (begin, end) = (15_791_040, 15_792_480);
+    let dates = calendar_text(alloc, name, units, events, &Zone::Utc, begin, end)?;
+    let first = b"Pier\n2000-01-10  06:00 -1.00 Low";
+    assert_holds(rt, dates.as_slice().starts_with(first), "calendar");
     Ok(())
 }
 
 #[test]
 fn events_are_laid_out(rt: HostRuntime) -> Result<(), Refusal> {
     let alloc = rt.alloc();
-    let book = pier(alloc)?;
-    let table = OffsetTable::new(alloc);
-    let question = request(alloc, DAY_OF_PIER)?;
+    let sources = pier_sources(alloc)?;
     let given = Given {
         zone: Zone::Utc,
         certificate: Bytes::from_vec(Vec::new(alloc)),
         now: 0,
     };
-    let listed = station_events(alloc, &book, &table, &question, &given)?;
-    let (name, units, events) = (&listed.name, listed.units, &listed.events);
-    let lines = plain_events(alloc, name, units, events, &Zone::Utc)?;
-    assert_eq!(rt; lines.as_slice(), DAY.as_bytes());
-    let (begin, end) = (15_791_040, 15_792_480);
-    let dates = calendar_text(alloc, name, units, events, &Zone::Utc, begin, end)?;
-    assert!(rt;
-        dates
-            .as_slice()
-            .starts_with(b"Pier\n2000-01-10  06:00 -1.00 Low")
-    );
-    Ok(())
+    let (book, table, question) = (&sources.book, &sources.table, &sources.question);
+    list_day(&rt, alloc, book, table, question, &given)?;
+    list_dates(&rt, alloc, book, table, question, &given)
 }
 
 #[test]

@@ -7,4 +7,6 @@
 #[cfg(test)]
 mod answering;
 #[cfg(test)]
+mod asserts;
+#[cfg(test)]
 mod examples;

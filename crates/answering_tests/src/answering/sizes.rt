@@ -6,11 +6,13 @@ ghost use Rattle.question.specs.Asked.{IsAsked};
 ghost use Rattle.tide_answer.specs.Givens.{IsGiven};
 
 use super::case::{Case, written};
+use crate::asserts::{assert_bytes, assert_count, assert_holds, lines_of};
 use decimal_text::Bytes;
 use harmonics_book::Book;
 use harmonics_text::{BookFault, read_book};
 use station_table::{OffsetTable, read_offsets};
 use std::alloc::{AllocError, Global};
+use std::process::Abort;
 use std::test::Fail;
 use tide_edge::MemorySink;
 
@@ -73,35 +75,44 @@ fn printed(alloc: Global, line: &str, certificate: &[u8]) -> Result<Bytes, Fail>
 
 // Returns the text that is written as it is found.
 fn streamed(alloc: Global, line: &str) -> Result<MemorySink, Fail> {
-    let sink = MemorySink::new(alloc, 65_536, 4_000_000, Vec::new(alloc))?;
     let ready = harbour_case(alloc, line, b"")?.ready(alloc)?;
+    let sink = MemorySink::new(alloc, 65_536, 4_000_000, Vec::new(alloc))?;
     Ok(written(&ready, sink)?.0)
 }
 
 const YEAR: &str = "|begin=2000-01-01T00:00Z|end=2001-01-01T00:00Z";
 
-// Commands, and the number of lines of their answers.
+const YEAR_AS_CSV: &str = "|begin=2000-01-01T00:00Z|end=2001-01-01T00:00Z|layout=csv";
+
+const YEAR_WITH_MARK: &str = "|mark=6|begin=2000-01-01T00:00Z|end=2001-01-01T00:00Z";
+
+// Commands, further arguments, and the number of lines of their answers.
 const LINES: &[(&str, &str, usize)] = &[
-    ("heights", "", 8786),
-    ("heights", "|layout=csv", 8786),
-    ("predict", "|layout=csv", 1415),
-    ("calendar", "", 367),
+    ("heights", YEAR, 8786),
+    ("heights", YEAR_AS_CSV, 8786),
+    ("predict", YEAR_AS_CSV, 1415),
+    ("calendar", YEAR, 367),
 ];
+
+// Returns the answer to `command` about the harbour, with `more` arguments.
+fn answered(alloc: Global, command: &str, more: &str) -> Result<Bytes, Fail> {
+    let line = line_of(alloc, command, more)?;
+    printed(alloc, line.as_str(), b"")
+}
 
 #[test]
 fn a_year_of_ten_constituents_is_printed(rt: HostRuntime) -> Result<(), Fail> {
-    let alloc = rt.alloc();
     for &(command, more, lines) in LINES {
-        let mut line = line_of(alloc, command, YEAR)?;
-        line.push_str(more)?;
-        let text = printed(alloc, line.as_str(), b"")?;
-        assert_eq!(rt;
-            text.as_slice().iter().filter(|b| **b == b'\n').count(),
-            lines
-        );
+        let text = answered(rt.alloc(), command, more)?;
+        assert_count(&rt, lines_of(text.as_slice()), lines, command);
     }
-    let clock = line_of(alloc, "clock", "")?;
-    assert!(rt; !printed(alloc, clock.as_str(), b"")?.as_slice().is_empty());
+    Ok(())
+}
+
+#[test]
+fn a_clock_of_ten_constituents_is_printed(rt: HostRuntime) -> Result<(), Fail> {
+    let text = answered(rt.alloc(), "clock", "")?;
+    assert_holds(&rt, !text.as_slice().is_empty(), "clock");
     Ok(())
 }
 
@@ -128,7 +139,34 @@ fn the_longest_reference_is_printed(rt: HostRuntime) -> Result<(), Fail> {
     let line =
         "predict|file=f|offsets=o|station=Dock|begin=2000-01-01T00:00Z|end=2000-01-02T00:00Z";
     let printed = Case::new(alloc, book, table, line, b"")?.printed(alloc)?;
-    assert_eq!(rt; printed.as_slice(), LOST_LINE.as_bytes());
+    assert_bytes(&rt, printed.as_slice(), LOST_LINE.as_bytes(), line);
+    Ok(())
+}
+
+// Asserts that a year's `certificate` is accepted with the events of its `listing`.
+fn assert_accepted(
+    rt: &impl Abort,
+    alloc: Global,
+    certificate: &[u8],
+    listing: &[u8],
+) -> Result<(), Fail> {
+    let line = "check|file=f|certificate=c";
+    let accepted = printed(alloc, line, certificate)?;
+    assert_holds(rt, accepted.as_slice().starts_with(b"Accepted\n"), line);
+    assert_holds(rt, accepted.as_slice().ends_with(listing), line);
+    assert_count(
+        rt,
+        accepted.as_slice().len(),
+        listing.len().saturating_add(9),
+        line,
+    );
+    Ok(())
+}
+
+// Asserts that the answer to `command` about the year is streamed as `text`.
+fn assert_streamed(rt: &impl Abort, alloc: Global, command: &str, text: &[u8]) -> Result<(), Fail> {
+    let line = line_of(alloc, command, YEAR_WITH_MARK)?;
+    assert_bytes(rt, streamed(alloc, line.as_str())?.bytes(), text, command);
     Ok(())
 }
 
@@ -136,30 +174,10 @@ fn the_longest_reference_is_printed(rt: HostRuntime) -> Result<(), Fail> {
 #[test]
 fn a_year_of_ten_constituents_is_certified(rt: HostRuntime) -> Result<(), Fail> {
     let alloc = rt.alloc();
-    let predict = line_of(
-        alloc,
-        "predict",
-        "|mark=6|begin=2000-01-01T00:00Z|end=2001-01-01T00:00Z",
-    )?;
-    let certify = line_of(
-        alloc,
-        "certify",
-        "|mark=6|begin=2000-01-01T00:00Z|end=2001-01-01T00:00Z",
-    )?;
-    let listing = printed(alloc, predict.as_str(), b"")?;
-    let certificate = printed(alloc, certify.as_str(), b"")?;
-    let accepted = printed(alloc, "check|file=f|certificate=c", certificate.as_slice())?;
-    assert!(rt; listing.as_slice().len() > 100_000);
-    assert!(rt; accepted.as_slice().starts_with(b"Accepted\n"));
-    assert!(rt; accepted.as_slice().ends_with(listing.as_slice()));
-    assert_eq!(rt; accepted.as_slice().len(), listing.as_slice().len() + 9);
-    assert_eq!(rt;
-        streamed(alloc, predict.as_str())?.bytes(),
-        listing.as_slice()
-    );
-    assert_eq!(rt;
-        streamed(alloc, certify.as_str())?.bytes(),
-        certificate.as_slice()
-    );
-    Ok(())
+    let listing = answered(alloc, "predict", YEAR_WITH_MARK)?;
+    let certificate = answered(alloc, "certify", YEAR_WITH_MARK)?;
+    assert_holds(&rt, listing.as_slice().len() > 100_000, "predict");
+    assert_accepted(&rt, alloc, certificate.as_slice(), listing.as_slice())?;
+    assert_streamed(&rt, alloc, "predict", listing.as_slice())?;
+    assert_streamed(&rt, alloc, "certify", certificate.as_slice())
 }
