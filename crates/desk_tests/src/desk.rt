@@ -190,11 +190,6 @@ fn assert_run(
     assert_run_with(rt, alloc, held, line, NONE, expected)
 }
 
-// Returns the arguments that predict a span of the pier.
-fn predict(alloc: Global, begin: &str, end: &str) -> Result<String, AllocError> {
-    format!(in alloc; "predict|file=pier.txt|station=Pier|begin={begin}|end={end}")
-}
-
 #[test]
 fn a_span_lists_its_events(rt: HostRuntime) -> Result<(), Fail> {
     let alloc = rt.alloc();

@@ -5,6 +5,7 @@ mod hours;
 mod minute_transcript;
 mod replies;
 mod serving;
+mod serving_texts;
 
 use crate::asserts::{assert_bytes, assert_holds};
 use arrayvec::ArrayString;

@@ -1,5 +1,6 @@
 //! The rows of the tests: expected values are those of an independent program.
 
+use std::alloc::{AllocError, Global};
 use texts_for_tests::DAY;
 
 pub const PREDICT: &str =
@@ -290,3 +291,8 @@ pub const REJECTIONS: &[(&str, &str, &str)] = &[
         "Rejected: cell 1 is above\n",
     ),
 ];
+
+/// Returns the arguments that predict a span of the pier.
+pub fn predict(alloc: Global, begin: &str, end: &str) -> Result<String, AllocError> {
+    format!(in alloc; "predict|file=pier.txt|station=Pier|begin={begin}|end={end}")
+}
