@@ -39,6 +39,9 @@ impl Constituents {
     }
 
     /// Appends `constituent`.
+    ///
+    /// # Errors
+    /// [`AllocError`] if memory runs out.
     pub fn push(&mut self, constituent: Constituent) -> Result<(), AllocError>
         ensures { OnOk result (self.new ≡ self.old ++ constituent ∷ []) }
     {
@@ -87,6 +90,9 @@ impl Stations {
     }
 
     /// Appends `station`.
+    ///
+    /// # Errors
+    /// [`AllocError`] if memory runs out.
     pub fn push(&mut self, station: Station) -> Result<(), AllocError>
         ensures { OnOk result (self.new ≡ self.old ++ station ∷ []) }
     {
