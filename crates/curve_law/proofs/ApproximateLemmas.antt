@@ -1,12 +1,13 @@
 -- Cells that approximate values decide.
-use Rattle.std.proofs.Common.{◌≡◌, ℕ, ◌*◌, ◌^◌, ◌≤◌, ◌<◌, ℤ, pos, ◌+ℤ◌, ◌-ℤ◌, ◌*ℤ◌, unsigned_abs, int_lt, Bool, true, false, not, inl, Option, Some, None, IfSome, refl, sym, ◌∙◌, arith}
+use Rattle.std.proofs.Common.{◌≡◌, ℕ, ◌*◌, ◌^◌, ◌≤◌, ◌<◌, ℤ, pos, ◌+ℤ◌, ◌-ℤ◌, ◌*ℤ◌, ◌≤ℤ◌, ◌<ℤ◌, unsigned_abs, int_lt, Bool, true, false, not, inl, Option, Some, None, IfSome, refl, sym, ◌∙◌, to_z, of_z, FitsSigned, arith}
+use mir.Syntax.{w128}
 use mathlib.Core.Bool.{beq}
 use Rattle.std.proofs.lemmas.Int.{ints}
 use Rattle.curve_law.specs.Meaning.{Meaning, IsMinute, IsApproximateValue, IsSpan, IsLawful}
 use Rattle.curve_law.specs.declared.quiet.TheConstants.{MOST_MINUTES}
 use Rattle.curve_law.specs.Cover.{keeps_side, is_quiet}
 use Rattle.curve_law.specs.Workings.Approximate.{IsFar}
-use Rattle.curve_law.proofs.QuietLemmas.{crossed-loud, is_quiet-length, is_quiet-rate}
+use Rattle.curve_law.proofs.QuietLemmas.{crossed-loud, is_quiet-length, is_quiet-rate, begin-minute, end-minute, begin-small, end-small}
 
 -- a sum of approximate values is within the sum of the errors
 pub sum-approximate : (approximate approximate_end v w : ℤ) (error : ℕ) → unsigned_abs (approximate -ℤ v) ≤ error
@@ -66,16 +67,12 @@ decided-far c a n rate approximate approximate_end most e error side end_side fa
 pub begin-close : (c : Meaning) (approximate : ℤ → ℤ) (error : ℕ) (a : ℤ) (n : ℕ) (v : ℤ)
     → ((m : ℤ) → IsMinute c m → IsApproximateValue c error m (approximate m)) → IsSpan c a n → v ≡ approximate a
     → IsApproximateValue c error a v
-begin-close c approximate error a n v close span is =
-    let last = span.last in
-    rw is (close a (record { first = span.first; last = omega (arith, ints, last) }))
+begin-close c approximate error a n v close span is = rw is (close a (begin-minute c a n span))
 
 pub end-close : (c : Meaning) (approximate : ℤ → ℤ) (error : ℕ) (a : ℤ) (n : ℕ) (v : ℤ)
     → ((m : ℤ) → IsMinute c m → IsApproximateValue c error m (approximate m)) → IsSpan c a n
     → v ≡ approximate (a +ℤ pos n) → IsApproximateValue c error (a +ℤ pos n) v
-end-close c approximate error a n v close span is =
-    let first = span.first in
-    rw is (close (a +ℤ pos n) (record { first = omega (arith, ints, first); last = span.last }))
+end-close c approximate error a n v close span is = rw is (close (a +ℤ pos n) (end-minute c a n span))
 
 -- approximate values of a lawful curve can be added without overflow
 approximate-size : (approximate v : ℤ) (error : ℕ) → unsigned_abs v < 10 ^ 37 → error ≤ 10 ^ 36
@@ -86,10 +83,69 @@ pub approximate-sizes : (c : Meaning) (a : ℤ) (n error : ℕ) (approximate app
     → error ≤ 10 ^ 36 → IsSpan c a n → IsApproximateValue c error a approximate
     → IsApproximateValue c error (a +ℤ pos n) approximate_end
     → (unsigned_abs approximate < 2 * 10 ^ 37) × (unsigned_abs approximate_end < 2 * 10 ^ 37)
-approximate-sizes c a n error approximate approximate_end law narrow span close end_close =
-    let here = law.values a (record { first = span.first; last = (let last = span.last in omega (arith, ints, last)) }) in
-    let there = law.values (a +ℤ pos n) (record { first = (let first = span.first in omega (arith, ints, first)); last = span.last }) in
-    (approximate-size approximate _ error here narrow close, approximate-size approximate_end _ error there narrow end_close)
+approximate-sizes c a n error approximate approximate_end law narrow span close end_close = (
+  approximate-size approximate _ error (begin-small c a n law span) narrow close,
+  approximate-size approximate_end _ error (end-small c a n law span) narrow end_close,
+)
+
+-- the error of a lawful curve, and twice the error, are neither negative nor too large
+pub error-positive : (e : ℤ) (error : ℕ) → e ≡ pos error → pos 0 ≤ℤ e
+error-positive e error is = rw is (omega (arith, ints))
+
+pub error-narrow : (e : ℤ) (error most : ℕ) → e ≡ pos error → error ≤ most → e ≤ℤ pos most
+error-narrow e error most is narrow = rw is (omega (arith, ints, narrow))
+
+pub twice-narrow : (error : ℕ) → error ≤ 10 ^ 36 → 2 * error ≤ 2 * 10 ^ 36
+twice-narrow error narrow = omega arith
+
+pub twice-fits : (e : ℤ) (error : ℕ) → e ≡ pos error → error ≤ 10 ^ 36
+    → FitsSigned w128 (pos 2 *ℤ to_z w128 (of_z w128 e))
+twice-fits e error is narrow = omega (arith, ints, is, narrow)
+
+pub twice-value : (e : ℤ) (error : ℕ) → e ≡ pos error → error ≤ 10 ^ 36
+    → to_z w128 (of_z w128 (pos 2 *ℤ to_z w128 (of_z w128 e))) ≡ pos (2 * error)
+twice-value e error is narrow = omega (arith, ints, is, narrow)
+
+-- the sum of two approximate values
+pub sum-value : (v w : ℤ) → unsigned_abs v < 2 * 10 ^ 37 → unsigned_abs w < 2 * 10 ^ 37
+    → to_z w128 (of_z w128 (to_z w128 (of_z w128 v) +ℤ to_z w128 (of_z w128 w))) ≡ v +ℤ w
+sum-value v w first second = omega (arith, ints, first, second)
+
+pub sum-fits : (v w : ℤ) → unsigned_abs v < 2 * 10 ^ 37 → unsigned_abs w < 2 * 10 ^ 37
+    → FitsSigned w128 (to_z w128 (of_z w128 v) +ℤ to_z w128 (of_z w128 w))
+sum-fits v w first second = omega (arith, ints, first, second)
+
+pub sum-size : (v w : ℤ) → unsigned_abs v < 2 * 10 ^ 37 → unsigned_abs w < 2 * 10 ^ 37
+    → unsigned_abs (v +ℤ w) < 4 * 10 ^ 37
+sum-size v w first second = omega (arith, ints, first, second)
+
+-- the size of an approximate sum, less the error and with it, decides how the sum compares with `most`
+pub size_less-fits : (v size e : ℤ) → size ≡ pos (unsigned_abs v) → unsigned_abs v < 4 * 10 ^ 37 → pos 0 ≤ℤ e
+    → e ≤ℤ pos (2 * 10 ^ 36) → FitsSigned w128 (to_z w128 (of_z w128 size) -ℤ to_z w128 (of_z w128 e))
+size_less-fits v size e is small least most = omega (arith, ints)
+
+pub size_less-value : (v size e : ℤ) → size ≡ pos (unsigned_abs v) → unsigned_abs v < 4 * 10 ^ 37 → pos 0 ≤ℤ e
+    → e ≤ℤ pos (2 * 10 ^ 36) → to_z w128 (of_z w128 (to_z w128 (of_z w128 size) -ℤ to_z w128 (of_z w128 e))) ≡ size -ℤ e
+size_less-value v size e is small least most = omega (arith, ints)
+
+pub size_more-fits : (v size e : ℤ) → size ≡ pos (unsigned_abs v) → unsigned_abs v < 4 * 10 ^ 37 → pos 0 ≤ℤ e
+    → e ≤ℤ pos (2 * 10 ^ 36) → FitsSigned w128 (to_z w128 (of_z w128 size) +ℤ to_z w128 (of_z w128 e))
+size_more-fits v size e is small least most = omega (arith, ints)
+
+pub size_more-value : (v size e : ℤ) → size ≡ pos (unsigned_abs v) → unsigned_abs v < 4 * 10 ^ 37 → pos 0 ≤ℤ e
+    → e ≤ℤ pos (2 * 10 ^ 36) → to_z w128 (of_z w128 (to_z w128 (of_z w128 size) +ℤ to_z w128 (of_z w128 e))) ≡ size +ℤ e
+size_more-value v size e is small least most = omega (arith, ints)
+
+less : (v w : ℤ) → int_lt v w ≡ true → v <ℤ w
+less v w h = grind (arith, ints)
+
+pub size_less-far : (v size e most sum : ℤ) → size ≡ pos (unsigned_abs v) → pos 0 ≤ℤ e → int_lt most (size -ℤ e) ≡ true
+    → unsigned_abs (v -ℤ sum) ≤ unsigned_abs e → IsFar most sum true
+size_less-far v size e most sum is least test close = let exceeds = less most (size -ℤ e) test in omega (arith, ints)
+
+pub size_more-close : (v size e most sum : ℤ) → size ≡ pos (unsigned_abs v) → pos 0 ≤ℤ e → int_lt (size +ℤ e) most ≡ true
+    → unsigned_abs (v -ℤ sum) ≤ unsigned_abs e → IsFar most sum false
+size_more-close v size e most sum is least test close = let exceeded = less (size +ℤ e) most test in omega (arith, ints)
 
 -- a property of all values that an approximation allows is one of the value
 pub some-decided : {P Q : Bool → Type 0} (o : Option Bool) → IfSome o P → ((x : Bool) → P x → Q x) → IfSome o Q

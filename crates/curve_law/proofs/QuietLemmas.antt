@@ -1,12 +1,12 @@
 -- A value that changes by at most its rate each minute stays on its side of 0 between end values far
 -- enough from 0.
-use Rattle.std.proofs.Common.{nat_le, ◌⊎◌, ◌≡◌, ◌≢◌, ℕ, zero, suc, ◌+◌, ◌-◌, ◌*◌, ◌≤◌, ◌<◌, ℤ, pos, negsuc, ◌+ℤ◌, ◌-ℤ◌, ◌*ℤ◌, neg_ℤ, ◌≤ℤ◌, ◌<ℤ◌, unsigned_abs, int_lt, int_le, Bool, true, false, not, ◌&&◌, ◌||◌, cond, Option, Some, None, refl, sym, ◌∙◌, arith}
+use Rattle.std.proofs.Common.{nat_le, ◌⊎◌, ◌≡◌, ◌≢◌, ℕ, zero, suc, ◌+◌, ◌-◌, ◌*◌, ◌^◌, ◌≤◌, ◌<◌, ℤ, pos, negsuc, ◌+ℤ◌, ◌-ℤ◌, ◌*ℤ◌, neg_ℤ, ◌≤ℤ◌, ◌<ℤ◌, unsigned_abs, int_lt, int_le, Bool, true, false, not, ◌&&◌, ◌||◌, cond, Option, Some, None, refl, sym, ◌∙◌, w64, to_z, of_z, FitsSigned, arith}
 use mathlib.Core.Bool.{beq}
 use Rattle.std.proofs.lemmas.Bool.Decides.{nat_tests}
 use Rattle.std.proofs.lemmas.Int.{ints}
 use Rattle.curve_law.specs.Track.{Track, side_at, has_event}
 use Rattle.curve_law.specs.declared.cell.Cell.TheVariants.{Still, Turn}
-use Rattle.curve_law.specs.Meaning.{Meaning, IsSpan, IsRate, IsLawful}
+use Rattle.curve_law.specs.Meaning.{Meaning, IsMinute, IsSpan, IsCell, IsRate, IsLawful}
 use Rattle.curve_law.specs.declared.quiet.TheConstants.{MOST_MINUTES}
 use Rattle.curve_law.specs.Cover.{keeps_side, is_quiet, unit_cell}
 
@@ -89,13 +89,17 @@ no_rate : (n : ℕ) (v w : ℤ) → keeps_side None n v w ≡ true → ⊥
 unfolding keeps_side
 no_rate n v w h = cc
 
+-- the minutes of a quiet cell are a cell with a rate
+pub quiet_cell : (c : Meaning) (a : ℤ) (n : ℕ) → IsSpan c a n → 2 ≤ n → n ≤ MOST_MINUTES → IsCell c a n
+quiet_cell c a n span two most = record { first = span.first; last = span.last; some = omega arith; few = most }
+
 rated : (c : Meaning) (a : ℤ) (n : ℕ) → (o : Option ℤ) → c.rate a n ≡ o → IsLawful c → IsSpan c a n → 2 ≤ n
     → n ≤ MOST_MINUTES → keeps_side o n (c.track.value a) (c.track.value (a +ℤ pos n)) ≡ true → (j : ℕ) → j ≤ n
     → side_at c.track (a +ℤ pos j) ≡ side_at c.track a
 rated c a n None is lawful span two most keeps j few = absurd (no_rate n _ _ keeps)
 rated c a n (Some rate) is lawful span two most keeps j few =
     let all : n ≡ j + (n - j) = omega arith in
-    let law = lawful.rates a n rate (record { first = span.first; last = span.last; some = omega arith; few = most }) is in
+    let law = lawful.rates a n rate (quiet_cell c a n span two most) is in
     same_side c a j (n - j) rate (omega arith) (rw all at law) (rw all at keeps)
 
 -- each value in a quiet cell is on the side of its ends
@@ -163,9 +167,38 @@ no_rate-quiet c a n two most is = is_quiet-rate c a n None two most is
 pub rate-positive : (c : Meaning) (a : ℤ) (n : ℕ) (rate : ℤ) → IsLawful c → IsSpan c a n → 2 ≤ n → n ≤ MOST_MINUTES
     → Some rate ≡ c.rate a n → pos 0 ≤ℤ rate
 rate-positive c a n rate lawful span two most is =
-    let law = lawful.rates a n rate (record { first = span.first; last = span.last; some = omega arith; few = most }) (sym is) in
+    let law = lawful.rates a n rate (quiet_cell c a n span two most) (sym is) in
     let step = law.steps 0 (omega arith) in
     omega (arith, ints)
+
+-- a rate is small enough for the most minutes of a quiet cell
+pub rate-small : (c : Meaning) (a : ℤ) (n : ℕ) (rate : ℤ) → IsLawful c → IsSpan c a n → 2 ≤ n → n ≤ MOST_MINUTES
+    → Some rate ≡ c.rate a n → (rate *ℤ pos MOST_MINUTES) <ℤ pos (5 * 10 ^ 37)
+rate-small c a n rate lawful span two most is =
+    let law = lawful.rates a n rate (quiet_cell c a n span two most) (sym is) in law.small
+
+-- both ends of a span are minutes of the curve, with values within the limit
+pub begin-minute : (c : Meaning) (a : ℤ) (n : ℕ) → IsSpan c a n → IsMinute c a
+begin-minute c a n span = record { first = span.first; last = (let last = span.last in omega (arith, ints, last)) }
+
+pub end-minute : (c : Meaning) (a : ℤ) (n : ℕ) → IsSpan c a n → IsMinute c (a +ℤ pos n)
+end-minute c a n span = record { first = (let first = span.first in omega (arith, ints, first)); last = span.last }
+
+pub begin-small : (c : Meaning) (a : ℤ) (n : ℕ) → IsLawful c → IsSpan c a n → unsigned_abs (c.track.value a) < 10 ^ 37
+begin-small c a n lawful span = lawful.values a (begin-minute c a n span)
+
+pub end-small : (c : Meaning) (a : ℤ) (n : ℕ) → IsLawful c → IsSpan c a n
+    → unsigned_abs (c.track.value (a +ℤ pos n)) < 10 ^ 37
+end-small c a n lawful span = lawful.values (a +ℤ pos n) (end-minute c a n span)
+
+-- the minute at the end of a span of a lawful curve, computed without overflow
+pub end-fits : (c : Meaning) (a m : ℤ) (n : ℕ) → IsLawful c → IsSpan c a n → m ≡ pos n
+    → FitsSigned w64 (to_z w64 (of_z w64 a) +ℤ m)
+end-fits c a m n lawful span is = omega (arith, ints, lawful.early, lawful.late, span.first, span.last, is)
+
+pub end-value : (c : Meaning) (a m : ℤ) (n : ℕ) → IsLawful c → IsSpan c a n → m ≡ pos n
+    → to_z w64 (of_z w64 (to_z w64 (of_z w64 a) +ℤ m)) ≡ a +ℤ pos n
+end-value c a m n lawful span is = omega (arith, ints, lawful.early, lawful.late, span.first, span.last, is)
 
 pub unit_cell-still : (t : Track) (a : ℤ) (here there : Bool) → here ≡ side_at t a → there ≡ side_at t (a +ℤ pos 1)
     → there ≡ here → Still ≡ unit_cell t a

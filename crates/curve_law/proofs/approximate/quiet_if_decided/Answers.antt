@@ -1,8 +1,8 @@
-use Rattle.std.proofs.Common.{◌≡◌, ◌*◌, pos, ◌+ℤ◌, ◌*ℤ◌, inl, inr, refl, sym, w64, to_z, of_z, FitsSigned, rules, arith}
-use Rattle.std.proofs.lemmas.Int.{ints, to_z-of_z}
+use Rattle.std.proofs.Common.{◌*◌, ◌^◌, pos, ◌+ℤ◌, inl, inr, refl, sym, w64, FitsSigned, rules}
+use Rattle.std.proofs.lemmas.Int.{to_z-of_z}
 use mir.Syntax.{w128}
-use Rattle.curve_law.proofs.ApproximateLemmas.{some-decided, decided-side, decided-crossed, too_short, decided-far, approximate-sizes}
-use Rattle.curve_law.proofs.QuietLemmas.{no_rate-quiet, rate-positive}
+use Rattle.curve_law.proofs.ApproximateLemmas.{some-decided, decided-side, decided-crossed, too_short, decided-far, approximate-sizes, error-positive, error-narrow, twice-narrow, twice-fits, twice-value, sum-fits, sum-value, sum-size}
+use Rattle.curve_law.proofs.QuietLemmas.{no_rate-quiet, quiet_cell, rate-positive, rate-small}
 use Rattle.curve_law.proofs.approximate.quiet_if_decided.Goals as goal
 
 pub returns-then-branch : goal.returns-then-branch
@@ -24,48 +24,102 @@ returns-then-branch g c =
       | inr short ↦ too_short meaning c.args.a c.args.n short.1
     ]
 
-pub side_of-requires-2-clause-approximate : goal.side_of-requires-2-clause-approximate
-side_of-requires-2-clause-approximate g c =
-    let approximate_end = to_z-of_z w128 c.args.approximate_end c.ranges.approximate_end in
+pub side_of-requires-clause-approximate : goal.side_of-requires-clause-approximate
+side_of-requires-clause-approximate g c =
     let sizes = approximate-sizes (g.C.Curve.state c.args.curve.now).facts.meaning c.args.a c.args.n _
     c.args.approximate c.args.approximate_end (g.met.C.Curve.lawful c.args.curve.now)
     (g.met.C.Curve.narrow c.args.curve.now) c.requires.span c.requires.approximate c.requires.approximate_end in
-    rw approximate_end sizes.1
+    rw (to_z-of_z w128 c.args.approximate c.ranges.approximate) sizes.0
+
+pub side_of-requires-clause-least : goal.side_of-requires-clause-least
+side_of-requires-clause-least g c =
+    let fits : FitsSigned w128 c.error-error.result = search rules in
+    rw (to_z-of_z w128 c.error-error.result fits) (error-positive c.error-error.result _ c.error-error.ensures)
+
+pub side_of-requires-clause-most : goal.side_of-requires-clause-most
+side_of-requires-clause-most g c =
+    let fits : FitsSigned w128 c.error-error.result = search rules in
+    rw (to_z-of_z w128 c.error-error.result fits)
+    (error-narrow c.error-error.result _ (10 ^ 36) c.error-error.ensures (g.met.C.Curve.narrow c.args.curve.now))
+
+pub side_of-requires-2-clause-approximate : goal.side_of-requires-2-clause-approximate
+side_of-requires-2-clause-approximate g c =
+    let sizes = approximate-sizes (g.C.Curve.state c.args.curve.now).facts.meaning c.args.a c.args.n _
+    c.args.approximate c.args.approximate_end (g.met.C.Curve.lawful c.args.curve.now)
+    (g.met.C.Curve.narrow c.args.curve.now) c.requires.span c.requires.approximate c.requires.approximate_end in
+    rw (to_z-of_z w128 c.args.approximate_end c.ranges.approximate_end) sizes.1
+
+pub side_of-requires-2-clause-least : goal.side_of-requires-2-clause-least
+side_of-requires-2-clause-least g c =
+    let fits : FitsSigned w128 c.error-error.result = search rules in
+    rw (to_z-of_z w128 c.error-error.result fits) (error-positive c.error-error.result _ c.error-error.ensures)
+
+pub side_of-requires-2-clause-most : goal.side_of-requires-2-clause-most
+side_of-requires-2-clause-most g c =
+    let fits : FitsSigned w128 c.error-error.result = search rules in
+    rw (to_z-of_z w128 c.error-error.result fits)
+    (error-narrow c.error-error.result _ (10 ^ 36) c.error-error.ensures (g.met.C.Curve.narrow c.args.curve.now))
+
+pub rate-requires : goal.rate-requires
+rate-requires g c =
+    rw (to_z-of_z w64 c.args.a c.ranges.a)
+    (quiet_cell (g.C.Curve.state c.args.curve.now).facts.meaning c.args.a c.args.n c.requires.span c.if-n-lt2.false c.requires.count_bound)
 
 pub overflow_add-approximate : goal.overflow_add-approximate
 overflow_add-approximate g c =
     let sizes = approximate-sizes (g.C.Curve.state c.args.curve.now).facts.meaning c.args.a c.args.n _
     c.args.approximate c.args.approximate_end (g.met.C.Curve.lawful c.args.curve.now)
     (g.met.C.Curve.narrow c.args.curve.now) c.requires.span c.requires.approximate c.requires.approximate_end in
-    omega (arith, ints, sizes.0, sizes.1)
+    sum-fits c.args.approximate c.args.approximate_end sizes.0 sizes.1
+
+pub overflow_mul-error : goal.overflow_mul-error
+overflow_mul-error g c =
+    twice-fits c.error-error.result _ c.error-error.ensures (g.met.C.Curve.narrow c.args.curve.now)
 
 pub most_change-requires-clause-positive : goal.most_change-requires-clause-positive
 most_change-requires-clause-positive g c =
     let fits : FitsSigned w64 c.args.a = c.ranges.a in
+    let rate : FitsSigned w128 c.in-Some.rate = search rules in
     let decided = simp to_z-of_z at c.in-Some.ensures in
-    let p = rate-positive (g.C.Curve.state c.args.curve.now).facts.meaning c.args.a c.args.n c.in-Some.rate
-    (g.met.C.Curve.lawful c.args.curve.now) c.requires.span c.if-n-lt2.false c.requires.count_bound decided in
-    omega (arith, ints)
+    rw (to_z-of_z w128 c.in-Some.rate rate)
+    (rate-positive (g.C.Curve.state c.args.curve.now).facts.meaning c.args.a c.args.n c.in-Some.rate
+    (g.met.C.Curve.lawful c.args.curve.now) c.requires.span c.if-n-lt2.false c.requires.count_bound decided)
 
 pub most_change-requires-clause-rate : goal.most_change-requires-clause-rate
 most_change-requires-clause-rate g c =
     let fits : FitsSigned w64 c.args.a = c.ranges.a in
     let rate : FitsSigned w128 c.in-Some.rate = search rules in
     let decided = simp to_z-of_z at c.in-Some.ensures in
-    let law = (g.met.C.Curve.lawful c.args.curve.now).rates c.args.a c.args.n c.in-Some.rate (record {
-      first = c.requires.span.first;
-      last = c.requires.span.last;
-      some = (let two = c.if-n-lt2.false in omega (arith, two));
-      few = c.requires.count_bound;
-    }) (sym decided) in
-    rw (to_z-of_z w128 c.in-Some.rate rate) law.small
+    rw (to_z-of_z w128 c.in-Some.rate rate)
+    (rate-small (g.C.Curve.state c.args.curve.now).facts.meaning c.args.a c.args.n c.in-Some.rate
+    (g.met.C.Curve.lawful c.args.curve.now) c.requires.span c.if-n-lt2.false c.requires.count_bound decided)
+
+pub most_change-requires-clause-count_bound : goal.most_change-requires-clause-count_bound
+most_change-requires-clause-count_bound g c = c.requires.count_bound
 
 pub passes-requires-clause-approximate : goal.passes-requires-clause-approximate
 passes-requires-clause-approximate g c =
     let sizes = approximate-sizes (g.C.Curve.state c.args.curve.now).facts.meaning c.args.a c.args.n _
     c.args.approximate c.args.approximate_end (g.met.C.Curve.lawful c.args.curve.now)
     (g.met.C.Curve.narrow c.args.curve.now) c.requires.span c.requires.approximate c.requires.approximate_end in
-    omega (arith, ints, sizes.0, sizes.1)
+    rw (sum-value c.args.approximate c.args.approximate_end sizes.0 sizes.1)
+    (sum-size c.args.approximate c.args.approximate_end sizes.0 sizes.1)
+
+pub passes-requires-clause-least : goal.passes-requires-clause-least
+passes-requires-clause-least g c =
+    rw (twice-value c.error-error.result _ c.error-error.ensures (g.met.C.Curve.narrow c.args.curve.now))
+    (error-positive _ _ refl)
+
+pub passes-requires-clause-error_bound : goal.passes-requires-clause-error_bound
+passes-requires-clause-error_bound g c =
+    let narrow = g.met.C.Curve.narrow c.args.curve.now in
+    rw (twice-value c.error-error.result _ c.error-error.ensures narrow)
+    (error-narrow _ _ (2 * 10 ^ 36) refl (twice-narrow _ narrow))
+
+pub passes-requires-clause-most : goal.passes-requires-clause-most
+passes-requires-clause-most g c =
+    let fits : FitsSigned w128 c.most_change.result = search rules in
+    rw (to_z-of_z w128 c.most_change.result fits) c.most_change.ensures.size
 
 pub returns-in-Some : goal.returns-in-Some
 returns-in-Some g c =
@@ -89,12 +143,10 @@ returns-in-Some g c =
     let narrow = g.met.C.Curve.narrow c.args.curve.now in
     let sizes = approximate-sizes meaning c.args.a c.args.n bound c.args.approximate c.args.approximate_end
     (g.met.C.Curve.lawful c.args.curve.now) narrow c.requires.span c.requires.approximate c.requires.approximate_end in
-    let sum :
-    to_z w128 (of_z w128 (to_z w128 (of_z w128 c.args.approximate) +ℤ to_z w128 (of_z w128 c.args.approximate_end)))
-    ≡ c.args.approximate +ℤ c.args.approximate_end = omega (arith, ints, sizes.0, sizes.1) in
-    let twice : to_z w128 (of_z w128 (pos 2 *ℤ to_z w128 (of_z w128 c.error-error.result))) ≡ pos (2 * bound) =
-    omega (arith, ints, c.error-error.ensures, narrow) in
-    let change : to_z w128 (of_z w128 c.most_change.result) ≡ c.most_change.result = omega (arith, ints, c.most_change.ensures.size) in
+    let change_fits : FitsSigned w128 c.most_change.result = search rules in
+    let sum = sum-value c.args.approximate c.args.approximate_end sizes.0 sizes.1 in
+    let twice = twice-value c.error-error.result bound c.error-error.ensures narrow in
+    let change = to_z-of_z w128 c.most_change.result change_fits in
     some-decided c.passes.result c.passes.ensures
     (λ far sure. decided-far meaning c.args.a c.args.n c.in-Some.rate c.args.approximate c.args.approximate_end
     c.most_change.result (pos (2 * bound)) bound c.in_ok-side_of.field-0 c.in_ok-side_of-2.field-0 far
