@@ -1,3 +1,4 @@
+pub mod AppendLemmas
 pub mod DateLemmas
 pub mod FormLemmas
 pub mod MomentLemmas
