@@ -57,6 +57,11 @@ pub record Site : Type 0 where
   pub basis : Basis
   pub station : Station
 
+-- the stations that can be requested: those of a harmonics file, and the subordinate stations of a table
+pub record BookWithTable : Type 0 where
+  pub book : Book
+  pub table : List Offsets
+
 -- the greatest number of minutes of a span
 abbrev pub span_limit : ℤ
 span_limit = pos 5270400

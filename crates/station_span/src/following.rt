@@ -18,13 +18,13 @@ use crate::curves::{mark_curve, slack_curve, turn_curve};
 use crate::found_station::FoundStation;
 use crate::reach::Reach;
 use crate::station::find_station;
+use crate::station_data::StationData;
 use curve_law::{Curve, Events};
 use decimal_text::Text;
 use event_list::{Merge, Span, shifted};
-use harmonics_book::{Units, ValidBook};
+use harmonics_book::Units;
 use interval_search::Search;
 use rate_bound::{MarkCurve, TurnCurve, Version};
-use station_table::OffsetTable;
 use std::alloc::{AllocError, Global};
 use tide_fault::Refusal;
 
@@ -37,25 +37,24 @@ pub struct FoundEvents {
     pub cells: u64,
 }
 
-/// Returns the events of the station `name` over the span of `asked`. `book` holds the harmonic
-/// constants and `table` the subordinate stations. The minutes of `asked` are at most
-/// 20,000,000,000 in size.
+/// Returns the events of the station `name` of `stations` over the span of `asked`, whose minutes are
+/// at most 20,000,000,000 in size.
 ///
 /// # Errors
 /// The first [`Refusal`] in the order of [`find_station`](crate::find_station).
 pub fn list_station(
     alloc: Global,
-    book: &ValidBook<'_>,
-    table: &OffsetTable,
+    stations: &StationData<'_>,
     name: &Text,
     asked: &Asked,
 ) -> Result<FoundEvents, Refusal>
     requires in_range { IsInRange asked.now }
-    ensures exact { Lists book.now asked.now (site_in Reach.Events book.now table.now name.now asked.now) result }
+    ensures exact { Lists stations.now.book asked.now
+        (site_in Reach.Events stations.now.book stations.now.table name.now asked.now) result }
     ensures named { OnOk result (IsStationName name.now) }
-    ensures printable { IfErr result (IsPrintableRefusal table.now) }
+    ensures printable { IfErr result (IsPrintableRefusal stations.now.table) }
 {
-    let found = find_station(alloc, book, table, Reach::Events, name, asked)?;
+    let found = find_station(alloc, stations, Reach::Events, name, asked)?;
     Ok(find_events(alloc, &found)?)
 }
 
@@ -64,7 +63,8 @@ pub fn list_station(
 ///
 /// # Examples
 /// ```
-/// let found = find_station(alloc, &book, &table, Reach::Events, &name, &asked)?;
+/// let stations = StationData::new(&book, &table);
+/// let found = find_station(alloc, &stations, Reach::Events, &name, &asked)?;
 /// let listed = find_events(alloc, &found)?;
 /// assert_eq!(rt; listed.events.as_slice().len(), 4);
 /// ```

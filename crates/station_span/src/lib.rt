@@ -1,12 +1,13 @@
 //! A span of a station: the station that a name means, and its curves.
 //!
-//! [`find_station`] goes the way of every request about a span of a station: its name, its unit,
-//! the span, the bounds on its constants and the mark, and returns the first refusal.
-//! [`find_level`] requires levels too, and [`find_reference`] takes no span. A station that was found
-//! has curves ([`turn_curve`], [`slack_curve`], [`mark_curve`]), events ([`find_events`], or one at
-//! a time by [`merge_of`]), levels ([`level_at`], [`is_rising`]) and a highest water
-//! ([`find_highest`], [`judge_highest`]). `specs/Sites.antt` has the order of the refusals, and
-//! `specs/Following.antt` the curves that are followed.
+//! [`StationData`] has the stations that can be requested. [`find_station`] goes the way of every
+//! request about a span of one: its name, its unit, the span, the bounds on its constants and the
+//! mark, and returns the first refusal. [`find_level`] requires levels too, and [`find_reference`]
+//! takes no span. A station that was found has curves ([`turn_curve`], [`slack_curve`],
+//! [`mark_curve`]), events ([`find_events`], or one at a time by [`merge_of`]), levels
+//! ([`level_at`], [`is_rising`]) and a highest water ([`find_highest`], [`judge_highest`]).
+//! `specs/Sites.antt` has the order of the refusals, and `specs/Following.antt` the curves that are
+//! followed.
 #![tactic(auto)]
 
 mod asked;
@@ -20,6 +21,7 @@ mod reach;
 mod reference_station;
 mod station;
 mod station_curves;
+mod station_data;
 mod worked;
 
 pub use asked::Asked;
@@ -34,4 +36,5 @@ pub use peaks::{find_highest, find_level, highest_minute, judge_highest, moved_m
 pub use reach::Reach;
 pub use reference_station::{ReferenceStation, find_reference};
 pub use station::find_station;
+pub use station_data::StationData;
 pub use worked::worked_spans;

@@ -14,17 +14,16 @@ use crate::found_station::FoundStation;
 use crate::levels::check_level;
 use crate::reach::Reach;
 use crate::station::find_station;
+use crate::station_data::StationData;
 use curve_law::Curve;
 use decimal_text::Text;
-use harmonics_book::ValidBook;
 use highest_water::{Peak, PeakVerdict, check_peak, find_peak, highest_point};
 use rate_bound::MarkCurve;
-use station_table::OffsetTable;
 use std::alloc::{AllocError, Global};
 use tide_fault::Refusal;
 
-/// Returns the station `name` with the span of `asked`, for its highest water. The minutes of
-/// `asked` are at most 20,000,000,000 in size.
+/// Returns the station `name` of `stations` with the span of `asked`, for its highest water. The
+/// minutes of `asked` are at most 20,000,000,000 in size.
 ///
 /// # Errors
 /// The first [`Refusal`] in this order: the station, its unit, the span, the bounds on its
@@ -32,7 +31,8 @@ use tide_fault::Refusal;
 ///
 /// # Examples
 /// ```
-/// let found = find_level(alloc, &book, &table, &name, &asked)?;
+/// let stations = StationData::new(&book, &table);
+/// let found = find_level(alloc, &stations, &name, &asked)?;
 /// let minute = moved_minute(&found, highest_minute(&found));
 /// let level = level_at(&found, minute);
 /// assert_eq!(rt; (minute, level), (15_791_040, 1_000_000));
@@ -40,18 +40,18 @@ use tide_fault::Refusal;
 #[tactic(auto, unfolding(crate::specs::Peaks::highest_site))]
 pub fn find_level(
     alloc: Global,
-    book: &ValidBook<'_>,
-    table: &OffsetTable,
+    stations: &StationData<'_>,
     name: &Text,
     asked: &Asked,
 ) -> Result<FoundStation, Refusal>
     requires in_range { IsInRange asked.now }
-    ensures exact { FindsIn Reach.Highest book.now asked.now (highest_site book.now table.now name.now asked.now) result }
+    ensures exact { FindsIn Reach.Highest stations.now.book asked.now
+        (highest_site stations.now.book stations.now.table name.now asked.now) result }
     ensures peak { IfOk result HasPeak }
     ensures named { OnOk result (IsStationName name.now) }
-    ensures printable { IfErr result (IsPrintableRefusal table.now) }
+    ensures printable { IfErr result (IsPrintableRefusal stations.now.table) }
 {
-    let found = find_station(alloc, book, table, Reach::Highest, name, asked)?;
+    let found = find_station(alloc, stations, Reach::Highest, name, asked)?;
     check_level(&found)?;
     Ok(found)
 }

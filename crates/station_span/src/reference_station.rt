@@ -7,10 +7,10 @@ ghost use Rattle.station_span.specs.Workings.Finds.{FindsReference};
 
 use crate::station::{find_basis, level_units, station_at};
 use crate::station_curves::whole_curve;
+use crate::station_data::StationData;
 use decimal_text::Text;
-use harmonics_book::{Station, ValidBook};
+use harmonics_book::Station;
 use station_curve::StationCurve;
-use station_table::OffsetTable;
 use std::alloc::Global;
 use tide_fault::Refusal;
 
@@ -21,21 +21,21 @@ pub struct ReferenceStation<'a> {
     pub curve: StationCurve,
 }
 
-/// Returns the reference of the station `name`.
+/// Returns the reference of the station `name` of `stations`.
 ///
 /// # Errors
 /// The first [`Refusal`] in this order: the station, its unit, the bounds on its constants.
 #[tactic(auto, unfolding(crate::specs::Sites::station_in))]
 pub fn find_reference<'a>(
     alloc: Global,
-    book: &ValidBook<'a>,
-    table: &OffsetTable,
+    stations: &StationData<'a>,
     name: &Text,
 ) -> Result<ReferenceStation<'a>, Refusal>
-    ensures exact { FindsReference book.now (station_in book.now table.now name.now) result }
-    ensures printable { IfErr result (IsPrintableRefusal table.now) }
+    ensures exact { FindsReference stations.now.book (station_in stations.now.book stations.now.table name.now) result }
+    ensures printable { IfErr result (IsPrintableRefusal stations.now.table) }
 {
-    let basis = find_basis(book, table, name)?;
+    let basis = find_basis(stations, name)?;
+    let book = stations.book();
     let station = station_at(book.get(), basis.station);
     level_units(station.units)?;
     let curve = whole_curve(alloc, book, basis.station, station)?;

@@ -51,10 +51,11 @@ use crate::found_station::FoundStation;
 use crate::origin::Origin;
 use crate::reach::Reach;
 use crate::station_curves::curve_over;
+use crate::station_data::StationData;
 use decimal_text::Text;
 use event_list::{Span, widened};
 use harmonics_book::{Book, Station, Units, ValidBook};
-use station_table::{Basis, OffsetTable, find};
+use station_table::{Basis, find};
 use std::alloc::Global;
 use tide_fault::Refusal;
 use year_blend::year_start;
@@ -62,9 +63,8 @@ use year_blend::year_start;
 /// The greatest number of minutes of a span.
 const SPAN_LIMIT: i64 = 5_270_400;
 
-/// Returns the station `name` with the span and the mark of `asked`, for the purpose `reach`.
-/// `book` holds the harmonic constants and `table` the subordinate stations. The minutes of `asked`
-/// are at most 20,000,000,000 in size.
+/// Returns the station `name` of `stations` with the span and the mark of `asked`, for the purpose
+/// `reach`. The minutes of `asked` are at most 20,000,000,000 in size.
 ///
 /// # Errors
 /// The first [`Refusal`] in this order: the station, its unit, the span, the bounds on its
@@ -77,42 +77,45 @@ const SPAN_LIMIT: i64 = 5_270_400;
 ///     end: 15_792_480,
 ///     mark: None,
 /// };
-/// let found = find_station(alloc, &book, &table, Reach::Events, &name, &asked)?;
+/// let stations = StationData::new(&book, &table);
+/// let found = find_station(alloc, &stations, Reach::Events, &name, &asked)?;
 /// let listed = find_events(alloc, &found)?;
 /// assert_eq!(rt; listed.events.as_slice().len(), 4);
 /// ```
 #[tactic(auto, unfolding(crate::specs::Sites::site_in))]
 pub fn find_station(
     alloc: Global,
-    book: &ValidBook<'_>,
-    table: &OffsetTable,
+    stations: &StationData<'_>,
     reach: Reach,
     name: &Text,
     asked: &Asked,
 ) -> Result<FoundStation, Refusal>
     requires in_range { IsInRange asked.now }
-    ensures exact { FindsIn reach book.now asked.now (site_in reach book.now table.now name.now asked.now) result }
+    ensures exact { FindsIn reach stations.now.book asked.now
+        (site_in reach stations.now.book stations.now.table name.now asked.now) result }
     ensures named { OnOk result (IsStationName name.now) }
-    ensures printable { IfErr result (IsPrintableRefusal table.now) }
+    ensures printable { IfErr result (IsPrintableRefusal stations.now.table) }
 {
-    let basis = find_basis(book, table, name)?;
+    let basis = find_basis(stations, name)?;
+    let book = stations.book();
     let station = station_at(book.get(), basis.station);
     find_at(alloc, book, reach, basis, station, asked)
 }
 
-/// Returns the station `name`: its reference in `book` and its offsets.
+/// Returns the station `name` of `stations`: its reference in the book and its offsets.
 ///
 /// # Errors
-/// [`Refusal::NoStation`] if neither `book` nor `table` has the name, and [`Refusal::NoReference`]
-/// if `book` lacks the reference of its row.
-pub fn find_basis(book: &ValidBook<'_>, table: &OffsetTable, name: &Text) -> Result<Basis, Refusal>
-    ensures exact { result ≡ basis_from (basis_of book.now table.now name.now) }
-    ensures valid { IfOk result (IsBasis (length book.now.stations)) }
+/// [`Refusal::NoStation`] if neither the book nor the table has the name, and
+/// [`Refusal::NoReference`] if the book lacks the reference of its row.
+pub fn find_basis(stations: &StationData<'_>, name: &Text) -> Result<Basis, Refusal>
+    ensures exact { result ≡ basis_from (basis_of stations.now.book stations.now.table name.now) }
+    ensures valid { IfOk result (IsBasis (length stations.now.book.stations)) }
     ensures named { OnOk result (IsStationName name.now) }
-    ensures printable { IfErr result (IsPrintableRefusal table.now) }
+    ensures printable { IfErr result (IsPrintableRefusal stations.now.table) }
 {
+    let table = stations.table();
     table.ranges_hold();
-    match find(book.get(), table, name) {
+    match find(stations.book().get(), table, name) {
         Ok(basis) => Ok(basis),
         Err(fault) => Err(Refusal::from(fault)),
     }

@@ -4,5 +4,8 @@ use Rattle.station_span.proofs.station.find_basis.Goals as goal
 
 pub returns-in-Ok-clause-named : goal.returns-in-Ok-clause-named
 returns-in-Ok-clause-named c =
-    let found = rw c.get.ensures.exact at (sym c.find.ensures.exact ∙ c.in-Ok.is) in
-    of_basis c.args.book.now c.args.table.now c.args.name.now c.in-Ok.basis c.get.ensures.valid c.ranges_hold.ensures found
+    let book = c.get.ensures.exact ∙ c.book.ensures in
+    let found = rw (book, c.table-table.ensures) at (sym c.find.ensures.exact ∙ c.in-Ok.is) in
+    let valid = rw c.book.ensures at c.get.ensures.valid in
+    let rows = rw c.table-table.ensures at c.ranges_hold.ensures in
+    of_basis c.args.stations.now.book c.args.stations.now.table c.args.name.now c.in-Ok.basis valid rows found
