@@ -7,11 +7,10 @@ ghost use Rattle.tide_fault.specs.Faults.{refusal_is_out_of_memory, IsPrintableR
 
 use crate::text::{Answer, text_alone};
 use decimal_text::Text;
-use harmonics_book::{Station, ValidBook};
+use harmonics_book::Station;
 use listing::about_text;
 use slope_agreement::{agreement, predicted_agreements};
-use station_span::find_reference;
-use station_table::OffsetTable;
+use station_span::{StationData, find_reference};
 use std::alloc::Global;
 use tide_fault::Refusal;
 
@@ -23,14 +22,13 @@ use tide_fault::Refusal;
 #[tactic(auto, unfolding(crate::specs::Answers::station_about))]
 pub fn about_answer(
     alloc: Global,
-    book: &ValidBook<'_>,
-    table: &OffsetTable,
+    stations: &StationData<'_>,
     name: &Text,
 ) -> Result<Answer, Refusal>
-    ensures exact { ReturnsUnless refusal_is_out_of_memory (station_about book.now table.now name.now) result }
-    ensures printable { IfErr result (IsPrintableRefusal table.now) }
+    ensures exact { ReturnsUnless refusal_is_out_of_memory (station_about stations.now.book stations.now.table name.now) result }
+    ensures printable { IfErr result (IsPrintableRefusal stations.now.table) }
 {
-    let found = find_reference(alloc, book, table, name)?;
+    let found = find_reference(alloc, stations, name)?;
     let station = found.station;
     let count = constituent_count(station);
     predicted_agreements();

@@ -9,9 +9,7 @@ ghost use Rattle.station_span.specs.Workings.Spans.{IsInRange};
 use crate::text::Answer;
 use calendar_sheet::calendar_text;
 use decimal_text::Text;
-use harmonics_book::ValidBook;
-use station_span::{Asked, list_station};
-use station_table::OffsetTable;
+use station_span::{Asked, StationData, list_station};
 use std::alloc::Global;
 use tide_fault::Refusal;
 use zone_time::ZoneClock;
@@ -24,17 +22,17 @@ use zone_time::ZoneClock;
 #[tactic(auto, unfolding(crate::specs::Answers::on_calendar))]
 pub fn list_days(
     alloc: Global,
-    book: &ValidBook<'_>,
-    table: &OffsetTable,
+    stations: &StationData<'_>,
     name: &Text,
     asked: &Asked,
     zone: &ZoneClock<'_>,
 ) -> Result<Answer, Refusal>
     requires in_range { IsInRange asked.now }
-    ensures exact { ReturnsUnless refusal_is_out_of_memory (on_calendar book.now table.now name.now asked.now zone.now) result }
-    ensures printable { IfErr result (IsPrintableRefusal table.now) }
+    ensures exact { ReturnsUnless refusal_is_out_of_memory
+        (on_calendar stations.now.book stations.now.table name.now asked.now zone.now) result }
+    ensures printable { IfErr result (IsPrintableRefusal stations.now.table) }
 {
-    let listed = list_station(alloc, book, table, name, asked)?;
+    let listed = list_station(alloc, stations, name, asked)?;
     let text = calendar_text(
         alloc,
         name,

@@ -13,10 +13,8 @@ use crate::tracks::find_tracks;
 use cert_text::{Certificate, write_certificate};
 use curve_law::Tracks;
 use decimal_text::Text;
-use harmonics_book::ValidBook;
 use station_cells::cell_count;
-use station_span::{Asked, Reach, find_station};
-use station_table::OffsetTable;
+use station_span::{Asked, Reach, StationData, find_station};
 use std::alloc::Global;
 use tide_fault::Refusal;
 
@@ -29,18 +27,17 @@ use tide_fault::Refusal;
 #[tactic(auto, unfolding(crate::specs::Answers::certified))]
 pub fn certify(
     alloc: Global,
-    book: &ValidBook<'_>,
-    table: &OffsetTable,
+    stations: &StationData<'_>,
     name: &Text,
     asked: &Asked,
 ) -> Result<Answer, Refusal>
     requires in_range { IsInRange asked.now }
     requires begin { IsMoment asked.now.begin }
     requires end { IsMoment asked.now.end }
-    ensures exact { ReturnsUnless refusal_is_out_of_memory (certified book.now table.now name.now asked.now) result }
-    ensures printable { IfErr result (IsPrintableRefusal table.now) }
+    ensures exact { ReturnsUnless refusal_is_out_of_memory (certified stations.now.book stations.now.table name.now asked.now) result }
+    ensures printable { IfErr result (IsPrintableRefusal stations.now.table) }
 {
-    let found = find_station(alloc, book, table, Reach::Events, name, asked)?;
+    let found = find_station(alloc, stations, Reach::Events, name, asked)?;
     let tracks = find_tracks(alloc, &found)?;
     let cells = cell_count(&tracks);
     let cert = certificate_of(name.copy()?, asked, tracks);

@@ -20,11 +20,9 @@ use crate::text::{Answer, accepted, rejected};
 use cert_text::{Certificate, certificates_have_one_text, read_certificate};
 use curve_law::Events;
 use event_list::{merged, shifted};
-use harmonics_book::ValidBook;
 use listing::plain_events;
 use station_cells::rejection_line;
-use station_span::{Asked, FoundStation, Reach, find_station};
-use station_table::OffsetTable;
+use station_span::{Asked, FoundStation, Reach, StationData, find_station};
 use std::alloc::{AllocError, Global};
 use tide_fault::Refusal;
 use zone_time::ZoneClock;
@@ -38,37 +36,34 @@ use zone_time::ZoneClock;
 #[tactic(auto, unfolding(crate::specs::Answers::checked))]
 pub fn check(
     alloc: Global,
-    book: &ValidBook<'_>,
-    table: &OffsetTable,
+    stations: &StationData<'_>,
     bytes: &[u8],
     zone: &ZoneClock<'_>,
 ) -> Result<Answer, Refusal>
     requires count_bound { length bytes.now ≤ MOST_BYTES }
-    ensures exact { ReturnsUnless refusal_is_out_of_memory (checked book.now table.now bytes.now zone.now) result }
-    ensures printable { IfErr result (IsPrintableRefusal table.now) }
+    ensures exact { ReturnsUnless refusal_is_out_of_memory (checked stations.now.book stations.now.table bytes.now zone.now) result }
+    ensures printable { IfErr result (IsPrintableRefusal stations.now.table) }
 {
     let cert = read_certificate(alloc, bytes)?;
     certificates_have_one_text();
-    judge(alloc, book, table, &cert, zone)
+    judge(alloc, stations, &cert, zone)
 }
 
 /// Checks the certificate `cert`.
 fn judge(
     alloc: Global,
-    book: &ValidBook<'_>,
-    table: &OffsetTable,
+    stations: &StationData<'_>,
     cert: &Certificate,
     zone: &ZoneClock<'_>,
 ) -> Result<Answer, Refusal>
     requires cert { IsCertificate cert.now }
     requires count_bound { HasFewCells cert.now.tracks }
-    ensures exact { ReturnsUnless refusal_is_out_of_memory (judged_in book.now table.now cert.now zone.now) result }
-    ensures printable { IfErr result (IsPrintableRefusal table.now) }
+    ensures exact { ReturnsUnless refusal_is_out_of_memory (judged_in stations.now.book stations.now.table cert.now zone.now) result }
+    ensures printable { IfErr result (IsPrintableRefusal stations.now.table) }
 {
     let found = find_station(
         alloc,
-        book,
-        table,
+        stations,
         Reach::Events,
         &cert.station,
         &asked_by_certificate(cert),

@@ -9,10 +9,10 @@ ghost use Rattle.station_span.specs.Workings.Spans.{IsInRange};
 
 use crate::text::Answer;
 use decimal_text::Text;
-use harmonics_book::ValidBook;
 use listing::clock_text;
-use station_span::{Asked, Reach, check_level, find_events, find_station, is_rising, level_at};
-use station_table::OffsetTable;
+use station_span::{
+    Asked, Reach, StationData, check_level, find_events, find_station, is_rising, level_at,
+};
 use std::alloc::Global;
 use tide_fault::Refusal;
 use zone_time::{MINUTES_OF_DAY, ZoneClock};
@@ -27,19 +27,18 @@ use zone_time::{MINUTES_OF_DAY, ZoneClock};
 #[tactic(auto, unfolding(crate::specs::Answers::on_clock))]
 pub fn clock_answer(
     alloc: Global,
-    book: &ValidBook<'_>,
-    table: &OffsetTable,
+    stations: &StationData<'_>,
     name: &Text,
     now: i64,
     zone: &ZoneClock<'_>,
 ) -> Result<Answer, Refusal>
     requires earliest { negsuc 9999999999 ≤ℤ now }
     requires latest { now ≤ℤ pos 10000000000 }
-    ensures exact { ReturnsUnless refusal_is_out_of_memory (on_clock book.now table.now name.now now zone.now) result }
-    ensures printable { IfErr result (IsPrintableRefusal table.now) }
+    ensures exact { ReturnsUnless refusal_is_out_of_memory (on_clock stations.now.book stations.now.table name.now now zone.now) result }
+    ensures printable { IfErr result (IsPrintableRefusal stations.now.table) }
 {
     let asked = day_from(now);
-    let found = find_station(alloc, book, table, Reach::Events, name, &asked)?;
+    let found = find_station(alloc, stations, Reach::Events, name, &asked)?;
     check_level(&found)?;
     let level = level_at(&found, now);
     let rising = is_rising(&found, now);

@@ -22,9 +22,10 @@ use crate::highest::{certify_peak, highest_answer};
 use crate::peak_check::check_peak_text;
 use crate::predict::predict;
 use crate::text::{Answer, text_alone};
-use harmonics_book::{Book, ValidBook};
+use harmonics_book::Book;
 use listing::stations_text;
 use question::{Command, Question, ValidQuestion};
+use station_span::StationData;
 use station_table::OffsetTable;
 use std::alloc::Global;
 use tide_fault::Refusal;
@@ -73,53 +74,52 @@ pub fn answer(
     ensures exact { ReturnsUnless refusal_is_out_of_memory (answered book.now table.now question.now given.entry.now) result }
     ensures printable { IfErr result (IsPrintableRefusal table.now) }
 {
-    let book = ValidBook::new(book);
+    let stations = StationData::new(book, table);
     let question = ValidQuestion::new(question);
-    answer_valid(alloc, &book, table, &question, given.view())
+    answer_valid(alloc, &stations, &question, given.view())
 }
 
-/// Returns the answer to the valid `question` over the valid `book`, as [`answer`] does, from borrowed
-/// inputs.
+/// Returns the answer to the valid `question` over `stations`, as [`answer`] does, from borrowed inputs.
 ///
 /// # Errors
 /// As [`answer`].
 #[tactic(auto, unfolding(crate::specs::Answers::answered, crate::specs::Answers::asks_name, crate::specs::Answers::asks_span))]
 pub fn answer_valid(
     alloc: Global,
-    book: &ValidBook<'_>,
-    table: &OffsetTable,
+    stations: &StationData<'_>,
     question: &ValidQuestion<'_>,
     given: GivenView<'_>,
 ) -> Result<Answer, Refusal>
     requires given { IsGiven (given_seen given) }
-    ensures exact { ReturnsUnless refusal_is_out_of_memory (answered book.now table.now question.now (given_seen given.entry)) result }
-    ensures printable { IfErr result (IsPrintableRefusal table.now) }
+    ensures exact { ReturnsUnless refusal_is_out_of_memory
+        (answered stations.now.book stations.now.table question.now (given_seen given.entry)) result }
+    ensures printable { IfErr result (IsPrintableRefusal stations.now.table) }
 {
     let name = station_named(question);
     let asked = span_named(question);
     let zone = &given.zone.clock();
     let Question { layout, step, .. } = question.get();
     match question.get().command {
-        Command::Predict => predict(alloc, book, table, name?, &asked?, *layout, zone),
-        Command::Certify => certify(alloc, book, table, name?, &asked?),
-        Command::Heights => list_heights(alloc, book, table, name?, &asked?, *step, *layout, zone),
-        Command::Calendar => list_days(alloc, book, table, name?, &asked?, zone),
-        Command::Highest => highest_answer(alloc, book, table, name?, &asked?, zone),
-        Command::Peak => certify_peak(alloc, book, table, name?, &asked?),
-        Command::Clock => clock_answer(alloc, book, table, name?, given.now, zone),
-        Command::About => about_answer(alloc, book, table, name?),
-        Command::Check => check(alloc, book, table, given.certificate, zone),
-        Command::PeakCheck => check_peak_text(alloc, book, table, given.certificate),
-        Command::Stations => answer_stations(alloc, book.get(), table),
+        Command::Predict => predict(alloc, stations, name?, &asked?, *layout, zone),
+        Command::Certify => certify(alloc, stations, name?, &asked?),
+        Command::Heights => list_heights(alloc, stations, name?, &asked?, *step, *layout, zone),
+        Command::Calendar => list_days(alloc, stations, name?, &asked?, zone),
+        Command::Highest => highest_answer(alloc, stations, name?, &asked?, zone),
+        Command::Peak => certify_peak(alloc, stations, name?, &asked?),
+        Command::Clock => clock_answer(alloc, stations, name?, given.now, zone),
+        Command::About => about_answer(alloc, stations, name?),
+        Command::Check => check(alloc, stations, given.certificate, zone),
+        Command::PeakCheck => check_peak_text(alloc, stations, given.certificate),
+        Command::Stations => answer_stations(alloc, stations),
         Command::Sample | Command::Trial => answer_alone(alloc, question),
         Command::Report | Command::Serve => Err(Refusal::NoStation),
     }
 }
 
 /// Returns the answer to `stations`.
-fn answer_stations(alloc: Global, book: &Book, table: &OffsetTable) -> Result<Answer, Refusal>
-    ensures exact { IfOk result (λ answer. answer ≡ text_alone (stations_text_of book.now table.now)) }
+fn answer_stations(alloc: Global, stations: &StationData<'_>) -> Result<Answer, Refusal>
+    ensures exact { IfOk result (λ answer. answer ≡ text_alone (stations_text_of stations.now.book stations.now.table)) }
     ensures memory { IfErr result (λ refusal. refusal ≡ Refusal.NoMemory) }
 {
-    Ok(text_alone(stations_text(alloc, book, table)?))
+    Ok(text_alone(stations_text(alloc, stations.book().get(), stations.table())?))
 }

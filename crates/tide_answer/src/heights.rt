@@ -11,11 +11,10 @@ ghost use Rattle.zone_time.specs.Zones.{InZoneYears};
 
 use crate::text::{Answer, text_alone};
 use decimal_text::{Bytes, Text};
-use harmonics_book::{Units, ValidBook};
+use harmonics_book::Units;
 use listing::{Row, Rows, csv_heights, plain_heights};
 use question::Layout;
-use station_span::{Asked, FoundStation, Reach, check_level, find_station, level_at};
-use station_table::OffsetTable;
+use station_span::{Asked, FoundStation, Reach, StationData, check_level, find_station, level_at};
 use std::alloc::{AllocError, Global};
 use tide_fault::Refusal;
 use zone_time::ZoneClock;
@@ -33,8 +32,7 @@ const ROW_LIMIT: u64 = 100_000;
 #[tactic(auto, unfolding(crate::specs::Answers::heights))]
 pub fn list_heights(
     alloc: Global,
-    book: &ValidBook<'_>,
-    table: &OffsetTable,
+    stations: &StationData<'_>,
     name: &Text,
     asked: &Asked,
     step: i64,
@@ -43,10 +41,11 @@ pub fn list_heights(
 ) -> Result<Answer, Refusal>
     requires in_range { IsInRange asked.now }
     requires step { IsStep step }
-    ensures exact { ReturnsUnless refusal_is_out_of_memory (heights book.now table.now name.now asked.now step layout zone.now) result }
-    ensures printable { IfErr result (IsPrintableRefusal table.now) }
+    ensures exact { ReturnsUnless refusal_is_out_of_memory
+        (heights stations.now.book stations.now.table name.now asked.now step layout zone.now) result }
+    ensures printable { IfErr result (IsPrintableRefusal stations.now.table) }
 {
-    let found = find_station(alloc, book, table, Reach::Levels, name, asked)?;
+    let found = find_station(alloc, stations, Reach::Levels, name, asked)?;
     check_level(&found)?;
     check_rows(asked, step)?;
     let rows = rows_of(alloc, &found, step)?;

@@ -12,13 +12,12 @@ ghost use Rattle.station_span.specs.Workings.Spans.{AreMoments, IsInRange};
 
 use crate::text::{Answer, text_alone};
 use decimal_text::{Bytes, Text};
-use harmonics_book::ValidBook;
 use highest_water::{Peak, PeakCertificate, write_peak};
 use listing::highest_text;
 use station_span::{
-    Asked, FoundStation, find_highest, find_level, highest_minute, level_at, moved_minute,
+    Asked, FoundStation, StationData, find_highest, find_level, highest_minute, level_at,
+    moved_minute,
 };
-use station_table::OffsetTable;
 use std::alloc::{AllocError, Global};
 use tide_fault::Refusal;
 use zone_time::ZoneClock;
@@ -32,17 +31,17 @@ use zone_time::ZoneClock;
 #[tactic(auto, unfolding(crate::specs::Answers::highest))]
 pub fn highest_answer(
     alloc: Global,
-    book: &ValidBook<'_>,
-    table: &OffsetTable,
+    stations: &StationData<'_>,
     name: &Text,
     asked: &Asked,
     zone: &ZoneClock<'_>,
 ) -> Result<Answer, Refusal>
     requires in_range { IsInRange asked.now }
-    ensures exact { ReturnsUnless refusal_is_out_of_memory (highest book.now table.now name.now asked.now zone.now) result }
-    ensures printable { IfErr result (IsPrintableRefusal table.now) }
+    ensures exact { ReturnsUnless refusal_is_out_of_memory
+        (highest stations.now.book stations.now.table name.now asked.now zone.now) result }
+    ensures printable { IfErr result (IsPrintableRefusal stations.now.table) }
 {
-    let found = find_level(alloc, book, table, name, asked)?;
+    let found = find_level(alloc, stations, name, asked)?;
     let at = highest_minute(&found);
     let text = highest_text_at(alloc, &found, name, at, zone)?;
     Ok(text_alone(text))
@@ -74,17 +73,16 @@ pub fn highest_text_at(
 #[tactic(auto, unfolding(crate::specs::Answers::peak_certified))]
 pub fn certify_peak(
     alloc: Global,
-    book: &ValidBook<'_>,
-    table: &OffsetTable,
+    stations: &StationData<'_>,
     name: &Text,
     asked: &Asked,
 ) -> Result<Answer, Refusal>
     requires in_range { IsInRange asked.now }
     requires moments { AreMoments asked.now }
-    ensures exact { ReturnsUnless refusal_is_out_of_memory (peak_certified book.now table.now name.now asked.now) result }
-    ensures printable { IfErr result (IsPrintableRefusal table.now) }
+    ensures exact { ReturnsUnless refusal_is_out_of_memory (peak_certified stations.now.book stations.now.table name.now asked.now) result }
+    ensures printable { IfErr result (IsPrintableRefusal stations.now.table) }
 {
-    let found = find_level(alloc, book, table, name, asked)?;
+    let found = find_level(alloc, stations, name, asked)?;
     let peak = find_highest(alloc, &found)?;
     let cert = certificate_of(name.copy()?, asked, peak);
     let text = write_peak(alloc, &cert)?;

@@ -48,6 +48,6 @@ pub use peak_laws::{
 };
 pub use ready::{Ready, answer_into, can_stream, prepare};
 pub use station_cells::Rejection;
-pub use station_span::{Asked, Reach};
+pub use station_span::{Asked, Reach, StationData};
 pub use text::Answer;
 pub use tide_fault::{Fault, Refusal, Slot, Status, fault_line, fault_status};

@@ -14,9 +14,9 @@ use crate::asked_spans::{span_named, station_named};
 use crate::given::Given;
 use curve_law::Events;
 use decimal_text::Text;
-use harmonics_book::{Book, Units, ValidBook};
+use harmonics_book::{Book, Units};
 use question::{Question, ValidQuestion};
-use station_span::list_station;
+use station_span::{StationData, list_station};
 use station_table::OffsetTable;
 use std::alloc::Global;
 use tide_fault::Refusal;
@@ -61,10 +61,11 @@ pub fn station_events(
     ensures levels { IfOk result (λ found. found.units ≢ Units.KnotsSquared) }
     ensures printed { IfOk result (λ found. All (λ b. (32 ≤ b) × (b ≢ 127)) found.name) }
 {
+    let stations = StationData::new(book, table);
     let question = ValidQuestion::new(question);
     let name = station_named(&question)?;
     let asked = span_named(&question)?;
-    let found = list_station(alloc, &ValidBook::new(book), table, name, &asked)?;
+    let found = list_station(alloc, &stations, name, &asked)?;
     Ok(Listed {
         name: name.copy()?,
         units: found.units,

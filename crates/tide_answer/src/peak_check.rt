@@ -15,13 +15,11 @@ ghost use Rattle.station_span.specs.Workings.Peaks.{IsSourceIn};
 use crate::asked_spans::asked_by_peak_certificate;
 use crate::highest::highest_text_at;
 use crate::text::{Answer, accepted, rejected};
-use harmonics_book::ValidBook;
 use highest_water::{
     PeakCertificate, PeakFault, PeakVerdict, peak_certificates_have_one_text, read_peak,
     verdict_line,
 };
-use station_span::{FoundStation, find_level, judge_highest};
-use station_table::OffsetTable;
+use station_span::{FoundStation, StationData, find_level, judge_highest};
 use std::alloc::{AllocError, Global};
 use tide_fault::Refusal;
 use zone_time::Zone;
@@ -36,16 +34,15 @@ use zone_time::Zone;
 #[tactic(auto, unfolding(crate::specs::Answers::peak_checked))]
 pub fn check_peak_text(
     alloc: Global,
-    book: &ValidBook<'_>,
-    table: &OffsetTable,
+    stations: &StationData<'_>,
     bytes: &[u8],
 ) -> Result<Answer, Refusal>
     requires count_bound { length bytes.now ≤ MOST_BYTES }
-    ensures exact { ReturnsUnless refusal_is_out_of_memory (peak_checked book.now table.now bytes.now) result }
-    ensures printable { IfErr result (IsPrintableRefusal table.now) }
+    ensures exact { ReturnsUnless refusal_is_out_of_memory (peak_checked stations.now.book stations.now.table bytes.now) result }
+    ensures printable { IfErr result (IsPrintableRefusal stations.now.table) }
 {
     let cert = peak_in(alloc, bytes)?;
-    judge_peak(alloc, book, table, &cert)
+    judge_peak(alloc, stations, &cert)
 }
 
 /// Reads the certificate whose text is `bytes`.
@@ -68,19 +65,17 @@ fn peak_in(alloc: Global, bytes: &[u8]) -> Result<PeakCertificate, Refusal>
 #[tactic(auto, unfolding(crate::specs::Workings::Peaks::peak_judged_in))]
 fn judge_peak(
     alloc: Global,
-    book: &ValidBook<'_>,
-    table: &OffsetTable,
+    stations: &StationData<'_>,
     cert: &PeakCertificate,
 ) -> Result<Answer, Refusal>
     requires cert { IsPeakCertificate cert.now }
     requires count_bound { length cert.now.peak.cells < 2 ^ 32 }
-    ensures exact { ReturnsUnless refusal_is_out_of_memory (peak_judged_in book.now table.now cert.now) result }
-    ensures printable { IfErr result (IsPrintableRefusal table.now) }
+    ensures exact { ReturnsUnless refusal_is_out_of_memory (peak_judged_in stations.now.book stations.now.table cert.now) result }
+    ensures printable { IfErr result (IsPrintableRefusal stations.now.table) }
 {
     let found = find_level(
         alloc,
-        book,
-        table,
+        stations,
         &cert.station,
         &asked_by_peak_certificate(cert),
     )?;

@@ -9,11 +9,9 @@ ghost use Rattle.station_span.specs.Workings.Spans.{IsInRange};
 
 use crate::text::Answer;
 use decimal_text::{Bytes, Text};
-use harmonics_book::ValidBook;
 use listing::{csv_events, plain_events};
 use question::Layout;
-use station_span::{Asked, FoundEvents, list_station};
-use station_table::OffsetTable;
+use station_span::{Asked, FoundEvents, StationData, list_station};
 use std::alloc::{AllocError, Global};
 use tide_fault::Refusal;
 use zone_time::ZoneClock;
@@ -27,18 +25,18 @@ use zone_time::ZoneClock;
 #[tactic(auto, unfolding(crate::specs::Answers::predicted))]
 pub fn predict(
     alloc: Global,
-    book: &ValidBook<'_>,
-    table: &OffsetTable,
+    stations: &StationData<'_>,
     name: &Text,
     asked: &Asked,
     layout: Layout,
     zone: &ZoneClock<'_>,
 ) -> Result<Answer, Refusal>
     requires in_range { IsInRange asked.now }
-    ensures exact { ReturnsUnless refusal_is_out_of_memory (predicted book.now table.now name.now asked.now layout zone.now) result }
-    ensures printable { IfErr result (IsPrintableRefusal table.now) }
+    ensures exact { ReturnsUnless refusal_is_out_of_memory
+        (predicted stations.now.book stations.now.table name.now asked.now layout zone.now) result }
+    ensures printable { IfErr result (IsPrintableRefusal stations.now.table) }
 {
-    let listed = list_station(alloc, book, table, name, asked)?;
+    let listed = list_station(alloc, stations, name, asked)?;
     let text = list_events(alloc, layout, name, &listed, zone)?;
     Ok(Answer {
         text,

@@ -14,9 +14,9 @@ use crate::asked_spans::{span_named, station_named};
 use crate::form::Form;
 use crate::given::Given;
 use crate::streaming::Stream;
-use harmonics_book::{Book, ValidBook};
+use harmonics_book::Book;
 use question::{Command, Layout, Question, ValidQuestion};
-use station_span::{Reach, find_station};
+use station_span::{Reach, StationData, find_station};
 use station_table::{Basis, OffsetTable};
 use std::alloc::Global;
 use tide_edge::{Sink, WriteFailed};
@@ -58,28 +58,28 @@ pub fn prepare(
     ensures exact { ReturnsUnless refusal_is_out_of_memory (prepared book.now table.now question.now given.entry.now) result }
     ensures printable { IfErr result (IsPrintableRefusal table.now) }
 {
-    let book = ValidBook::new(book);
+    let stations = StationData::new(book, table);
     let question = ValidQuestion::new(question);
-    find_ready(alloc, &book, table, &question, given)
+    find_ready(alloc, &stations, &question, given)
 }
 
 /// Finds the source of the answer to a request whose form is checked.
 #[tactic(auto, unfolding(crate::specs::Streams::prepared))]
 fn find_ready(
     alloc: Global,
-    book: &ValidBook<'_>,
-    table: &OffsetTable,
+    stations: &StationData<'_>,
     question: &ValidQuestion<'_>,
     given: &Given,
 ) -> Result<Ready, Refusal>
     requires given { IsGiven given.now }
     requires command { IsTrue (can_stream question.now.command) }
-    ensures exact { ReturnsUnless refusal_is_out_of_memory (prepared book.now table.now question.now given.entry.now) result }
-    ensures printable { IfErr result (IsPrintableRefusal table.now) }
+    ensures exact { ReturnsUnless refusal_is_out_of_memory
+        (prepared stations.now.book stations.now.table question.now given.entry.now) result }
+    ensures printable { IfErr result (IsPrintableRefusal stations.now.table) }
 {
     let name = station_named(question)?;
     let asked = span_named(question)?;
-    let found = find_station(alloc, book, table, Reach::Events, name, &asked)?;
+    let found = find_station(alloc, stations, Reach::Events, name, &asked)?;
     let question = question.get();
     match streamed_zone(&found.basis, question.layout, &given.zone) {
         Some(zone) => {

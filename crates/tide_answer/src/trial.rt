@@ -14,10 +14,10 @@ use crate::certify::certificate_of;
 use crate::tally::{Tally, tally_text};
 use crate::tracks::find_tracks;
 use decimal_text::{Bytes, Text};
-use harmonics_book::{Book, Station, ValidBook};
+use harmonics_book::{Book, Station};
 use harmonics_text::{BookFault, read_book};
 use sample_tides::sample;
-use station_span::{Asked, Reach, find_events, find_station};
+use station_span::{Asked, Reach, StationData, find_events, find_station};
 use station_table::OffsetTable;
 use std::alloc::Global;
 use tide_fault::Refusal;
@@ -44,7 +44,9 @@ pub fn try_sample(alloc: Global, seed: u64) -> Result<Bytes, Refusal>
 {
     let text = sample(alloc, seed)?;
     let book = book_in(alloc, text.as_slice())?;
-    let sum = tally_stations(alloc, &ValidBook::new(&book), first_stations(&book))?;
+    let table = OffsetTable::new(alloc);
+    let stations = StationData::new(&book, &table);
+    let sum = tally_stations(alloc, &stations, first_stations(&book))?;
     Ok(tally_text(alloc, seed, sum)?)
 }
 
@@ -75,22 +77,22 @@ fn first_stations(book: &Book) -> &[Station]
     }
 }
 
-// Returns the sums of the counts over `stations`. Nothing else is kept from one station to the
+// Returns the sums of the counts over `tried`. Nothing else is kept from one station to the
 // next.
 fn tally_stations(
     alloc: Global,
-    book: &ValidBook<'_>,
-    stations: &[Station],
+    stations: &StationData<'_>,
+    tried: &[Station],
 ) -> Result<Tally, Refusal>
-    requires count_bound { length stations.now ≤ 40 }
-    ensures exact { ReturnsUnless refusal_is_out_of_memory (tally_on book.now nothing stations.now) result }
+    requires table { stations.now.table ≡ [] }
+    requires count_bound { length tried.now ≤ 40 }
+    ensures exact { ReturnsUnless refusal_is_out_of_memory (tally_on stations.now.book nothing tried.now) result }
     ensures printable { IfErr result (IsPrintableRefusal []) }
     ensures count_bound { IfOk result (IsUpTo (2 ^ 100)) }
 {
-    let table = OffsetTable::new(alloc);
     let mut sum = Tally::nothing();
-    for station in stations {
-        let one = tally_station(alloc, book, &table, &station.name)?;
+    for station in tried {
+        let one = tally_station(alloc, stations, &station.name)?;
         sum = sum.plus(one);
     }
     Ok(sum)
@@ -98,18 +100,13 @@ fn tally_stations(
 
 // Predicts, certifies and checks at the station `name`, and returns the counts.
 #[tactic(auto, unfolding(crate::specs::Trials::station_tally))]
-fn tally_station(
-    alloc: Global,
-    book: &ValidBook<'_>,
-    table: &OffsetTable,
-    name: &Text,
-) -> Result<Tally, Refusal>
-    requires table { table.now ≡ [] }
-    ensures exact { ReturnsUnless refusal_is_out_of_memory (station_tally book.now name.now) result }
+fn tally_station(alloc: Global, stations: &StationData<'_>, name: &Text) -> Result<Tally, Refusal>
+    requires { stations.now.table ≡ [] }
+    ensures exact { ReturnsUnless refusal_is_out_of_memory (station_tally stations.now.book name.now) result }
     ensures printable { IfErr result (IsPrintableRefusal []) }
     ensures count_bound { IfOk result (IsUpTo (2 ^ 66)) }
 {
-    let found = find_station(alloc, book, table, Reach::Events, name, &SPAN)?;
+    let found = find_station(alloc, stations, Reach::Events, name, &SPAN)?;
     let listed = find_events(alloc, &found)?;
     let tracks = find_tracks(alloc, &found)?;
     let cert = certificate_of(name.copy()?, &SPAN, tracks);

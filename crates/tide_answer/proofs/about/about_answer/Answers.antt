@@ -9,6 +9,6 @@ returns-clause-exact c =
     let is = c.in_ok-found.ensures.exact in
     let bound : FitsSigned w128 c.agreement-agreement.result = search rules in
     let text = simp to_z-of_z at c.in_ok-text.ensures in
-    let agrees = c.predicted_agreements.ensures.value c.args.book.now is.site.station c.in_ok-found.found.curve is.predicts in
+    let agrees = c.predicted_agreements.ensures.value c.args.stations.now.book is.site.station c.in_ok-found.found.curve is.predicts in
     rw (c.text_alone.ensures, text, c.constituent_count-count.ensures, c.agreement-agreement.ensures.value)
-    (reference_whole c.args.book.now c.args.table.now c.args.name.now c.in_ok-found.found is agrees)
+    (reference_whole c.args.stations.now.book c.args.stations.now.table c.args.name.now c.in_ok-found.found is agrees)

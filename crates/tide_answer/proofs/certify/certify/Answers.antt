@@ -21,6 +21,6 @@ returns-clause-exact c =
     let is = c.in_ok-found.ensures.exact in
     let written = rw (c.certificate_of-cert.ensures, c.in_ok-copy.ensures) at c.in_ok-text.ensures in
     let tracks = rw (is.book, is.asked) at c.in_ok-tracks.ensures in
-    certified_whole c.args.book.now c.args.table.now c.args.name.now c.args.asked.now
+    certified_whole c.args.stations.now.book c.args.stations.now.table c.args.name.now c.args.asked.now
     (site_of c.in_ok-found.found) c.in_ok-tracks.tracks c.in_ok-text.text c.cell_count-cells.result
     is.site tracks written c.cell_count-cells.ensures

@@ -8,5 +8,6 @@ judge-requires-clause-count_bound c =
 
 pub returns-clause-exact : goal.returns-clause-exact
 returns-clause-exact c =
-    rw (checked_by c.args.book.now c.args.table.now c.args.bytes.now c.args.zone.now c.in_ok-cert.cert c.in_ok-cert.ensures.exact)
+    rw (checked_by c.args.stations.now.book c.args.stations.now.table c.args.bytes.now c.args.zone.now
+    c.in_ok-cert.cert c.in_ok-cert.ensures.exact)
     c.judge.ensures.exact

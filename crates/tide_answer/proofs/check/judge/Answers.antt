@@ -8,15 +8,16 @@ use Rattle.tide_answer.proofs.check.judge.Goals as goal
 pub returns-in_err-found-clause-exact : goal.returns-in_err-found-clause-exact
 returns-in_err-found-clause-exact c =
     let p = err_from_is_err_and c.from_residual.result c.from_residual.ensures.1 in
-    rw (p.1, p.2) (judged_refused _ c.args.book.now c.args.table.now c.args.cert.now c.args.zone.now _
+    rw (p.1, p.2) (judged_refused _ c.args.stations.now.book c.args.stations.now.table c.args.cert.now c.args.zone.now _
     (rw c.asked_by_certificate.ensures at c.in_err-found.ensures.exact))
 
 pub returns-in-None-clause-exact : goal.returns-in-None-clause-exact
 returns-in-None-clause-exact c =
     let is = rw c.asked_by_certificate.ensures at c.in_ok-found.ensures.exact in
     let rejection = rw is.book at c.find_rejection.ensures in
-    judged_by c.args.book.now c.args.table.now c.args.cert.now c.args.zone.now (site_of c.in_ok-found.found) is.site
-    ∙ ap (λ r. Ok (judged c.args.book.now (site_of c.in_ok-found.found) c.args.cert.now c.args.zone.now r)) (sym rejection ∙ c.in-None.is)
+    judged_by c.args.stations.now.book c.args.stations.now.table c.args.cert.now c.args.zone.now (site_of c.in_ok-found.found) is.site
+    ∙ ap (λ r. Ok (judged c.args.stations.now.book (site_of c.in_ok-found.found) c.args.cert.now c.args.zone.now r))
+    (sym rejection ∙ c.in-None.is)
     ∙ ap (λ a. Ok a) (sym (rw is.book at c.in_ok-accept-in-None.ensures))
 
 pub returns-clause-exact : goal.returns-clause-exact
@@ -24,5 +25,6 @@ returns-clause-exact c =
     let is = rw c.asked_by_certificate.ensures at c.in_ok-found.ensures.exact in
     let rejection = rw is.book at c.find_rejection.ensures in
     rw (c.rejected.ensures, c.in_ok-rejection_line-in-Some.ensures)
-    (judged_by c.args.book.now c.args.table.now c.args.cert.now c.args.zone.now (site_of c.in_ok-found.found) is.site
-    ∙ ap (λ r. Ok (judged c.args.book.now (site_of c.in_ok-found.found) c.args.cert.now c.args.zone.now r)) (sym rejection ∙ c.in-Some.is))
+    (judged_by c.args.stations.now.book c.args.stations.now.table c.args.cert.now c.args.zone.now (site_of c.in_ok-found.found) is.site
+    ∙ ap (λ r. Ok (judged c.args.stations.now.book (site_of c.in_ok-found.found) c.args.cert.now c.args.zone.now r))
+    (sym rejection ∙ c.in-Some.is))

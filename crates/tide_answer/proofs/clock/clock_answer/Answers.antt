@@ -16,7 +16,7 @@ returns-in_err-check_level-clause-exact c =
     let asked = simp to_z-of_z at c.day_from-asked.ensures.exact in
     let is = rw asked at c.in_ok-found.ensures.exact in
     rw (p.1, p.2)
-    (refused_level _ c.args.book.now c.args.table.now c.args.name.now c.args.now c.args.zone.now
+    (refused_level _ c.args.stations.now.book c.args.stations.now.table c.args.name.now c.args.now c.args.zone.now
     (site_of c.in_ok-found.found) _ is.site (excused_by _ _ _ (sym c.in_err-check_level.ensures.exact)))
 
 pub level_at-level-requires : goal.level_at-level-requires
@@ -55,5 +55,5 @@ returns-clause-exact c =
     let rising = rw is.book at (simp to_z-of_z at c.is_rising-rising.ensures) in
     let text = rw (c.zone.ensures.exact, level, rising, c.in_ok-found.found.unit) at (simp to_z-of_z at c.in_ok-text.ensures) in
     rw text
-    (whole_clock c.args.book.now c.args.table.now c.args.name.now c.args.now c.args.zone.now
+    (whole_clock c.args.stations.now.book c.args.stations.now.table c.args.name.now c.args.now c.args.zone.now
     (site_of c.in_ok-found.found) c.in_ok-listed.listed is.site (sym c.in_ok-check_level.ensures.exact) list)

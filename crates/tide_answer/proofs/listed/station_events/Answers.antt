@@ -4,7 +4,7 @@ use Rattle.tide_answer.proofs.listed.station_events.Goals as goal
 
 pub returns-clause-exact : goal.returns-clause-exact
 returns-clause-exact c =
-    let exact = rw c.new.ensures at c.in_ok-found.ensures.exact in
+    let exact = rw c.new-stations.ensures at c.in_ok-found.ensures.exact in
     let named = rw c.new-question.ensures at c.in_ok-name.ensures.found in
     let spans = rw c.new-question.ensures at c.in_ok-asked.ensures.exact in
     rw c.in_ok-copy.ensures

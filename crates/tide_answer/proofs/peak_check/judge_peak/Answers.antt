@@ -9,6 +9,6 @@ returns-in-Accepted-clause-exact c =
     let is = rw c.asked_by_peak_certificate.ensures at c.in_ok-found.ensures.exact in
     let verdict = rw (is.book, is.asked) at c.judge_highest.ensures.exact in
     let site = site_of c.in_ok-found.found in
-    judged_by c.args.book.now c.args.table.now c.args.cert.now site is.site
-    ∙ ap (λ v. Ok (peak_judged c.args.book.now site c.args.cert.now v)) (sym verdict ∙ c.in-Accepted.is)
+    judged_by c.args.stations.now.book c.args.stations.now.table c.args.cert.now site is.site
+    ∙ ap (λ v. Ok (peak_judged c.args.stations.now.book site c.args.cert.now v)) (sym verdict ∙ c.in-Accepted.is)
     ∙ ap (λ a. Ok a) (sym (rw is.book at c.in_ok-accept_peak-in-Accepted.ensures))

@@ -8,20 +8,20 @@ use Rattle.tide_answer.proofs.ready.find_ready.Goals as goal
 pub returns-in_err-name-clause-exact : goal.returns-in_err-name-clause-exact
 returns-in_err-name-clause-exact c =
     let p = err_from_is_err_and c.from_residual.result c.from_residual.ensures.1 in
-    rw (p.1, p.2) (excused_by _ _ _ (refused_station c.args.question.now.command c.args.book.now c.args.table.now
+    rw (p.1, p.2) (excused_by _ _ _ (refused_station c.args.question.now.command c.args.stations.now.book c.args.stations.now.table
     c.args.question.now c.args.given.now _ refl c.requires.command c.in_err-name.ensures.missing))
 
 pub returns-in_err-asked-clause-exact : goal.returns-in_err-asked-clause-exact
 returns-in_err-asked-clause-exact c =
     let p = err_from_is_err_and c.from_residual-in_err-asked.result c.from_residual-in_err-asked.ensures.1 in
     rw (p.1, p.2) (excused_by _ _ _
-    (refused_span c.args.question.now.command c.args.book.now c.args.table.now c.args.question.now c.args.given.now
+    (refused_span c.args.question.now.command c.args.stations.now.book c.args.stations.now.table c.args.question.now c.args.given.now
     c.in_ok-name.name.now _ refl c.requires.command c.in_ok-name.ensures.found (sym c.in_err-asked.ensures.exact)))
 
 pub returns-in_err-found-clause-exact : goal.returns-in_err-found-clause-exact
 returns-in_err-found-clause-exact c =
     let p = err_from_is_err_and c.from_residual-in_err-found.result c.from_residual-in_err-found.ensures.1 in
-    rw (p.1, p.2) (refused_site c.args.question.now.command _ c.args.book.now c.args.table.now c.args.question.now
+    rw (p.1, p.2) (refused_site c.args.question.now.command _ c.args.stations.now.book c.args.stations.now.table c.args.question.now
     c.args.given.now c.in_ok-name.name.now c.in_ok-asked.asked _ refl c.requires.command c.in_ok-name.ensures.found
     (sym c.in_ok-asked.ensures.exact) c.in_err-found.ensures.exact)
 
@@ -44,7 +44,7 @@ returns-in_ok-copy-in-Some-clause-exact c =
     let zone = zone_some _ c.in-Some.zone c.args.given.now.zone
     (sym c.in-Some.is ∙ rw c.get-question.ensures.exact at c.streamed_zone.ensures) in
     rw (c.new-stream.ensures, c.form_of-form.ensures, c.get-question.ensures.exact, c.in_ok-copy-in-Some.ensures, zone.1, is.book, is.asked)
-    (ready_some c.args.question.now.command c.args.question.now.layout c.args.book.now c.args.table.now
+    (ready_some c.args.question.now.command c.args.question.now.layout c.args.stations.now.book c.args.stations.now.table
     c.args.question.now c.args.given.now c.in_ok-name.name.now c.in_ok-asked.asked (site_of c.in_ok-found.found)
     refl refl c.requires.command c.in_ok-name.ensures.found (sym c.in_ok-asked.ensures.exact) is.site zone.0)
 
@@ -52,6 +52,6 @@ pub returns-in-None-clause-exact : goal.returns-in-None-clause-exact
 returns-in-None-clause-exact c =
     let is = c.in_ok-found.ensures.exact in
     let none = zone_none _ c.args.given.now.zone (sym c.in-None.is ∙ rw c.get-question.ensures.exact at c.streamed_zone.ensures) in
-    ready_none c.args.question.now.command c.args.book.now c.args.table.now c.args.question.now c.args.given.now
+    ready_none c.args.question.now.command c.args.stations.now.book c.args.stations.now.table c.args.question.now c.args.given.now
     c.in_ok-name.name.now c.in_ok-asked.asked (site_of c.in_ok-found.found)
     refl c.requires.command c.in_ok-name.ensures.found (sym c.in_ok-asked.ensures.exact) is.site none
