@@ -114,13 +114,7 @@ fn send_reply<D: Door>(
 {
     match row {
         ReplyRow::Rejects(rejection, bodiless) => send_rejection(*rejection, *bodiless, door),
-        ReplyRow::Asks(asking) => match asking_reply(
-            alloc,
-            &served_data.book(),
-            served_data.table(),
-            asking,
-            now,
-        ) {
+        ReplyRow::Asks(asking) => match asking_reply(alloc, &served_data.stations(), asking, now) {
             Ok(response) => send_response(&response, door),
             Err(_) => send_unavailable(asking.bodiless, door),
         },

@@ -17,12 +17,12 @@ ghost use Rattle.zone_time.specs.Zones.{IsZone};
 use crate::query::pairs_of;
 use arrayvec::ArrayString;
 use decimal_text::Bytes;
-use harmonics_book::{Book, ValidBook};
+use harmonics_book::Book;
 use http_rows::{Asking, Code, ReplyRow, RequestRejection, Response, row_for, write_rejection};
 use question::{AskFault, Layout, ValidQuestion, ZoneWord, read_question};
 use station_table::OffsetTable;
 use std::alloc::{AllocError, Global};
-use tide_answer::{Fault, GivenView, Refusal, answer_valid, fault_line};
+use tide_answer::{Fault, GivenView, Refusal, StationData, answer_valid, fault_line};
 use zone_time::Zone;
 
 /// Returns the reply to the whole of a `request`, over the harmonic constants `book` and the
@@ -53,7 +53,7 @@ pub fn reply(
 {
     match row_for(request) {
         ReplyRow::Rejects(rejection, bodiless) => rejection_reply(alloc, rejection, bodiless),
-        ReplyRow::Asks(asking) => whole_reply(alloc, &ValidBook::new(book), table, &asking, now),
+        ReplyRow::Asks(asking) => whole_reply(alloc, &StationData::new(book, table), &asking, now),
     }
 }
 
@@ -63,16 +63,15 @@ pub fn reply(
 /// [`AllocError`] if memory runs out.
 fn whole_reply(
     alloc: Global,
-    book: &ValidBook<'_>,
-    table: &OffsetTable,
+    stations: &StationData<'_>,
     asking: &Asking<'_>,
     now: i64,
 ) -> Result<Bytes, AllocError>
     requires asking { IsAsking (asking_seen asking.now) }
     requires now { IsClockMinute now }
-    ensures { IfOk result (λ bytes. bytes ≡ asking_reply book.now table.now now (asking_seen asking.now)) }
+    ensures { IfOk result (λ bytes. bytes ≡ asking_reply stations.now.book stations.now.table now (asking_seen asking.now)) }
 {
-    asking_reply(alloc, book, table, asking, now)?.joined(alloc)
+    asking_reply(alloc, stations, asking, now)?.joined(alloc)
 }
 
 /// Returns the fixed reply to a request that is `rejection`.
@@ -95,20 +94,19 @@ fn rejection_reply(
 #[tactic(auto, using(crate::proofs::QueryLemmas::query_names_no_file), unfolding(crate::specs::Replies::asking_reply, crate::specs::Replies::question_reply))]
 pub(crate) fn asking_reply(
     alloc: Global,
-    book: &ValidBook<'_>,
-    table: &OffsetTable,
+    stations: &StationData<'_>,
     asking: &Asking<'_>,
     now: i64,
 ) -> Result<Response, AllocError>
     requires asking { IsAsking (asking_seen asking.now) }
     requires now { IsClockMinute now }
-    ensures { IfOk result (λ response. response ≡ asking_reply book.now table.now now (asking_seen asking.now)) }
+    ensures { IfOk result (λ response. response ≡ asking_reply stations.now.book stations.now.table now (asking_seen asking.now)) }
 {
     let pairs = pairs_of(alloc, asking)?;
     match read_question(alloc, &pairs) {
         Ok(question) => {
             let question = ValidQuestion::new(&question);
-            answer_reply(alloc, book, table, &question, asking, now)
+            answer_reply(alloc, stations, &question, asking, now)
         }
         Err(fault) => {
             if is_out_of_memory(fault) {
@@ -117,7 +115,7 @@ pub(crate) fn asking_reply(
             fault_reply(
                 alloc,
                 Code::BadRequest,
-                table,
+                stations.table(),
                 &Fault::Ask(fault),
                 asking.bodiless,
             )
@@ -129,8 +127,7 @@ pub(crate) fn asking_reply(
 #[tactic(auto, unfolding(crate::specs::Replies::answer_reply))]
 fn answer_reply(
     alloc: Global,
-    book: &ValidBook<'_>,
-    table: &OffsetTable,
+    stations: &StationData<'_>,
     question: &ValidQuestion<'_>,
     asking: &Asking<'_>,
     now: i64,
@@ -138,12 +135,13 @@ fn answer_reply(
     requires asking { IsAsking (asking_seen asking.now) }
     requires now { IsClockMinute now }
     requires zone { names_file question.now.zone ≡ false }
-    ensures { IfOk result (λ response. response ≡ answer_reply table.now question.now.layout
-        (answered book.now table.now question.now (given_with question.now (asking_seen asking.now) now)) asking.now.bodiless) }
+    ensures { IfOk result (λ response. response ≡ answer_reply stations.now.table question.now.layout
+        (answered stations.now.book stations.now.table question.now (given_with question.now (asking_seen asking.now) now))
+        asking.now.bodiless) }
 {
     let zone = zone_of(&question.get().zone);
     let given = given_with(&zone, asking.body, now);
-    match answer_valid(alloc, book, table, question, given) {
+    match answer_valid(alloc, stations, question, given) {
         Ok(answer) => {
             let kind = type_of(question.get().layout);
             Ok(Response::new(Code::Success, kind, answer.text, asking.bodiless))
@@ -153,7 +151,13 @@ fn answer_reply(
                 return Err(AllocError);
             }
             let fault = Fault::Refused(refusal);
-            fault_reply(alloc, Code::Unprocessable, table, &fault, asking.bodiless)
+            fault_reply(
+                alloc,
+                Code::Unprocessable,
+                stations.table(),
+                &fault,
+                asking.bodiless,
+            )
         }
     }
 }

@@ -3,9 +3,10 @@
 ghost use Rattle.std.specs.Prelude.{◌≡◌};
 ghost use Rattle.harmonics_book.specs.Books.{IsBook};
 
-use harmonics_book::{Book, ValidBook};
+use harmonics_book::Book;
 use station_table::OffsetTable;
 use std::marker::Model;
+use tide_answer::StationData;
 
 /// The data that a server serves, and its port.
 #[derive(Drop)]
@@ -44,18 +45,11 @@ impl ValidServedData {
         ValidServedData { served_data }
     }
 
-    /// Returns the harmonic constants, borrowed.
-    pub fn book(&self) -> ValidBook<'_>
-        ensures { result ≡ self.now.book }
+    /// Returns the stations that can be requested, borrowed.
+    pub fn stations(&self) -> StationData<'_>
+        ensures { result ≡ record { book = self.now.book; table = self.now.table } }
     {
-        ValidBook::new(&self.served_data.book)
-    }
-
-    /// Returns the table, borrowed.
-    pub fn table(&self) -> &OffsetTable
-        ensures { result.now ≡ self.now.table }
-    {
-        &self.served_data.table
+        StationData::new(&self.served_data.book, &self.served_data.table)
     }
 
     /// Returns the port at which the server listens.
