@@ -32,12 +32,11 @@ use crate::asking::read_words;
 use crate::reply::Reply;
 use crate::replying::reply_with;
 use decimal_text::{Text, Words};
-use harmonics_book::ValidBook;
 use named_files::{Materials, NoAnswer, read_files};
 use question::{Command, ValidQuestion};
 use report_sheets::Sheet;
 use std::alloc::Global;
-use tide_answer::{Given, answer_alone};
+use tide_answer::{Given, StationData, answer_alone};
 use tide_edge::{Clock, Files};
 use tide_fault::Fault;
 
@@ -187,8 +186,8 @@ fn answer_with(
         certificate,
         now,
     };
-    let book = ValidBook::new(&book);
-    match reply_with(alloc, &book, &table, question, &given, sheets) {
+    let stations = StationData::new(&book, &table);
+    match reply_with(alloc, &stations, question, &given, sheets) {
         Ok(reply) => Ok(reply),
         Err(refusal) => Err(NoAnswer::Refused(refusal, table)),
     }

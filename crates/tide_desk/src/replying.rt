@@ -12,38 +12,35 @@ ghost use Rattle.tide_desk.specs.Workings.Replies.{IsReply, answer_by, is_stream
 use crate::body::Body;
 use crate::reply::Reply;
 use crate::reporting::report;
-use harmonics_book::ValidBook;
 use question::{Command, Layout, Question, ValidQuestion};
 use report_sheets::Sheet;
-use station_table::OffsetTable;
 use std::alloc::Global;
-use tide_answer::{Given, answer, can_stream, prepare};
+use tide_answer::{Given, StationData, answer, can_stream, prepare};
 use tide_fault::Refusal;
 use zone_time::Zone;
 
-/// Returns the answer to `question` over the harmonic constants `book` and the offsets `table`: a
-/// report of the sheets that it requests, or otherwise as [`answer`](tide_answer::answer).
+/// Returns the answer to `question` over `stations`: a report of the sheets that it requests, or
+/// otherwise as [`answer`](tide_answer::answer).
 ///
 /// # Errors
 /// The first [`Refusal`] in the order of [`answer`](tide_answer::answer).
 pub fn reply_with(
     alloc: Global,
-    book: &ValidBook<'_>,
-    table: &OffsetTable,
+    stations: &StationData<'_>,
     question: &ValidQuestion<'_>,
     given: &Given,
     sheets: Vec<Box<dyn Sheet>>,
 ) -> Result<Reply, Refusal>
     requires given { IsGiven given.now }
     ensures exact { ReturnsUnless refusal_is_out_of_memory (answered_over_book (is_report question.now.command)
-        (map meaning sheets.items) book.now table.now question.now given.entry.now) result }
-    ensures printable { IfErr result (IsPrintableRefusal table.now) }
+        (map meaning sheets.items) stations.now.book stations.now.table question.now given.entry.now) result }
+    ensures printable { IfErr result (IsPrintableRefusal stations.now.table) }
 {
     if is_report(question.get().command) {
-        let answer = report(alloc, book, table, question, given, sheets)?;
+        let answer = report(alloc, stations, question, given, sheets)?;
         return Ok(Reply::made(answer));
     }
-    reply_to(alloc, book, table, question, given)
+    reply_to(alloc, stations, question, given)
 }
 
 /// Returns true if `command` is `report`.
@@ -56,16 +53,16 @@ fn is_report(command: Command) -> bool
 // Returns the answer to a request that isn't for a report.
 fn reply_to(
     alloc: Global,
-    book: &ValidBook<'_>,
-    table: &OffsetTable,
+    stations: &StationData<'_>,
     question: &ValidQuestion<'_>,
     given: &Given,
 ) -> Result<Reply, Refusal>
     requires given { IsGiven given.now }
-    ensures exact { ReturnsUnless refusal_is_out_of_memory (answered book.now table.now question.now given.entry.now) result }
-    ensures printable { IfErr result (IsPrintableRefusal table.now) }
+    ensures exact { ReturnsUnless refusal_is_out_of_memory
+        (answered stations.now.book stations.now.table question.now given.entry.now) result }
+    ensures printable { IfErr result (IsPrintableRefusal stations.now.table) }
 {
-    match body_for(alloc, book, table, question, given) {
+    match body_for(alloc, stations, question, given) {
         Ok(body) => Ok(Reply::of(body)),
         Err(refusal) => Err(refusal),
     }
@@ -75,19 +72,21 @@ fn reply_to(
 // prepared source does; its text is made only otherwise.
 fn body_for(
     alloc: Global,
-    book: &ValidBook<'_>,
-    table: &OffsetTable,
+    stations: &StationData<'_>,
     question: &ValidQuestion<'_>,
     given: &Given,
 ) -> Result<Body, Refusal>
     requires given { IsGiven given.now }
-    ensures exact { ReturnsUnless refusal_is_out_of_memory (answered book.now table.now question.now given.entry.now) (answer_by result) }
+    ensures exact { ReturnsUnless refusal_is_out_of_memory
+        (answered stations.now.book stations.now.table question.now given.entry.now) (answer_by result) }
     ensures valid { IfOk result IsReply }
     ensures streams { IfOk result (λ body. is_stream body
-        ≡ (may_stream question.now given.entry.now.zone && is_streaming (prepared book.now table.now question.now given.entry.now))) }
-    ensures printable { IfErr result (IsPrintableRefusal table.now) }
+        ≡ (may_stream question.now given.entry.now.zone
+        && is_streaming (prepared stations.now.book stations.now.table question.now given.entry.now))) }
+    ensures printable { IfErr result (IsPrintableRefusal stations.now.table) }
 {
-    let book = book.get();
+    let book = stations.book().get();
+    let table = stations.table();
     let question = question.get();
     if may_stream(question, &given.zone) {
         let ready = prepare(alloc, book, table, question, given)?;

@@ -10,12 +10,10 @@ ghost use Rattle.tide_desk.specs.Answers.{head_of, reported};
 ghost use Rattle.tide_fault.specs.Faults.{refusal_is_out_of_memory, IsPrintableRefusal};
 
 use decimal_text::{Bytes, Words};
-use harmonics_book::ValidBook;
 use question::ValidQuestion;
 use report_sheets::{Head, Sheet, fill};
-use station_table::OffsetTable;
 use std::alloc::{AllocError, Global};
-use tide_answer::{Answer, Given, Listed, station_events};
+use tide_answer::{Answer, Given, Listed, StationData, station_events};
 use tide_fault::Refusal;
 
 /// Returns the pages of the sheets that `question` requests, of the events of its station, span and
@@ -26,20 +24,19 @@ use tide_fault::Refusal;
 #[tactic(auto, unfolding(crate::specs::Answers::reported))]
 pub fn report(
     alloc: Global,
-    book: &ValidBook<'_>,
-    table: &OffsetTable,
+    stations: &StationData<'_>,
     question: &ValidQuestion<'_>,
     given: &Given,
     sheets: Vec<Box<dyn Sheet>>,
 ) -> Result<Answer, Refusal>
     requires given { IsGiven given.now }
     ensures exact { ReturnsUnless refusal_is_out_of_memory
-        (reported (map meaning sheets.items) book.now table.now question.now given.entry.now.now) result }
-    ensures printable { IfErr result (IsPrintableRefusal table.now) }
+        (reported (map meaning sheets.items) stations.now.book stations.now.table question.now given.entry.now.now) result }
+    ensures printable { IfErr result (IsPrintableRefusal stations.now.table) }
 {
-    let book = book.get();
+    let book = stations.book().get();
     let question = question.get();
-    let listed = station_events(alloc, book, table, question, given)?;
+    let listed = station_events(alloc, book, stations.table(), question, given)?;
     let text = pages(alloc, listed, given.now, &question.sheets, sheets)?;
     Ok(Answer {
         text,

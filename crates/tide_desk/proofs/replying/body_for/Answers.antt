@@ -7,16 +7,18 @@ use Rattle.tide_desk.proofs.replying.body_for.Goals as goal
 pub returns-in_err-ready-clause-exact : goal.returns-in_err-ready-clause-exact
 returns-in_err-ready-clause-exact c =
     let p = err_from_is_err_and c.from_residual.result c.from_residual.ensures.1 in
-    let says = prepared_says c.args.book.now c.args.table.now c.args.question.now c.args.given.now
+    let says = prepared_says c.args.stations.now.book c.args.stations.now.table c.args.question.now c.args.given.now
     (first_holds (can_stream c.args.question.now.command) _
     (sym (rw c.get-question.ensures.exact at c.may_stream.ensures) ∙ c.if-may_stream.true)) in
-    rw (p.1, p.2) (refused_alike _ _ _ _ says (rw (c.get-book.ensures.exact, c.get-question.ensures.exact) at c.in_err-ready.ensures.exact))
+    let exact = rw (c.get-book.ensures.exact, c.book.ensures, c.table-table.ensures, c.get-question.ensures.exact) at c.in_err-ready.ensures.exact in
+    rw (p.1, p.2) (refused_alike _ _ _ _ says exact)
 
 pub returns-then-streams-clause-exact : goal.returns-then-streams-clause-exact
 returns-then-streams-clause-exact c =
-    let says = prepared_says c.args.book.now c.args.table.now c.args.question.now c.args.given.now
+    let says = prepared_says c.args.stations.now.book c.args.stations.now.table c.args.question.now c.args.given.now
     (first_holds (can_stream c.args.question.now.command) _
     (sym (rw c.get-question.ensures.exact at c.may_stream.ensures) ∙ c.if-may_stream.true)) in
     let some = rw c.streams.ensures at c.if-streams.true in
     streams_answer _ c.in_ok-ready.ready.stream some
-    (rw (rw (c.get-book.ensures.exact, c.get-question.ensures.exact) at c.in_ok-ready.ensures.exact) at says)
+    (rw (rw (c.get-book.ensures.exact, c.book.ensures, c.table-table.ensures, c.get-question.ensures.exact) at c.in_ok-ready.ensures.exact)
+    at says)
