@@ -9,12 +9,13 @@ use crate::asserts::{assert_bytes, assert_holds};
 use calendar_sheet::calendar_text;
 use cert_text::{CertFault, read_certificate, write_certificate};
 use decimal_text::{Bytes, Text};
-use harmonics_book::{Book, ValidBook};
+use harmonics_book::Book;
 use harmonics_text::read_book;
 use listing::plain_events;
 use question::{AskFault, Question, pairs_of_words, read_question};
 use station_span::{
-    Asked, Reach, find_events, find_level, find_station, highest_minute, level_at, moved_minute,
+    Asked, Reach, StationData, find_events, find_level, find_station, highest_minute, level_at,
+    moved_minute,
 };
 use station_table::OffsetTable;
 use std::alloc::Global;
@@ -79,16 +80,19 @@ fn pier_sources(alloc: Global) -> Result<Sources, Refusal>
 fn find_day(
     rt: &impl Abort,
     alloc: Global,
-    book: &ValidBook<'_>,
+    book: &Book,
     table: &OffsetTable,
     name: &Text,
-) -> Result<(), Refusal> {
+) -> Result<(), Refusal>
+    requires { IsBook book.now }
+{
     let asked = Asked {
         begin: 15_791_040,
         end: 15_792_480,
         mark: None,
     };
-    let found = find_station(alloc, &book, &table, Reach::Events, &name, &asked)?;
+    let stations = StationData::new(&book, &table);
+    let found = find_station(alloc, &stations, Reach::Events, &name, &asked)?;
     let listed = find_events(alloc, &found)?;
     assert_eq!(rt; listed.events.as_slice().len(), 4);
     Ok(())
@@ -100,22 +104,25 @@ fn a_station_has_its_events(rt: HostRuntime) -> Result<(), Refusal> {
     let name = Text::from_str(alloc, "Pier")?;
     let book = pier(alloc)?;
     let table = OffsetTable::new(alloc);
-    find_day(&rt, alloc, &ValidBook::new(&book), &table, &name)
+    find_day(&rt, alloc, &book, &table, &name)
 }
 
 fn find_highest_water(
     rt: &impl Abort,
     alloc: Global,
-    book: &ValidBook<'_>,
+    book: &Book,
     table: &OffsetTable,
     name: &Text,
-) -> Result<(), Refusal> {
+) -> Result<(), Refusal>
+    requires { IsBook book.now }
+{
     let asked = Asked {
         begin: 15_791_040,
         end: 15_792_480,
         mark: None,
     };
-    let found = find_level(alloc, &book, &table, &name, &asked)?;
+    let stations = StationData::new(&book, &table);
+    let found = find_level(alloc, &stations, &name, &asked)?;
     let minute = moved_minute(&found, highest_minute(&found));
     let level = level_at(&found, minute);
     assert_eq!(rt; (minute, level), (15_791_040, 1_000_000));
@@ -128,7 +135,7 @@ fn a_span_has_its_highest_water(rt: HostRuntime) -> Result<(), Refusal> {
     let name = Text::from_str(alloc, "Pier")?;
     let book = pier(alloc)?;
     let table = OffsetTable::new(alloc);
-    find_highest_water(&rt, alloc, &ValidBook::new(&book), &table, &name)
+    find_highest_water(&rt, alloc, &book, &table, &name)
 }
 
 fn answer_day(
