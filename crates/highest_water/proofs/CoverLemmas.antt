@@ -61,9 +61,6 @@ pub split-one : (c : Meaning) (at value a : ℤ) → peak_split c at value a 1 �
 unfolding peak_split split_within
 split-one c at value a = refl
 
-pub split-single : (c : Meaning) (at value a : ℤ) (n : ℕ) → n ≡ 1 → peak_split c at value a n ≡ Single ∷ []
-split-single c at value a n one = rw one (split-one c at value a)
-
 split-none : (c : Meaning) (at value a : ℤ) → peak_split c at value a 0 ≡ []
 unfolding peak_split split_within
 split-none c at value a = refl

@@ -57,9 +57,9 @@ pub fn cells_by<C: Curve>(
         + length (peak_cover (C.state curve.old).facts.meaning highest.minute highest.value begin (unsigned_abs (end -ℤ begin))) + 1 }
     ensures unchanged { (C.state curve.new).facts ≡ (C.state curve.old).facts }
 {
-    let mut walk = walk_from(curve, begin, end);
+    let mut front = walk_from(curve, highest, begin, end);
     let mut cells = Vec::new(alloc);
-    while let Some(found) = next_cell(curve, &mut walk, highest) {
+    while let Some(found) = next_cell(curve, &mut front, highest) {
         cells.push(found.cell)?;
     }
     Ok(PeakCells::from_vec(cells))

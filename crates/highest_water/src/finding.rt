@@ -63,8 +63,8 @@ pub fn highest_point<C: Curve>(curve: &mut C, begin: i64, end: i64) -> Point
     // Cells that the curve's rate keeps under the highest point so far are skipped, so that the
     // curve is evaluated seldom.
     let mut highest = highest_block(curve, begin, end);
-    let mut walk = walk_from(curve, begin, end);
-    while let Some(found) = next_cell(curve, &mut walk, highest) {
+    let mut front = walk_from(curve, highest, begin, end);
+    while let Some(found) = next_cell(curve, &mut front, highest) {
         highest = raised_by(highest, found);
     }
     highest

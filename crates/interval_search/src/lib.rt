@@ -5,19 +5,22 @@
 //! minute twice: the ends of pending pieces wait on a small stack with their approximate values. If these
 //! leave the cell open, the exact values are used.
 //!
-//! Searches for cells of another kind use the same rule to cut a span: [`block_end`], [`halfway`],
-//! [`minutes_to`] and [`Waiting`] are public for them.
+//! Searches for cells of another kind give a [`PieceRule`] of their own: [`front_at`] and [`next_piece`]
+//! find the pieces that it leaves whole, one after the other.
 #![tactic(auto)]
 
 mod found;
 mod front;
 mod looking;
 mod piece;
+mod quiet_pieces;
+mod rule;
 mod span_cells;
 mod waiting;
 
 pub use found::Found;
+pub use front::{Front, front_at, next_piece};
 pub use looking::Search;
-pub use piece::{block_end, halfway, minutes_to};
+pub use piece::{Piece, block_end};
+pub use rule::PieceRule;
 pub use span_cells::search;
-pub use waiting::Waiting;

@@ -6,7 +6,8 @@ ghost use Rattle.curve_law.specs.CurveStates.{evaluated_once};
 ghost use Rattle.interval_search.specs.Looking.{StepsOn};
 
 use crate::found::Found;
-use crate::front::{Front, front_at, next_found};
+use crate::front::{Front, front_at};
+use crate::quiet_pieces::{QuietPieces, next_found};
 use curve_law::Curve;
 use std::marker::Model;
 
@@ -22,13 +23,14 @@ pub struct Search<C: Curve> {
 
 impl<C: Curve> Model for Search<C> {
     ghost use Rattle.interval_search.specs.Looking.{Looking};
-    ghost use Rattle.interval_search.specs.Workings.Ahead.{looking_at, SearchInvariant};
+    ghost use Rattle.interval_search.specs.Workings.Ahead.{IsFront};
+    ghost use Rattle.interval_search.specs.Workings.Cells.{looking_at};
 
     ghost Value = { Looking C };
 
     ghost view = { λ s. looking_at s.curve (C.state s.curve) s.front };
 
-    ghost invariant = { λ s. SearchInvariant (C.state s.curve) s.front.end s.front.at s.front.waiting };
+    ghost invariant = { λ s. IsFront (C.state s.curve).facts.approximate (C.state s.curve) s.front };
 }
 
 impl<C: Curve> Search<C> {
@@ -53,7 +55,7 @@ impl<C: Curve> Search<C> {
         ensures most { result.most ≡ (C.state curve).count + length result.left + 1 }
     {
         let mut curve = curve;
-        let front = front_at(&mut curve, begin, end);
+        let front = front_at(&mut curve, &QuietPieces, begin, end);
         Search { curve, front }
     }
 

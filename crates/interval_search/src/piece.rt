@@ -1,49 +1,48 @@
-//! The cells between two points with known approximate values.
+//! The pieces between points.
 
-ghost use Rattle.std.specs.Prelude.{◌≡◌, ◌+◌, ◌/◌, ◌≤◌, ◌<◌, ◌^◌, ℤ, pos, ◌+ℤ◌, ◌≤ℤ◌, ◌<ℤ◌, unsigned_abs, min};
-ghost use Rattle.curve_law.specs.CurveStates.{evaluated_once};
-ghost use Rattle.interval_search.specs.Workings.Ahead.{minutes_to, IsPiece, IsSplit};
+ghost use Rattle.std.specs.Prelude.{◌≡◌, ◌/◌, ◌≤◌, ◌^◌, pos, ◌+ℤ◌, ◌≤ℤ◌, ◌<ℤ◌, unsigned_abs, min};
+ghost use Rattle.interval_search.specs.Pieces.{stays_whole};
+ghost use Rattle.interval_search.specs.Workings.Ahead.{minutes_to, piece_between, IsPiece};
 
-use curve_law::{
-    Cell, Curve, MOST_MINUTES, Point, approximate_point_at, is_quiet_from_approximate,
-    unit_cell_from_approximate,
-};
+use crate::rule::PieceRule;
+use curve_law::{Curve, MOST_MINUTES, Point};
 
-/// Returns the one cell of the minutes from `begin` to `end`, or `None` if they have to be halved.
-pub fn cell_between<C: Curve>(curve: &C, begin: Point, end: Point) -> Option<Cell>
-    requires { IsPiece (C.state curve.now).facts.meaning (C.state curve.now).facts.approximate begin end }
-    ensures { IsSplit (C.state curve.now).facts.meaning begin.minute (minutes_to begin.minute end.minute) result }
+/// The minutes between two points, which are one block or lie in one.
+#[derive(Clone, Copy, Debug)]
+pub struct Piece {
+    pub begin: Point,
+    pub end: Point,
+    /// The number of minutes from `begin` to `end`, 1 to [`MOST_MINUTES`].
+    pub minutes: u32,
+}
+
+/// Returns the piece from `begin` to `end`.
+pub fn piece_between(begin: Point, end: Point) -> Piece
+    requires some { begin.minute <ℤ end.minute }
+    requires count_bound { end.minute ≤ℤ (begin.minute +ℤ pos MOST_MINUTES) }
+    ensures { result ≡ piece_between begin end }
 {
-    let n = minutes_to(begin.minute, end.minute);
-    if n == 1 {
-        return Some(unit_cell_from_approximate(curve, begin.minute, begin.value, end.value));
-    }
-    if is_quiet_from_approximate(curve, begin.minute, n, begin.value, end.value) {
-        Some(Cell::Quiet(n))
-    } else {
-        None
+    Piece {
+        begin,
+        end,
+        minutes: (end.minute - begin.minute) as u32,
     }
 }
 
-/// Evaluates `curve` approximately at the begin of the second half of a piece, and returns the point. The
-/// first half is the shorter one.
-pub fn middle<C: Curve>(curve: &mut C, begin: Point, end: Point) -> Point
-    requires piece { IsPiece (C.state curve.old).facts.meaning (C.state curve.old).facts.approximate begin end }
-    requires count_bound { (C.state curve.old).count < 2 ^ 63 }
-    ensures minute { result.minute ≡ begin.minute +ℤ pos (minutes_to begin.minute end.minute / 2) }
-    ensures value { result.value ≡ (C.state curve.old).facts.approximate result.minute }
-    ensures after { C.state curve.new ≡ evaluated_once (C.state curve.old) }
+/// Returns true if `piece` isn't halved: it is one minute, or `rule` leaves it whole.
+pub fn stays_whole<C: Curve, R: PieceRule>(curve: &C, rule: &R, piece: Piece) -> bool
+    requires { IsPiece (C.state curve.now).facts.meaning (R.values (C.state curve.now).facts) piece }
+    ensures { result ≡ stays_whole (R.whole rule.now (C.state curve.now).facts.meaning) piece.begin.minute piece.minutes }
 {
-    approximate_point_at(curve, halfway(begin.minute, end.minute))
+    piece.minutes <= 1 || rule.is_whole(curve, piece)
 }
 
-/// Returns the minute at which the second half of the piece from `begin` to `end` begins.
-pub fn halfway(begin: i64, end: i64) -> i64
-    requires some { begin <ℤ end }
-    requires count_bound { end ≤ℤ (begin +ℤ pos MOST_MINUTES) }
-    ensures { result ≡ begin +ℤ pos (minutes_to begin end / 2) }
+/// Returns the minute at which the second half of `piece` begins. The first half is the shorter one.
+pub fn halfway(piece: Piece) -> i64
+    requires in_range { unsigned_abs piece.begin.minute ≤ 2 ^ 60 }
+    ensures { result ≡ piece.begin.minute +ℤ pos (piece.minutes / 2) }
 {
-    begin + i64::from(minutes_to(begin, end) / 2)
+    piece.begin.minute + i64::from(piece.minutes / 2)
 }
 
 /// Returns the end of the block that begins at `begin`, at most 2^60 in size: [`MOST_MINUTES`] later, or
@@ -54,13 +53,4 @@ pub fn block_end(begin: i64, end: i64) -> i64
     ensures { result ≡ begin +ℤ pos (min (minutes_to begin end) MOST_MINUTES) }
 {
     end.min(begin + i64::from(MOST_MINUTES))
-}
-
-/// Returns the number of minutes from `begin` to the later minute `end`, at most [`MOST_MINUTES`].
-pub fn minutes_to(begin: i64, end: i64) -> u32
-    requires some { begin <ℤ end }
-    requires count_bound { end ≤ℤ (begin +ℤ pos MOST_MINUTES) }
-    ensures { result ≡ minutes_to begin end }
-{
-    (end - begin) as u32
 }

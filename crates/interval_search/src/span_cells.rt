@@ -3,7 +3,8 @@
 ghost use Rattle.std.specs.Prelude.{◌≡◌, ◌+◌, ◌^◌, ◌≤◌, ◌-ℤ◌, ◌≤ℤ◌, length, unsigned_abs, IfOk};
 ghost use Rattle.curve_law.specs.Cover.{cover};
 
-use crate::front::{front_at, next_found};
+use crate::front::front_at;
+use crate::quiet_pieces::{QuietPieces, next_found};
 use curve_law::{Cells, Curve};
 use std::alloc::{AllocError, Global};
 
@@ -35,7 +36,7 @@ pub fn search<C: Curve>(
         ≤ (C.state curve.old).count + length (cover (C.state curve.old).facts.meaning begin (unsigned_abs (end -ℤ begin))) + 1 }
     ensures unchanged { (C.state curve.new).facts ≡ (C.state curve.old).facts }
 {
-    let mut front = front_at(curve, begin, end);
+    let mut front = front_at(curve, &QuietPieces, begin, end);
     let mut cells = Vec::new(alloc);
     while let Some(found) = next_found(curve, &mut front) {
         cells.push(found.cell)?;

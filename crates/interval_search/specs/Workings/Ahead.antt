@@ -1,10 +1,8 @@
--- The pieces that a search has still to reach. Public clauses cite this only for the parts that other
--- searches use.
+-- The pieces that a search has still to reach. Public clauses cite this only for searches of other crates.
 use Rattle.std.specs.Prelude.{
   ◌≡◌,
   ℕ,
   ◌+◌,
-  ◌-◌,
   ◌*◌,
   ◌^◌,
   ◌≤◌,
@@ -15,7 +13,8 @@ use Rattle.std.specs.Prelude.{
   ◌≤ℤ◌,
   ◌<ℤ◌,
   unsigned_abs,
-  false,
+  Bool,
+  true,
   List,
   [],
   ◌∷◌,
@@ -25,38 +24,44 @@ use Rattle.std.specs.Prelude.{
   Some,
   None,
 }
-use Rattle.curve_law.specs.declared.cell.Cell.{Cell}
+use Rattle.curve_law.specs.declared.point.Point.{Point}
 use Rattle.curve_law.specs.declared.quiet.TheConstants.{MOST_MINUTES}
 use Rattle.curve_law.specs.Meaning.{Meaning}
 use Rattle.curve_law.specs.CurveStates.{CurveState}
-use Rattle.curve_law.specs.Cover.{is_quiet, split, cover}
 use Rattle.interval_search.specs.declared.front.Front.{Front}
-use Rattle.curve_law.specs.declared.point.Point.{Point}
-use Rattle.interval_search.specs.Looking.{Looking}
+use Rattle.interval_search.specs.declared.piece.Piece.{Piece}
+use Rattle.interval_search.specs.Pieces.{Interval, interval, stays_whole, pieces_of_block, pieces_of}
 
 -- the number of minutes from `a` to `b`
 abbrev pub minutes_to : ℤ → ℤ → ℕ
 minutes_to a b = unsigned_abs (b -ℤ a)
 
--- the ends of a piece of at most 1,024 minutes, with these values of a curve
-pub record IsPiece (c : Meaning) (values : ℤ → ℤ) (begin end : Point) : Type 0 where
-  pub first : c.first ≤ℤ begin.minute
-  pub last : end.minute ≤ℤ c.last
-  pub some : begin.minute <ℤ end.minute
-  pub few : end.minute ≤ℤ (begin.minute +ℤ pos MOST_MINUTES)
-  pub value : begin.value ≡ values begin.minute
-  pub end_value : end.value ≡ values end.minute
+-- the piece between two points
+abbrev pub piece_between : Point → Point → Piece
+piece_between begin end = record { begin = begin; end = end; minutes = minutes_to begin.minute end.minute }
 
--- the one cell of n minutes from `a` on, or none if they have to be halved
-abbrev pub IsSplit : Meaning → ℤ → ℕ → Option Cell → Type 0
-IsSplit c a n None = (2 ≤ n) × (is_quiet c a n ≡ false)
-IsSplit c a n (Some cell) = split c a n ≡ cell ∷ []
+-- the minutes of a piece
+abbrev pub interval_of : Piece → Interval
+interval_of piece = interval piece.begin.minute piece.minutes
 
--- the cells from minute `a` on: of the pieces up to each of these points, and then of the rest up to the
--- end
-unfoldable pub cells_ahead : Meaning → ℤ → ℤ → List Point → List Cell
-cells_ahead c end a [] = cover c a (minutes_to a end)
-cells_ahead c end a (p ∷ ps) = split c a (minutes_to a p.minute) ++ cells_ahead c end p.minute ps
+-- a piece of at most 1,024 minutes, with these values of a curve at its ends
+pub record IsPiece (c : Meaning) (values : ℤ → ℤ) (piece : Piece) : Type 0 where
+  pub first : c.first ≤ℤ piece.begin.minute
+  pub last : (piece.begin.minute +ℤ pos piece.minutes) ≤ℤ c.last
+  pub some : 1 ≤ piece.minutes
+  pub few : piece.minutes ≤ MOST_MINUTES
+  pub end : piece.end.minute ≡ piece.begin.minute +ℤ pos piece.minutes
+  pub value : piece.begin.value ≡ values piece.begin.minute
+  pub end_value : piece.end.value ≡ values (piece.begin.minute +ℤ pos piece.minutes)
+
+-- the pieces from minute `a` on: those up to each of these points, and then of the rest up to the end
+unfoldable pub pieces_after : (ℤ → ℕ → Bool) → ℤ → ℤ → List Point → List Interval
+pieces_after test end a [] = pieces_of test a (minutes_to a end)
+pieces_after test end a (p ∷ ps) = pieces_of_block test a (minutes_to a p.minute) ++ pieces_after test end p.minute ps
+
+-- the pieces that a search has still to reach
+abbrev pub pieces_ahead : (ℤ → ℕ → Bool) → Front → List Interval
+pieces_ahead test front = pieces_after test front.end front.at.minute front.waiting
 
 -- the points have these values, and each piece was halved at least once more than the one after it
 unfoldable pub ArePieces : (ℤ → ℤ) → ℤ → ℤ → List Point → Type 0
@@ -65,24 +70,27 @@ ArePieces values end a (p ∷ ps) =
     (a <ℤ p.minute) × (minutes_to a p.minute * 2 ^ length ps ≤ MOST_MINUTES) × (p.value ≡ values p.minute)
     × ArePieces values end p.minute ps
 
--- a bound on the evaluations until all cells are returned, and one more for each pending point
-abbrev pub IsFew : ℕ → ℕ → ℕ → Type 0
-IsFew count cells points = count + cells ≤ points + (2 ^ 62 + 2 ^ 61 + 1)
-
 -- the invariant of a search: the point that it has reached, and the ends of the pieces after it, the
--- nearest first
-pub record SearchInvariant (s : CurveState) (end : ℤ) (at : Point) (ahead : List Point) : Type 0 where
-  pub value : at.value ≡ s.facts.approximate at.minute
+-- nearest first; at most one evaluation a minute is to come, and each pending point is one of them
+pub record SearchInvariant (values : ℤ → ℤ) (s : CurveState) (end : ℤ) (at : Point) (ahead : List Point) : Type 0 where
+  pub value : at.value ≡ values at.minute
   pub first : s.facts.meaning.first ≤ℤ at.minute
   pub last : end ≤ℤ s.facts.meaning.last
-  pub pieces : ArePieces s.facts.approximate end at.minute ahead
-  pub few : IsFew s.count (length (cells_ahead s.facts.meaning end at.minute ahead)) (length ahead)
+  pub pieces : ArePieces values end at.minute ahead
+  pub few : s.count + minutes_to at.minute end ≤ length ahead + (2 ^ 62 + 2 ^ 61 + 2 ^ 60 + 1)
 
--- the value in contracts of a search with this curve, count and state
-abbrev pub looking_at : {C : Type 0} → C → CurveState → Front → Looking C
-looking_at curve s front = record {
-  curve = curve;
-  at = front.at.minute;
-  left = cells_ahead s.facts.meaning front.end front.at.minute front.waiting;
-  most = (s.count + length (cells_ahead s.facts.meaning front.end front.at.minute front.waiting)) - length front.waiting;
-}
+-- the same of the state of a search
+abbrev pub IsFront : (ℤ → ℤ) → CurveState → Front → Type 0
+IsFront values s front = SearchInvariant values s front.end front.at front.waiting
+
+-- a piece begins where a search is, isn't halved, and is the first of those ahead; the search goes to its end
+pub record IsNext (test : ℤ → ℕ → Bool) (old : Front) (piece : Piece) (new : Front) : Type 0 where
+  pub begin : piece.begin ≡ old.at
+  pub end : piece.end ≡ new.at
+  pub whole : stays_whole test piece.begin.minute piece.minutes ≡ true
+  pub ahead : pieces_ahead test old ≡ interval_of piece ∷ pieces_ahead test new
+
+-- a step of a search returns the next piece, or none at the end
+abbrev pub StepsTo : (ℤ → ℕ → Bool) → Front → Option Piece → Front → Type 0
+StepsTo test old None new = (new ≡ old) × (old.at.minute ≡ old.end) × (old.waiting ≡ []) × (pieces_ahead test old ≡ [])
+StepsTo test old (Some piece) new = IsNext test old piece new

@@ -5,13 +5,20 @@ use Rattle.curve_law.proofs.StateLemmas.{facts-after, count-after}
 use Rattle.highest_water.proofs.FindingLemmas.{first-so_far, cell-so_far, all-so_far, right-some, point-small, highest-is}
 use Rattle.highest_water.proofs.finding.highest_point.Goals as goal
 
+pub walk_from-front-requires-clause-size : goal.walk_from-front-requires-clause-size
+walk_from-front-requires-clause-size g c =
+    let point = rw (to_z-of_z w64 c.args.begin c.ranges.begin, to_z-of_z w64 c.args.end c.ranges.end)
+    at c.highest_block-highest.ensures.point in
+    point-small (g.C.Curve.state c.args.curve.now).facts.meaning c.args.begin c.args.end c.highest_block-highest.result
+    (g.met.C.Curve.lawful c.args.curve.now) c.requires.first c.requires.last point
+
 pub loop-found-init : goal.loop-found-init
 loop-found-init g c =
     let block = c.highest_block-highest.ensures in
-    let walk = c.walk_from-walk.ensures in
+    let walk = c.walk_from-front.ensures in
     record {
       unchanged = facts-after _ _ walk.after ∙ block.unchanged;
-      walk_invariant = walk.walk_invariant;
+      walk_invariant = rw block.unchanged at walk.walk_invariant;
       until = walk.end;
       onward = omega (arith, ints, walk.at);
       so_far = rw walk.at (first-so_far (g.C.Curve.state c.args.curve.now).facts.meaning _ _ c.highest_block-highest.result block.point);
@@ -43,13 +50,13 @@ loop-found-preserved g c =
     let some = right-some _ _ _ _ right in
     record {
       unchanged = next.unchanged ∙ invariant.unchanged;
-      walk_invariant = next.walk_invariant;
+      walk_invariant = rw invariant.unchanged at next.walk_invariant;
       until = next.end ∙ invariant.until;
       onward = omega (arith, ints, found.2, invariant.onward);
       so_far = rw (c.raised_by-highest.ensures, found.2)
-          (cell-so_far meaning _ _ c.loop-found.walk.at.minute c.loop-found.highest c.in-Some.found.at
+          (cell-so_far meaning _ _ c.loop-found.front.at.minute c.loop-found.highest c.in-Some.found.at
           c.in-Some.found.cell (g.met.C.Curve.lawful c.args.curve.now) first last invariant.so_far invariant.onward
-          (ap (λ (p : Point). p.minute) found.0) (rw (found.0, ← invariant.unchanged) invariant.walk_invariant.value)
+          (ap (λ (p : Point). p.minute) found.0) (rw found.0 invariant.walk_invariant.value)
           right (omega (arith, ints, found.2, found.4, invariant.until)));
       counted = omega (arith, ints, found.2, found.4, some, next.count, invariant.counted, invariant.until);
     }
@@ -58,7 +65,7 @@ pub returns-clause-highest : goal.returns-clause-highest
 returns-clause-highest g c =
     let done = c.in_default.ensures.found.0 ∙ c.loop-found.invariant.until in
     rw (to_z-of_z w64 c.args.begin c.ranges.begin, to_z-of_z w64 c.args.end c.ranges.end) at
-    (all-so_far (g.C.Curve.state c.args.curve.now).facts.meaning _ _ c.loop-found.walk.at.minute c.loop-found.highest
+    (all-so_far (g.C.Curve.state c.args.curve.now).facts.meaning _ _ c.loop-found.front.at.minute c.loop-found.highest
     done c.loop-found.invariant.so_far)
 
 pub returns-clause-minute : goal.returns-clause-minute

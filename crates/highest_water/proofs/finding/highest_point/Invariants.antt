@@ -1,8 +1,7 @@
 use Rattle.std.proofs.Common.{◌≡◌, ◌+◌, ◌*◌, ◌≤◌, length}
 use Rattle.std.specs.Prelude.{◌≤ℤ◌}
-use Rattle.interval_search.specs.Workings.Ahead.{minutes_to}
+use Rattle.interval_search.specs.Workings.Ahead.{minutes_to, IsFront}
 use Rattle.highest_water.specs.Workings.Below.{IsHighestSoFar}
-use Rattle.highest_water.specs.Workings.Walk.{WalkInvariant}
 use Rattle.highest_water.proofs.finding.highest_point.Given as goal
 
 -- no minute so far is higher
@@ -11,13 +10,13 @@ invariant-loop-found g l =
     let meaning = (g.C.Curve.state l.fn.curve).facts.meaning in
     record {
       unchanged : (g.C.Curve.state l.curve).facts ≡ (g.C.Curve.state l.fn.curve).facts;
-      walk_invariant : WalkInvariant (g.C.Curve.state l.curve) l.walk.end l.walk.at l.walk.waiting;
-      until : l.walk.end ≡ l.end;
-      onward : l.begin ≤ℤ l.walk.at.minute;
-      so_far : IsHighestSoFar meaning l.begin l.end l.walk.at.minute l.highest;
-      counted : (g.C.Curve.state l.curve).count + minutes_to l.walk.at.minute l.end
-          ≤ (g.C.Curve.state l.fn.curve).count + 2 * minutes_to l.begin l.end + 1 + length l.walk.waiting;
+      walk_invariant : IsFront meaning.track.value (g.C.Curve.state l.curve) l.front;
+      until : l.front.end ≡ l.end;
+      onward : l.begin ≤ℤ l.front.at.minute;
+      so_far : IsHighestSoFar meaning l.begin l.end l.front.at.minute l.highest;
+      counted : (g.C.Curve.state l.curve).count + minutes_to l.front.at.minute l.end
+          ≤ (g.C.Curve.state l.fn.curve).count + 2 * minutes_to l.begin l.end + 1 + length l.front.waiting;
     }
 
 abbrev pub decreases-loop-found : goal.decreases-loop-found
-decreases-loop-found g l = minutes_to l.walk.at.minute l.end
+decreases-loop-found g l = minutes_to l.front.at.minute l.end

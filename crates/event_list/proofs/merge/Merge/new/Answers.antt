@@ -3,6 +3,15 @@ use Rattle.std.specs.Prelude.{Some}
 use Rattle.event_list.proofs.ComingLemmas.{ahead-ascending, merged-ahead, cells-ahead}
 use Rattle.event_list.proofs.merge.Merge.new.Goals as goal
 
+pub new-requires : goal.new-requires
+new-requires g c = let cells = cells-ahead c.args.turn c.args.slack c.args.mark in omega arith
+
+pub new-requires-2 : goal.new-requires-2
+new-requires-2 g c = let cells = cells-ahead c.args.turn c.args.slack c.args.mark in omega arith
+
+pub new-requires-3 : goal.new-requires-3
+new-requires-3 g c = let cells = cells-ahead c.args.turn c.args.slack c.args.mark in omega arith
+
 pub invariant_of-result : goal.invariant_of-result
 invariant_of-result g c =
     let cells = cells-ahead c.args.turn c.args.slack c.args.mark in

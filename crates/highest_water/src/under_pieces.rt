@@ -1,0 +1,37 @@
+//! Pieces that are under a point.
+
+ghost use Rattle.std.specs.Prelude.{◌<◌, ◌^◌, unsigned_abs};
+
+use crate::under::is_under;
+use curve_law::{Curve, Point, point_at};
+use interval_search::{Piece, PieceRule};
+
+/// Leaves the pieces whole that are under `highest`, and uses exact values.
+#[derive(Drop)]
+pub struct UnderPieces {
+    pub highest: Point,
+    ghost small: { unsigned_abs highest.value < 10 ^ 37 },
+}
+
+impl PieceRule for UnderPieces {
+    ghost use Rattle.curve_law.specs.CurveStates.{CurveFacts};
+    ghost use Rattle.highest_water.specs.Covers.{is_under};
+
+    ghost whole = { λ rule c a n. is_under c rule.highest.minute rule.highest.value a n };
+
+    ghost values = { λ (facts : CurveFacts). facts.meaning.track.value };
+
+    fn evaluate<C: Curve>(&self, curve: &mut C, minute: i64) -> Point {
+        point_at(curve, minute)
+    }
+
+    fn is_whole<C: Curve>(&self, curve: &C, piece: Piece) -> bool {
+        is_under(
+            curve,
+            self.highest,
+            piece.begin,
+            piece.minutes,
+            piece.end.value,
+        )
+    }
+}

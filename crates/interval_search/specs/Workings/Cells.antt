@@ -1,0 +1,28 @@
+-- The cells of the pieces that a search has still to reach. No public clause cites this.
+use Rattle.std.specs.Prelude.{◌+◌, ◌-◌, nat_le, if◌then◌else◌, List, length, map}
+use Rattle.curve_law.specs.declared.cell.Cell.{Cell}
+use Rattle.curve_law.specs.declared.cell.Cell.TheVariants.{Quiet}
+use Rattle.curve_law.specs.Meaning.{Meaning}
+use Rattle.curve_law.specs.CurveStates.{CurveState}
+use Rattle.curve_law.specs.Cover.{is_quiet, unit_cell}
+use Rattle.interval_search.specs.declared.front.Front.{Front}
+use Rattle.interval_search.specs.Looking.{Looking}
+use Rattle.interval_search.specs.Pieces.{Interval}
+use Rattle.interval_search.specs.Workings.Ahead.{pieces_ahead}
+
+-- the cell of a piece: of one minute, or quiet
+abbrev pub cell_of : Meaning → Interval → Cell
+cell_of c piece = if nat_le piece.minutes 1 then unit_cell c.track piece.begin else Quiet piece.minutes
+
+-- the cells of the pieces that a search has still to reach
+unfoldable pub cells_ahead : Meaning → Front → List Cell
+cells_ahead c front = map (cell_of c) (pieces_ahead (is_quiet c) front)
+
+-- the value in contracts of a search with this curve, count and state
+abbrev pub looking_at : {C : Type 0} → C → CurveState → Front → Looking C
+looking_at curve s front = record {
+  curve = curve;
+  at = front.at.minute;
+  left = cells_ahead s.facts.meaning front;
+  most = (s.count + length (cells_ahead s.facts.meaning front)) - length front.waiting;
+}
