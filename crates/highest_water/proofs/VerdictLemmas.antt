@@ -1,10 +1,9 @@
 -- Consequences of an accepting verdict.
-use Rattle.std.proofs.Common.{◌≡◌, ℕ, suc, ◌+◌, ◌==◌, ℤ, pos, ◌+ℤ◌, ◌≤ℤ◌, ◌<ℤ◌, int_lt, Bool, true, false, cond, List, [], ◌∷◌, All, refl, sym, ap, arith, ◌∙◌}
+use Rattle.std.proofs.Common.{◌≡◌, ℕ, suc, ◌+◌, ◌==◌, ℤ, pos, ◌+ℤ◌, ◌≤ℤ◌, ◌<ℤ◌, int_lt, Bool, true, false, cond, List, [], ◌∷◌, refl, sym, ap, arith, ◌∙◌}
 use Rattle.std.specs.Ordering.{int_eq}
 use Rattle.std.proofs.lemmas.Bool.{and_parts}
 use Rattle.std.proofs.lemmas.Bool.Decides.{Decides-int_eq, Decides-eqb}
 use Rattle.std.proofs.lemmas.Int.{ints}
-use Rattle.std.proofs.lemmas.List.Elements.{All-nil, All-cons}
 use Rattle.curve_law.specs.Meaning.{Meaning, IsSpan, IsLawful}
 use Rattle.curve_law.proofs.CoverLemmas.{by_test}
 use Rattle.highest_water.specs.declared.peak.Peak.{Peak}
@@ -13,14 +12,13 @@ use Rattle.highest_water.specs.declared.peak_cell.PeakCell.TheVariants.{Under, S
 use Rattle.highest_water.specs.declared.verdict.PeakVerdict.{PeakVerdict}
 use Rattle.highest_water.specs.declared.verdict.PeakVerdict.TheVariants.{WrongLength, Outside, NotUnder, WrongValue, Above, Accepted}
 use Rattle.highest_water.specs.Peaks.{IsHighest, is_higher, highest_minute}
-use Rattle.highest_water.specs.PeakTexts.{IsPeakCell}
 use Rattle.highest_water.specs.Covers.{minutes_of, all_minutes, is_under}
 use Rattle.highest_water.specs.Verdicts.{cell_verdict, or_next, cells_verdict, is_inside, peak_verdict}
 use Rattle.highest_water.specs.Workings.Below.{AreBelow}
-use Rattle.highest_water.proofs.UnderLemmas.{int_lt-true, int_le-true, under-two, under-few, under-other, under-below}
+use Rattle.highest_water.proofs.UnderLemmas.{int_lt-true, int_le-true, under-other, under-below}
 use Rattle.highest_water.proofs.HighestLemmas.{int_lt-false, highest-one, minute-highest}
 
-both_accepted : (v w : PeakVerdict) → or_next v w ≡ Accepted → (v ≡ Accepted) × (w ≡ Accepted)
+pub both_accepted : (v w : PeakVerdict) → or_next v w ≡ Accepted → (v ≡ Accepted) × (w ≡ Accepted)
 both_accepted (WrongLength covered wanted) w h = cc
 both_accepted Outside w h = cc
 both_accepted (NotUnder cell) w h = cc
@@ -29,7 +27,7 @@ both_accepted (Above cell) w h = cc
 both_accepted Accepted w h = (refl, h)
 
 -- a test that chooses acceptance is true, if the verdict accepts
-accepted_true : (b : Bool) (v : PeakVerdict) → (v ≡ Accepted → ⊥) → cond b Accepted v ≡ Accepted → b ≡ true
+pub accepted_true : (b : Bool) (v : PeakVerdict) → (v ≡ Accepted → ⊥) → cond b Accepted v ≡ Accepted → b ≡ true
 accepted_true true v unlike h = refl
 accepted_true false v unlike h = absurd (unlike h)
 
@@ -38,7 +36,7 @@ accepted_false true v unlike h = absurd (unlike h)
 accepted_false false v unlike h = refl
 
 -- a test that chooses between two verdicts, one of which never accepts
-tested : (b : Bool) (v w : PeakVerdict) → (w ≡ Accepted → ⊥) → cond b v w ≡ Accepted → (b ≡ true) × (v ≡ Accepted)
+pub tested : (b : Bool) (v w : PeakVerdict) → (w ≡ Accepted → ⊥) → cond b v w ≡ Accepted → (b ≡ true) × (v ≡ Accepted)
 tested true v w unlike h = (refl, h)
 tested false v w unlike h = absurd (unlike h)
 
@@ -167,33 +165,3 @@ highest-looked c a n at value peak =
 pub verdict-looked : (c : Meaning) (a : ℤ) (n : ℕ) (peak : Peak) → IsLawful c → IsSpan c a n → peak_verdict c a n peak
     ≡ Accepted → (peak.at ≡ highest_minute c a n) × (peak.value ≡ c.track.value (highest_minute c a n))
 verdict-looked c a n peak lawful span ok = highest-looked c a n peak.at peak.value (verdict-highest c a n peak lawful span ok)
-
--- ---- accepted cells are within their ranges
-
-cell-range : (c : Meaning) (at value a : ℤ) (number : ℕ) (cell : PeakCell)
-    → cell_verdict c at value a number cell ≡ Accepted → IsPeakCell cell
-unfolding cell_verdict
-cell-range c at value a number (Under n) ok =
-    let under = accepted_true (is_under c at value a n) (NotUnder number) (λ e. cc) ok in
-    (under-two c at value a n under, under-few c at value a n under)
-cell-range c at value a number Single ok = tt
-
-cells-range : (c : Meaning) (at value a : ℤ) (number : ℕ) (cells : List PeakCell)
-    → cells_verdict c at value a number cells ≡ Accepted → All IsPeakCell cells
-unfolding cells_verdict
-cells-range c at value a number [] ok = All-nil IsPeakCell
-cells-range c at value a number (cell ∷ cells) ok =
-    let parts = both_accepted (cell_verdict c at value a number cell)
-    (cells_verdict c at value (a +ℤ pos (minutes_of cell)) (suc number) cells) ok in
-    All-cons IsPeakCell cell cells
-    (cell-range c at value a number cell parts.0)
-    (cells-range c at value (a +ℤ pos (minutes_of cell)) (suc number) cells parts.1)
-
--- accepted cells have the minutes of the span, whatever the curve is
-pub verdict-cells : (c : Meaning) (a : ℤ) (n : ℕ) (peak : Peak) → peak_verdict c a n peak ≡ Accepted
-    → (all_minutes peak.cells ≡ n) × All IsPeakCell peak.cells
-unfolding peak_verdict
-verdict-cells c a n peak ok =
-    let whole = tested (all_minutes peak.cells == n) _ _ (λ e. cc) ok in
-    let inside = tested (is_inside peak.at a n) _ _ (λ e. cc) whole.1 in
-    ((Decides-eqb (all_minutes peak.cells) n).0 whole.0, cells-range c peak.at peak.value a 1 peak.cells inside.1)

@@ -1,10 +1,5 @@
 pub mod Covers
-pub mod PeakReadings
-pub mod PeakSpelling
-pub mod PeakTexts
 pub mod Peaks
 pub mod Samples
-pub mod VerdictLines
 pub mod Verdicts
-pub mod Worked
 pub mod Workings

@@ -1,4 +1,3 @@
 pub mod Below
 pub mod Findings
-pub mod PeakParsing
 pub mod Walk

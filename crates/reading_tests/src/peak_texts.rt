@@ -2,8 +2,9 @@
 
 use crate::texts::changed;
 use decimal_text::MOST_BYTES;
-use highest_water::{
-    PeakCell, PeakFault, peak_certificates_have_one_text, peak_readings_go_by_the_grammar,
+use highest_water::PeakCell;
+use peak_text::{
+    PeakFault, peak_certificates_have_one_text, peak_readings_go_by_the_grammar,
     peak_texts_are_short, read_peak, worked_peak_readings, worked_peak_texts, write_peak,
 };
 use std::alloc::{AllocError, Global};

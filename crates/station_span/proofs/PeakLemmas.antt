@@ -10,13 +10,14 @@ use Rattle.highest_water.specs.declared.peak.Peak.{Peak}
 use Rattle.highest_water.specs.declared.verdict.PeakVerdict.TheVariants.{Accepted}
 use Rattle.highest_water.specs.Covers.{peak_of}
 use Rattle.highest_water.specs.Peaks.{IsHighest, AgreeOnValues}
-use Rattle.highest_water.specs.PeakTexts.{IsPeakCertificate}
+use Rattle.peak_text.specs.PeakTexts.{IsPeakCertificate}
 use Rattle.highest_water.specs.Verdicts.{peak_verdict}
 use Rattle.highest_water.proofs.AcceptedLemmas.{peak_of-accepted}
 use Rattle.highest_water.proofs.AgreeLemmas.{highest-agrees, peak_of-agrees, verdict-agrees}
 use Rattle.highest_water.proofs.FindingLemmas.{highest-small}
 use Rattle.highest_water.proofs.HighestLemmas.{minute-highest}
-use Rattle.highest_water.proofs.VerdictLemmas.{verdict-highest, verdict-cells}
+use Rattle.highest_water.proofs.VerdictLemmas.{verdict-highest}
+use Rattle.peak_text.proofs.PeakRangeLemmas.{verdict-cells}
 use Rattle.rate_bound.specs.declared.version.Version.TheVariants.{Second}
 use Rattle.rate_bound.specs.Workings.MarkLaw.{mark_lawful}
 use Rattle.rate_bound.proofs.Predicted.{mark_agrees}

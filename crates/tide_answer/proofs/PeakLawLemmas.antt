@@ -4,17 +4,17 @@ use Rattle.std.proofs.Common.{◌≡◌, ◌<◌, ◌≤◌, ℕ, ℤ, pos, ◌+
 use Rattle.std.proofs.lemmas.Int.{ints}
 use Rattle.harmonics_book.specs.declared.book.Book.{Book}
 use Rattle.harmonics_book.specs.Books.{IsBook}
-use Rattle.highest_water.specs.declared.certificate.PeakCertificate.{PeakCertificate}
-use Rattle.highest_water.specs.declared.fault.PeakFault.{PeakFault}
+use Rattle.peak_text.specs.declared.certificate.PeakCertificate.{PeakCertificate}
+use Rattle.peak_text.specs.declared.fault.PeakFault.{PeakFault}
 use Rattle.highest_water.specs.declared.peak.Peak.{Peak}
 use Rattle.highest_water.specs.declared.verdict.PeakVerdict.{PeakVerdict}
 use Rattle.highest_water.specs.declared.verdict.PeakVerdict.TheVariants.{WrongLength, Outside, NotUnder, WrongValue, Above, Accepted}
 use Rattle.highest_water.specs.Covers.{all_minutes}
-use Rattle.highest_water.specs.PeakTexts.{IsPeakCertificate, peak_text}
-use Rattle.highest_water.specs.PeakReadings.{peak_of}
-use Rattle.highest_water.specs.PeakSpelling.{IsPeakTextOf, ReadsPeak}
+use Rattle.peak_text.specs.PeakTexts.{IsPeakCertificate, peak_text}
+use Rattle.peak_text.specs.PeakReadings.{peak_of}
+use Rattle.peak_text.specs.PeakSpelling.{IsPeakTextOf, ReadsPeak}
 use Rattle.highest_water.proofs.HighestLemmas.{highest-one}
-use Rattle.highest_water.proofs.VerdictLemmas.{verdict-cells}
+use Rattle.peak_text.proofs.PeakRangeLemmas.{verdict-cells}
 use Rattle.rate_bound.specs.Meanings.{over_mark}
 use Rattle.station_curve.specs.Schureman.{predicted_level}
 use Rattle.station_table.specs.declared.offsets.Offsets.{Offsets}

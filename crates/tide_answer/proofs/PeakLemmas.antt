@@ -6,9 +6,9 @@ use Rattle.cert_text.specs.Lines.{last_line}
 use Rattle.cert_text.specs.Texts.{joined}
 use Rattle.decimal_text.specs.declared.limits.TheConstants.{MOST_BYTES}
 use Rattle.harmonics_book.specs.declared.book.Book.{Book}
-use Rattle.highest_water.specs.declared.certificate.PeakCertificate.{PeakCertificate}
+use Rattle.peak_text.specs.declared.certificate.PeakCertificate.{PeakCertificate}
 use Rattle.highest_water.specs.declared.peak.Peak.{Peak}
-use Rattle.highest_water.specs.PeakTexts.{IsPeakCertificate, cell_lines_of, peak_cell_line_of, peak_head_lines_of, peak_lines_of, peak_text}
+use Rattle.peak_text.specs.PeakTexts.{IsPeakCertificate, cell_lines_of, peak_cell_line_of, peak_head_lines_of, peak_lines_of, peak_text}
 use Rattle.station_table.specs.declared.offsets.Offsets.{Offsets}
 use Rattle.station_span.specs.declared.found_station.FoundStation.{FoundStation}
 use Rattle.station_span.specs.Peaks.{highest_of, highest_site, highest_verdict}

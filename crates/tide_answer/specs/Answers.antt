@@ -41,14 +41,14 @@ use Rattle.event_list.specs.Shifts.{widened_of}
 use Rattle.harmonics_book.specs.declared.book.Book.{Book}
 use Rattle.harmonics_book.specs.declared.book.Station.{Station}
 use Rattle.harmonics_book.specs.declared.book.Units.{Units}
-use Rattle.highest_water.specs.declared.certificate.PeakCertificate.{PeakCertificate}
-use Rattle.highest_water.specs.declared.fault.PeakFault.{PeakFault}
-use Rattle.highest_water.specs.declared.fault.PeakFault.TheVariants as peak
+use Rattle.peak_text.specs.declared.certificate.PeakCertificate.{PeakCertificate}
+use Rattle.peak_text.specs.declared.fault.PeakFault.{PeakFault}
+use Rattle.peak_text.specs.declared.fault.PeakFault.TheVariants as peak
 use Rattle.highest_water.specs.declared.verdict.PeakVerdict.{PeakVerdict}
 use Rattle.highest_water.specs.declared.verdict.PeakVerdict.TheVariants.{Accepted}
-use Rattle.highest_water.specs.PeakTexts.{peak_text}
-use Rattle.highest_water.specs.PeakReadings.{peak_of}
-use Rattle.highest_water.specs.VerdictLines.{verdict_line}
+use Rattle.peak_text.specs.PeakTexts.{peak_text}
+use Rattle.peak_text.specs.PeakReadings.{peak_of}
+use Rattle.peak_text.specs.VerdictLines.{verdict_line}
 use Rattle.listing.specs.declared.row.Row.{Row}
 use Rattle.listing.specs.Abouts.{about_text_of}
 use Rattle.listing.specs.Listings.{plain_events_of, plain_heights_of, clock_text_of, highest_text_of}

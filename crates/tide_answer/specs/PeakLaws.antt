@@ -3,8 +3,8 @@
 use Rattle.std.specs.Prelude.{◌≡◌, ◌<◌, ℕ, ℤ, pos, ◌+ℤ◌, ◌*ℤ◌, ◌≤ℤ◌, ◌<ℤ◌, false, List, length, Ok}
 use Rattle.harmonics_book.specs.declared.book.Book.{Book}
 use Rattle.harmonics_book.specs.Books.{IsBook}
-use Rattle.highest_water.specs.declared.certificate.PeakCertificate.{PeakCertificate}
-use Rattle.highest_water.specs.PeakSpelling.{IsPeakTextOf}
+use Rattle.peak_text.specs.declared.certificate.PeakCertificate.{PeakCertificate}
+use Rattle.peak_text.specs.PeakSpelling.{IsPeakTextOf}
 use Rattle.station_curve.specs.Schureman.{predicted_level}
 use Rattle.station_table.specs.declared.offsets.Offsets.{Offsets}
 use Rattle.station_table.specs.Offsets.{IsTable}

@@ -8,7 +8,7 @@ ghost use Rattle.station_span.specs.Workings.Spans.{AreMoments, IsInRange};
 
 use cert_text::Certificate;
 use decimal_text::Text;
-use highest_water::PeakCertificate;
+use peak_text::PeakCertificate;
 use question::ValidQuestion;
 use station_span::Asked;
 use tide_fault::Refusal;

@@ -12,8 +12,9 @@ ghost use Rattle.station_span.specs.Workings.Spans.{AreMoments, IsInRange};
 
 use crate::text::{Answer, text_alone};
 use decimal_text::{Bytes, Text};
-use highest_water::{Peak, PeakCertificate, write_peak};
+use highest_water::Peak;
 use listing::highest_text;
+use peak_text::{PeakCertificate, write_peak};
 use station_span::{
     Asked, FoundStation, StationData, find_highest, find_level, highest_minute, level_at,
     moved_minute,

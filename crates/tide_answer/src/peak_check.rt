@@ -3,8 +3,8 @@
 ghost use Rattle.std.specs.Prelude.{◌≡◌, ◌<◌, ◌≤◌, ◌^◌, length, [], IfErr, IfOk};
 ghost use Rattle.decimal_text.specs.Expected.{ReturnsUnless};
 ghost use Rattle.decimal_text.specs.declared.limits.TheConstants.{MOST_BYTES};
-ghost use Rattle.highest_water.specs.PeakReadings.{peak_of};
-ghost use Rattle.highest_water.specs.PeakTexts.{IsPeakCertificate};
+ghost use Rattle.peak_text.specs.PeakReadings.{peak_of};
+ghost use Rattle.peak_text.specs.PeakTexts.{IsPeakCertificate};
 ghost use Rattle.highest_water.specs.declared.verdict.PeakVerdict.{PeakVerdict};
 ghost use Rattle.tide_answer.specs.Answers.{peak_checked, peak_from, peak_judged};
 ghost use Rattle.tide_answer.specs.Workings.Peaks.{peak_judged_in};
@@ -15,9 +15,9 @@ ghost use Rattle.station_span.specs.Workings.Peaks.{IsSourceIn};
 use crate::asked_spans::asked_by_peak_certificate;
 use crate::highest::highest_text_at;
 use crate::text::{Answer, accepted, rejected};
-use highest_water::{
-    PeakCertificate, PeakFault, PeakVerdict, peak_certificates_have_one_text, read_peak,
-    verdict_line,
+use highest_water::PeakVerdict;
+use peak_text::{
+    PeakCertificate, PeakFault, peak_certificates_have_one_text, read_peak, verdict_line,
 };
 use station_span::{FoundStation, StationData, find_level, judge_highest};
 use std::alloc::{AllocError, Global};

@@ -8,7 +8,7 @@ ghost use Rattle.tide_answer.specs.PeakLaws.{
   ReportsTheHighest,
 };
 
-use highest_water::{
+use peak_text::{
     peak_certificates_have_one_text, peak_readings_go_by_the_grammar, peak_texts_are_short,
 };
 

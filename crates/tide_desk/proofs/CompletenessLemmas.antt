@@ -5,12 +5,12 @@ use Rattle.std.specs.Prelude.{if◌then◌else◌}
 use Rattle.cert_text.specs.declared.certificate.Certificate.{Certificate}
 use Rattle.cert_text.specs.declared.fault.CertFault.{CertFault}
 use Rattle.cert_text.specs.Readings.{certificate_of}
-use Rattle.highest_water.specs.declared.certificate.PeakCertificate.{PeakCertificate}
-use Rattle.highest_water.specs.declared.fault.PeakFault.{PeakFault}
+use Rattle.peak_text.specs.declared.certificate.PeakCertificate.{PeakCertificate}
+use Rattle.peak_text.specs.declared.fault.PeakFault.{PeakFault}
 use Rattle.highest_water.specs.declared.verdict.PeakVerdict.{PeakVerdict}
 use Rattle.highest_water.specs.declared.verdict.PeakVerdict.TheVariants.{WrongLength, Outside, NotUnder, WrongValue, Above, Accepted}
-use Rattle.highest_water.specs.PeakReadings.{peak_of}
-use Rattle.highest_water.specs.VerdictLines.{verdict_line}
+use Rattle.peak_text.specs.PeakReadings.{peak_of}
+use Rattle.peak_text.specs.VerdictLines.{verdict_line}
 use Rattle.event_text.specs.Lines.{text_of_unit}
 use Rattle.harmonics_book.specs.declared.book.Book.{Book}
 use Rattle.harmonics_text.specs.Reading.{book_of}

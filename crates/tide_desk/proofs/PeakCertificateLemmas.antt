@@ -1,6 +1,6 @@
 -- The laws of certificates of a highest water over files and command lines.
 use Rattle.std.proofs.Common.{◌≡◌, ℕ, ℤ, List, [], Some, None, Ok, refl, ap, ◌∙◌, arith}
-use Rattle.highest_water.specs.PeakSpelling.{SpellsPeak}
+use Rattle.peak_text.specs.PeakSpelling.{SpellsPeak}
 use Rattle.question.specs.declared.command.Command.{Command}
 use Rattle.question.specs.declared.command.Command.TheVariants.{Highest, Peak, PeakCheck}
 use Rattle.question.specs.declared.question.Question.{Question}

@@ -5,9 +5,9 @@ use Rattle.cert_text.specs.declared.certificate.Certificate.{Certificate}
 use Rattle.cert_text.specs.Readings.{certificate_of}
 use Rattle.event_list.specs.Shifts.{widened_of}
 use Rattle.harmonics_book.specs.declared.book.Book.{Book}
-use Rattle.highest_water.specs.declared.certificate.PeakCertificate.{PeakCertificate}
+use Rattle.peak_text.specs.declared.certificate.PeakCertificate.{PeakCertificate}
 use Rattle.highest_water.specs.declared.verdict.PeakVerdict.TheVariants.{Accepted}
-use Rattle.highest_water.specs.PeakReadings.{peak_of}
+use Rattle.peak_text.specs.PeakReadings.{peak_of}
 use Rattle.named_files.specs.declared.materials.Materials.{Materials}
 use Rattle.named_files.specs.declared.no_answer.NoAnswer.{NoAnswer}
 use Rattle.named_files.specs.NoAnswers.{status_of}

@@ -2,7 +2,7 @@
 -- returned, and what `peakcheck` accepts is true (this project).
 use Rattle.std.specs.Prelude.{◌≡◌, ℕ, ℤ, false, List, Some, None, IsSomeAnd, Ok}
 use Rattle.harmonics_book.specs.declared.book.Book.{Book}
-use Rattle.highest_water.specs.declared.certificate.PeakCertificate.{PeakCertificate}
+use Rattle.peak_text.specs.declared.certificate.PeakCertificate.{PeakCertificate}
 use Rattle.question.specs.declared.command.Command.TheVariants.{Highest, Peak, PeakCheck}
 use Rattle.question.specs.declared.question.Question.{Question}
 use Rattle.question.specs.declared.question.ZoneWord.TheVariants.{Utc}

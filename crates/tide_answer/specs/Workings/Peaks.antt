@@ -2,7 +2,7 @@
 use Rattle.std.specs.Prelude.{ℕ, List, Result, Ok}
 use Rattle.decimal_text.specs.Expected.{◌>>=◌}
 use Rattle.harmonics_book.specs.declared.book.Book.{Book}
-use Rattle.highest_water.specs.declared.certificate.PeakCertificate.{PeakCertificate}
+use Rattle.peak_text.specs.declared.certificate.PeakCertificate.{PeakCertificate}
 use Rattle.highest_water.specs.declared.peak.Peak.{Peak}
 use Rattle.station_table.specs.declared.offsets.Offsets.{Offsets}
 use Rattle.station_span.specs.declared.asked.Asked.{Asked}

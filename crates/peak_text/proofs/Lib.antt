@@ -1,0 +1,7 @@
+mod PeakGrammarLemmas
+mod PeakLengthLemmas
+mod PeakLineLemmas
+mod PeakParserLemmas
+pub mod PeakRangeLemmas
+mod PeakReadingLemmas
+mod PeakRunLemmas

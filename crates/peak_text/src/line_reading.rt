@@ -1,0 +1,52 @@
+//! The lines of a certificate of a highest water, read.
+
+ghost use Rattle.std.specs.Prelude.{◌≡◌};
+ghost use Rattle.peak_text.specs.Workings.PeakParsing.{value_of, under_for, under_of, cell_of};
+
+use cert_text::{after, number_of, size_of};
+use curve_law::MOST_MINUTES;
+use highest_water::PeakCell;
+
+/// The greatest number of digits of a value.
+const VALUE_DIGITS: usize = 37;
+
+/// The greatest number of digits of a cell's minutes.
+const MINUTE_DIGITS: usize = 4;
+
+/// Reads the value from its line, or returns `None` if `line` isn't one.
+#[tactic(auto, unfolding(crate::specs::Workings::PeakParsing::value_of))]
+pub fn value_of(line: &[u8]) -> Option<i128>
+    ensures { result ≡ value_of line.now }
+{
+    number_of(after(b"value ".as_slice(), line)?, VALUE_DIGITS)
+}
+
+/// Returns a cell of `minutes` that is under, or `None` unless they are 2 to 1,024.
+fn under_for(minutes: u128) -> Option<PeakCell>
+    ensures { result ≡ under_for minutes }
+{
+    if 2 <= minutes && minutes <= u128::from(MOST_MINUTES) {
+        Some(PeakCell::Under(minutes as u32))
+    } else {
+        None
+    }
+}
+
+/// Reads the line of a cell that is under, or returns `None` if `line` isn't one.
+#[tactic(auto, unfolding(crate::specs::Workings::PeakParsing::under_of))]
+fn under_of(line: &[u8]) -> Option<PeakCell>
+    ensures { result ≡ under_of line.now }
+{
+    under_for(size_of(after(b"u ".as_slice(), line)?, MINUTE_DIGITS)?)
+}
+
+/// Reads the line of a cell, or returns `None` if `line` isn't one.
+#[tactic(auto, unfolding(crate::specs::Workings::PeakParsing::cell_of))]
+pub fn cell_of(line: &[u8]) -> Option<PeakCell>
+    ensures { result ≡ cell_of line.now }
+{
+    if line == b"m".as_slice() {
+        return Some(PeakCell::Single);
+    }
+    under_of(line)
+}

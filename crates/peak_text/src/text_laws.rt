@@ -1,0 +1,43 @@
+//! Consequences of the grammar of certificates of a highest water.
+
+ghost use Rattle.std.specs.Prelude.{◌≡◌, ◌≢◌, ℕ, ◌+◌, ◌*◌, ◌<◌, ◌≤◌, List, length, Ok, Err};
+ghost use Rattle.peak_text.specs.declared.certificate.PeakCertificate.{PeakCertificate};
+ghost use Rattle.peak_text.specs.declared.fault.PeakFault.{PeakFault};
+ghost use Rattle.highest_water.specs.Covers.{all_minutes};
+ghost use Rattle.peak_text.specs.PeakTexts.{IsPeakCertificate, peak_lines_of, peak_text};
+ghost use Rattle.peak_text.specs.PeakSpelling.{SpellsPeak, IsPeakTextOf, IsPeakFaultLine, ReadsPeak};
+ghost use Rattle.peak_text.specs.PeakReadings.{peak_of};
+
+/// Each certificate whose parts are within their ranges has exactly one text, no other certificate
+/// has one, and each text has at most one certificate.
+pub fn peak_certificates_have_one_text()
+    ensures lines { (c : PeakCertificate) → IsPeakCertificate c → SpellsPeak c (peak_lines_of c) }
+    ensures only_lines { (c : PeakCertificate) (lines : List (List ℕ)) →
+        SpellsPeak c lines → IsPeakCertificate c × (lines ≡ peak_lines_of c) }
+    ensures text { (c : PeakCertificate) → IsPeakCertificate c → IsPeakTextOf c (peak_text c) }
+    ensures only_text { (c : PeakCertificate) (bytes : List ℕ) →
+        IsPeakTextOf c bytes → IsPeakCertificate c × (peak_text c ≡ bytes) }
+    ensures one_certificate { (c d : PeakCertificate) (bytes : List ℕ) →
+        IsPeakTextOf c bytes → IsPeakTextOf d bytes → c ≡ d }
+{}
+
+/// The cells have at most two bytes for each of their minutes, and all the rest of the text at most
+/// 545. If they have no more than the 5,270,400 minutes of the longest span, the text has fewer
+/// than 10,542,000 bytes, and so can be read again.
+pub fn peak_texts_are_short()
+    ensures length_bound { (c : PeakCertificate) → IsPeakCertificate c →
+        length (peak_text c) ≤ 545 + 2 * all_minutes c.peak.cells }
+    ensures fits { (c : PeakCertificate) → IsPeakCertificate c → all_minutes c.peak.cells ≤ 5270400 →
+        length (peak_text c) < 10542000 }
+{}
+
+/// Reading by lines follows the grammar for all bytes, memory apart: it yields the certificate
+/// whose text the bytes are, or the one line of the fault if they are no certificate's. The text of
+/// a certificate reads as this certificate.
+pub fn peak_readings_go_by_the_grammar()
+    ensures reads { (bytes : List ℕ) → ReadsPeak bytes (peak_of bytes) }
+    ensures never_memory { (bytes : List ℕ) → peak_of bytes ≢ Err PeakFault.NoMemory }
+    ensures again { (c : PeakCertificate) → IsPeakCertificate c → peak_of (peak_text c) ≡ Ok c }
+    ensures one_line { (bytes : List ℕ) (m n : ℕ) →
+        IsPeakFaultLine bytes m → IsPeakFaultLine bytes n → m ≡ n }
+{}
