@@ -140,8 +140,8 @@ fn sheets_of_any_kind_are_filled(rt: HostRuntime) -> Result<(), AllocError> {
     Ok(())
 }
 
-// Returns the text of a sheet that runs out of memory and of one before it.
-fn refused(alloc: Global, at: Refusal) -> Result<Bytes, AllocError> {
+// Returns the text of a sheet whose call `at` runs out of memory, and of one before it.
+fn refused(alloc: Global, at: Option<Refusal>) -> Result<Bytes, AllocError> {
     let mut sheets: Vec<Box<dyn Sheet>> = Vec::new(alloc);
     sheets.push(Box::new(alloc, Tally::new(alloc, 4))?)?;
     sheets.push(Box::new(alloc, Refusing::new(alloc, at))?)?;
@@ -149,10 +149,13 @@ fn refused(alloc: Global, at: Refusal) -> Result<Bytes, AllocError> {
     report(alloc, sheets, wanted, "Pier", TIDE)
 }
 
+// The same report has its text where no call fails, so that the error is the sheet's own.
 #[test]
 fn refusals_leave_no_text(rt: HostRuntime) {
+    let kept = refused(rt.alloc(), None);
+    assert!(rt; is_text(kept, "Pier\n2 High Tide\n2 Low Tide\nkept"));
     for at in [Refusal::Open, Refusal::Take, Refusal::Text] {
-        assert!(rt; refused(rt.alloc(), at).is_err(), "at {at:?}");
+        assert!(rt; refused(rt.alloc(), Some(at)).is_err(), "at {at:?}");
     }
 }
 

@@ -71,15 +71,15 @@ pub enum Refusal {
     Text,
 }
 
-/// A sheet that runs out of memory at one of its calls.
+/// A sheet that runs out of memory at one of its calls, or at none.
 #[derive(Drop)]
 pub struct Refusing {
-    at: Refusal,
+    at: Option<Refusal>,
     collected: Collected,
 }
 
 impl Refusing {
-    pub fn new(alloc: Global, at: Refusal) -> Refusing {
+    pub fn new(alloc: Global, at: Option<Refusal>) -> Refusing {
         Refusing {
             at,
             collected: Collected::new(alloc, 4),
@@ -101,7 +101,7 @@ impl Sheet for Refusing {
     }
 
     fn open(&mut self, head: &Head) -> Result<(), AllocError> {
-        if self.at == Refusal::Open {
+        if self.at == Some(Refusal::Open) {
             self.collected.events.clear();
             return Err(AllocError);
         }
@@ -109,14 +109,14 @@ impl Sheet for Refusing {
     }
 
     fn take(&mut self, event: &Event) -> Result<Taken, AllocError> {
-        if self.at == Refusal::Take {
+        if self.at == Some(Refusal::Take) {
             return Err(AllocError);
         }
         self.collected.take(event)
     }
 
     fn text(&self) -> Result<Bytes, AllocError> {
-        if self.at == Refusal::Text {
+        if self.at == Some(Refusal::Text) {
             return Err(AllocError);
         }
         let alloc = *self.collected.events.allocator();
