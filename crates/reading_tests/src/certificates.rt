@@ -1,11 +1,14 @@
 //! Texts of certificates, and the lines of faults.
 
+ghost use Rattle.cert_text.specs.Certificates.{IsCertificate};
+
 use crate::texts::changed;
 use arrayvec::ArrayString;
 use cert_text::{
-    CertFault, begin_line, cell_line, certificates_are_short, certificates_have_one_text, end_line,
-    heading_line, last_line, mark_line, read_certificate, readings_go_by_the_grammar,
-    texts_come_in_parts, title_line, track_of, worked_readings, worked_texts, write_certificate,
+    CertFault, Certificate, begin_line, cell_line, certificates_are_short,
+    certificates_have_one_text, end_line, heading_line, last_line, mark_line, read_certificate,
+    readings_go_by_the_grammar, texts_come_in_parts, title_line, track_of, worked_readings,
+    worked_texts, write_certificate,
 };
 use curve_law::{Cell, Kind};
 use decimal_text::MOST_BYTES;
@@ -116,21 +119,19 @@ fn fault_of_change(alloc: Global, text: &str, line: usize, other: &str) -> Resul
 }
 
 #[test]
-fn changed_lines_are_found(rt: HostRuntime) -> Result<(), Fail> {
+fn changed_lines_are_found(rt: HostRuntime) {
     for (line, other, at) in CHANGED_LINES {
-        let found = fault_of_change(rt.alloc(), PIER, *line, other)?;
-        assert!(rt; found == *at, "line {line}: {other}");
+        let found = fault_of_change(rt.alloc(), PIER, *line, other);
+        assert!(rt; found == Ok(*at), "line {line}: {other}");
     }
-    Ok(())
 }
 
 #[test]
-fn changed_tracks_are_found(rt: HostRuntime) -> Result<(), Fail> {
+fn changed_tracks_are_found(rt: HostRuntime) {
     for (line, other, at) in CHANGED_TRACKS {
-        let found = fault_of_change(rt.alloc(), NARROWS, *line, other)?;
-        assert!(rt; found == *at, "line {line}: {other}");
+        let found = fault_of_change(rt.alloc(), NARROWS, *line, other);
+        assert!(rt; found == Ok(*at), "line {line}: {other}");
     }
-    Ok(())
 }
 
 /// A number of bytes of the first certificate, and the line of the fault.
@@ -161,12 +162,19 @@ fn other_bytes_are_refused(rt: HostRuntime) {
 }
 
 /// Returns true if the certificate of `text` is written as `text`.
-fn is_rewritten(alloc: Global, text: &[u8]) -> Result<bool, Fail> {
+pub fn is_rewritten(alloc: Global, text: &[u8]) -> Result<bool, Fail> {
     if text.len() > MOST_BYTES {
         return Ok(false);
     }
     let cert = read_certificate(alloc, text)?;
-    let written = write_certificate(alloc, &cert)?;
+    is_written(alloc, &cert, text)
+}
+
+/// Returns true if `cert` is written as `text`.
+fn is_written(alloc: Global, cert: &Certificate, text: &[u8]) -> Result<bool, Fail>
+    requires { IsCertificate cert.now }
+{
+    let written = write_certificate(alloc, cert)?;
     Ok(written.as_slice() == text)
 }
 
@@ -178,15 +186,20 @@ fn what_is_read_is_written(rt: HostRuntime) -> Result<(), Fail> {
     Ok(())
 }
 
+/// Returns the line of the fault of `text` with another last line.
+fn fault_of_longer(alloc: Global, text: &str) -> Result<u32, AllocError> {
+    let mut longer = changed(alloc, text, 0, "")?;
+    longer.push_str("done\n")?;
+    Ok(fault(alloc, longer.as_bytes()))
+}
+
 #[test]
-fn another_last_line_is_found(rt: HostRuntime) -> Result<(), Fail> {
+fn another_last_line_is_found(rt: HostRuntime) {
     for text in [PIER, NARROWS] {
-        let mut longer = changed(rt.alloc(), text, 0, "")?;
-        longer.push_str("done\n")?;
+        let found = fault_of_longer(rt.alloc(), text);
         let line = text.lines().count() as u32 + 1;
-        assert!(rt; fault(rt.alloc(), longer.as_bytes()) == line, "{text}");
+        assert!(rt; found == Ok(line), "{text}");
     }
-    Ok(())
 }
 
 /// A cell, and its line.

@@ -53,11 +53,14 @@ const DECIMALS: &[(&[u8], u32, Result<i128, DecimalFault>)] = &[
     (b"1234567890123456789x", 2, Err(DecimalFault::BadForm)),
 ];
 
+fn is_read(text: &[u8], places: u32, value: &Result<i128, DecimalFault>) -> bool {
+    places <= 6 && read(text, places) == *value
+}
+
 #[test]
 fn decimals_are_read(rt: HostRuntime) {
     for (text, places, value) in DECIMALS {
-        assert!(rt; *places <= 6);
-        assert!(rt; read(text, *places) == *value, "{text:?}");
+        assert!(rt; is_read(text, *places, value), "{text:?}");
     }
 }
 
@@ -70,11 +73,14 @@ const WHOLE_NUMBERS: &[(&[u8], usize, Option<u64>)] = &[
     (b"999999999999999999", 18, Some(999_999_999_999_999_999)),
 ];
 
+fn is_whole(text: &[u8], most: usize, value: Option<u64>) -> bool {
+    most <= 18 && digits(text, most) == value
+}
+
 #[test]
 fn whole_numbers_are_read(rt: HostRuntime) {
     for (text, most, value) in WHOLE_NUMBERS {
-        assert!(rt; *most <= 18);
-        assert!(rt; digits(text, *most) == *value, "{text:?}");
+        assert!(rt; is_whole(text, *most, *value), "{text:?}");
     }
 }
 
@@ -93,11 +99,14 @@ const WIDE_NUMBERS: &[(&[u8], usize, Option<u128>)] = &[
     (b"10000000000000000009", 19, None),
 ];
 
+fn is_wide(text: &[u8], most: usize, value: Option<u128>) -> bool {
+    most <= 38 && wide_digits(text, most) == value
+}
+
 #[test]
 fn wide_numbers_are_read(rt: HostRuntime) {
     for (text, most, value) in WIDE_NUMBERS {
-        assert!(rt; *most <= 38);
-        assert!(rt; wide_digits(text, *most) == *value, "{text:?}");
+        assert!(rt; is_wide(text, *most, *value), "{text:?}");
     }
 }
 
@@ -118,13 +127,19 @@ const WRITTEN: &[(i64, u32, &str)] = &[
     (i64::MIN, 6, "-9223372036854.775808"),
 ];
 
+fn is_written(value: i64, places: u32, text: &str) -> bool {
+    if places > 6 {
+        return false;
+    }
+    let mut out = ArrayString::new();
+    write(value, places, &mut out);
+    out.as_str() == text
+}
+
 #[test]
 fn decimals_are_written(rt: HostRuntime) {
     for (value, places, text) in WRITTEN {
-        assert!(rt; *places <= 6);
-        let mut out = ArrayString::new();
-        write(*value, *places, &mut out);
-        assert!(rt; out.as_str() == *text, "{text}");
+        assert!(rt; is_written(*value, *places, text), "{text}");
     }
 }
 

@@ -2,6 +2,7 @@
 
 ghost use Rattle.std.specs.Prelude.{◌≡◌, ◌≢◌, false, [], IsTrue, IfOk, MatchResult, OnErr, Ok, Err};
 ghost use Rattle.std.specs.List.{list_all};
+ghost use Rattle.tide_edge.specs.Doors.{not_listening};
 ghost use Rattle.tide_edge.specs.Memory.{are_pieces, folder_of};
 ghost use Rattle.tide_edge.specs.Whole.{whole};
 
@@ -79,23 +80,42 @@ const MEMORY_FILES: &[(&str, u64, u64, Result<usize, ReadAllFault>)] = &[
     ("pier", 9, 3, Err(ReadAllFault::TooLong)),
 ];
 
-#[test]
-fn a_file_is_read_whole_or_not_at_all(rt: HostRuntime) -> Result<(), Fail> {
-    for (name, limit, failing, expected) in MEMORY_FILES {
-        let mut files = folder(rt.alloc(), &[*failing])?;
-        let read = length_read(rt.alloc(), &mut files, name, *limit);
-        assert!(rt; read == *expected, "limit {limit}, call {failing} fails");
-    }
-    Ok(())
+/// Returns true if `expected` is what the file `name` of the folder gives.
+fn is_read(
+    alloc: Global,
+    name: &str,
+    limit: u64,
+    failing: u64,
+    expected: &Result<usize, ReadAllFault>,
+) -> Result<bool, AllocError> {
+    let mut files = folder(alloc, &[failing])?;
+    Ok(length_read(alloc, &mut files, name, limit) == *expected)
 }
 
 #[test]
-fn the_bytes_of_steady_files_are_known(rt: HostRuntime) -> Result<(), Fail> {
-    let mut files = folder(rt.alloc(), &[])?;
-    let name = Text::from_str(rt.alloc(), "pier")?;
-    let bytes = read_all(rt.alloc(), &mut files, &name, 10)?;
-    assert!(rt; bytes.as_slice() == PIER.as_slice());
-    Ok(())
+fn a_file_is_read_whole_or_not_at_all(rt: HostRuntime) {
+    for (name, limit, failing, expected) in MEMORY_FILES {
+        let is_so = is_read(rt.alloc(), name, *limit, *failing, expected);
+        assert!(rt; is_so == Ok(true), "limit {limit}, call {failing} fails");
+    }
+}
+
+/// Returns true if the file `pier` of `files` has its bytes.
+fn has_bytes(alloc: Global, files: &mut MemoryFiles) -> Result<bool, ReadAllFault> {
+    let name = Text::from_str(alloc, "pier")?;
+    let bytes = read_all(alloc, files, &name, 10)?;
+    Ok(bytes.as_slice() == PIER.as_slice())
+}
+
+/// Returns true if the file `pier` of steady files has its bytes.
+fn are_known(alloc: Global) -> Result<bool, ReadAllFault> {
+    let mut files = folder(alloc, &[])?;
+    has_bytes(alloc, &mut files)
+}
+
+#[test]
+fn the_bytes_of_steady_files_are_known(rt: HostRuntime) {
+    assert!(rt; are_known(rt.alloc()) == Ok(true));
 }
 
 /// Writes to `sink`, and returns the number of bytes sent if a call fails.
@@ -122,16 +142,20 @@ const SINKS: &[(u64, u64, Option<u64>)] = &[
     (0, 0, Some(0)),
 ];
 
+/// Returns true if such a sink has taken `sent` bytes, or all.
+fn is_sent(alloc: Global, room: u64, failing: u64, sent: Option<u64>) -> Result<bool, AllocError> {
+    let fails = [failing].to_vec(alloc)?;
+    let mut sink = MemorySink::new(alloc, 3, room, fails)?;
+    let found = count_sent(&mut sink);
+    Ok(found == sent && has_taken(&sink, sent.unwrap_or(10)))
+}
+
 #[test]
-fn a_failed_write_is_the_last(rt: HostRuntime) -> Result<(), Fail> {
+fn a_failed_write_is_the_last(rt: HostRuntime) {
     for (room, failing, sent) in SINKS {
-        let fails = [*failing].to_vec(rt.alloc())?;
-        let mut sink = MemorySink::new(rt.alloc(), 3, *room, fails)?;
-        let found = count_sent(&mut sink);
-        assert!(rt; found == *sent, "room {room}, call {failing} fails");
-        assert!(rt; has_taken(&sink, sent.unwrap_or(10)), "room {room}");
+        let is_so = is_sent(rt.alloc(), *room, *failing, *sent);
+        assert!(rt; is_so == Ok(true), "room {room}, call {failing} fails");
     }
-    Ok(())
 }
 
 #[test]
@@ -257,18 +281,41 @@ const DOORS: &[(u64, u64, [Result<bool, Failed>; 3], &str)] = &[
     (0, 0, [Err(Failed), Ok(true), Ok(false)], ""),
 ];
 
-#[test]
-fn a_door_in_memory_fails_as_required(rt: HostRuntime) -> Result<(), Fail> {
-    for (room, failing, expected, first) in DOORS {
-        let fails = [*failing].to_vec(rt.alloc())?;
-        let mut door = MemoryDoor::new(rt.alloc(), requests(rt.alloc())?, *room, fails)?;
-        assert!(rt; door.listen(80) == Ok(()));
-        let outcomes = echo_thrice(&mut door);
-        assert!(rt; outcomes == *expected, "room {room}, call {failing} fails");
-        assert!(rt; has_reply(&door, 0, first) && has_reply(&door, 1, ""));
-        assert!(rt; door.reply(2) == None);
+fn has_replies(door: &MemoryDoor, first: &str) -> bool {
+    has_reply(door, 0, first) && has_reply(door, 1, "") && door.reply(2) == None
+}
+
+/// Returns a door whose call `failing` fails, with room for `room` bytes of each reply.
+fn memory_door(alloc: Global, room: u64, failing: u64) -> Result<MemoryDoor, AllocError>
+    ensures { IfOk result (λ door. door.doorway ≡ not_listening) }
+{
+    let fails = [failing].to_vec(alloc)?;
+    let requests = requests(alloc)?;
+    MemoryDoor::new(alloc, requests, room, fails)
+}
+
+/// Returns true if such a door has those outcomes and replies.
+fn is_served(
+    alloc: Global,
+    room: u64,
+    failing: u64,
+    expected: &[Result<bool, Failed>; 3],
+    first: &str,
+) -> Result<bool, AllocError> {
+    let mut door = memory_door(alloc, room, failing)?;
+    if door.listen(80) != Ok(()) {
+        return Ok(false);
     }
-    Ok(())
+    let outcomes = echo_thrice(&mut door);
+    Ok(outcomes == *expected && has_replies(&door, first))
+}
+
+#[test]
+fn a_door_in_memory_fails_as_required(rt: HostRuntime) {
+    for (room, failing, expected, first) in DOORS {
+        let is_so = is_served(rt.alloc(), *room, *failing, expected, first);
+        assert!(rt; is_so == Ok(true), "room {room}, call {failing} fails");
+    }
 }
 
 #[test]

@@ -24,24 +24,36 @@ fn fault(alloc: Global, bytes: &[u8]) -> (u32, u32) {
     }
 }
 
+/// Checks the first year of `book`, the number of its years, and what it has for them.
+fn check_years(rt: &impl Abort, book: &Book, years: (i32, u32), angles: &[i64], factors: &[i64]) {
+    assert!(rt; (book.first_year, book.years) == years);
+    assert!(rt; book.angles.as_slice() == angles);
+    assert!(rt; book.factors.as_slice() == factors);
+}
+
 #[test]
 fn the_years_of_the_pier_are_read(rt: HostRuntime) -> Result<(), Fail> {
     let book = read_book(rt.alloc(), PIER.as_bytes())?;
-    assert!(rt; book.first_year == 1999);
-    assert!(rt; book.years == 3);
-    assert!(rt; book.angles.as_slice() == [0, 0, 0].as_slice());
-    assert!(rt; book.factors.as_slice() == [1_000_000, 1_000_000, 1_000_000].as_slice());
+    let factors = [1_000_000, 1_000_000, 1_000_000];
+    check_years(&rt, &book, (1999, 3), &[0, 0, 0], &factors);
     Ok(())
+}
+
+fn is_of_pier(constituent: &Constituent) -> bool {
+    constituent.name.as_str() == "S2" && constituent.speed == 300_000_000
+}
+
+fn check_constituents(rt: &impl Abort, book: &Book) {
+    for constituent in book.constituents.as_slice() {
+        assert!(rt; is_of_pier(constituent));
+    }
+    assert!(rt; book.stations.as_slice().len() == 1);
 }
 
 #[test]
 fn the_constituent_of_the_pier_is_read(rt: HostRuntime) -> Result<(), Fail> {
     let book = read_book(rt.alloc(), PIER.as_bytes())?;
-    for constituent in book.constituents.as_slice() {
-        assert!(rt; constituent.name.as_str() == "S2");
-        assert!(rt; constituent.speed == 300_000_000);
-    }
-    assert!(rt; book.stations.as_slice().len() == 1);
+    check_constituents(&rt, &book);
     Ok(())
 }
 
@@ -58,29 +70,37 @@ const ELEVEN_YEARS: &str =
 #[test]
 fn a_file_as_people_write_it(rt: HostRuntime) -> Result<(), Fail> {
     let book = read_book(rt.alloc(), &REAL)?;
+    check_real(&rt, &book);
+    Ok(())
+}
+
+fn check_real(rt: &impl Abort, book: &Book) {
     assert!(rt; book.constituents.as_slice().len() == 2);
     assert!(rt; book.angles.as_slice() == [1_205_000_000, 0].as_slice());
     assert!(rt; book.factors.as_slice() == [985_000, 1_000_000].as_slice());
-    Ok(())
 }
 
 #[test]
 fn a_station_as_people_write_it(rt: HostRuntime) -> Result<(), Fail> {
     let book = read_book(rt.alloc(), &REAL)?;
     for station in book.stations.as_slice() {
-        check_head(&rt, station);
-        assert!(rt; station.amplitude.as_slice() == [1_234_000, 400_000].as_slice());
-        assert!(rt; station.epoch.as_slice() == [450_000_000, 3_000_000_000].as_slice());
+        check_station(&rt, station);
     }
     Ok(())
 }
 
-fn check_head(rt: &impl Abort, station: &Station) {
-    assert!(rt; station.name.as_str() == "Port\u{e9}, Bay");
-    assert!(rt; station.meridian == -300);
-    assert!(rt; station.zone.as_str() == "America/New_York");
-    assert!(rt; station.datum == 2_500_000);
-    assert!(rt; station.units == Units::Feet);
+fn check_station(rt: &impl Abort, station: &Station) {
+    assert!(rt; has_head(station));
+    assert!(rt; station.amplitude.as_slice() == [1_234_000, 400_000].as_slice());
+    assert!(rt; station.epoch.as_slice() == [450_000_000, 3_000_000_000].as_slice());
+}
+
+fn has_head(station: &Station) -> bool {
+    station.name.as_str() == "Port\u{e9}, Bay"
+        && station.meridian == -300
+        && station.zone.as_str() == "America/New_York"
+        && station.datum == 2_500_000
+        && station.units == Units::Feet
 }
 
 /// The number of a line, its text, and the line and the number of the fault.
@@ -137,12 +157,11 @@ fn fault_of_change(alloc: Global, line: usize, text: &str) -> Result<(u32, u32),
 }
 
 #[test]
-fn changes_of_a_line(rt: HostRuntime) -> Result<(), Fail> {
+fn changes_of_a_line(rt: HostRuntime) {
     for (line, text, at, number) in CHANGES {
-        let found = fault_of_change(rt.alloc(), *line, text)?;
-        assert!(rt; found == (*at, *number), "line {line}: {text}");
+        let found = fault_of_change(rt.alloc(), *line, text);
+        assert!(rt; found == Ok((*at, *number)), "line {line}: {text}");
     }
-    Ok(())
 }
 
 /// Passes `bytes` to `reader` in pieces of `count` bytes.
@@ -171,42 +190,65 @@ fn read_in_pieces(alloc: Global, bytes: &[u8], count: usize) -> Result<Book, Boo
 
 /// Returns the harmonic constants of `bytes`, fed in pieces of `count` bytes, as text, or their
 /// fault.
-pub fn printed_in_pieces(alloc: Global, bytes: &[u8], count: usize) -> Result<String, AllocError> {
+fn printed_in_pieces(alloc: Global, bytes: &[u8], count: usize) -> Result<String, AllocError> {
     if bytes.len() > MOST_BYTES || count == 0 {
         return Ok(String::new(alloc));
     }
     format!(in alloc; "{:?}", read_in_pieces(alloc, bytes, count))
 }
 
-/// Returns true if `file` is read in pieces of 1 and of 7 bytes as it is read whole.
-fn may_be_cut(alloc: Global, file: &[u8]) -> Result<bool, AllocError> {
+/// Returns true if `file`, fed in pieces of `count` bytes, is printed as `whole`.
+fn is_printed(alloc: Global, file: &[u8], count: usize, whole: &str) -> Result<bool, AllocError> {
+    let printed = printed_in_pieces(alloc, file, count)?;
+    Ok(printed.as_str() == whole)
+}
+
+fn are_printed(
+    alloc: Global,
+    file: &[u8],
+    counts: &[usize],
+    whole: &str,
+) -> Result<bool, AllocError> {
+    for count in counts {
+        if !is_printed(alloc, file, *count, whole)? {
+            return Ok(false);
+        }
+    }
+    Ok(true)
+}
+
+/// Returns true if `file` is read in pieces of each of `counts` bytes as it is read whole.
+pub fn may_be_cut(alloc: Global, file: &[u8], counts: &[usize]) -> Result<bool, AllocError> {
     let whole = printed_in_pieces(alloc, file, file.len())?;
-    Ok(
-        printed_in_pieces(alloc, file, 1)?.as_str() == whole.as_str()
-            && printed_in_pieces(alloc, file, 7)?.as_str() == whole.as_str(),
-    )
+    are_printed(alloc, file, counts, whole.as_str())
+}
+
+/// Returns true if `file` is harmonic constants.
+pub fn is_book(alloc: Global, file: &[u8]) -> Result<bool, AllocError> {
+    let whole = printed_in_pieces(alloc, file, file.len())?;
+    Ok(whole.starts_with("Ok("))
 }
 
 #[test]
-fn a_file_may_be_cut_anywhere(rt: HostRuntime) -> Result<(), Fail> {
+fn a_file_may_be_cut_anywhere(rt: HostRuntime) {
     for file in [PIER.as_bytes(), REAL.as_slice(), ELEVEN_YEARS.as_bytes()] {
-        let whole = printed_in_pieces(rt.alloc(), file, file.len())?;
-        assert!(rt; whole.starts_with("Ok("));
-        assert!(rt; may_be_cut(rt.alloc(), file)?);
+        assert!(rt; is_book(rt.alloc(), file) == Ok(true));
+        assert!(rt; may_be_cut(rt.alloc(), file, &[1, 7]) == Ok(true));
     }
-    Ok(())
+}
+
+/// Returns true if the pier with `text` in place of line `line` may be cut.
+fn may_change_be_cut(alloc: Global, line: usize, text: &str) -> Result<bool, AllocError> {
+    let file = changed(alloc, PIER, line, text)?;
+    may_be_cut(alloc, file.as_bytes(), &[1, 7])
 }
 
 #[test]
-fn a_changed_file_may_be_cut_anywhere(rt: HostRuntime) -> Result<(), Fail> {
+fn a_changed_file_may_be_cut_anywhere(rt: HostRuntime) {
     for (line, text, _, _) in CHANGES {
-        let file = changed(rt.alloc(), PIER, *line, text)?;
-        assert!(rt;
-            may_be_cut(rt.alloc(), file.as_bytes())?,
-            "line {line}: {text}"
-        );
+        let may = may_change_be_cut(rt.alloc(), *line, text);
+        assert!(rt; may == Ok(true), "line {line}: {text}");
     }
-    Ok(())
 }
 
 /// The number of a line, the text before that many letters, their number, the text after them, and
@@ -239,58 +281,78 @@ fn with_letters(
     Ok(text)
 }
 
-#[test]
-fn long_lines(rt: HostRuntime) -> Result<(), Fail> {
-    for (line, before, count, behind, at, number) in LETTERS {
-        let text = with_letters(rt.alloc(), before, *count, behind)?;
-        let found = fault_of_change(rt.alloc(), *line, text.as_str())?;
-        assert!(rt; found == (*at, *number), "line {line}: {count} letters");
-    }
-    Ok(())
+/// Returns the line and the number of the fault of the pier with such letters in place of line
+/// `line`.
+fn fault_of_letters(
+    alloc: Global,
+    line: usize,
+    before: &str,
+    count: u32,
+    behind: &str,
+) -> Result<(u32, u32), AllocError> {
+    let text = with_letters(alloc, before, count, behind)?;
+    fault_of_change(alloc, line, text.as_str())
 }
 
-/// Returns a file with `count` stations.
-fn stations(alloc: Global, count: u32) -> Result<String, AllocError> {
+#[test]
+fn long_lines(rt: HostRuntime) {
+    for (line, before, count, behind, at, number) in LETTERS {
+        let found = fault_of_letters(rt.alloc(), *line, before, *count, behind);
+        assert!(rt; found == Ok((*at, *number)), "line {line}: {count} letters");
+    }
+}
+
+/// Returns a file with `count` stations and `end` after them.
+fn stations(alloc: Global, count: u32, end: &str) -> Result<String, AllocError> {
     let mut file = String::from_str(alloc, PIER)?;
     for _ in 1..count {
         file.push_str("Pier\n0:00 :UTC\n0 feet\nS2 1 0\n")?;
     }
+    file.push_str(end)?;
     Ok(file)
 }
 
-#[test]
-fn many_stations(rt: HostRuntime) -> Result<(), Fail> {
-    let mut file = stations(rt.alloc(), 20_000)?;
-    assert!(rt; fault(rt.alloc(), file.as_bytes()) == (0, 0));
-    file.push_str("Pier\n")?;
-    assert!(rt; fault(rt.alloc(), file.as_bytes()) == (80_013, 12));
-    Ok(())
+fn fault_of_stations(alloc: Global, count: u32, end: &str) -> Result<(u32, u32), AllocError> {
+    let file = stations(alloc, count, end)?;
+    Ok(fault(alloc, file.as_bytes()))
 }
 
 #[test]
-fn lists_of_vectors(rt: HostRuntime) -> Result<(), Fail> {
-    let name = Text::from_str(rt.alloc(), "M2")?;
+fn many_stations(rt: HostRuntime) {
+    assert!(rt; fault_of_stations(rt.alloc(), 20_000, "") == Ok((0, 0)));
+    assert!(rt; fault_of_stations(rt.alloc(), 20_000, "Pier\n") == Ok((80_013, 12)));
+}
+
+/// Returns the length of a list of one constituent.
+fn length_of_one(alloc: Global) -> Result<usize, AllocError> {
+    let name = Text::from_str(alloc, "M2")?;
     let speed = 289_841_042;
-    let items = vec![in rt.alloc(); Constituent { name, speed }]?;
-    assert!(rt; Constituents::from_vec(items).as_slice().len() == 1);
-    assert!(rt;
-        Stations::from_vec(Vec::new(rt.alloc()))
-            .as_slice()
-            .is_empty()
-    );
-    Ok(())
+    let items = vec![in alloc; Constituent { name, speed }]?;
+    Ok(Constituents::from_vec(items).as_slice().len())
+}
+
+fn length_of_none(alloc: Global) -> usize {
+    Stations::from_vec(Vec::new(alloc)).as_slice().len()
+}
+
+#[test]
+fn lists_of_vectors(rt: HostRuntime) {
+    assert!(rt; length_of_one(rt.alloc()) == Ok(1));
+    assert!(rt; length_of_none(rt.alloc()) == 0);
+}
+
+/// Returns true if the first `end` bytes of the pier are a harmonics file.
+fn is_whole(alloc: Global, end: usize) -> bool {
+    let pier = PIER.as_bytes();
+    let (front, _) = pier.split_at(end.min(pier.len()));
+    fault(alloc, front) == (0, 0)
 }
 
 #[test]
 fn prefixes(rt: HostRuntime) {
-    let pier = PIER.as_bytes();
     for end in 0..97usize {
         let whole = end == 66 || end == 67 || end == 95 || end == 96;
-        let (front, _) = pier.split_at(end.min(pier.len()));
-        assert!(rt;
-            (fault(rt.alloc(), front) == (0, 0)) == whole,
-            "{end} bytes"
-        );
+        assert!(rt; is_whole(rt.alloc(), end) == whole, "{end} bytes");
     }
 }
 
@@ -302,9 +364,13 @@ fn the_pier_and_an_empty_file_have_their_length(rt: HostRuntime) {
 
 #[test]
 fn reasons_in_words(rt: HostRuntime) {
-    assert!(rt; Why::BadCount.text() == "bad count");
-    assert!(rt; Why::LineTooLong.text() == "line too long");
+    assert!(rt; is_worded(Why::BadCount, "bad count"));
+    assert!(rt; is_worded(Why::LineTooLong, "line too long"));
     assert!(rt; Why::LineTooLong.number() == 13);
+}
+
+fn is_worded(why: Why, text: &str) -> bool {
+    why.text() == text
 }
 
 #[test]

@@ -1,7 +1,10 @@
 //! Tables of subordinate stations, and the stations that names find.
 
+ghost use Rattle.harmonics_book.specs.Books.{IsBook};
+
 use crate::texts::PIER;
 use decimal_text::{MOST_BYTES, Text};
+use harmonics_book::Book;
 use harmonics_text::read_book;
 use station_table::{
     Basis, FindFault, Offset, OffsetFault, OffsetTable, OffsetWhy, Offsets, Slack, find,
@@ -50,12 +53,15 @@ fn fault_of_pieces(alloc: Global, pieces: &[&[u8]]) -> Result<(u32, u32), AllocE
 #[test]
 fn rows_are_read(rt: HostRuntime) -> Result<(), Fail> {
     let table = read_offsets(rt.alloc(), DOCKS)?;
-    let rows = table.as_slice();
+    check_docks(&rt, table.as_slice());
+    Ok(())
+}
+
+fn check_docks(rt: &impl Abort, rows: &[Offsets]) {
     assert!(rt; rows.len() == 5);
-    check_dock(&rt, &rows[0]);
+    check_dock(rt, &rows[0]);
     assert!(rt; rows[1].name.as_str() == "Outer, east");
     assert!(rt; rows[1].high == Offset::USUAL);
-    Ok(())
 }
 
 fn check_dock(rt: &impl Abort, dock: &Offsets) {
@@ -84,13 +90,16 @@ fn a_new_table_is_empty(rt: HostRuntime) {
 #[test]
 fn slack_times_are_read(rt: HostRuntime) -> Result<(), Fail> {
     let table = read_offsets(rt.alloc(), GATES)?;
-    let rows = table.as_slice();
+    check_gates(&rt, table.as_slice());
+    Ok(())
+}
+
+fn check_gates(rt: &impl Abort, rows: &[Offsets]) {
     assert!(rt; rows.len() == 2);
     let flood_add = 5;
     let ebb_add = -1440;
     assert!(rt; rows[0].slack == Some(Slack { flood_add, ebb_add }));
     assert!(rt; rows[1].slack == None);
-    Ok(())
 }
 
 /// The text after the header without slacks, and the row and the number of the fault.
@@ -111,12 +120,11 @@ const FILES: &[(&[u8], u32, u32)] = &[
 ];
 
 #[test]
-fn files_are_refused(rt: HostRuntime) -> Result<(), Fail> {
+fn files_are_refused(rt: HostRuntime) {
     for (end, row, number) in FILES {
-        let found = fault_of_pieces(rt.alloc(), &[PLAIN, end])?;
-        assert!(rt; found == (*row, *number), "{end:?} gives {found:?}");
+        let found = fault_of_pieces(rt.alloc(), &[PLAIN, end]);
+        assert!(rt; found == Ok((*row, *number)), "{end:?} gives {found:?}");
     }
-    Ok(())
 }
 
 #[test]
@@ -182,27 +190,46 @@ const FIELDS: &[(&[u8], &[u8], &[u8], u32)] = &[
 
 const OWN_SLACKS: &[u8] = b",flood_add,ebb_add\n";
 
+/// Returns the row and the number of the fault of a table with `field` in its row.
+fn fault_of_field(
+    alloc: Global,
+    before: &[u8],
+    field: &[u8],
+    after: &[u8],
+) -> Result<(u32, u32), AllocError> {
+    fault_of_pieces(alloc, &[PLAIN, OWN_SLACKS, before, field, after])
+}
+
 #[test]
-fn fields_are_read(rt: HostRuntime) -> Result<(), Fail> {
+fn fields_are_read(rt: HostRuntime) {
     for (before, field, after, number) in FIELDS {
-        let pieces = [PLAIN, OWN_SLACKS, before, field, after];
-        let found = fault_of_pieces(rt.alloc(), &pieces)?;
+        let found = fault_of_field(rt.alloc(), before, field, after);
         let row = if *number == 0 { 0 } else { 2 };
-        assert!(rt; found == (row, *number), "{field:?} gives {found:?}");
+        assert!(rt; found == Ok((row, *number)), "{field:?} gives {found:?}");
     }
-    Ok(())
+}
+
+/// What the station of a name is over the pier and the docks.
+type Found = Result<Result<Basis, FindFault>, Fail>;
+
+fn found_over(alloc: Global, book: &Book, table: &OffsetTable, name: &str) -> Found
+    requires { IsBook book.now }
+{
+    let name = Text::from_str(alloc, name)?;
+    Ok(find(book, table, &name))
+}
+
+fn found_in_book(alloc: Global, book: &Book, name: &str) -> Found
+    requires { IsBook book.now }
+{
+    let table = read_offsets(alloc, DOCKS)?;
+    found_over(alloc, book, &table, name)
 }
 
 /// Returns the station `name` over the pier and the docks.
-fn found(alloc: Global, name: &str) -> Result<Result<Basis, FindFault>, Fail> {
-    let Ok(book) = read_book(alloc, PIER.as_bytes()) else {
-        return Err(Fail::from("no book"));
-    };
-    let Ok(table) = read_offsets(alloc, DOCKS) else {
-        return Err(Fail::from("no table"));
-    };
-    let name = Text::from_str(alloc, name)?;
-    Ok(find(&book, &table, &name))
+fn found(alloc: Global, name: &str) -> Found {
+    let book = read_book(alloc, PIER.as_bytes())?;
+    found_in_book(alloc, &book, name)
 }
 
 /// A name, its row in the table, and the minutes added to high waters.
@@ -212,24 +239,39 @@ const NAMES: &[(&str, Option<u32>, i32)] = &[
     ("Outer, east", Some(1), 0),
 ];
 
+fn is_basis(basis: &Basis, row: Option<u32>, add: i32) -> bool {
+    basis.station == 0
+        && basis.row == row
+        && basis.high.add == add
+        && basis.equal() == (add == 0)
+        && basis.plain() == (add == 0)
+}
+
+fn is_found(alloc: Global, name: &str, row: Option<u32>, add: i32) -> Result<bool, Fail> {
+    match found(alloc, name)? {
+        Ok(basis) => Ok(is_basis(&basis, row, add)),
+        Err(_) => Ok(false),
+    }
+}
+
 #[test]
 fn names_are_found(rt: HostRuntime) -> Result<(), Fail> {
     for (name, row, add) in NAMES {
-        let basis = found(rt.alloc(), name)?.ok().ok_or("a basis")?;
-        assert!(rt; basis.station == 0, "{name}");
-        assert!(rt; basis.row == *row, "{name}");
-        assert!(rt; basis.high.add == *add, "{name}");
-        assert!(rt; basis.equal() == (*add == 0), "{name}");
-        assert!(rt; basis.plain() == (*add == 0), "{name}");
+        let is_found = is_found(rt.alloc(), name, *row, *add)?;
+        assert!(rt; is_found, "{name}");
     }
     Ok(())
+}
+
+fn fault_of_name(alloc: Global, name: &str) -> Result<Option<FindFault>, Fail> {
+    Ok(found(alloc, name)?.err())
 }
 
 #[test]
 fn other_names_are_refused(rt: HostRuntime) -> Result<(), Fail> {
     let lost = FindFault::NoReference { row: 4 };
-    assert!(rt; found(rt.alloc(), "Buoy")? == Err(lost));
-    assert!(rt; found(rt.alloc(), "pier")? == Err(FindFault::NoStation));
+    assert!(rt; fault_of_name(rt.alloc(), "Buoy")? == Some(lost));
+    assert!(rt; fault_of_name(rt.alloc(), "pier")? == Some(FindFault::NoStation));
     assert!(rt; OffsetWhy::NotUtf8.text() == "not UTF-8");
     Ok(())
 }

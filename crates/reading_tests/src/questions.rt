@@ -226,42 +226,41 @@ fn words_of(alloc: Global, line: &str) -> Result<Words, AllocError> {
     Ok(Words::from_vec(words))
 }
 
-fn asked(
-    alloc: Global,
-    origin: Origin,
-    line: &str,
-) -> Result<Result<Question, AskFault>, AllocError> {
+/// Returns the arguments in `line`, as those of `origin`.
+fn pairs_of(alloc: Global, origin: Origin, line: &str) -> Result<Pairs, AllocError> {
     let words = words_of(alloc, line)?;
-    let pairs = pairs_of_words(alloc, &words)?;
-    let Pairs { command, items, .. } = pairs;
-    let pairs = Pairs {
-        origin,
-        command,
-        items,
-    };
-    Ok(read_question(alloc, &pairs))
+    let mut pairs = pairs_of_words(alloc, &words)?;
+    pairs.origin = origin;
+    Ok(pairs)
 }
 
-fn line(alloc: Global, words: &str) -> Result<Question, Fail> {
-    Ok(asked(alloc, Origin::Line, words)??)
+pub fn asked(alloc: Global, origin: Origin, line: &str) -> Result<Question, AskFault> {
+    let pairs = pairs_of(alloc, origin, line)?;
+    read_question(alloc, &pairs)
+}
+
+fn line(alloc: Global, words: &str) -> Result<Question, AskFault> {
+    asked(alloc, Origin::Line, words)
+}
+
+fn fault_of(alloc: Global, origin: Origin, line: &str) -> Option<AskFault> {
+    asked(alloc, origin, line).err()
 }
 
 #[test]
-fn faults_of_command_lines_are_reported(rt: HostRuntime) -> Result<(), Fail> {
+fn faults_of_command_lines_are_reported(rt: HostRuntime) {
     for (words, fault) in LINES {
-        let found = asked(rt.alloc(), Origin::Line, words)?.err();
+        let found = fault_of(rt.alloc(), Origin::Line, words);
         assert!(rt; found == *fault, "{words}");
     }
-    Ok(())
 }
 
 #[test]
-fn faults_of_queries_are_reported(rt: HostRuntime) -> Result<(), Fail> {
+fn faults_of_queries_are_reported(rt: HostRuntime) {
     for (words, fault) in QUERIES {
-        let found = asked(rt.alloc(), Origin::Query, words)?.err();
+        let found = fault_of(rt.alloc(), Origin::Query, words);
         assert!(rt; found == *fault, "{words}");
     }
-    Ok(())
 }
 
 #[test]
@@ -277,17 +276,21 @@ fn is_name(name: &Option<Text>, text: &str) -> bool {
 }
 
 #[test]
-fn questions_have_their_values(rt: HostRuntime) -> Result<(), Fail> {
+fn questions_have_their_values(rt: HostRuntime) -> Result<(), AskFault> {
     let plain = line(
         rt.alloc(),
         "predict|file=pier.txt|station=Pier|begin=2000-01-10T00:00Z|end=2000-01-11T00:00Z",
     )?;
     check_words(&rt, &plain);
     check_usual(&rt, &plain);
+    check_left_out(&rt, &plain);
+    Ok(())
+}
+
+fn check_left_out(rt: &impl Abort, plain: &Question) {
     assert!(rt; plain.offsets.is_none());
     assert!(rt; plain.certificate.is_none());
     assert!(rt; plain.sheets.is_none());
-    Ok(())
 }
 
 fn check_words(rt: &impl Abort, plain: &Question) {
@@ -308,7 +311,7 @@ fn check_usual(rt: &impl Abort, plain: &Question) {
 }
 
 #[test]
-fn a_question_about_a_span_is_read(rt: HostRuntime) -> Result<(), Fail> {
+fn a_question_about_a_span_is_read(rt: HostRuntime) -> Result<(), AskFault> {
     let full = line(
         rt.alloc(),
         "predict|end=2000-01-11T00:00Z|begin=2000-01-10T00:00Z|station=Pier|file=a=b|mark=-0.5|zone=-05:30|layout=csv|offsets=o.csv",
@@ -325,28 +328,42 @@ fn check_full(rt: &impl Abort, full: &Question) {
     assert!(rt; full.layout == Layout::Csv);
 }
 
-#[test]
-fn names_of_files_are_read(rt: HostRuntime) -> Result<(), Fail> {
-    let check = line(rt.alloc(), "check|file=f|certificate=c|zone=@rome")?;
+fn check_zone(rt: &impl Abort, check: &Question) {
     assert!(rt; matches!(&check.zone, ZoneWord::Named(name) if name.as_str() == "rome"));
-    Ok(())
 }
 
 #[test]
-fn sheets_are_read(rt: HostRuntime) -> Result<(), Fail> {
+fn names_of_files_are_read(rt: HostRuntime) -> Result<(), AskFault> {
+    let check = line(rt.alloc(), "check|file=f|certificate=c|zone=@rome")?;
+    check_zone(&rt, &check);
+    Ok(())
+}
+
+fn check_sheets(rt: &impl Abort, report: &Question) {
+    assert!(rt; matches!(&report.sheets, Some(words) if words.as_slice().len() == 3));
+}
+
+#[test]
+fn sheets_are_read(rt: HostRuntime) -> Result<(), AskFault> {
     let report = line(
         rt.alloc(),
         "report|file=f|station=s|begin=2000-01-10T00:00Z|end=2000-01-11T00:00Z|sheets=first,tally,range",
     )?;
-    assert!(rt; matches!(&report.sheets, Some(words) if words.as_slice().len() == 3));
+    check_sheets(&rt, &report);
     Ok(())
 }
 
+/// Returns the seed and the port of the request.
+fn numbers_of(alloc: Global, words: &str) -> Result<(Option<u64>, u16), AskFault> {
+    let asked = line(alloc, words)?;
+    Ok((asked.seed, asked.port))
+}
+
 #[test]
-fn seeds_and_ports_are_read(rt: HostRuntime) -> Result<(), Fail> {
-    let seed = line(rt.alloc(), "sample|seed=18446744073709551615")?.seed;
+fn seeds_and_ports_are_read(rt: HostRuntime) -> Result<(), AskFault> {
+    let (seed, _) = numbers_of(rt.alloc(), "sample|seed=18446744073709551615")?;
     assert!(rt; seed == Some(u64::MAX));
-    let port = line(rt.alloc(), "serve|file=f|port=65535")?.port;
+    let (_, port) = numbers_of(rt.alloc(), "serve|file=f|port=65535")?;
     assert!(rt; port == 65535);
     Ok(())
 }

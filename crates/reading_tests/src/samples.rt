@@ -1,5 +1,5 @@
 use sample_tides::*;
-use std::test::Fail;
+use std::alloc::{AllocError, Global};
 
 /// Returns line `number` of `text`, counted from 1.
 fn line_at(text: &[u8], number: usize) -> Option<&[u8]> {
@@ -23,17 +23,24 @@ const SAMPLES: &[(u64, usize, u64)] = &[
     (u64::MAX, 127_331, 9_062_913_710_493_932_938),
 ];
 
+/// Returns the number of lines of `text`, its length and its checksum.
+fn measured(text: &[u8]) -> (usize, usize, u64) {
+    let lines = text.iter().filter(|byte| **byte == b'\n').count();
+    (lines, text.len(), sum_of(text))
+}
+
+/// Returns the same of the file of `seed`.
+fn measured_sample(alloc: Global, seed: u64) -> Result<(usize, usize, u64), AllocError> {
+    let file = sample(alloc, seed)?;
+    Ok(measured(file.as_slice()))
+}
+
 #[test]
-fn files_are_those_of_their_seeds(rt: HostRuntime) -> Result<(), Fail> {
+fn files_are_those_of_their_seeds(rt: HostRuntime) {
     for (seed, length, sum) in SAMPLES {
-        let file = sample(rt.alloc(), *seed)?;
-        let text = file.as_slice();
-        let lines = text.iter().filter(|byte| **byte == b'\n').count();
-        assert!(rt; lines == 8_192, "seed {seed}");
-        assert!(rt; text.len() == *length, "seed {seed}");
-        assert!(rt; sum_of(text) == *sum, "seed {seed}");
+        let found = measured_sample(rt.alloc(), *seed);
+        assert!(rt; found == Ok((8_192, *length, *sum)), "seed {seed}");
     }
-    Ok(())
 }
 
 /// A seed, the number of a line, and the line.
@@ -57,15 +64,23 @@ const SAMPLE_LINES: &[(u64, usize, &str)] = &[
     (u64::MAX, 8_192, "C37 0.25 301.16"),
 ];
 
+fn is_line(text: &[u8], number: usize, line: &str) -> bool {
+    let bytes = line.as_bytes();
+    line_at(text, number).is_some_and(|found| found == bytes)
+}
+
+/// Returns true if `line` is line `number` of the file of `seed`.
+fn has_line(alloc: Global, seed: u64, number: usize, line: &str) -> Result<bool, AllocError> {
+    let file = sample(alloc, seed)?;
+    Ok(is_line(file.as_slice(), number, line))
+}
+
 #[test]
-fn lines_have_their_places(rt: HostRuntime) -> Result<(), Fail> {
+fn lines_have_their_places(rt: HostRuntime) {
     for (seed, number, line) in SAMPLE_LINES {
-        let file = sample(rt.alloc(), *seed)?;
-        let found = line_at(file.as_slice(), *number);
-        let bytes = line.as_bytes();
-        assert!(rt; found.is_some_and(|found| found == bytes), "{line}");
+        let has = has_line(rt.alloc(), *seed, *number, line);
+        assert!(rt; has == Ok(true), "{line}");
     }
-    Ok(())
 }
 
 #[test]

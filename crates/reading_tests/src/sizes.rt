@@ -1,12 +1,17 @@
 //! Files, tables, requests and certificates of the sizes that users have.
 
-use crate::harmonics::printed_in_pieces;
-use cert_text::{Certificate, read_certificate, write_certificate};
+ghost use Rattle.std.specs.Prelude.{◌≤◌, length};
+ghost use Rattle.decimal_text.specs.declared.limits.TheConstants.{MOST_BYTES};
+
+use crate::certificates::is_rewritten;
+use crate::harmonics::{is_book, may_be_cut};
+use crate::questions::asked;
+use cert_text::{Certificate, read_certificate};
 use curve_law::{Cell, Kind};
 use decimal_text::{Bytes, Numbers, Text, Words};
-use harmonics_book::Constituent;
+use harmonics_book::{Book, Constituent};
 use harmonics_text::read_book;
-use question::{Layout, Question, ZoneWord, pairs_of_words, read_question};
+use question::{AskFault, Layout, Origin, Question, ZoneWord};
 use sample_tides::sample;
 use station_table::{Offsets, read_offsets};
 use std::alloc::{AllocError, Global};
@@ -22,25 +27,38 @@ fn letters(alloc: Global, count: usize) -> Result<String, AllocError> {
     Ok(text)
 }
 
-/// Returns `text` with 400 letters in place of each `%`.
-fn filled(alloc: Global, text: &str) -> Result<String, AllocError> {
-    let long = letters(alloc, 400)?;
+/// Returns `text` with `name` in place of each `%`.
+fn with_names(alloc: Global, text: &str, name: &str) -> Result<String, AllocError> {
     let mut whole = String::new(alloc);
     for (i, part) in text.split('%').enumerate() {
         if i > 0 {
-            whole.push_str(long.as_str())?;
+            whole.push_str(name)?;
         }
         whole.push_str(part)?;
     }
     Ok(whole)
 }
 
+/// Returns `text` with 400 letters in place of each `%`.
+fn filled(alloc: Global, text: &str) -> Result<String, AllocError> {
+    let long = letters(alloc, 400)?;
+    with_names(alloc, text, long.as_str())
+}
+
+fn is_copied(alloc: Global, long: &str) -> Result<bool, AllocError> {
+    let text = Text::from_str(alloc, long)?.copy()?;
+    Ok(text.as_str() == long)
+}
+
+/// Returns true if 400 letters are copied.
+fn are_letters_copied(alloc: Global) -> Result<bool, AllocError> {
+    let long = letters(alloc, 400)?;
+    is_copied(alloc, long.as_str())
+}
+
 #[test]
-fn long_texts_are_copied(rt: HostRuntime) -> Result<(), Fail> {
-    let long = letters(rt.alloc(), 400)?;
-    let text = Text::from_str(rt.alloc(), long.as_str())?.copy()?;
-    assert!(rt; text.as_str() == long.as_str());
-    Ok(())
+fn long_texts_are_copied(rt: HostRuntime) {
+    assert!(rt; are_letters_copied(rt.alloc()) == Ok(true));
 }
 
 #[test]
@@ -50,15 +68,24 @@ fn long_bytes_are_copied(rt: HostRuntime) -> Result<(), Fail> {
     Ok(())
 }
 
-#[test]
-fn long_lists_of_numbers_are_copied(rt: HostRuntime) -> Result<(), Fail> {
-    let mut numbers = Vec::new(rt.alloc());
+/// Returns 10,000 numbers.
+fn many_numbers(alloc: Global) -> Result<Numbers, AllocError> {
+    let mut numbers = Vec::new(alloc);
     for number in 0..10_000u16 {
         numbers.push(i64::from(number) - 5_000)?;
     }
-    let numbers = Numbers::from_vec(numbers);
-    assert!(rt; numbers.copy()?.as_slice() == numbers.as_slice());
-    Ok(())
+    Ok(Numbers::from_vec(numbers))
+}
+
+fn are_numbers_copied(alloc: Global) -> Result<bool, AllocError> {
+    let numbers = many_numbers(alloc)?;
+    let copy = numbers.copy()?;
+    Ok(copy.as_slice() == numbers.as_slice())
+}
+
+#[test]
+fn long_lists_of_numbers_are_copied(rt: HostRuntime) {
+    assert!(rt; are_numbers_copied(rt.alloc()) == Ok(true));
 }
 
 /// Returns 10,000 words `text`.
@@ -70,29 +97,44 @@ fn many_words(alloc: Global, text: &str) -> Result<Words, AllocError> {
     Ok(Words::from_vec(words))
 }
 
+fn are_equal_to(words: &[Text], long: &str) -> bool {
+    words.iter().all(|word| word.as_str() == long)
+}
+
+fn check_copies(rt: &impl Abort, alloc: Global, long: &str) -> Result<(), Fail> {
+    let words = many_words(alloc, long)?.copy()?;
+    assert!(rt; words.as_slice().len() == 10_000);
+    assert!(rt; are_equal_to(words.as_slice(), long));
+    Ok(())
+}
+
 #[test]
 fn long_lists_of_words_are_copied(rt: HostRuntime) -> Result<(), Fail> {
     let long = letters(rt.alloc(), 400)?;
-    let words = many_words(rt.alloc(), long.as_str())?.copy()?;
-    assert!(rt; words.as_slice().len() == 10_000);
-    for word in words.as_slice() {
-        assert!(rt; word.as_str() == long.as_str());
-    }
-    Ok(())
+    check_copies(&rt, rt.alloc(), long.as_str())
 }
 
 // The sample file has as many lines as the harmonics file of a harbour office.
 #[test]
 fn a_file_of_many_stations_is_read(rt: HostRuntime) -> Result<(), Fail> {
     let file = sample(rt.alloc(), 0)?;
-    let text = file.as_slice();
+    check_sample(&rt, rt.alloc(), file.as_slice())
+}
+
+fn check_sample(rt: &impl Abort, alloc: Global, text: &[u8]) -> Result<(), Fail>
+    requires { length text.now ≤ MOST_BYTES }
+{
     assert!(rt; text.split(|byte| *byte == b'\n').count() == 8_193);
-    let book = read_book(rt.alloc(), text)?;
-    check_constituents(&rt, book.constituents.as_slice());
+    let book = read_book(alloc, text)?;
+    check_book(rt, &book);
+    Ok(())
+}
+
+fn check_book(rt: &impl Abort, book: &Book) {
+    check_constituents(rt, book.constituents.as_slice());
     assert!(rt; book.angles.as_slice().len() == 1_110);
     assert!(rt; book.factors.as_slice().len() == 1_110);
     assert!(rt; book.stations.as_slice().len() == 200);
-    Ok(())
 }
 
 fn check_constituents(rt: &impl Abort, constituents: &[Constituent]) {
@@ -104,11 +146,12 @@ fn check_constituents(rt: &impl Abort, constituents: &[Constituent]) {
 #[test]
 fn a_file_of_many_stations_is_read_in_pieces(rt: HostRuntime) -> Result<(), Fail> {
     let file = sample(rt.alloc(), 0)?;
-    let text = file.as_slice();
-    let whole = printed_in_pieces(rt.alloc(), text, text.len())?;
-    assert!(rt; whole.starts_with("Ok("));
-    let printed = printed_in_pieces(rt.alloc(), text, 4_096)?;
-    assert!(rt; printed.as_str() == whole.as_str());
+    check_pieces(&rt, rt.alloc(), file.as_slice())
+}
+
+fn check_pieces(rt: &impl Abort, alloc: Global, text: &[u8]) -> Result<(), Fail> {
+    assert!(rt; is_book(alloc, text)?);
+    assert!(rt; may_be_cut(alloc, text, &[4_096])?);
     Ok(())
 }
 
@@ -131,13 +174,21 @@ fn long_table(alloc: Global) -> Result<String, AllocError> {
 #[test]
 fn a_table_of_many_rows_is_read(rt: HostRuntime) -> Result<(), Fail> {
     let text = long_table(rt.alloc())?;
+    check_table(&rt, rt.alloc(), text.as_bytes())
+}
+
+fn check_table(rt: &impl Abort, alloc: Global, text: &[u8]) -> Result<(), Fail> {
     assert!(rt; text.len() < 2_000_000);
-    let table = read_offsets(rt.alloc(), text.as_bytes())?;
-    assert!(rt; table.as_slice().len() == 1_200);
-    for row in table.as_slice() {
-        check_row(&rt, row);
-    }
+    let table = read_offsets(alloc, text)?;
+    check_rows(rt, table.as_slice());
     Ok(())
+}
+
+fn check_rows(rt: &impl Abort, rows: &[Offsets]) {
+    assert!(rt; rows.len() == 1_200);
+    for row in rows {
+        check_row(rt, row);
+    }
 }
 
 fn check_row(rt: &impl Abort, row: &Offsets) {
@@ -149,14 +200,9 @@ fn check_row(rt: &impl Abort, row: &Offsets) {
 }
 
 /// Returns the request of the arguments in `line`, separated by `|`, whose names have 400 letters.
-fn long_question(alloc: Global, line: &str) -> Result<Question, Fail> {
-    let line = filled(alloc, line)?;
-    let mut words = Vec::new(alloc);
-    for word in line.as_str().split('|') {
-        words.push(Text::from_str(alloc, word)?)?;
-    }
-    let pairs = pairs_of_words(alloc, &Words::from_vec(words))?;
-    Ok(read_question(alloc, &pairs)?)
+fn long_question(alloc: Global, line: &str) -> Result<Question, AskFault> {
+    let long = filled(alloc, line)?;
+    asked(alloc, Origin::Line, long.as_str())
 }
 
 /// Command lines with every key of a command.
@@ -192,21 +238,26 @@ fn check_names(rt: &impl Abort, asked: &Question, line: &str) {
     check_name(rt, &asked.certificate, line, "|certificate=");
 }
 
-fn check_others(rt: &impl Abort, asked: &Question, line: &str) {
+/// Returns true if `asked` has the step, the zone and the layout of `line`.
+fn has_others(asked: &Question, line: &str) -> bool {
     let step = if line.contains("|step=") { 44_640 } else { 60 };
-    assert!(rt; asked.step == step, "{line}");
     let is_named = matches!(&asked.zone, ZoneWord::Named(name) if name.as_str().len() == 400);
-    assert!(rt; is_named == line.contains("|zone=@"), "{line}");
     let is_csv = asked.layout == Layout::Csv;
-    assert!(rt; is_csv == line.contains("|layout=csv"), "{line}");
+    asked.step == step
+        && is_named == line.contains("|zone=@")
+        && is_csv == line.contains("|layout=csv")
+}
+
+fn check_question(rt: &impl Abort, asked: &Question, line: &str) {
+    check_names(rt, asked, line);
+    assert!(rt; has_others(asked, line), "{line}");
 }
 
 #[test]
-fn long_words_are_read(rt: HostRuntime) -> Result<(), Fail> {
+fn long_words_are_read(rt: HostRuntime) -> Result<(), AskFault> {
     for line in LONGEST {
         let asked = long_question(rt.alloc(), line)?;
-        check_names(&rt, &asked, line);
-        check_others(&rt, &asked, line);
+        check_question(&rt, &asked, line);
     }
     Ok(())
 }
@@ -217,30 +268,42 @@ fn long_certificate(alloc: Global) -> Result<String, AllocError> {
         alloc,
         "tide certificate 2\nstation %\nbegin 2000-01-01T00:00Z\nend 2001-01-01T00:00Z\nmark none\ntrack turn\n",
     )?;
-    for _ in 0..5_000u32 {
-        text.push_str("q 16\ns\nt high 99999999999999\nq 88\n")?;
-    }
-    text.push_str("track slack\n")?;
-    for _ in 0..5_000u32 {
-        text.push_str("q 106\nt ebb -99999999999999\n")?;
-    }
-    text.push_str("done\n")?;
+    push_tracks(&mut text)?;
     Ok(text)
+}
+
+/// Appends `part` to `text` 5,000 times.
+fn push_often(text: &mut String, part: &str) -> Result<(), AllocError> {
+    for _ in 0..5_000u32 {
+        text.push_str(part)?;
+    }
+    Ok(())
+}
+
+fn push_tracks(text: &mut String) -> Result<(), AllocError> {
+    push_often(text, "q 16\ns\nt high 99999999999999\nq 88\n")?;
+    text.push_str("track slack\n")?;
+    push_often(text, "q 106\nt ebb -99999999999999\n")?;
+    text.push_str("done\n")?;
+    Ok(())
 }
 
 #[test]
 fn a_long_certificate_is_read_and_written(rt: HostRuntime) -> Result<(), Fail> {
     let text = long_certificate(rt.alloc())?;
+    check_certificate(&rt, rt.alloc(), text.as_bytes())
+}
+
+fn check_certificate(rt: &impl Abort, alloc: Global, text: &[u8]) -> Result<(), Fail> {
     assert!(rt; text.len() < 1_000_000);
-    let cert = read_certificate(rt.alloc(), text.as_bytes())?;
-    assert!(rt; cert.station.as_str().len() == 400);
-    check_tracks(&rt, &cert);
-    let written = write_certificate(rt.alloc(), &cert)?;
-    assert!(rt; written.as_slice() == text.as_bytes());
+    assert!(rt; is_rewritten(alloc, text)?);
+    let cert = read_certificate(alloc, text)?;
+    check_tracks(rt, &cert);
     Ok(())
 }
 
 fn check_tracks(rt: &impl Abort, cert: &Certificate) {
+    assert!(rt; cert.station.as_str().len() == 400);
     let turn = cert.tracks.turn.as_slice();
     assert!(rt; turn.len() == 20_000);
     assert!(rt; turn[19_998] == Cell::Turn(Kind::High, 99_999_999_999_999));
