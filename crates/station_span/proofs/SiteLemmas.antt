@@ -257,7 +257,7 @@ reached_in_range Events basis begin end forward b e has =
 reached_in_range Levels basis begin end forward b e has = moved_in_range basis begin end forward b e has
 reached_in_range Highest basis begin end forward b e has = moved_in_range basis begin end forward b e has
 
-span_reached : (reach : Reach) (book : Book) (basis : Basis) (asked : Asked) → HasOffsets basis → IsInRange asked
+pub span_reached : (reach : Reach) (book : Book) (basis : Basis) (asked : Asked) → HasOffsets basis → IsInRange asked
     → span_in reach book basis asked.begin asked.end ≡ Ok tt → IsReached reach book basis asked.begin asked.end
 span_reached reach book basis asked has in_range ok =
     let tests = span_tests reach book basis asked.begin asked.end ok in

@@ -62,6 +62,11 @@ pub record BookWithTable : Type 0 where
   pub book : Book
   pub table : List Offsets
 
+-- a request about a station: its name, and a span with perhaps a mark
+pub record NamedSpan : Type 0 where
+  pub name : List ℕ
+  pub asked : Asked
+
 -- the greatest number of minutes of a span
 abbrev pub span_limit : ℤ
 span_limit = pos 5270400

@@ -11,16 +11,14 @@ ghost use Rattle.tide_fault.specs.Faults.{IsPrintableRefusal};
 ghost use Rattle.station_span.specs.Following.{cells_of, events_of, tracks_of};
 ghost use Rattle.station_span.specs.Sites.{site_in};
 ghost use Rattle.station_span.specs.Workings.Finds.{AreReferences, IsSiteList, Lists, site_of};
-ghost use Rattle.station_span.specs.Workings.Spans.{IsInRange};
 
-use crate::asked::Asked;
 use crate::curves::{mark_curve, slack_curve, turn_curve};
 use crate::found_station::FoundStation;
 use crate::reach::Reach;
 use crate::station::find_station;
 use crate::station_data::StationData;
+use crate::station_request::StationRequest;
 use curve_law::{Curve, Events};
-use decimal_text::Text;
 use event_list::{Merge, Span, shifted};
 use harmonics_book::Units;
 use interval_search::Search;
@@ -37,24 +35,21 @@ pub struct FoundEvents {
     pub cells: u64,
 }
 
-/// Returns the events of the station `name` of `stations` over the span of `asked`, whose minutes are
-/// at most 20,000,000,000 in size.
+/// Returns the events of the station of `stations` that `request` names, over its span.
 ///
 /// # Errors
 /// The first [`Refusal`] in the order of [`find_station`](crate::find_station).
 pub fn list_station(
     alloc: Global,
     stations: &StationData<'_>,
-    name: &Text,
-    asked: &Asked,
+    request: &StationRequest<'_>,
 ) -> Result<FoundEvents, Refusal>
-    requires in_range { IsInRange asked.now }
-    ensures exact { Lists stations.now.book asked.now
-        (site_in Reach.Events stations.now.book stations.now.table name.now asked.now) result }
-    ensures named { OnOk result (IsStationName name.now) }
+    ensures exact { Lists stations.now.book request.now.asked
+        (site_in Reach.Events stations.now.book stations.now.table request.now.name request.now.asked) result }
+    ensures named { OnOk result (IsStationName request.now.name) }
     ensures printable { IfErr result (IsPrintableRefusal stations.now.table) }
 {
-    let found = find_station(alloc, stations, Reach::Events, name, asked)?;
+    let found = find_station(alloc, stations, Reach::Events, request)?;
     Ok(find_events(alloc, &found)?)
 }
 
@@ -64,7 +59,8 @@ pub fn list_station(
 /// # Examples
 /// ```
 /// let stations = StationData::new(&book, &table);
-/// let found = find_station(alloc, &stations, Reach::Events, &name, &asked)?;
+/// let request = StationRequest::new(&name, asked);
+/// let found = find_station(alloc, &stations, Reach::Events, &request)?;
 /// let listed = find_events(alloc, &found)?;
 /// assert_eq!(rt; listed.events.as_slice().len(), 4);
 /// ```

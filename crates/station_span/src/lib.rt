@@ -1,9 +1,9 @@
 //! A span of a station: the station that a name means, and its curves.
 //!
-//! [`StationData`] has the stations that can be requested. [`find_station`] goes the way of every
-//! request about a span of one: its name, its unit, the span, the bounds on its constants and the
-//! mark, and returns the first refusal. [`find_level`] requires levels too, and [`find_reference`]
-//! takes no span. A station that was found has curves ([`turn_curve`], [`slack_curve`],
+//! [`StationData`] has the stations that can be requested, and a [`StationRequest`] requests a span
+//! of one. [`find_station`] goes the way of every such request: the name, the unit, the span, the
+//! bounds on the constants and the mark, and returns the first refusal. [`find_level`] requires
+//! levels too, and [`find_reference`] takes no span. A station that was found has curves ([`turn_curve`], [`slack_curve`],
 //! [`mark_curve`]), events ([`find_events`], or one at a time by [`merge_of`]), levels
 //! ([`level_at`], [`is_rising`]) and a highest water ([`find_highest`], [`judge_highest`]).
 //! `specs/Sites.antt` has the order of the refusals, and `specs/Following.antt` the curves that are
@@ -22,6 +22,7 @@ mod reference_station;
 mod station;
 mod station_curves;
 mod station_data;
+mod station_request;
 mod worked;
 
 pub use asked::Asked;
@@ -37,4 +38,5 @@ pub use reach::Reach;
 pub use reference_station::{ReferenceStation, find_reference};
 pub use station::find_station;
 pub use station_data::StationData;
+pub use station_request::StationRequest;
 pub use worked::worked_spans;

@@ -7,23 +7,20 @@ ghost use Rattle.tide_fault.specs.Faults.{IsPrintableRefusal};
 ghost use Rattle.station_span.specs.Peaks.{highest_of, highest_site, highest_verdict};
 ghost use Rattle.station_span.specs.Workings.Finds.{FindsIn, HasPeak, IsLooked, site_of, tide_of_found};
 ghost use Rattle.station_span.specs.Workings.Peaks.{IsSourceIn, tide_levels};
-ghost use Rattle.station_span.specs.Workings.Spans.{IsInRange};
 
-use crate::asked::Asked;
 use crate::found_station::FoundStation;
 use crate::levels::check_level;
 use crate::reach::Reach;
 use crate::station::find_station;
 use crate::station_data::StationData;
+use crate::station_request::StationRequest;
 use curve_law::Curve;
-use decimal_text::Text;
 use highest_water::{Peak, PeakVerdict, check_peak, find_peak, highest_point};
 use rate_bound::MarkCurve;
 use std::alloc::{AllocError, Global};
 use tide_fault::Refusal;
 
-/// Returns the station `name` of `stations` with the span of `asked`, for its highest water. The
-/// minutes of `asked` are at most 20,000,000,000 in size.
+/// Returns the station of `stations` that `request` names, with its span, for its highest water.
 ///
 /// # Errors
 /// The first [`Refusal`] in this order: the station, its unit, the span, the bounds on its
@@ -32,7 +29,8 @@ use tide_fault::Refusal;
 /// # Examples
 /// ```
 /// let stations = StationData::new(&book, &table);
-/// let found = find_level(alloc, &stations, &name, &asked)?;
+/// let request = StationRequest::new(&name, asked);
+/// let found = find_level(alloc, &stations, &request)?;
 /// let minute = moved_minute(&found, highest_minute(&found));
 /// let level = level_at(&found, minute);
 /// assert_eq!(rt; (minute, level), (15_791_040, 1_000_000));
@@ -41,17 +39,15 @@ use tide_fault::Refusal;
 pub fn find_level(
     alloc: Global,
     stations: &StationData<'_>,
-    name: &Text,
-    asked: &Asked,
+    request: &StationRequest<'_>,
 ) -> Result<FoundStation, Refusal>
-    requires in_range { IsInRange asked.now }
-    ensures exact { FindsIn Reach.Highest stations.now.book asked.now
-        (highest_site stations.now.book stations.now.table name.now asked.now) result }
+    ensures exact { FindsIn Reach.Highest stations.now.book request.now.asked
+        (highest_site stations.now.book stations.now.table request.now.name request.now.asked) result }
     ensures peak { IfOk result HasPeak }
-    ensures named { OnOk result (IsStationName name.now) }
+    ensures named { OnOk result (IsStationName request.now.name) }
     ensures printable { IfErr result (IsPrintableRefusal stations.now.table) }
 {
-    let found = find_station(alloc, stations, Reach::Highest, name, asked)?;
+    let found = find_station(alloc, stations, Reach::Highest, request)?;
     check_level(&found)?;
     Ok(found)
 }

@@ -42,16 +42,16 @@ ghost use Rattle.station_span.specs.Sites.{
 };
 ghost use Rattle.station_span.specs.Workings.Finds.{FindsIn};
 ghost use Rattle.station_span.specs.Workings.Looked.{site_with};
-ghost use Rattle.station_span.specs.Workings.Spans.{IsBeside, IsInRange, IsSpanInRange, HasLevels, IsReached};
+ghost use Rattle.station_span.specs.Workings.Spans.{HasLevels};
 ghost use Rattle.year_blend.specs.Years.{year_start_of};
 ghost use Rattle.zone_time.specs.Moments.{IsMoment};
 
-use crate::asked::Asked;
 use crate::found_station::FoundStation;
 use crate::origin::Origin;
 use crate::reach::Reach;
 use crate::station_curves::curve_over;
 use crate::station_data::StationData;
+use crate::station_request::StationRequest;
 use decimal_text::Text;
 use event_list::{Span, widened};
 use harmonics_book::{Book, Station, Units, ValidBook};
@@ -63,8 +63,8 @@ use year_blend::year_start;
 /// The greatest number of minutes of a span.
 const SPAN_LIMIT: i64 = 5_270_400;
 
-/// Returns the station `name` of `stations` with the span and the mark of `asked`, for the purpose
-/// `reach`. The minutes of `asked` are at most 20,000,000,000 in size.
+/// Returns the station of `stations` that `request` names, with its span and its mark, for the
+/// purpose `reach`.
 ///
 /// # Errors
 /// The first [`Refusal`] in this order: the station, its unit, the span, the bounds on its
@@ -78,7 +78,8 @@ const SPAN_LIMIT: i64 = 5_270_400;
 ///     mark: None,
 /// };
 /// let stations = StationData::new(&book, &table);
-/// let found = find_station(alloc, &stations, Reach::Events, &name, &asked)?;
+/// let request = StationRequest::new(&name, asked);
+/// let found = find_station(alloc, &stations, Reach::Events, &request)?;
 /// let listed = find_events(alloc, &found)?;
 /// assert_eq!(rt; listed.events.as_slice().len(), 4);
 /// ```
@@ -87,19 +88,17 @@ pub fn find_station(
     alloc: Global,
     stations: &StationData<'_>,
     reach: Reach,
-    name: &Text,
-    asked: &Asked,
+    request: &StationRequest<'_>,
 ) -> Result<FoundStation, Refusal>
-    requires in_range { IsInRange asked.now }
-    ensures exact { FindsIn reach stations.now.book asked.now
-        (site_in reach stations.now.book stations.now.table name.now asked.now) result }
-    ensures named { OnOk result (IsStationName name.now) }
+    ensures exact { FindsIn reach stations.now.book request.now.asked
+        (site_in reach stations.now.book stations.now.table request.now.name request.now.asked) result }
+    ensures named { OnOk result (IsStationName request.now.name) }
     ensures printable { IfErr result (IsPrintableRefusal stations.now.table) }
 {
-    let basis = find_basis(stations, name)?;
+    let basis = find_basis(stations, request.name())?;
     let book = stations.book();
     let station = station_at(book.get(), basis.station);
-    find_at(alloc, book, reach, basis, station, asked)
+    find_at(alloc, book, reach, basis, station, request)
 }
 
 /// Returns the station `name` of `stations`: its reference in the book and its offsets.
@@ -122,7 +121,7 @@ pub fn find_basis(stations: &StationData<'_>, name: &Text) -> Result<Basis, Refu
 }
 
 // Returns the station with the offsets `basis` from the reference `station`, with the span of
-// `asked`.
+// `request`.
 #[tactic(auto, unfolding(crate::specs::Sites::site_at))]
 fn find_at(
     alloc: Global,
@@ -130,19 +129,19 @@ fn find_at(
     reach: Reach,
     basis: Basis,
     station: &Station,
-    asked: &Asked,
+    request: &StationRequest<'_>,
 ) -> Result<FoundStation, Refusal>
     requires basis { IsBasis (length book.now.stations) basis }
     requires place { slice_get book.now.stations basis.station ≡ Some station.now }
-    requires in_range { IsInRange asked.now }
-    ensures exact { FindsIn reach book.now asked.now (site_at reach book.now (site_with basis station.now) asked.now) result }
+    ensures exact { FindsIn reach book.now request.now.asked (site_at reach book.now (site_with basis station.now) request.now.asked) result }
     ensures printable { IfErr result (IsPrintableRefusal []) }
 {
+    let asked = request.asked();
     level_units(station.units)?;
-    let span = span_looked_at(book, reach, &basis, asked)?;
+    let span = span_looked_at(book, reach, &basis, request)?;
     let curve = curve_over(alloc, book, basis.station, station, &span)?;
-    check_length(asked)?;
-    check_mark(&basis, asked)?;
+    check_length(request)?;
+    check_mark(&basis, request)?;
     Ok(FoundStation {
         origin: Origin::of(book.get(), station),
         basis,
@@ -185,23 +184,21 @@ fn span_looked_at(
     book: &ValidBook<'_>,
     reach: Reach,
     basis: &Basis,
-    asked: &Asked,
+    request: &StationRequest<'_>,
 ) -> Result<Span, Refusal>
     requires offsets { HasOffsets basis.now }
-    requires in_range { IsInRange asked.now }
-    ensures found { OnOk result (span_in reach book.now basis.now asked.now.begin asked.now.end ≡ Ok tt) }
-    ensures refused { IfErr result (λ refusal. span_in reach book.now basis.now asked.now.begin asked.now.end ≡ Err refusal) }
-    ensures exact { IfOk result (λ span. span ≡ reached reach basis.now asked.now.begin asked.now.end) }
-    ensures reached { OnOk result (IsReached reach book.now basis.now asked.now.begin asked.now.end) }
+    ensures found { OnOk result (span_in reach book.now basis.now request.now.asked.begin request.now.asked.end ≡ Ok tt) }
+    ensures refused { IfErr result (λ refusal. span_in reach book.now basis.now request.now.asked.begin request.now.asked.end ≡ Err refusal) }
+    ensures exact { IfOk result (λ span. span ≡ reached reach basis.now request.now.asked.begin request.now.asked.end) }
     ensures printable { IfErr result (IsPrintableRefusal []) }
 {
-    if is_backward(asked) {
+    if is_backward(request) {
         return Err(Refusal::BackwardSpan);
     }
-    if lacks_minute(reach, asked) {
+    if lacks_minute(reach, request) {
         return Err(Refusal::EmptySpan);
     }
-    let span = reached(reach, basis, asked);
+    let span = reached(reach, basis, request);
     let first = first_minute(book);
     let last = last_minute(book);
     if has_span(book, &span) {
@@ -212,63 +209,56 @@ fn span_looked_at(
 }
 
 /// Returns true if the span ends before it begins.
-fn is_backward(asked: &Asked) -> bool
-    ensures { result ≡ int_lt asked.now.end asked.now.begin }
+fn is_backward(request: &StationRequest<'_>) -> bool
+    ensures { result ≡ int_lt request.now.asked.end request.now.asked.begin }
 {
+    let asked = request.asked();
     asked.end < asked.begin
 }
 
 /// Returns true if the span is empty and a highest water is requested.
 #[tactic(auto, unfolding(crate::specs::Sites::lacks_minute))]
-fn lacks_minute(reach: Reach, asked: &Asked) -> bool
-    ensures { result ≡ lacks_minute reach asked.now.begin asked.now.end }
+fn lacks_minute(reach: Reach, request: &StationRequest<'_>) -> bool
+    ensures { result ≡ lacks_minute reach request.now.asked.begin request.now.asked.end }
 {
+    let asked = request.asked();
     matches!(reach, Reach::Highest) && asked.end <= asked.begin
 }
 
 // Returns the minutes of the reference that are evaluated.
-fn reached(reach: Reach, basis: &Basis, asked: &Asked) -> Span
+fn reached(reach: Reach, basis: &Basis, request: &StationRequest<'_>) -> Span
     requires offsets { HasOffsets basis.now }
-    requires in_range { IsInRange asked.now }
-    requires forward { asked.now.begin ≤ℤ asked.now.end }
-    ensures exact { result ≡ reached reach basis.now asked.now.begin asked.now.end }
-    ensures forward { result.begin ≤ℤ result.end }
-    ensures in_range { IsSpanInRange result }
-    ensures beside { IsBeside asked.now.begin asked.now.end result }
+    requires forward { request.now.asked.begin ≤ℤ request.now.asked.end }
+    ensures { result ≡ reached reach basis.now request.now.asked.begin request.now.asked.end }
 {
+    let asked = request.asked();
     match reach {
         Reach::Events => widened(basis, asked.begin, asked.end),
-        Reach::Levels | Reach::Highest => moved(basis, asked),
+        Reach::Levels | Reach::Highest => moved(basis, request),
     }
 }
 
 /// Returns the minutes of the reference whose events the offsets can move into the span.
-fn moved(basis: &Basis, asked: &Asked) -> Span
+fn moved(basis: &Basis, request: &StationRequest<'_>) -> Span
     requires offsets { HasOffsets basis.now }
-    requires in_range { IsInRange asked.now }
-    requires forward { asked.now.begin ≤ℤ asked.now.end }
-    ensures exact { result ≡ moved basis.now asked.now.begin asked.now.end }
-    ensures forward { result.begin ≤ℤ result.end }
-    ensures in_range { IsSpanInRange result }
-    ensures beside { IsBeside asked.now.begin asked.now.end result }
+    requires forward { request.now.asked.begin ≤ℤ request.now.asked.end }
+    ensures { result ≡ moved basis.now request.now.asked.begin request.now.asked.end }
 {
     if basis.equal() {
-        level_span(basis, asked)
+        level_span(basis, request)
     } else {
+        let asked = request.asked();
         widened(basis, asked.begin, asked.end)
     }
 }
 
 /// Returns the minutes of the reference that the offset of highs moves to the span's.
-fn level_span(basis: &Basis, asked: &Asked) -> Span
+fn level_span(basis: &Basis, request: &StationRequest<'_>) -> Span
     requires offsets { HasOffsets basis.now }
-    requires in_range { IsInRange asked.now }
-    requires forward { asked.now.begin ≤ℤ asked.now.end }
-    ensures exact { result ≡ record { begin = asked.now.begin -ℤ basis.now.high.add; end = asked.now.end -ℤ basis.now.high.add } }
-    ensures forward { result.begin ≤ℤ result.end }
-    ensures in_range { IsSpanInRange result }
-    ensures beside { IsBeside asked.now.begin asked.now.end result }
+    requires forward { request.now.asked.begin ≤ℤ request.now.asked.end }
+    ensures { result ≡ record { begin = request.now.asked.begin -ℤ basis.now.high.add; end = request.now.asked.end -ℤ basis.now.high.add } }
 {
+    let asked = request.asked();
     Span {
         begin: earlier(asked.begin, basis.high.add),
         end: earlier(asked.end, basis.high.add),
@@ -318,13 +308,12 @@ fn last_minute(book: &ValidBook<'_>) -> i64
 
 /// Returns `Ok` if the span has at most 5,270,400 minutes.
 #[tactic(auto, unfolding(crate::specs::Sites::length_in))]
-fn check_length(asked: &Asked) -> Result<(), Refusal>
-    requires { IsInRange asked.now }
-    ensures exact { result ≡ length_in asked.now.begin asked.now.end }
-    ensures count_bound { OnOk result ((asked.now.end -ℤ asked.now.begin) ≤ℤ span_limit) }
+fn check_length(request: &StationRequest<'_>) -> Result<(), Refusal>
+    ensures exact { result ≡ length_in request.now.asked.begin request.now.asked.end }
+    ensures count_bound { OnOk result ((request.now.asked.end -ℤ request.now.asked.begin) ≤ℤ span_limit) }
     ensures printable { IfErr result (IsPrintableRefusal []) }
 {
-    let minutes = asked_minutes(asked);
+    let minutes = asked_minutes(request);
     if minutes > SPAN_LIMIT {
         return Err(Refusal::SpanTooLong { minutes });
     }
@@ -332,20 +321,20 @@ fn check_length(asked: &Asked) -> Result<(), Refusal>
 }
 
 /// Returns the number of minutes of the span.
-fn asked_minutes(asked: &Asked) -> i64
-    requires { IsInRange asked.now }
-    ensures { result ≡ asked.now.end -ℤ asked.now.begin }
+fn asked_minutes(request: &StationRequest<'_>) -> i64
+    ensures { result ≡ request.now.asked.end -ℤ request.now.asked.begin }
 {
+    let asked = request.asked();
     asked.end - asked.begin
 }
 
 /// Returns `Ok` unless there is a mark and the station's highs and lows have different offsets.
-fn check_mark(basis: &Basis, asked: &Asked) -> Result<(), Refusal>
-    ensures exact { result ≡ mark_in basis.now asked.now.mark }
-    ensures here { OnOk result (ForSome asked.now.mark (λ level. IsTrue (is_equal basis.now))) }
+fn check_mark(basis: &Basis, request: &StationRequest<'_>) -> Result<(), Refusal>
+    ensures exact { result ≡ mark_in basis.now request.now.asked.mark }
+    ensures here { OnOk result (ForSome request.now.asked.mark (λ level. IsTrue (is_equal basis.now))) }
     ensures printable { IfErr result (IsPrintableRefusal []) }
 {
-    match asked.mark {
+    match request.asked().mark {
         Some(_) if !basis.equal() => Err(Refusal::MarkNotHere),
         _ => Ok(()),
     }

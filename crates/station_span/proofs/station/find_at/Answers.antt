@@ -2,26 +2,33 @@ use Rattle.std.proofs.Common.{refl, sym, ◌∙◌}
 use Rattle.std.proofs.lemmas.Result.{err_from_is_err_and}
 use Rattle.station_curve.specs.Curves.{tide_of}
 use Rattle.station_span.proofs.FoundLemmas.{HasCurve, curve_allowed, curve_alone, curve_excused, excused_by, refused_span, refused_curve, refused_length, refused_mark, found_whole}
+use Rattle.station_span.proofs.SiteLemmas.{span_reached}
 use Rattle.station_span.proofs.SpanLemmas.{has_offsets}
 use Rattle.station_span.specs.Sites.{Site}
 use Rattle.station_span.specs.Workings.Looked.{IsValid}
 use Rattle.station_span.proofs.station.find_at.Goals as goal
 
-pub span_looked_at-requires-clause-offsets : goal.span_looked_at-requires-clause-offsets
-span_looked_at-requires-clause-offsets c = has_offsets _ _ c.requires.basis
+pub span_looked_at-requires : goal.span_looked_at-requires
+span_looked_at-requires c = record { offsets = has_offsets _ _ c.requires.basis }
+
+pub curve_over-requires-clause-in_range : goal.curve_over-requires-clause-in_range
+curve_over-requires-clause-in_range c =
+    let reached = span_reached c.args.reach c.args.book.now c.args.basis c.args.request.now.asked (has_offsets _ _ c.requires.basis)
+    c.asked-asked.ensures.in_range c.in_ok-span.ensures.found in
+    rw c.in_ok-span.ensures.exact reached.in_range
 
 pub returns-in_err-span-clause-exact : goal.returns-in_err-span-clause-exact
 returns-in_err-span-clause-exact c =
     let p = err_from_is_err_and c.from_residual-in_err-span.result c.from_residual-in_err-span.ensures.1 in
     let site : Site = record { basis = c.args.basis; station = c.args.station.now } in
-    rw (p.1, p.2) (refused_span _ c.args.reach c.args.book.now site c.args.asked.now _ _
+    rw (p.1, p.2) (refused_span _ c.args.reach c.args.book.now site c.args.request.now.asked _ _
     (sym c.in_ok-level_units.ensures.exact) (excused_by _ _ _ c.in_err-span.ensures.refused))
 
 pub returns-in_err-curve-clause-exact : goal.returns-in_err-curve-clause-exact
 returns-in_err-curve-clause-exact c =
     let p = err_from_is_err_and c.from_residual-in_err-curve.result c.from_residual-in_err-curve.ensures.1 in
     let site : Site = record { basis = c.args.basis; station = c.args.station.now } in
-    rw (p.1, p.2) (refused_curve _ c.args.reach c.args.book.now site c.args.asked.now _ _
+    rw (p.1, p.2) (refused_curve _ c.args.reach c.args.book.now site c.args.request.now.asked _ _
     (sym c.in_ok-level_units.ensures.exact) c.in_ok-span.ensures.found
     (curve_excused _ c.args.book.now c.args.station.now _ _ _ c.in_err-curve.ensures.exact))
 
@@ -29,33 +36,33 @@ pub returns-in_err-check_length-clause-exact : goal.returns-in_err-check_length-
 returns-in_err-check_length-clause-exact c =
     let p = err_from_is_err_and c.from_residual-in_err-check_length.result c.from_residual-in_err-check_length.ensures.1 in
     let site : Site = record { basis = c.args.basis; station = c.args.station.now } in
-    let has : HasCurve c.args.reach c.args.book.now site c.args.asked.now _ (tide_of c.args.book.now c.args.station.now) =
+    let has : HasCurve c.args.reach c.args.book.now site c.args.request.now.asked _ (tide_of c.args.book.now c.args.station.now) =
     record {
       unit = sym c.in_ok-level_units.ensures.exact;
       span = c.in_ok-span.ensures.found;
       curve = curve_allowed c.args.book.now c.args.station.now _ _ c.in_ok-curve.curve c.in_ok-curve.ensures.exact;
     } in
-    rw (p.1, p.2) (refused_length _ c.args.reach c.args.book.now site c.args.asked.now _
+    rw (p.1, p.2) (refused_length _ c.args.reach c.args.book.now site c.args.request.now.asked _
     (tide_of c.args.book.now c.args.station.now) _ has (excused_by _ _ _ (sym c.in_err-check_length.ensures.exact)))
 
 pub returns-in_err-check_mark-clause-exact : goal.returns-in_err-check_mark-clause-exact
 returns-in_err-check_mark-clause-exact c =
     let p = err_from_is_err_and c.from_residual-in_err-check_mark.result c.from_residual-in_err-check_mark.ensures.1 in
     let site : Site = record { basis = c.args.basis; station = c.args.station.now } in
-    let has : HasCurve c.args.reach c.args.book.now site c.args.asked.now _ (tide_of c.args.book.now c.args.station.now) =
+    let has : HasCurve c.args.reach c.args.book.now site c.args.request.now.asked _ (tide_of c.args.book.now c.args.station.now) =
     record {
       unit = sym c.in_ok-level_units.ensures.exact;
       span = c.in_ok-span.ensures.found;
       curve = curve_allowed c.args.book.now c.args.station.now _ _ c.in_ok-curve.curve c.in_ok-curve.ensures.exact;
     } in
-    rw (p.1, p.2) (refused_mark _ c.args.reach c.args.book.now site c.args.asked.now _ (tide_of c.args.book.now c.args.station.now) _ has
+    rw (p.1, p.2) (refused_mark _ c.args.reach c.args.book.now site c.args.request.now.asked _ (tide_of c.args.book.now c.args.station.now) _ has
     (sym c.in_ok-check_length.ensures.exact) (excused_by _ _ _ (sym c.in_err-check_mark.ensures.exact)))
 
 pub invariant_of-result : goal.invariant_of-result
 invariant_of-result c =
     let book = c.of.ensures.0 ∙ c.get.ensures.exact in
     let station = c.of.ensures.1 in
-    let found : IsValid c.args.reach c.args.book.now c.args.asked.now c.args.basis c.args.station.now c.in_ok-curve.curve = record {
+    let found : IsValid c.args.reach c.args.book.now c.args.request.now.asked c.args.basis c.args.station.now c.in_ok-curve.curve = record {
       basis = refl;
       valid = c.requires.basis;
       units = refl;
@@ -63,33 +70,34 @@ invariant_of-result c =
       predicts = rw c.in_ok-span.ensures.exact at c.in_ok-curve.ensures.predicts;
       within_limits = c.in_ok-curve.ensures.within_limits;
       years = c.in_ok-curve.ensures.years;
-      span = c.in_ok-span.ensures.reached;
+      span = span_reached c.args.reach c.args.book.now c.args.basis c.args.request.now.asked (has_offsets _ _ c.requires.basis)
+          c.asked-asked.ensures.in_range c.in_ok-span.ensures.found;
       few = c.in_ok-check_length.ensures.count_bound;
       mark = c.in_ok-check_mark.ensures.here;
-      in_range = c.requires.in_range;
+      in_range = c.asked-asked.ensures.in_range;
     } in
     record {
       unit = rw station refl;
-      valid = rw (book, station) found;
-      looked = c.in_ok-span.ensures.exact;
+      valid = rw (book, station, c.asked-asked.ensures.exact) found;
+      looked = rw c.asked-asked.ensures.exact c.in_ok-span.ensures.exact;
       alone = rw (book, station) (curve_alone c.args.book.now c.args.station.now _ _ c.in_ok-curve.curve c.in_ok-curve.ensures.exact);
     }
 
 pub returns-clause-exact : goal.returns-clause-exact
 returns-clause-exact c =
     let site : Site = record { basis = c.args.basis; station = c.args.station.now } in
-    let has : HasCurve c.args.reach c.args.book.now site c.args.asked.now _ (tide_of c.args.book.now c.args.station.now) =
+    let has : HasCurve c.args.reach c.args.book.now site c.args.request.now.asked _ (tide_of c.args.book.now c.args.station.now) =
     record {
       unit = sym c.in_ok-level_units.ensures.exact;
       span = c.in_ok-span.ensures.found;
       curve = curve_allowed c.args.book.now c.args.station.now _ _ c.in_ok-curve.curve c.in_ok-curve.ensures.exact;
     } in
     let whole =
-    found_whole c.args.reach c.args.book.now site c.args.asked.now _ (tide_of c.args.book.now c.args.station.now)
+    found_whole c.args.reach c.args.book.now site c.args.request.now.asked _ (tide_of c.args.book.now c.args.station.now)
     has (sym c.in_ok-check_length.ensures.exact) (sym c.in_ok-check_mark.ensures.exact) in
     record {
       site = rw c.of.ensures.1 whole;
       reach = refl;
       book = c.of.ensures.0 ∙ c.get.ensures.exact;
-      asked = refl;
+      asked = c.asked-asked.ensures.exact;
     }
