@@ -14,8 +14,8 @@ use harmonics_text::read_book;
 use listing::plain_events;
 use question::{AskFault, Question, pairs_of_words, read_question};
 use station_span::{
-    Asked, Reach, StationData, find_events, find_level, find_station, highest_minute, level_at,
-    moved_minute,
+    Asked, Reach, StationData, StationRequest, find_events, find_level, find_station,
+    highest_minute, level_at, moved_minute,
 };
 use station_table::OffsetTable;
 use std::alloc::Global;
@@ -92,7 +92,8 @@ fn find_day(
         mark: None,
     };
     let stations = StationData::new(&book, &table);
-    let found = find_station(alloc, &stations, Reach::Events, &name, &asked)?;
+    let request = StationRequest::new(&name, asked);
+    let found = find_station(alloc, &stations, Reach::Events, &request)?;
     let listed = find_events(alloc, &found)?;
     assert_eq!(rt; listed.events.as_slice().len(), 4);
     Ok(())
@@ -122,7 +123,8 @@ fn find_highest_water(
         mark: None,
     };
     let stations = StationData::new(&book, &table);
-    let found = find_level(alloc, &stations, &name, &asked)?;
+    let request = StationRequest::new(&name, asked);
+    let found = find_level(alloc, &stations, &request)?;
     let minute = moved_minute(&found, highest_minute(&found));
     let level = level_at(&found, minute);
     assert_eq!(rt; (minute, level), (15_791_040, 1_000_000));

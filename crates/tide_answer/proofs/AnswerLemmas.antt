@@ -1,7 +1,8 @@
 -- The answer to a request, from its steps.
-use Rattle.std.proofs.Common.{◌≡◌, ℕ, ℤ, false, List, Some, Ok, ◌≤◌, unsigned_abs, refl, arith}
+use Rattle.std.proofs.Common.{◌≡◌, ℕ, ℤ, Bool, false, List, Result, Some, Ok, Err, ◌≤◌, unsigned_abs, refl, arith}
 use Rattle.std.proofs.lemmas.Int.{ints}
 use Rattle.calendar_sheet.specs.Calendars.{calendar_text_of}
+use Rattle.decimal_text.specs.Expected.{◌>>=◌, Excused}
 use Rattle.harmonics_book.specs.declared.book.Book.{Book}
 use Rattle.listing.specs.Abouts.{about_text_of}
 use Rattle.question.specs.declared.question.Layout.{Layout}
@@ -15,11 +16,54 @@ use Rattle.station_span.specs.declared.asked.Asked.{Asked}
 use Rattle.station_span.specs.declared.following.FoundEvents.{FoundEvents}
 use Rattle.station_span.specs.declared.reach.Reach.TheVariants.{Events}
 use Rattle.station_span.specs.declared.reference_station.ReferenceStation.{ReferenceStation}
-use Rattle.tide_answer.specs.Answers.{constituent_count, events_text, station_about, listed, named_by, predicted, on_calendar, text_alone}
+use Rattle.tide_answer.specs.declared.text.Answer.{Answer}
+use Rattle.tide_answer.specs.Answers.{asks_span, constituent_count, events_text, station_about, listed, named_by, predicted, on_calendar, text_alone}
 use Rattle.tide_answer.specs.Asking.{asked_by_question}
-use Rattle.station_span.specs.Sites.{Site, site_in, station_in}
+use Rattle.tide_answer.specs.Workings.Requests.{named_span}
+use Rattle.station_span.specs.Sites.{NamedSpan, Site, site_in, station_in}
 use Rattle.station_span.specs.Workings.Finds.{IsReferenceFound, IsSiteList}
 use Rattle.station_span.specs.Workings.Spans.{IsInRange}
+use Rattle.station_span.proofs.FoundLemmas.{excused_then}
+use Rattle.tide_fault.specs.declared.refusal.Refusal.{Refusal}
+
+-- ---- the station and the span of a request
+
+both_named : (name : Result (List ℕ) Refusal) (asked : Result Asked Refusal) (request : NamedSpan)
+    → (name >>= λ n. asked >>= λ a. Ok (record { name = n; asked = a })) ≡ Ok request
+    → (name ≡ Ok request.name) × (asked ≡ Ok request.asked)
+both_named (Ok name) (Ok asked) request is = (cc, cc)
+both_named (Ok name) (Err fault) request is = absurd cc
+both_named (Err fault) asked request is = absurd cc
+
+one_missing : {A : Type 0} (name : Result (List ℕ) Refusal) (asked : Result Asked Refusal)
+    (next : List ℕ → Asked → Result A Refusal) (refusal : Refusal)
+    → (name >>= λ n. asked >>= λ a. Ok (let r : NamedSpan = record { name = n; asked = a } in r)) ≡ Err refusal
+    → (name >>= λ n. asked >>= λ a. next n a) ≡ Err refusal
+one_missing (Ok name) (Ok asked) next refusal is = absurd cc
+one_missing (Ok name) (Err fault) next refusal is = cc
+one_missing (Err fault) asked next refusal is = cc
+
+-- a request names its station and its span
+pub named_parts : (question : Question) (request : NamedSpan) → named_span question ≡ Ok request
+    → (named_by question.station ≡ Ok request.name) × (named_by (asked_by_question question) ≡ Ok request.asked)
+unfolding named_span
+named_parts question request is = both_named _ _ request is
+
+pub goes_over : (question : Question) (next : List ℕ → Asked → Result Answer Refusal) (request : NamedSpan)
+    → named_span question ≡ Ok request → asks_span question next ≡ next request.name request.asked
+unfolding asks_span
+goes_over question next request is = let parts = named_parts question request is in rw (parts.0, parts.1) refl
+
+-- a request lacks its station or its span
+pub lacks_span : (question : Question) (next : List ℕ → Asked → Result Answer Refusal) (refusal : Refusal)
+    → named_span question ≡ Err refusal → asks_span question next ≡ Err refusal
+unfolding named_span asks_span
+lacks_span question next refusal is = one_missing _ _ next refusal is
+
+pub listed_missing : (book : Book) (table : List Offsets) (question : Question) (refusal : Refusal)
+    → named_span question ≡ Err refusal → listed book table question ≡ Err refusal
+unfolding named_span listed
+listed_missing book table question refusal is = one_missing _ _ _ refusal is
 
 -- ---- events
 
@@ -40,13 +84,23 @@ unfolding on_calendar
 calendar_whole book table name asked zone site listed text found list is =
     rw (found, is, list.units, list.events, list.cells) refl
 
-pub listed_whole : (book : Book) (table : List Offsets) (question : Question) (name : List ℕ) (asked : Asked)
-    (site : Site) (found : FoundEvents) → named_by question.station ≡ Ok name → named_by (asked_by_question question)
-    ≡ Ok asked → site_in Events book table name asked ≡ Ok site → IsSiteList book asked site found
-    → listed book table question ≡ Ok (record { name = name; units = found.units; events = found.events })
+pub listed_refused : (memory : Bool) (book : Book) (table : List Offsets) (question : Question) (request : NamedSpan)
+    (refusal : Refusal) → named_span question ≡ Ok request
+    → Excused memory (site_in Events book table request.name request.asked) refusal
+    → Excused memory (listed book table question) refusal
 unfolding listed
-listed_whole book table question name asked site found named spans expected list =
-    rw (named, spans, expected, list.units, list.events) refl
+listed_refused memory book table question request refusal named excused =
+    let parts = named_parts question request named in
+    rw (parts.0, parts.1) (excused_then memory (site_in Events book table request.name request.asked) _ refusal excused)
+
+pub listed_whole : (book : Book) (table : List Offsets) (question : Question) (request : NamedSpan) (site : Site)
+    (found : FoundEvents) → named_span question ≡ Ok request
+    → site_in Events book table request.name request.asked ≡ Ok site → IsSiteList book request.asked site found
+    → listed book table question ≡ Ok (record { name = request.name; units = found.units; events = found.events })
+unfolding listed
+listed_whole book table question request site found named expected list =
+    let parts = named_parts question request named in
+    rw (parts.0, parts.1, expected, list.units, list.events) refl
 
 -- ---- the facts of a station
 

@@ -15,30 +15,25 @@ use Rattle.station_span.specs.declared.asked.Asked.{Asked}
 use Rattle.tide_answer.specs.declared.given.Given.{Given}
 use Rattle.station_span.specs.declared.reach.Reach.TheVariants.{Events}
 use Rattle.tide_fault.specs.declared.refusal.Refusal.{Refusal}
-use Rattle.tide_answer.specs.Answers.{answered, asks_span, named_by, predicted, certified}
+use Rattle.tide_answer.specs.Answers.{answered, asks_span, named_by, predicted, certified, text_over}
 use Rattle.tide_answer.specs.Asking.{asked_by_question}
 use Rattle.station_span.specs.Sites.{Site, site_in}
 use Rattle.tide_answer.specs.Streams.{can_stream, prepared, streams_by}
+use Rattle.tide_answer.specs.Workings.Requests.{named_span}
 use Rattle.tide_answer.specs.Workings.Streaming.{form_of, stream_answer}
 use Rattle.station_span.proofs.FoundLemmas.{excused_then}
+use Rattle.tide_answer.proofs.AnswerLemmas.{lacks_span}
 
--- the name is missing
-pub refused_station : (command : Command) (book : Book) (table : List Offsets) (question : Question) (given : Given)
+-- the station or the span is missing
+pub refused_request : (command : Command) (book : Book) (table : List Offsets) (question : Question) (given : Given)
     (refusal : Refusal) → question.command ≡ command → IsTrue (can_stream command)
-    → named_by question.station ≡ Err refusal → prepared book table question given ≡ Err refusal
-unfolding prepared answered asks_span
-refused_station Predict book table question given refusal is can name = rw (is, name) refl
-refused_station Certify book table question given refusal is can name = rw (is, name) refl
-refused_station _ book table question given refusal is can name = absurd (let no = can in cc)
-
-pub refused_span : (command : Command) (book : Book) (table : List Offsets) (question : Question) (given : Given)
-    (text : List ℕ) (refusal : Refusal) → question.command ≡ command → IsTrue (can_stream command)
-    → named_by question.station ≡ Ok text → named_by (asked_by_question question) ≡ Err refusal
-    → prepared book table question given ≡ Err refusal
+    → named_span question ≡ Err refusal → prepared book table question given ≡ Err refusal
 unfolding prepared answered asks_span asked_by_question
-refused_span Predict book table question given text refusal is can name span = rw (is, name, span) refl
-refused_span Certify book table question given text refusal is can name span = rw (is, name, span) refl
-refused_span _ book table question given text refusal is can name span = absurd (let no = can in cc)
+refused_request Predict book table question given refusal is can missing =
+    rw (is, lacks_span question (text_over Predict book table question given.zone) refusal missing) refl
+refused_request Certify book table question given refusal is can missing =
+    rw (is, lacks_span question (text_over Certify book table question given.zone) refusal missing) refl
+refused_request _ book table question given refusal is can missing = absurd (let no = can in cc)
 
 pub refused_site : (command : Command) (memory : Bool) (book : Book) (table : List Offsets) (question : Question)
     (given : Given) (text : List ℕ) (asked : Asked) (refusal : Refusal) → question.command ≡ command

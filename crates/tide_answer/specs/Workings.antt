@@ -1,5 +1,6 @@
 pub mod Certifying
 pub mod Peaks
+pub mod Requests
 pub mod Rows
 pub mod Streaming
 pub mod Tallies

@@ -4,18 +4,15 @@ ghost use Rattle.std.specs.Prelude.{IfErr};
 ghost use Rattle.decimal_text.specs.Expected.{ReturnsUnless};
 ghost use Rattle.tide_answer.specs.Answers.{on_calendar};
 ghost use Rattle.tide_fault.specs.Faults.{refusal_is_out_of_memory, IsPrintableRefusal};
-ghost use Rattle.station_span.specs.Workings.Spans.{IsInRange};
 
 use crate::text::Answer;
 use calendar_sheet::calendar_text;
-use decimal_text::Text;
-use station_span::{Asked, StationData, list_station};
+use station_span::{StationData, StationRequest, list_station};
 use std::alloc::Global;
 use tide_fault::Refusal;
 use zone_time::ZoneClock;
 
-/// Returns the calendar of the events of the station `name` over the span of `asked`, by the clock
-/// of `zone`.
+/// Returns the calendar of the events that `request` requests, by the clock of `zone`.
 ///
 /// # Errors
 /// The first [`Refusal`] in the order of `predict`.
@@ -23,19 +20,18 @@ use zone_time::ZoneClock;
 pub fn list_days(
     alloc: Global,
     stations: &StationData<'_>,
-    name: &Text,
-    asked: &Asked,
+    request: &StationRequest<'_>,
     zone: &ZoneClock<'_>,
 ) -> Result<Answer, Refusal>
-    requires in_range { IsInRange asked.now }
     ensures exact { ReturnsUnless refusal_is_out_of_memory
-        (on_calendar stations.now.book stations.now.table name.now asked.now zone.now) result }
+        (on_calendar stations.now.book stations.now.table request.now.name request.now.asked zone.now) result }
     ensures printable { IfErr result (IsPrintableRefusal stations.now.table) }
 {
-    let listed = list_station(alloc, stations, name, asked)?;
+    let listed = list_station(alloc, stations, request)?;
+    let asked = request.asked();
     let text = calendar_text(
         alloc,
-        name,
+        request.name(),
         listed.units,
         &listed.events,
         zone.zone(),

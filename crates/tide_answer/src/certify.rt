@@ -5,8 +5,7 @@ ghost use Rattle.decimal_text.specs.Expected.{ReturnsUnless};
 ghost use Rattle.tide_answer.specs.Answers.{certified};
 ghost use Rattle.tide_fault.specs.Faults.{refusal_is_out_of_memory, IsPrintableRefusal};
 ghost use Rattle.tide_answer.specs.Workings.Certifying.{certificate_in};
-ghost use Rattle.station_span.specs.Workings.Spans.{IsInRange};
-ghost use Rattle.zone_time.specs.Moments.{IsMoment};
+ghost use Rattle.station_span.specs.Workings.Spans.{AreMoments};
 
 use crate::text::Answer;
 use crate::tracks::find_tracks;
@@ -14,12 +13,11 @@ use cert_text::{Certificate, write_certificate};
 use curve_law::Tracks;
 use decimal_text::Text;
 use station_cells::cell_count;
-use station_span::{Asked, Reach, StationData, find_station};
+use station_span::{Asked, Reach, StationData, StationRequest, find_station};
 use std::alloc::Global;
 use tide_fault::Refusal;
 
-/// Returns the certificate of the events of the station `name` over the span of `asked`, by the
-/// rules of version 2.
+/// Returns the certificate of the events that `request` requests, by the rules of version 2.
 ///
 /// # Errors
 /// The first [`Refusal`] in this order: the station, its unit, the span, the bounds on its
@@ -28,19 +26,16 @@ use tide_fault::Refusal;
 pub fn certify(
     alloc: Global,
     stations: &StationData<'_>,
-    name: &Text,
-    asked: &Asked,
+    request: &StationRequest<'_>,
 ) -> Result<Answer, Refusal>
-    requires in_range { IsInRange asked.now }
-    requires begin { IsMoment asked.now.begin }
-    requires end { IsMoment asked.now.end }
-    ensures exact { ReturnsUnless refusal_is_out_of_memory (certified stations.now.book stations.now.table name.now asked.now) result }
+    requires { AreMoments request.now.asked }
+    ensures exact { ReturnsUnless refusal_is_out_of_memory (certified stations.now.book stations.now.table request.now.name request.now.asked) result }
     ensures printable { IfErr result (IsPrintableRefusal stations.now.table) }
 {
-    let found = find_station(alloc, stations, Reach::Events, name, asked)?;
+    let found = find_station(alloc, stations, Reach::Events, request)?;
     let tracks = find_tracks(alloc, &found)?;
     let cells = cell_count(&tracks);
-    let cert = certificate_of(name.copy()?, asked, tracks);
+    let cert = certificate_of(request.name().copy()?, request.asked(), tracks);
     let text = write_certificate(alloc, &cert)?;
     Ok(Answer {
         text,

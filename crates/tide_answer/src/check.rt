@@ -14,8 +14,8 @@ ghost use Rattle.tide_answer.specs.Asking.{asked_by_certificate};
 ghost use Rattle.tide_answer.specs.Workings.Certifying.{judged_in, rejection_in};
 ghost use Rattle.tide_fault.specs.Faults.{refusal_is_out_of_memory, IsPrintableRefusal};
 
-use crate::asked_spans::asked_by_certificate;
 use crate::certificate_rejection::find_rejection;
+use crate::requests::request_of_certificate;
 use crate::text::{Answer, accepted, rejected};
 use cert_text::{Certificate, certificates_have_one_text, read_certificate};
 use curve_law::Events;
@@ -61,13 +61,8 @@ fn judge(
     ensures exact { ReturnsUnless refusal_is_out_of_memory (judged_in stations.now.book stations.now.table cert.now zone.now) result }
     ensures printable { IfErr result (IsPrintableRefusal stations.now.table) }
 {
-    let found = find_station(
-        alloc,
-        stations,
-        Reach::Events,
-        &cert.station,
-        &asked_by_certificate(cert),
-    )?;
+    let request = request_of_certificate(cert);
+    let found = find_station(alloc, stations, Reach::Events, &request)?;
     match find_rejection(&found, cert) {
         None => Ok(accept(alloc, &found, cert, zone)?),
         Some(rejection) => Ok(rejected(rejection_line(alloc, rejection)?)),

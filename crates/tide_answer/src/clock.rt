@@ -5,13 +5,13 @@ ghost use Rattle.decimal_text.specs.Expected.{ReturnsUnless};
 ghost use Rattle.tide_answer.specs.Answers.{on_clock};
 ghost use Rattle.tide_answer.specs.Asking.{asked_from_minute};
 ghost use Rattle.tide_fault.specs.Faults.{refusal_is_out_of_memory, IsPrintableRefusal};
-ghost use Rattle.station_span.specs.Workings.Spans.{IsInRange};
 
 use crate::text::Answer;
 use decimal_text::Text;
 use listing::clock_text;
 use station_span::{
-    Asked, Reach, StationData, check_level, find_events, find_station, is_rising, level_at,
+    Asked, Reach, StationData, StationRequest, check_level, find_events, find_station, is_rising,
+    level_at,
 };
 use std::alloc::Global;
 use tide_fault::Refusal;
@@ -37,8 +37,8 @@ pub fn clock_answer(
     ensures exact { ReturnsUnless refusal_is_out_of_memory (on_clock stations.now.book stations.now.table name.now now zone.now) result }
     ensures printable { IfErr result (IsPrintableRefusal stations.now.table) }
 {
-    let asked = day_from(now);
-    let found = find_station(alloc, stations, Reach::Events, name, &asked)?;
+    let request = day_from(name, now);
+    let found = find_station(alloc, stations, Reach::Events, &request)?;
     check_level(&found)?;
     let level = level_at(&found, now);
     let rising = is_rising(&found, now);
@@ -60,16 +60,16 @@ pub fn clock_answer(
     })
 }
 
-// Returns the 1,440 minutes from `now` on.
-fn day_from(now: i64) -> Asked
+// Returns the request about the station `name` over the 1,440 minutes from `now` on.
+fn day_from<'a>(name: &'a Text, now: i64) -> StationRequest<'a>
     requires earliest { negsuc 9999999999 ≤ℤ now }
     requires latest { now ≤ℤ pos 10000000000 }
-    ensures exact { result ≡ asked_from_minute now }
-    ensures in_range { IsInRange result }
+    ensures { result ≡ record { name = name.now; asked = asked_from_minute now } }
 {
-    Asked {
+    let asked = Asked {
         begin: now,
         end: now + MINUTES_OF_DAY,
         mark: None,
-    }
+    };
+    StationRequest::new(name, asked)
 }

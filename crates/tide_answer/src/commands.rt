@@ -5,13 +5,13 @@ ghost use Rattle.decimal_text.specs.Expected.{ReturnsUnless};
 ghost use Rattle.harmonics_book.specs.Books.{IsBook};
 ghost use Rattle.listing.specs.StationLists.{stations_text_of};
 ghost use Rattle.question.specs.Asked.{IsAsked};
-ghost use Rattle.tide_answer.specs.Answers.{answered, text_alone};
+ghost use Rattle.tide_answer.specs.Answers.{answered, asks_span, text_alone, text_over};
 ghost use Rattle.tide_fault.specs.Faults.{refusal_is_out_of_memory, IsPrintableRefusal};
 ghost use Rattle.tide_answer.specs.Givens.{IsGiven, given_seen};
+ghost use Rattle.station_span.specs.Workings.Spans.{AreMoments};
 
 use crate::about::about_answer;
 use crate::alone::answer_alone;
-use crate::asked_spans::{span_named, station_named};
 use crate::calendar::list_days;
 use crate::certify::certify;
 use crate::check::check;
@@ -21,14 +21,16 @@ use crate::heights::list_heights;
 use crate::highest::{certify_peak, highest_answer};
 use crate::peak_check::check_peak_text;
 use crate::predict::predict;
+use crate::requests::{station_named, station_request};
 use crate::text::{Answer, text_alone};
 use harmonics_book::Book;
 use listing::stations_text;
 use question::{Command, Question, ValidQuestion};
-use station_span::StationData;
+use station_span::{StationData, StationRequest};
 use station_table::OffsetTable;
 use std::alloc::Global;
 use tide_fault::Refusal;
+use zone_time::ZoneClock;
 
 /// Returns the answer to `question` over the harmonic constants `book` and the offsets `table`,
 /// with the zone, the certificate and the present minute of `given`. A request to report, whose
@@ -83,7 +85,7 @@ pub fn answer(
 ///
 /// # Errors
 /// As [`answer`].
-#[tactic(auto, unfolding(crate::specs::Answers::answered, crate::specs::Answers::asks_name, crate::specs::Answers::asks_span))]
+#[tactic(auto, unfolding(crate::specs::Answers::answered, crate::specs::Answers::asks_name))]
 pub fn answer_valid(
     alloc: Global,
     stations: &StationData<'_>,
@@ -96,16 +98,14 @@ pub fn answer_valid(
     ensures printable { IfErr result (IsPrintableRefusal stations.now.table) }
 {
     let name = station_named(question);
-    let asked = span_named(question);
     let zone = &given.zone.clock();
-    let Question { layout, step, .. } = question.get();
     match question.get().command {
-        Command::Predict => predict(alloc, stations, name?, &asked?, *layout, zone),
-        Command::Certify => certify(alloc, stations, name?, &asked?),
-        Command::Heights => list_heights(alloc, stations, name?, &asked?, *step, *layout, zone),
-        Command::Calendar => list_days(alloc, stations, name?, &asked?, zone),
-        Command::Highest => highest_answer(alloc, stations, name?, &asked?, zone),
-        Command::Peak => certify_peak(alloc, stations, name?, &asked?),
+        Command::Predict
+        | Command::Certify
+        | Command::Heights
+        | Command::Calendar
+        | Command::Highest
+        | Command::Peak => answer_over_span(alloc, stations, question, zone),
         Command::Clock => clock_answer(alloc, stations, name?, given.now, zone),
         Command::About => about_answer(alloc, stations, name?),
         Command::Check => check(alloc, stations, given.certificate, zone),
@@ -113,6 +113,47 @@ pub fn answer_valid(
         Command::Stations => answer_stations(alloc, stations),
         Command::Sample | Command::Trial => answer_alone(alloc, question),
         Command::Report | Command::Serve => Err(Refusal::NoStation),
+    }
+}
+
+/// Returns the answer to `question`, whose command needs a station and a span.
+fn answer_over_span(
+    alloc: Global,
+    stations: &StationData<'_>,
+    question: &ValidQuestion<'_>,
+    zone: &ZoneClock<'_>,
+) -> Result<Answer, Refusal>
+    ensures exact { ReturnsUnless refusal_is_out_of_memory (asks_span question.now
+        (text_over question.now.command stations.now.book stations.now.table question.now zone.now)) result }
+    ensures printable { IfErr result (IsPrintableRefusal stations.now.table) }
+{
+    let request = station_request(question)?;
+    answer_request(alloc, stations, &request, question, zone)
+}
+
+/// Returns the answer to `request` by the command of `question`.
+fn answer_request(
+    alloc: Global,
+    stations: &StationData<'_>,
+    request: &StationRequest<'_>,
+    question: &ValidQuestion<'_>,
+    zone: &ZoneClock<'_>,
+) -> Result<Answer, Refusal>
+    requires { AreMoments request.now.asked }
+    ensures exact { ReturnsUnless refusal_is_out_of_memory
+        (text_over question.now.command stations.now.book stations.now.table question.now zone.now request.now.name request.now.asked)
+        result }
+    ensures printable { IfErr result (IsPrintableRefusal stations.now.table) }
+{
+    let Question { layout, step, .. } = question.get();
+    match question.get().command {
+        Command::Predict => predict(alloc, stations, request, *layout, zone),
+        Command::Certify => certify(alloc, stations, request),
+        Command::Heights => list_heights(alloc, stations, request, *step, *layout, zone),
+        Command::Calendar => list_days(alloc, stations, request, zone),
+        Command::Highest => highest_answer(alloc, stations, request, zone),
+        Command::Peak => certify_peak(alloc, stations, request),
+        _ => Err(Refusal::NoStation),
     }
 }
 

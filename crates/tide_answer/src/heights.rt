@@ -6,7 +6,6 @@ ghost use Rattle.tide_answer.specs.Answers.{heights, heights_text, row_at, row_c
 ghost use Rattle.tide_fault.specs.Faults.{refusal_is_out_of_memory, IsPrintableRefusal};
 ghost use Rattle.tide_answer.specs.Workings.Rows.{IsStep};
 ghost use Rattle.station_span.specs.Workings.Finds.{AreLooked, IsLooked, site_of};
-ghost use Rattle.station_span.specs.Workings.Spans.{IsInRange};
 ghost use Rattle.zone_time.specs.Zones.{InZoneYears};
 
 use crate::text::{Answer, text_alone};
@@ -14,7 +13,9 @@ use decimal_text::{Bytes, Text};
 use harmonics_book::Units;
 use listing::{Row, Rows, csv_heights, plain_heights};
 use question::Layout;
-use station_span::{Asked, FoundStation, Reach, StationData, check_level, find_station, level_at};
+use station_span::{
+    FoundStation, Reach, StationData, StationRequest, check_level, find_station, level_at,
+};
 use std::alloc::{AllocError, Global};
 use tide_fault::Refusal;
 use zone_time::ZoneClock;
@@ -22,8 +23,8 @@ use zone_time::ZoneClock;
 /// The greatest number of rows of a list.
 const ROW_LIMIT: u64 = 100_000;
 
-/// Returns the levels of the station `name`, one each `step` minutes from the begin of the span up
-/// to its end, which has a row if the steps lead there. `step` is 1 to 44,640.
+/// Returns the levels of the station of `request`, one each `step` minutes from the begin of the
+/// span up to its end, which has a row if the steps lead there. `step` is 1 to 44,640.
 ///
 /// # Errors
 /// The first [`Refusal`] in the order of `predict`, then that of a
@@ -33,36 +34,33 @@ const ROW_LIMIT: u64 = 100_000;
 pub fn list_heights(
     alloc: Global,
     stations: &StationData<'_>,
-    name: &Text,
-    asked: &Asked,
+    request: &StationRequest<'_>,
     step: i64,
     layout: Layout,
     zone: &ZoneClock<'_>,
 ) -> Result<Answer, Refusal>
-    requires in_range { IsInRange asked.now }
     requires step { IsStep step }
     ensures exact { ReturnsUnless refusal_is_out_of_memory
-        (heights stations.now.book stations.now.table name.now asked.now step layout zone.now) result }
+        (heights stations.now.book stations.now.table request.now.name request.now.asked step layout zone.now) result }
     ensures printable { IfErr result (IsPrintableRefusal stations.now.table) }
 {
-    let found = find_station(alloc, stations, Reach::Levels, name, asked)?;
+    let found = find_station(alloc, stations, Reach::Levels, request)?;
     check_level(&found)?;
-    check_rows(asked, step)?;
+    check_rows(&found, step)?;
     let rows = rows_of(alloc, &found, step)?;
-    let text = heights_text(alloc, layout, name, found.units, &rows, zone)?;
+    let text = heights_text(alloc, layout, request.name(), found.units, &rows, zone)?;
     Ok(text_alone(text))
 }
 
 /// Returns `Ok` if the list has at most 100,000 rows.
 #[tactic(auto, unfolding(crate::specs::Answers::rows_in))]
-fn check_rows(asked: &Asked, step: i64) -> Result<(), Refusal>
-    requires in_range { IsInRange asked.now }
+fn check_rows(found: &FoundStation, step: i64) -> Result<(), Refusal>
     requires step { IsStep step }
-    ensures exact { result ≡ rows_in asked.now.begin asked.now.end step }
-    ensures count_bound { OnOk result (row_count asked.now.begin asked.now.end step ≤ row_limit) }
+    ensures exact { result ≡ rows_in found.now.asked.begin found.now.asked.end step }
+    ensures count_bound { OnOk result (row_count found.now.asked.begin found.now.asked.end step ≤ row_limit) }
     ensures printable { IfErr result (IsPrintableRefusal []) }
 {
-    let rows = row_count(asked, step);
+    let rows = row_count(found, step);
     if rows > ROW_LIMIT {
         return Err(Refusal::TooManyRows { rows: rows as i64 });
     }
@@ -70,22 +68,20 @@ fn check_rows(asked: &Asked, step: i64) -> Result<(), Refusal>
 }
 
 /// Returns the number of rows.
-fn row_count(asked: &Asked, step: i64) -> u64
-    requires in_range { IsInRange asked.now }
+fn row_count(found: &FoundStation, step: i64) -> u64
     requires step { IsStep step }
-    ensures exact { result ≡ row_count asked.now.begin asked.now.end step }
+    ensures exact { result ≡ row_count found.now.asked.begin found.now.asked.end step }
     ensures count_bound { result ≤ 40000000001 }
 {
-    asked_minutes(asked) / step.unsigned_abs() + 1
+    asked_minutes(found) / step.unsigned_abs() + 1
 }
 
 /// Returns the number of minutes of the span.
-fn asked_minutes(asked: &Asked) -> u64
-    requires { IsInRange asked.now }
-    ensures exact { result ≡ unsigned_abs (asked.now.end -ℤ asked.now.begin) }
+fn asked_minutes(found: &FoundStation) -> u64
+    ensures exact { result ≡ unsigned_abs (found.now.asked.end -ℤ found.now.asked.begin) }
     ensures count_bound { result ≤ 40000000000 }
 {
-    (asked.end - asked.begin).unsigned_abs()
+    (found.asked.end - found.asked.begin).unsigned_abs()
 }
 
 /// Returns the rows.
@@ -98,7 +94,7 @@ fn rows_of(alloc: Global, found: &FoundStation, step: i64) -> Result<Rows, Alloc
     ensures listed { IfOk result (λ rows. All (λ row. InZoneYears row.minute) rows) }
 {
     let mut rows = Vec::new(alloc);
-    for place in 0..row_count(&found.asked, step) {
+    for place in 0..row_count(found, step) {
         rows.push(row_at(found, step, place))?;
     }
     Ok(Rows::from_vec(rows))

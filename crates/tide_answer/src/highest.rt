@@ -8,7 +8,7 @@ ghost use Rattle.tide_answer.specs.Workings.Peaks.{peak_certificate_in};
 ghost use Rattle.tide_fault.specs.Faults.{refusal_is_out_of_memory, IsPrintableRefusal};
 ghost use Rattle.station_span.specs.Workings.Finds.{HasPeak, site_of, tide_of_found};
 ghost use Rattle.station_span.specs.Workings.Peaks.{IsSourceIn};
-ghost use Rattle.station_span.specs.Workings.Spans.{AreMoments, IsInRange};
+ghost use Rattle.station_span.specs.Workings.Spans.{AreMoments};
 
 use crate::text::{Answer, text_alone};
 use decimal_text::{Bytes, Text};
@@ -16,15 +16,15 @@ use highest_water::Peak;
 use listing::highest_text;
 use peak_text::{PeakCertificate, write_peak};
 use station_span::{
-    Asked, FoundStation, StationData, find_highest, find_level, highest_minute, level_at,
-    moved_minute,
+    Asked, FoundStation, StationData, StationRequest, find_highest, find_level, highest_minute,
+    level_at, moved_minute,
 };
 use std::alloc::{AllocError, Global};
 use tide_fault::Refusal;
 use zone_time::ZoneClock;
 
-/// Returns the highest water of the station `name` among the minutes of the span of `asked`, by the
-/// clock of `zone`.
+/// Returns the highest water of the station of `request` among the minutes of its span, by the clock
+/// of `zone`.
 ///
 /// # Errors
 /// The first [`Refusal`] in this order: the station, its unit, the span, the bounds on its
@@ -33,18 +33,16 @@ use zone_time::ZoneClock;
 pub fn highest_answer(
     alloc: Global,
     stations: &StationData<'_>,
-    name: &Text,
-    asked: &Asked,
+    request: &StationRequest<'_>,
     zone: &ZoneClock<'_>,
 ) -> Result<Answer, Refusal>
-    requires in_range { IsInRange asked.now }
     ensures exact { ReturnsUnless refusal_is_out_of_memory
-        (highest stations.now.book stations.now.table name.now asked.now zone.now) result }
+        (highest stations.now.book stations.now.table request.now.name request.now.asked zone.now) result }
     ensures printable { IfErr result (IsPrintableRefusal stations.now.table) }
 {
-    let found = find_level(alloc, stations, name, asked)?;
+    let found = find_level(alloc, stations, request)?;
     let at = highest_minute(&found);
-    let text = highest_text_at(alloc, &found, name, at, zone)?;
+    let text = highest_text_at(alloc, &found, request.name(), at, zone)?;
     Ok(text_alone(text))
 }
 
@@ -66,8 +64,8 @@ pub fn highest_text_at(
     highest_text(alloc, name, found.units, minute, level, zone.zone())
 }
 
-/// Returns the certificate of the highest water of the station `name` among the minutes of the span
-/// of `asked`.
+/// Returns the certificate of the highest water of the station of `request` among the minutes of its
+/// span.
 ///
 /// # Errors
 /// The first [`Refusal`] in the order of `highest`.
@@ -75,17 +73,15 @@ pub fn highest_text_at(
 pub fn certify_peak(
     alloc: Global,
     stations: &StationData<'_>,
-    name: &Text,
-    asked: &Asked,
+    request: &StationRequest<'_>,
 ) -> Result<Answer, Refusal>
-    requires in_range { IsInRange asked.now }
-    requires moments { AreMoments asked.now }
-    ensures exact { ReturnsUnless refusal_is_out_of_memory (peak_certified stations.now.book stations.now.table name.now asked.now) result }
+    requires { AreMoments request.now.asked }
+    ensures exact { ReturnsUnless refusal_is_out_of_memory (peak_certified stations.now.book stations.now.table request.now.name request.now.asked) result }
     ensures printable { IfErr result (IsPrintableRefusal stations.now.table) }
 {
-    let found = find_level(alloc, stations, name, asked)?;
+    let found = find_level(alloc, stations, request)?;
     let peak = find_highest(alloc, &found)?;
-    let cert = certificate_of(name.copy()?, asked, peak);
+    let cert = certificate_of(request.name().copy()?, request.asked(), peak);
     let text = write_peak(alloc, &cert)?;
     Ok(text_alone(text))
 }

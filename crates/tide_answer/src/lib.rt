@@ -9,7 +9,6 @@
 
 mod about;
 mod alone;
-mod asked_spans;
 mod calendar;
 mod certificate_rejection;
 mod certificate_sending;
@@ -28,6 +27,7 @@ mod peak_check;
 mod peak_laws;
 mod predict;
 mod ready;
+mod requests;
 mod sample;
 mod streaming;
 mod tally;

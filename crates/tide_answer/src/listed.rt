@@ -10,8 +10,8 @@ ghost use Rattle.tide_answer.specs.Answers.{listed};
 ghost use Rattle.tide_answer.specs.Givens.{IsGiven};
 ghost use Rattle.tide_fault.specs.Faults.{refusal_is_out_of_memory, IsPrintableRefusal};
 
-use crate::asked_spans::{span_named, station_named};
 use crate::given::Given;
+use crate::requests::station_request;
 use curve_law::Events;
 use decimal_text::Text;
 use harmonics_book::{Book, Units};
@@ -63,11 +63,10 @@ pub fn station_events(
 {
     let stations = StationData::new(book, table);
     let question = ValidQuestion::new(question);
-    let name = station_named(&question)?;
-    let asked = span_named(&question)?;
-    let found = list_station(alloc, &stations, name, &asked)?;
+    let request = station_request(&question)?;
+    let found = list_station(alloc, &stations, &request)?;
     Ok(Listed {
-        name: name.copy()?,
+        name: request.name().copy()?,
         units: found.units,
         events: found.events,
     })

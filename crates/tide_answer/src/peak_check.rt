@@ -12,8 +12,8 @@ ghost use Rattle.tide_fault.specs.Faults.{refusal_is_out_of_memory, IsPrintableR
 ghost use Rattle.station_span.specs.Workings.Finds.{HasPeak, site_of, tide_of_found};
 ghost use Rattle.station_span.specs.Workings.Peaks.{IsSourceIn};
 
-use crate::asked_spans::asked_by_peak_certificate;
 use crate::highest::highest_text_at;
+use crate::requests::request_of_peak_certificate;
 use crate::text::{Answer, accepted, rejected};
 use highest_water::PeakVerdict;
 use peak_text::{
@@ -73,12 +73,7 @@ fn judge_peak(
     ensures exact { ReturnsUnless refusal_is_out_of_memory (peak_judged_in stations.now.book stations.now.table cert.now) result }
     ensures printable { IfErr result (IsPrintableRefusal stations.now.table) }
 {
-    let found = find_level(
-        alloc,
-        stations,
-        &cert.station,
-        &asked_by_peak_certificate(cert),
-    )?;
+    let found = find_level(alloc, stations, &request_of_peak_certificate(cert))?;
     match judge_highest(&found, &cert.peak) {
         PeakVerdict::Accepted => Ok(accept_peak(alloc, &found, cert)?),
         verdict => Ok(rejected(verdict_line(alloc, verdict)?)),

@@ -5,19 +5,17 @@ ghost use Rattle.decimal_text.specs.Expected.{ReturnsUnless};
 ghost use Rattle.event_text.specs.Lines.{IsListed};
 ghost use Rattle.tide_answer.specs.Answers.{events_text, predicted};
 ghost use Rattle.tide_fault.specs.Faults.{refusal_is_out_of_memory, IsPrintableRefusal};
-ghost use Rattle.station_span.specs.Workings.Spans.{IsInRange};
 
 use crate::text::Answer;
 use decimal_text::{Bytes, Text};
 use listing::{csv_events, plain_events};
 use question::Layout;
-use station_span::{Asked, FoundEvents, StationData, list_station};
+use station_span::{FoundEvents, StationData, StationRequest, list_station};
 use std::alloc::{AllocError, Global};
 use tide_fault::Refusal;
 use zone_time::ZoneClock;
 
-/// Returns the listing of the events of the station `name` over the span of `asked`, in `layout`
-/// and by the clock of `zone`.
+/// Returns the listing of the events that `request` requests, in `layout` and by the clock of `zone`.
 ///
 /// # Errors
 /// The first [`Refusal`] in this order: the station, its unit, the span, the bounds on its
@@ -26,18 +24,16 @@ use zone_time::ZoneClock;
 pub fn predict(
     alloc: Global,
     stations: &StationData<'_>,
-    name: &Text,
-    asked: &Asked,
+    request: &StationRequest<'_>,
     layout: Layout,
     zone: &ZoneClock<'_>,
 ) -> Result<Answer, Refusal>
-    requires in_range { IsInRange asked.now }
     ensures exact { ReturnsUnless refusal_is_out_of_memory
-        (predicted stations.now.book stations.now.table name.now asked.now layout zone.now) result }
+        (predicted stations.now.book stations.now.table request.now.name request.now.asked layout zone.now) result }
     ensures printable { IfErr result (IsPrintableRefusal stations.now.table) }
 {
-    let listed = list_station(alloc, stations, name, asked)?;
-    let text = list_events(alloc, layout, name, &listed, zone)?;
+    let listed = list_station(alloc, stations, request)?;
+    let text = list_events(alloc, layout, request.name(), &listed, zone)?;
     Ok(Answer {
         text,
         rejected: false,

@@ -10,9 +10,9 @@ ghost use Rattle.tide_answer.specs.Givens.{IsGiven};
 ghost use Rattle.tide_answer.specs.Streams.{can_stream, prepared, streams_by, Streams};
 ghost use Rattle.tide_answer.specs.Workings.Streaming.{form_of};
 
-use crate::asked_spans::{span_named, station_named};
 use crate::form::Form;
 use crate::given::Given;
+use crate::requests::station_request;
 use crate::streaming::Stream;
 use harmonics_book::Book;
 use question::{Command, Layout, Question, ValidQuestion};
@@ -77,14 +77,13 @@ fn find_ready(
         (prepared stations.now.book stations.now.table question.now given.entry.now) result }
     ensures printable { IfErr result (IsPrintableRefusal stations.now.table) }
 {
-    let name = station_named(question)?;
-    let asked = span_named(question)?;
-    let found = find_station(alloc, stations, Reach::Events, name, &asked)?;
+    let request = station_request(question)?;
+    let found = find_station(alloc, stations, Reach::Events, &request)?;
     let question = question.get();
     match streamed_zone(&found.basis, question.layout, &given.zone) {
         Some(zone) => {
             let form = form_of(question.command);
-            let stream = Stream::new(form, found, name.copy()?, zone);
+            let stream = Stream::new(form, found, request.name().copy()?, zone);
             Ok(Ready {
                 stream: Some(stream),
             })

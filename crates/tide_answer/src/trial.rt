@@ -17,7 +17,7 @@ use decimal_text::{Bytes, Text};
 use harmonics_book::{Book, Station};
 use harmonics_text::{BookFault, read_book};
 use sample_tides::sample;
-use station_span::{Asked, Reach, StationData, find_events, find_station};
+use station_span::{Asked, Reach, StationData, StationRequest, find_events, find_station};
 use station_table::OffsetTable;
 use std::alloc::Global;
 use tide_fault::Refusal;
@@ -106,7 +106,8 @@ fn tally_station(alloc: Global, stations: &StationData<'_>, name: &Text) -> Resu
     ensures printable { IfErr result (IsPrintableRefusal []) }
     ensures count_bound { IfOk result (IsUpTo (2 ^ 66)) }
 {
-    let found = find_station(alloc, stations, Reach::Events, name, &SPAN)?;
+    let request = StationRequest::new(name, SPAN);
+    let found = find_station(alloc, stations, Reach::Events, &request)?;
     let listed = find_events(alloc, &found)?;
     let tracks = find_tracks(alloc, &found)?;
     let cert = certificate_of(name.copy()?, &SPAN, tracks);

@@ -9,11 +9,11 @@ pub returns-in_err-found-clause-exact : goal.returns-in_err-found-clause-exact
 returns-in_err-found-clause-exact c =
     let p = err_from_is_err_and c.from_residual.result c.from_residual.ensures.1 in
     rw (p.1, p.2) (judged_refused _ c.args.stations.now.book c.args.stations.now.table c.args.cert.now c.args.zone.now _
-    (rw c.asked_by_certificate.ensures at c.in_err-found.ensures.exact))
+    (rw c.request_of_certificate-request.ensures at c.in_err-found.ensures.exact))
 
 pub returns-in-None-clause-exact : goal.returns-in-None-clause-exact
 returns-in-None-clause-exact c =
-    let is = rw c.asked_by_certificate.ensures at c.in_ok-found.ensures.exact in
+    let is = rw c.request_of_certificate-request.ensures at c.in_ok-found.ensures.exact in
     let rejection = rw is.book at c.find_rejection.ensures in
     judged_by c.args.stations.now.book c.args.stations.now.table c.args.cert.now c.args.zone.now (site_of c.in_ok-found.found) is.site
     ∙ ap (λ r. Ok (judged c.args.stations.now.book (site_of c.in_ok-found.found) c.args.cert.now c.args.zone.now r))
@@ -22,7 +22,7 @@ returns-in-None-clause-exact c =
 
 pub returns-clause-exact : goal.returns-clause-exact
 returns-clause-exact c =
-    let is = rw c.asked_by_certificate.ensures at c.in_ok-found.ensures.exact in
+    let is = rw c.request_of_certificate-request.ensures at c.in_ok-found.ensures.exact in
     let rejection = rw is.book at c.find_rejection.ensures in
     rw (c.rejected.ensures, c.in_ok-rejection_line-in-Some.ensures)
     (judged_by c.args.stations.now.book c.args.stations.now.table c.args.cert.now c.args.zone.now (site_of c.in_ok-found.found) is.site

@@ -13,8 +13,8 @@ pub returns-in_err-check_level-clause-exact : goal.returns-in_err-check_level-cl
 returns-in_err-check_level-clause-exact c =
     let now : FitsSigned w64 c.args.now = search rules in
     let p = err_from_is_err_and c.from_residual-in_err-check_level.result c.from_residual-in_err-check_level.ensures.1 in
-    let asked = simp to_z-of_z at c.day_from-asked.ensures.exact in
-    let is = rw asked at c.in_ok-found.ensures.exact in
+    let request = simp to_z-of_z at c.day_from-request.ensures in
+    let is = rw request at c.in_ok-found.ensures.exact in
     rw (p.1, p.2)
     (refused_level _ c.args.stations.now.book c.args.stations.now.table c.args.name.now c.args.now c.args.zone.now
     (site_of c.in_ok-found.found) _ is.site (excused_by _ _ _ (sym c.in_err-check_level.ensures.exact)))
@@ -22,22 +22,22 @@ returns-in_err-check_level-clause-exact c =
 pub level_at-level-requires : goal.level_at-level-requires
 level_at-level-requires c =
     let now : FitsSigned w64 c.args.now = search rules in
-    let asked = simp to_z-of_z at c.day_from-asked.ensures.exact in
-    let is = rw asked at c.in_ok-found.ensures.exact in
+    let request = simp to_z-of_z at c.day_from-request.ensures in
+    let is = rw request at c.in_ok-found.ensures.exact in
     simp to_z-of_z (subst (λ (a : Asked). IsLooked c.in_ok-found.found a.begin) is.asked (c.in_ok-check_level.ensures.first is.reach))
 
 pub is_rising-rising-requires : goal.is_rising-rising-requires
 is_rising-rising-requires c =
     let now : FitsSigned w64 c.args.now = search rules in
-    let asked = simp to_z-of_z at c.day_from-asked.ensures.exact in
-    let is = rw asked at c.in_ok-found.ensures.exact in
+    let request = simp to_z-of_z at c.day_from-request.ensures in
+    let is = rw request at c.in_ok-found.ensures.exact in
     simp to_z-of_z (subst (λ (a : Asked). IsLooked c.in_ok-found.found a.begin) is.asked (c.in_ok-check_level.ensures.first is.reach))
 
 pub clock_text-requires-clause-now : goal.clock_text-requires-clause-now
 clock_text-requires-clause-now c =
     let now : FitsSigned w64 c.args.now = search rules in
-    let asked = simp to_z-of_z at c.day_from-asked.ensures.exact in
-    let is = rw asked at c.in_ok-found.ensures.exact in
+    let request = simp to_z-of_z at c.day_from-request.ensures in
+    let is = rw request at c.in_ok-found.ensures.exact in
     let looked = subst (λ (a : Asked). IsLooked c.in_ok-found.found a.begin) is.asked (c.in_ok-check_level.ensures.first is.reach) in
     simp to_z-of_z (zone_minute (tide_of_found c.in_ok-found.found) c.args.now (looked_level c.in_ok-found.found c.args.now looked))
 
@@ -47,8 +47,8 @@ clock_text-requires-clause-listed c = rw (c.in_ok-found.found.unit, ← c.in_ok-
 pub returns-clause-exact : goal.returns-clause-exact
 returns-clause-exact c =
     let now : FitsSigned w64 c.args.now = search rules in
-    let asked = simp to_z-of_z at c.day_from-asked.ensures.exact in
-    let is = rw asked at c.in_ok-found.ensures.exact in
+    let request = simp to_z-of_z at c.day_from-request.ensures in
+    let is = rw request at c.in_ok-found.ensures.exact in
     let list = rw (is.book, is.asked) at c.in_ok-listed.ensures in
     let shown : FitsSigned w64 c.level_at-level.result = search rules in
     let level = rw is.book at (simp to_z-of_z at c.level_at-level.ensures) in

@@ -6,7 +6,7 @@ use Rattle.tide_answer.proofs.peak_check.judge_peak.Goals as goal
 
 pub returns-in-Accepted-clause-exact : goal.returns-in-Accepted-clause-exact
 returns-in-Accepted-clause-exact c =
-    let is = rw c.asked_by_peak_certificate.ensures at c.in_ok-found.ensures.exact in
+    let is = rw c.request_of_peak_certificate.ensures at c.in_ok-found.ensures.exact in
     let verdict = rw (is.book, is.asked) at c.judge_highest.ensures.exact in
     let site = site_of c.in_ok-found.found in
     judged_by c.args.stations.now.book c.args.stations.now.table c.args.cert.now site is.site

@@ -1,7 +1,7 @@
 use Rattle.std.proofs.Common.{FitsSigned, w64, rules}
 use Rattle.std.proofs.lemmas.Int.{to_z-of_z}
 use Rattle.tide_answer.proofs.AnswerLemmas.{asked_in_range}
-use Rattle.tide_answer.proofs.asked_spans.span_named.Goals as goal
+use Rattle.tide_answer.proofs.requests.span_named.Goals as goal
 
 pub returns-in-Some-Some-clause-in_range : goal.returns-in-Some-Some-clause-in_range
 returns-in-Some-Some-clause-in_range c =

@@ -19,7 +19,7 @@ of-requires-clause-count_bound c =
 pub returns-clause-exact : goal.returns-clause-exact
 returns-clause-exact c =
     let found = c.in_ok-found.found in
-    let is = rw c.requires at c.in_ok-found.ensures.exact in
+    let is = rw (c.new-request.ensures, c.requires) at c.in_ok-found.ensures.exact in
     let span = span_for found Events is.reach ∙ ap (λ (a : Asked). widened_of found.basis a.begin a.end) is.asked in
     rw (c.of.ensures.exact, c.certificate_of-cert.ensures)
     (station_whole c.args.stations.now.book c.args.name.now (site_of found) found.span c.in_ok-tracks.tracks

@@ -1,0 +1,90 @@
+//! The request about a station that a question or a certificate makes.
+
+ghost use Rattle.std.specs.Prelude.{◌≡◌, [], Ok, Err, IfErr, IfOk};
+ghost use Rattle.cert_text.specs.Certificates.{IsCertificate};
+ghost use Rattle.peak_text.specs.PeakTexts.{IsPeakCertificate};
+ghost use Rattle.tide_answer.specs.Answers.{named_by};
+ghost use Rattle.tide_answer.specs.Asking.{asked_by_question, asked_by_certificate, asked_by_peak_certificate};
+ghost use Rattle.tide_answer.specs.Workings.Requests.{named_span};
+ghost use Rattle.tide_fault.specs.Faults.{IsPrintableRefusal};
+ghost use Rattle.station_span.specs.Workings.Spans.{AreMoments, IsInRange};
+
+use cert_text::Certificate;
+use decimal_text::Text;
+use peak_text::PeakCertificate;
+use question::ValidQuestion;
+use station_span::{Asked, StationRequest};
+use tide_fault::Refusal;
+
+/// Returns the station's name, the span and the mark of `question`. A command that needs them has
+/// them.
+///
+/// # Errors
+/// [`Refusal::NoStation`] if it lacks the station or the span.
+#[tactic(auto, unfolding(crate::specs::Workings::Requests::named_span))]
+pub fn station_request<'a>(question: &ValidQuestion<'a>) -> Result<StationRequest<'a>, Refusal>
+    ensures exact { result ≡ named_span question.now }
+    ensures moments { IfOk result (λ request. AreMoments request.asked) }
+    ensures printable { IfErr result (IsPrintableRefusal []) }
+{
+    let name = station_named(question)?;
+    let asked = span_named(question)?;
+    Ok(StationRequest::new(name, asked))
+}
+
+/// Returns the station's name. A command that needs one has it.
+pub fn station_named<'a>(question: &ValidQuestion<'a>) -> Result<&'a Text, Refusal>
+    ensures found { IfOk result (λ name. named_by question.now.station ≡ Ok name.now) }
+    ensures missing { IfErr result (λ refusal. named_by question.now.station ≡ Err refusal) }
+    ensures printable { IfErr result (IsPrintableRefusal []) }
+{
+    match &question.get().station {
+        Some(name) => Ok(name),
+        None => Err(Refusal::NoStation),
+    }
+}
+
+/// Returns the span and the mark.
+#[tactic(auto, unfolding(crate::specs::Asking::asked_by_question))]
+fn span_named(question: &ValidQuestion<'_>) -> Result<Asked, Refusal>
+    ensures exact { result ≡ named_by (asked_by_question question.now) }
+    ensures in_range { IfOk result IsInRange }
+    ensures moments { IfOk result AreMoments }
+    ensures printable { IfErr result (IsPrintableRefusal []) }
+{
+    let question = question.get();
+    match (question.begin, question.end) {
+        (Some(begin), Some(end)) => Ok(Asked {
+            begin,
+            end,
+            mark: question.mark,
+        }),
+        _ => Err(Refusal::NoStation),
+    }
+}
+
+/// Returns the station's name, the span and the mark of the certificate `cert`.
+pub fn request_of_certificate<'a>(cert: &'a Certificate) -> StationRequest<'a>
+    requires { IsCertificate cert.now }
+    ensures { result ≡ record { name = cert.now.station; asked = asked_by_certificate cert.now } }
+{
+    let asked = Asked {
+        begin: cert.begin,
+        end: cert.end,
+        mark: cert.mark,
+    };
+    StationRequest::new(&cert.station, asked)
+}
+
+/// Returns the station's name and the span of `cert`, a certificate of a highest water.
+pub fn request_of_peak_certificate<'a>(cert: &'a PeakCertificate) -> StationRequest<'a>
+    requires { IsPeakCertificate cert.now }
+    ensures { result ≡ record { name = cert.now.station; asked = asked_by_peak_certificate cert.now } }
+{
+    let asked = Asked {
+        begin: cert.begin,
+        end: cert.end,
+        mark: None,
+    };
+    StationRequest::new(&cert.station, asked)
+}
