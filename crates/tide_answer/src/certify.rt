@@ -1,6 +1,6 @@
 //! The answer of `certify`: the certificate of a station's events.
 
-ghost use Rattle.std.specs.Prelude.{◌≡◌, IfErr};
+ghost use Rattle.std.specs.Prelude.{◌≡◌, IfErr, IfOk};
 ghost use Rattle.decimal_text.specs.Expected.{ReturnsUnless};
 ghost use Rattle.tide_answer.specs.Answers.{certified};
 ghost use Rattle.tide_fault.specs.Faults.{refusal_is_out_of_memory, IsPrintableRefusal};
@@ -11,10 +11,9 @@ use crate::text::Answer;
 use crate::tracks::find_tracks;
 use cert_text::{Certificate, write_certificate};
 use curve_law::Tracks;
-use decimal_text::Text;
 use station_cells::cell_count;
-use station_span::{Asked, Reach, StationData, StationRequest, find_station};
-use std::alloc::Global;
+use station_span::{Reach, StationData, StationRequest, find_station};
+use std::alloc::{AllocError, Global};
 use tide_fault::Refusal;
 
 /// Returns the certificate of the events that `request` requests, by the rules of version 2.
@@ -35,7 +34,7 @@ pub fn certify(
     let found = find_station(alloc, stations, Reach::Events, request)?;
     let tracks = find_tracks(alloc, &found)?;
     let cells = cell_count(&tracks);
-    let cert = certificate_of(request.name().copy()?, request.asked(), tracks);
+    let cert = certificate_of(request, tracks)?;
     let text = write_certificate(alloc, &cert)?;
     Ok(Answer {
         text,
@@ -44,16 +43,20 @@ pub fn certify(
     })
 }
 
-// Returns the certificate of version 2 with the cells `tracks`.
-pub fn certificate_of(station: Text, asked: &Asked, tracks: Tracks) -> Certificate
-    ensures { result ≡ certificate_in station asked.now tracks }
+// Returns the certificate of version 2 that answers `request` with the cells `tracks`.
+pub fn certificate_of(
+    request: &StationRequest<'_>,
+    tracks: Tracks,
+) -> Result<Certificate, AllocError>
+    ensures { IfOk result (λ cert. cert ≡ certificate_in request.now.name request.now.asked tracks) }
 {
-    Certificate {
+    let asked = request.asked();
+    Ok(Certificate {
         version: 2,
-        station,
+        station: request.name().copy()?,
         begin: asked.begin,
         end: asked.end,
         mark: asked.mark,
         tracks,
-    }
+    })
 }

@@ -16,8 +16,8 @@ use highest_water::Peak;
 use listing::highest_text;
 use peak_text::{PeakCertificate, write_peak};
 use station_span::{
-    Asked, FoundStation, StationData, StationRequest, find_highest, find_level, highest_minute,
-    level_at, moved_minute,
+    FoundStation, StationData, StationRequest, find_highest, find_level, highest_minute, level_at,
+    moved_minute,
 };
 use std::alloc::{AllocError, Global};
 use tide_fault::Refusal;
@@ -81,19 +81,20 @@ pub fn certify_peak(
 {
     let found = find_level(alloc, stations, request)?;
     let peak = find_highest(alloc, &found)?;
-    let cert = certificate_of(request.name().copy()?, request.asked(), peak);
+    let cert = certificate_of(request, peak)?;
     let text = write_peak(alloc, &cert)?;
     Ok(text_alone(text))
 }
 
-/// Returns the certificate of the highest water `peak`.
-fn certificate_of(station: Text, asked: &Asked, peak: Peak) -> PeakCertificate
-    ensures { result ≡ peak_certificate_in station asked.now peak }
+/// Returns the certificate that answers `request` with the highest water `peak`.
+fn certificate_of(request: &StationRequest<'_>, peak: Peak) -> Result<PeakCertificate, AllocError>
+    ensures { IfOk result (λ cert. cert ≡ peak_certificate_in request.now.name request.now.asked peak) }
 {
-    PeakCertificate {
-        station,
+    let asked = request.asked();
+    Ok(PeakCertificate {
+        station: request.name().copy()?,
         begin: asked.begin,
         end: asked.end,
         peak,
-    }
+    })
 }

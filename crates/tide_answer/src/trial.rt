@@ -110,7 +110,7 @@ fn tally_station(alloc: Global, stations: &StationData<'_>, name: &Text) -> Resu
     let found = find_station(alloc, stations, Reach::Events, &request)?;
     let listed = find_events(alloc, &found)?;
     let tracks = find_tracks(alloc, &found)?;
-    let cert = certificate_of(name.copy()?, &SPAN, tracks);
+    let cert = certificate_of(&request, tracks)?;
     let rejection = find_rejection(&found, &cert);
     Ok(Tally::of(&found.span, &cert.tracks, &listed.events, rejection))
 }

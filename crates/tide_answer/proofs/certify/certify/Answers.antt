@@ -14,12 +14,12 @@ write_certificate-requires c =
     let valid = certificate_valid c.args.request.now.name found.asked (tide_of_found found) c.in_ok-tracks.tracks c.in_ok-found.ensures.named
     (rw is.asked c.requires.begin) (rw is.asked c.requires.end) (ready_for found is.reach)
     (c.in_ok-tracks.ensures ∙ tracks_tide found is.reach) in
-    rw (c.certificate_of-cert.ensures, c.in_ok-copy.ensures, c.name.ensures, c.asked.ensures.exact) (rw is.asked at valid)
+    rw c.in_ok-cert.ensures (rw is.asked at valid)
 
 pub returns-clause-exact : goal.returns-clause-exact
 returns-clause-exact c =
     let is = c.in_ok-found.ensures.exact in
-    let written = rw (c.certificate_of-cert.ensures, c.in_ok-copy.ensures, c.name.ensures, c.asked.ensures.exact) at c.in_ok-text.ensures in
+    let written = rw c.in_ok-cert.ensures at c.in_ok-text.ensures in
     let tracks = rw (is.book, is.asked) at c.in_ok-tracks.ensures in
     certified_whole c.args.stations.now.book c.args.stations.now.table c.args.request.now.name c.args.request.now.asked
     (site_of c.in_ok-found.found) c.in_ok-tracks.tracks c.in_ok-text.text c.cell_count-cells.result

@@ -9,12 +9,12 @@ write_peak-requires c =
     let is = c.in_ok-found.ensures.exact in
     let valid = certificate_valid c.args.request.now.name found c.in_ok-peak.peak c.in_ok-found.ensures.named
     (rw is.asked c.requires) c.in_ok-found.ensures.peak c.in_ok-peak.ensures.exact in
-    rw (c.certificate_of-cert.ensures, c.in_ok-copy.ensures, c.name.ensures, c.asked.ensures.exact) (rw is.asked at valid)
+    rw c.in_ok-cert.ensures (rw is.asked at valid)
 
 pub returns-clause-exact : goal.returns-clause-exact
 unfolding peak_certified
 returns-clause-exact c =
     let is = c.in_ok-found.ensures.exact in
     let peak = rw (is.book, is.asked) at c.in_ok-peak.ensures.exact in
-    let text = rw (c.certificate_of-cert.ensures, c.in_ok-copy.ensures, c.name.ensures, c.asked.ensures.exact, peak) at c.in_ok-text.ensures in
+    let text = rw (c.in_ok-cert.ensures, peak) at c.in_ok-text.ensures in
     rw (c.text_alone.ensures, text, is.site) refl

@@ -9,20 +9,21 @@ use Rattle.tide_answer.proofs.trial.tally_station.Goals as goal
 
 pub find_rejection-rejection-requires-clause-count_bound : goal.find_rejection-rejection-requires-clause-count_bound
 find_rejection-rejection-requires-clause-count_bound c =
-    rw c.certificate_of-cert.ensures
+    rw c.in_ok-cert.ensures
     (tracks_few c.in_ok-found.found c.in_ok-tracks.tracks c.in_ok-found.ensures.exact.reach c.in_ok-tracks.ensures)
 
 pub of-requires-clause-count_bound : goal.of-requires-clause-count_bound
 of-requires-clause-count_bound c =
-    rw (c.certificate_of-cert.ensures, c.in_ok-tracks.ensures) (few_for c.in_ok-found.found c.in_ok-found.ensures.exact.reach)
+    rw (c.in_ok-cert.ensures, c.in_ok-tracks.ensures) (few_for c.in_ok-found.found c.in_ok-found.ensures.exact.reach)
 
 pub returns-clause-exact : goal.returns-clause-exact
 returns-clause-exact c =
     let found = c.in_ok-found.found in
     let is = rw (c.new-request.ensures, c.requires) at c.in_ok-found.ensures.exact in
+    let cert = rw c.new-request.ensures at c.in_ok-cert.ensures in
     let span = span_for found Events is.reach ∙ ap (λ (a : Asked). widened_of found.basis a.begin a.end) is.asked in
-    rw (c.of.ensures.exact, c.certificate_of-cert.ensures)
+    rw (c.of.ensures.exact, cert)
     (station_whole c.args.stations.now.book c.args.name.now (site_of found) found.span c.in_ok-tracks.tracks
     c.in_ok-listed.listed.events c.find_rejection-rejection.result is.site span
     (rw (is.book, is.asked) at c.in_ok-tracks.ensures) (rw (is.book, is.asked) at c.in_ok-listed.ensures.events)
-    (rw (is.book, c.certificate_of-cert.ensures) at c.find_rejection-rejection.ensures))
+    (rw (is.book, cert) at c.find_rejection-rejection.ensures))
