@@ -1,7 +1,7 @@
 //! A certificate that is written as its cells are found. None of these functions allocates.
 
-ghost use Rattle.std.specs.Prelude.{◌≡◌, ◌<◌, ◌≤◌, ◌^◌, ◌++◌, length, IfOk, IfSome};
-ghost use Rattle.cert_text.specs.Certificates.{IsMark, IsStationName};
+ghost use Rattle.std.specs.Prelude.{◌≡◌, ◌<◌, ◌≤◌, ◌^◌, ◌++◌, length, IfOk};
+ghost use Rattle.cert_text.specs.Certificates.{IsStationName};
 ghost use Rattle.cert_text.specs.Lines.{begin_line_of, end_line_of, mark_line_of, certificate_text, ended};
 ghost use Rattle.station_cells.specs.Sending.{Sends};
 ghost use Rattle.station_span.specs.declared.reach.Reach.{Reach};
@@ -15,7 +15,7 @@ use arrayvec::ArrayString;
 use cert_text::{TrackName, begin_line, end_line, mark_line};
 use decimal_text::Text;
 use station_cells::{Sent, send, send_if_followed, send_name, send_track};
-use station_span::{Asked, FoundStation, mark_search, slack_search, turn_search};
+use station_span::{FoundStation, mark_search, slack_search, turn_search};
 use tide_edge::{Sink, WriteFailed};
 
 /// Writes the certificate of the curves of `found` over its span, by the rules of version 2.
@@ -34,23 +34,22 @@ pub fn send_certificate<S: Sink>(
         (certificate_text (certificate_by found.now.origin.book (site_of found.now) name.now found.now.asked))
         (cells_of found.now.origin.book (site_of found.now) found.now.asked) result }
 {
-    let sent = send_head(out, name, &found.asked)?;
+    let sent = send_head(out, name, found)?;
     let sent = send_tracks(out, sent, found)?;
     send(out, sent, "done\n")
 }
 
 // Writes the lines before the tracks.
-fn send_head<S: Sink>(out: &mut S, name: &Text, asked: &Asked) -> Result<Sent, WriteFailed>
+fn send_head<S: Sink>(out: &mut S, name: &Text, found: &FoundStation) -> Result<Sent, WriteFailed>
     requires name { length name.now ≤ 400 }
-    requires moments { AreMoments asked.now }
-    requires mark { IfSome asked.now.mark IsMark }
+    requires moments { AreMoments found.now.asked }
     ensures sends { Sends (S.state out.old) (S.state out.new) (record { bytes = 0; cells = 0 })
-        (head_text name.now asked.now) 0 result }
+        (head_text name.now found.now.asked) 0 result }
     ensures length_bound { IfOk result (λ done. done.bytes ≤ 1000) }
 {
     let start = Sent { bytes: 0, cells: 0 };
     let sent = send_name(out, start, "tide certificate 2\nstation ", name)?;
-    let lines = span_lines(asked);
+    let lines = span_lines(found);
     send(out, sent, lines.as_str())
 }
 
@@ -71,18 +70,17 @@ fn send_tracks<S: Sink>(out: &mut S, sent: Sent, found: &FoundStation) -> Result
 }
 
 // Returns the lines of the span and of the mark.
-fn span_lines(asked: &Asked) -> ArrayString<72>
-    requires moments { AreMoments asked.now }
-    requires mark { IfSome asked.now.mark IsMark }
-    ensures { result.bytes ≡ ended (begin_line_of asked.now.begin) ++ ended (end_line_of asked.now.end)
-        ++ ended (mark_line_of asked.now.mark) }
+fn span_lines(found: &FoundStation) -> ArrayString<72>
+    requires { AreMoments found.now.asked }
+    ensures { result.bytes ≡ ended (begin_line_of found.now.asked.begin) ++ ended (end_line_of found.now.asked.end)
+        ++ ended (mark_line_of found.now.asked.mark) }
 {
     let mut begin = ArrayString::<24>::new();
-    begin_line(asked.begin, &mut begin);
+    begin_line(found.asked.begin, &mut begin);
     let mut end = ArrayString::<24>::new();
-    end_line(asked.end, &mut end);
+    end_line(found.asked.end, &mut end);
     let mut mark = ArrayString::<24>::new();
-    mark_line(asked.mark, &mut mark);
+    mark_line(found.asked.mark, &mut mark);
     let mut lines = ArrayString::new();
     lines.push_str(begin.as_str());
     lines.push_str(end.as_str());

@@ -4,11 +4,8 @@ use Rattle.station_span.specs.Following.{cells_of, tracks_of}
 use Rattle.station_span.specs.Workings.Finds.{site_of}
 use Rattle.tide_answer.specs.Workings.Streaming.{head_text, tracks_text}
 use Rattle.station_cells.proofs.SendLemmas.{sends_cut, sends_sum}
-use Rattle.tide_answer.proofs.StreamLemmas.{certificate_parts, has_cells, mark_in_range}
+use Rattle.tide_answer.proofs.StreamLemmas.{certificate_parts, has_cells}
 use Rattle.tide_answer.proofs.certificate_sending.send_certificate.Goals as goal
-
-pub send_head-requires-clause-mark : goal.send_head-requires-clause-mark
-send_head-requires-clause-mark g c = mark_in_range c.args.found.now.asked.mark c.args.found.now.valid.in_range.mark
 
 pub returns-in_err-sent : goal.returns-in_err-sent
 returns-in_err-sent g c =

@@ -1,0 +1,5 @@
+use Rattle.tide_answer.proofs.StreamLemmas.{mark_in_range}
+use Rattle.tide_answer.proofs.certificate_sending.span_lines.Goals as goal
+
+pub mark_line-requires-clause-mark : goal.mark_line-requires-clause-mark
+mark_line-requires-clause-mark c = mark_in_range c.args.found.now.asked.mark c.args.found.now.valid.in_range.mark
