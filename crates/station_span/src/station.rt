@@ -133,7 +133,8 @@ fn find_at(
 ) -> Result<FoundStation, Refusal>
     requires basis { IsBasis (length book.now.stations) basis }
     requires place { slice_get book.now.stations basis.station ≡ Some station.now }
-    ensures exact { FindsIn reach book.now request.now.asked (site_at reach book.now (site_with basis station.now) request.now.asked) result }
+    ensures exact { FindsIn reach book.now request.now.asked
+        (site_at reach book.now (site_with basis station.now) request.now.asked) result }
     ensures printable { IfErr result (IsPrintableRefusal []) }
 {
     let asked = request.asked();
@@ -188,7 +189,8 @@ fn span_looked_at(
 ) -> Result<Span, Refusal>
     requires offsets { HasOffsets basis.now }
     ensures found { OnOk result (span_in reach book.now basis.now request.now.asked.begin request.now.asked.end ≡ Ok tt) }
-    ensures refused { IfErr result (λ refusal. span_in reach book.now basis.now request.now.asked.begin request.now.asked.end ≡ Err refusal) }
+    ensures refused { IfErr result (λ refusal.
+        span_in reach book.now basis.now request.now.asked.begin request.now.asked.end ≡ Err refusal) }
     ensures exact { IfOk result (λ span. span ≡ reached reach basis.now request.now.asked.begin request.now.asked.end) }
     ensures printable { IfErr result (IsPrintableRefusal []) }
 {

@@ -76,7 +76,8 @@ pub fn certify_peak(
     request: &StationRequest<'_>,
 ) -> Result<Answer, Refusal>
     requires { AreMoments request.now.asked }
-    ensures exact { ReturnsUnless refusal_is_out_of_memory (peak_certified stations.now.book stations.now.table request.now.name request.now.asked) result }
+    ensures exact { ReturnsUnless refusal_is_out_of_memory
+        (peak_certified stations.now.book stations.now.table request.now.name request.now.asked) result }
     ensures printable { IfErr result (IsPrintableRefusal stations.now.table) }
 {
     let found = find_level(alloc, stations, request)?;

@@ -55,8 +55,8 @@ returns-in_err-check_mark-clause-exact c =
       span = c.in_ok-span.ensures.found;
       curve = curve_allowed c.args.book.now c.args.station.now _ _ c.in_ok-curve.curve c.in_ok-curve.ensures.exact;
     } in
-    rw (p.1, p.2) (refused_mark _ c.args.reach c.args.book.now site c.args.request.now.asked _ (tide_of c.args.book.now c.args.station.now) _ has
-    (sym c.in_ok-check_length.ensures.exact) (excused_by _ _ _ (sym c.in_err-check_mark.ensures.exact)))
+    rw (p.1, p.2) (refused_mark _ c.args.reach c.args.book.now site c.args.request.now.asked _
+    (tide_of c.args.book.now c.args.station.now) _ has (sym c.in_ok-check_length.ensures.exact) (excused_by _ _ _ (sym c.in_err-check_mark.ensures.exact)))
 
 pub invariant_of-result : goal.invariant_of-result
 invariant_of-result c =

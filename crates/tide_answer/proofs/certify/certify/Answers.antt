@@ -11,8 +11,8 @@ pub write_certificate-requires : goal.write_certificate-requires
 write_certificate-requires c =
     let found = c.in_ok-found.found in
     let is = c.in_ok-found.ensures.exact in
-    let valid = certificate_valid c.args.request.now.name found.asked (tide_of_found found) c.in_ok-tracks.tracks c.in_ok-found.ensures.named
-    (rw is.asked c.requires.begin) (rw is.asked c.requires.end) (ready_for found is.reach)
+    let valid = certificate_valid c.args.request.now.name found.asked (tide_of_found found) c.in_ok-tracks.tracks
+    c.in_ok-found.ensures.named (rw is.asked c.requires.begin) (rw is.asked c.requires.end) (ready_for found is.reach)
     (c.in_ok-tracks.ensures ∙ tracks_tide found is.reach) in
     rw c.in_ok-cert.ensures (rw is.asked at valid)
 

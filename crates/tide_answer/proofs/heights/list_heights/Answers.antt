@@ -13,8 +13,8 @@ returns-in_err-check_rows-clause-exact c =
     let is = c.in_ok-found.ensures.exact in
     let excused = rw is.asked at (simp to_z-of_z at c.in_err-check_rows.ensures.exact) in
     rw (p.1, p.2)
-    (refused_rows _ c.args.stations.now.book c.args.stations.now.table c.args.request.now.name c.args.request.now.asked c.args.step c.args.layout
-    c.args.zone.now (site_of c.in_ok-found.found) _
+    (refused_rows _ c.args.stations.now.book c.args.stations.now.table c.args.request.now.name c.args.request.now.asked c.args.step
+    c.args.layout c.args.zone.now (site_of c.in_ok-found.found) _
     is.site (sym c.in_ok-check_level.ensures.exact) (excused_by _ _ _ (sym excused)))
 
 pub rows_of-requires-clause-levels : goal.rows_of-requires-clause-levels
@@ -27,6 +27,6 @@ returns-clause-exact c =
     let few = rw is.asked at (simp to_z-of_z at c.in_ok-check_rows.ensures.exact) in
     let rows = rw (is.book, is.asked) at (simp to_z-of_z at c.in_ok-rows.ensures.exact) in
     rw (c.text_alone.ensures, c.in_ok-text.ensures, c.name.ensures, c.in_ok-found.found.unit)
-    (whole_list c.args.stations.now.book c.args.stations.now.table c.args.request.now.name c.args.request.now.asked c.args.step c.args.layout
-    c.args.zone.now (site_of c.in_ok-found.found) c.in_ok-rows.rows
+    (whole_list c.args.stations.now.book c.args.stations.now.table c.args.request.now.name c.args.request.now.asked c.args.step
+    c.args.layout c.args.zone.now (site_of c.in_ok-found.found) c.in_ok-rows.rows
     is.site (sym c.in_ok-check_level.ensures.exact) (sym few) rows)

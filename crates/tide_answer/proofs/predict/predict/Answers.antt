@@ -7,6 +7,6 @@ list_events-requires c = record { listed = c.in_ok-listed.ensures.exact.2.lines 
 pub returns-clause-exact : goal.returns-clause-exact
 returns-clause-exact c =
     let site = c.in_ok-listed.ensures.exact.0 in
-    predicted_whole c.args.stations.now.book c.args.stations.now.table c.args.request.now.name c.args.request.now.asked c.args.layout c.args.zone.now site
-    c.in_ok-listed.listed c.in_ok-text.text
+    predicted_whole c.args.stations.now.book c.args.stations.now.table c.args.request.now.name c.args.request.now.asked c.args.layout
+    c.args.zone.now site c.in_ok-listed.listed c.in_ok-text.text
     c.in_ok-listed.ensures.exact.1 c.in_ok-listed.ensures.exact.2 (rw c.name.ensures at c.in_ok-text.ensures)

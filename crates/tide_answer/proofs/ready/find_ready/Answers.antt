@@ -17,7 +17,8 @@ returns-in_err-found-clause-exact c =
     let parts = named_parts c.args.question.now c.in_ok-request.request (sym c.in_ok-request.ensures.exact) in
     let p = err_from_is_err_and c.from_residual-in_err-found.result c.from_residual-in_err-found.ensures.1 in
     rw (p.1, p.2) (refused_site c.args.question.now.command _ c.args.stations.now.book c.args.stations.now.table c.args.question.now
-    c.args.given.now c.in_ok-request.request.name c.in_ok-request.request.asked _ refl c.requires.command parts.0 parts.1 c.in_err-found.ensures.exact)
+    c.args.given.now c.in_ok-request.request.name c.in_ok-request.request.asked _ refl c.requires.command parts.0 parts.1
+    c.in_err-found.ensures.exact)
 
 pub new-stream-requires : goal.new-stream-requires
 new-stream-requires c =
@@ -38,8 +39,16 @@ returns-in_ok-copy-in-Some-clause-exact c =
     let is = c.in_ok-found.ensures.exact in
     let zone = zone_some _ c.in-Some.zone c.args.given.now.zone
     (sym c.in-Some.is ∙ rw c.get-question.ensures.exact at c.streamed_zone.ensures) in
-    rw (c.new-stream.ensures, c.form_of-form.ensures, c.get-question.ensures.exact, c.in_ok-copy-in-Some.ensures, c.name.ensures, zone.1, is.book, is.asked)
-    (ready_some c.args.question.now.command c.args.question.now.layout c.args.stations.now.book c.args.stations.now.table
+    rw (
+      c.new-stream.ensures,
+      c.form_of-form.ensures,
+      c.get-question.ensures.exact,
+      c.in_ok-copy-in-Some.ensures,
+      c.name.ensures,
+      zone.1,
+      is.book,
+      is.asked,
+    ) (ready_some c.args.question.now.command c.args.question.now.layout c.args.stations.now.book c.args.stations.now.table
     c.args.question.now c.args.given.now c.in_ok-request.request.name c.in_ok-request.request.asked (site_of c.in_ok-found.found)
     refl refl c.requires.command parts.0 parts.1 is.site zone.0)
 
