@@ -26,7 +26,7 @@ pub use about::about_text;
 pub use clock::clock_text;
 pub use event_text::{event_line, height_line};
 pub use highest::highest_text;
-pub use plain::{plain_events, plain_heights};
+pub use plain::{plain_events, plain_heights, push_plain_events};
 pub use records::{csv_events, csv_heights};
 pub use row::Row;
 pub use rows::Rows;

@@ -27,7 +27,6 @@ use zone_time::{Zone, ZoneClock};
 /// let lines = plain_events(alloc, name, units, events, &Zone::Utc)?;
 /// assert_eq!(rt; lines.as_slice(), DAY.as_bytes());
 /// ```
-#[tactic(auto, unfolding(crate::specs::Listings::plain_events_of))]
 pub fn plain_events(
     alloc: Global,
     name: &Text,
@@ -39,9 +38,27 @@ pub fn plain_events(
     requires listed { All (IsListed units) events.now }
     ensures { IfOk result (λ text. text ≡ plain_events_of name.now units events.now zone.now) }
 {
-    let mut text = name_line(alloc, name)?;
-    push_events(&mut text, units, events.as_slice(), &zone.clock())?;
+    let mut text = Vec::new(alloc);
+    push_plain_events(&mut text, name, units, events, zone)?;
     Ok(Bytes::from_vec(text))
+}
+
+/// Appends what [`plain_events`] returns.
+#[tactic(auto, unfolding(crate::specs::Listings::plain_events_of))]
+pub fn push_plain_events(
+    text: &mut Vec<u8>,
+    name: &Text,
+    units: Units,
+    events: &Events,
+    zone: &Zone,
+) -> Result<(), AllocError>
+    requires zone { IsZone zone.now }
+    requires listed { All (IsListed units) events.now }
+    ensures { OnOk result (text.new.items ≡ text.old.items ++ plain_events_of name.now units events.now zone.now) }
+{
+    text.extend_from_slice(name.as_str().as_bytes())?;
+    text.push(b'\n')?;
+    push_events(text, units, events.as_slice(), &zone.clock())
 }
 
 /// Returns the station's `name`, and the line of each level in the zone's local time, as
