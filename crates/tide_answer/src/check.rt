@@ -16,11 +16,12 @@ ghost use Rattle.tide_fault.specs.Faults.{refusal_is_out_of_memory, IsPrintableR
 
 use crate::certificate_rejection::find_rejection;
 use crate::requests::request_of_certificate;
-use crate::text::{Answer, accepted, rejected};
+use crate::text::{Answer, accepted_line, rejected, text_alone};
 use cert_text::{Certificate, certificates_have_one_text, read_certificate};
 use curve_law::Events;
+use decimal_text::Bytes;
 use event_list::{merged, shifted};
-use listing::plain_events;
+use listing::push_plain_events;
 use station_cells::rejection_line;
 use station_span::{Asked, FoundStation, Reach, StationData, find_station};
 use std::alloc::{AllocError, Global};
@@ -83,8 +84,9 @@ fn accept(
     ensures { IfOk result (λ answer. answer ≡ judged found.now.origin.book (site_of found.now) cert.now zone.now None) }
 {
     let events = events_of(alloc, found, cert)?;
-    let list = plain_events(alloc, &cert.station, found.units, &events, zone.zone())?;
-    accepted(alloc, &list)
+    let mut text = accepted_line(alloc)?;
+    push_plain_events(&mut text, &cert.station, found.units, &events, zone.zone())?;
+    Ok(text_alone(Bytes::from_vec(text)))
 }
 
 /// Returns the events of a valid certificate's cells.

@@ -14,7 +14,8 @@ ghost use Rattle.station_span.specs.Workings.Peaks.{IsSourceIn};
 
 use crate::highest::highest_text_at;
 use crate::requests::request_of_peak_certificate;
-use crate::text::{Answer, accepted, rejected};
+use crate::text::{Answer, accepted_line, rejected, text_alone};
+use decimal_text::Bytes;
 use highest_water::PeakVerdict;
 use peak_text::{
     PeakCertificate, PeakFault, peak_certificates_have_one_text, read_peak, verdict_line,
@@ -91,6 +92,8 @@ fn accept_peak(
     ensures { IfOk result (λ answer. answer ≡ peak_judged found.now.origin.book (site_of found.now) cert.now PeakVerdict.Accepted) }
 {
     let zone = Zone::Utc;
-    let text = highest_text_at(alloc, found, &cert.station, cert.peak.at, &zone.clock())?;
-    accepted(alloc, &text)
+    let shown = highest_text_at(alloc, found, &cert.station, cert.peak.at, &zone.clock())?;
+    let mut text = accepted_line(alloc)?;
+    text.extend_from_slice(shown.as_slice())?;
+    Ok(text_alone(Bytes::from_vec(text)))
 }

@@ -1,7 +1,7 @@
 //! Answers.
 
-ghost use Rattle.std.specs.Prelude.{◌≡◌, IfOk};
-ghost use Rattle.tide_answer.specs.Answers.{text_accepted, text_alone, text_rejected};
+ghost use Rattle.std.specs.Prelude.{◌≡◌, IfOk, codes};
+ghost use Rattle.tide_answer.specs.Answers.{text_alone, text_rejected};
 
 use decimal_text::Bytes;
 use std::alloc::{AllocError, Global};
@@ -28,14 +28,11 @@ pub fn text_alone(text: Bytes) -> Answer
     }
 }
 
-/// Returns the answer that accepts a certificate: the line `Accepted`, and then `shown`.
-pub fn accepted(alloc: Global, shown: &Bytes) -> Result<Answer, AllocError>
-    ensures { IfOk result (λ answer. answer ≡ text_accepted shown.now) }
+/// Returns the line `Accepted`, which the listing of a valid certificate follows.
+pub fn accepted_line(alloc: Global) -> Result<Vec<u8>, AllocError>
+    ensures { IfOk result (λ text. text.items ≡ codes "Accepted\n") }
 {
-    let mut text = Vec::new(alloc);
-    text.extend_from_slice(b"Accepted\n")?;
-    text.extend_from_slice(shown.as_slice())?;
-    Ok(text_alone(Bytes::from_vec(text)))
+    Vec::from_slice(alloc, b"Accepted\n")
 }
 
 /// Returns the answer that rejects a certificate with `line`, which reports its first fault.
