@@ -23,3 +23,4 @@ pub mod CellSteps
 pub mod PlainSteps
 pub mod Ranges
 pub mod Present
+mod WorkedStarts
