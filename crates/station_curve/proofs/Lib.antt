@@ -23,4 +23,5 @@ pub mod CellSteps
 pub mod PlainSteps
 pub mod Ranges
 pub mod Present
+mod OneMore
 mod WorkedStarts

@@ -1,5 +1,5 @@
 -- Products of signed numbers within their types.
-use Rattle.std.proofs.Common.{◌≡◌, ℕ, suc, ◌+◌, ◌*◌, ◌^◌, ◌<◌, ◌≤◌, ℤ, pos, negsuc, ◌+ℤ◌, ◌-ℤ◌, ◌*ℤ◌, ◌≤ℤ◌, ◌<ℤ◌, refl, sym, ap, ◌∙◌, arith}
+use Rattle.std.proofs.Common.{◌≡◌, ℕ, suc, ◌+◌, ◌*◌, ◌^◌, ◌<◌, ◌≤◌, ℤ, pos, negsuc, neg_ℤ, ◌+ℤ◌, ◌-ℤ◌, ◌*ℤ◌, ◌≤ℤ◌, ◌<ℤ◌, FitsSigned, refl, sym, ap, ◌∙◌, arith}
 use Rattle.std.specs.Prelude.{unsigned_abs}
 use Rattle.std.proofs.lemmas.Int.{ints, to_z-of_z, unsigned_abs-mul, fits_signed_mul, fits_signed_from_abs}
 use Rattle.std.proofs.lemmas.Nat.{mul-le, div_below}
@@ -10,8 +10,16 @@ use Rattle.decimal_text.specs.Rounding.{half_up}
 pub cast_small : (w : Width) (a : ℤ) (m : ℕ) → unsigned_abs a ≤ m → m < 2 ^ hbits w → to_z w (of_z w a) ≡ a
 cast_small w a m h fits = to_z-of_z w a (fits_signed_from_abs w a (omega arith))
 
+pub kept_small : (w : Width) (a : ℤ) (m : ℕ) → unsigned_abs a ≤ m → m < 2 ^ hbits w → unsigned_abs (to_z w (of_z w a)) ≤ m
+kept_small w a m h fits = rw (cast_small w a m h fits) h
+
 pub abs_times : (a b : ℤ) (m n : ℕ) → unsigned_abs a ≤ m → unsigned_abs b ≤ n → unsigned_abs (a *ℤ b) ≤ m * n
 abs_times a b m n h k = rw (unsigned_abs-mul a b) (mul-le (unsigned_abs a) (unsigned_abs b) m n h k)
+
+pub times_fits : (w : Width) (a b : ℤ) (m n : ℕ) → unsigned_abs a ≤ m → unsigned_abs b ≤ n → m < 2 ^ hbits w
+    → n < 2 ^ hbits w → m * n < 2 ^ hbits w → FitsSigned w (to_z w (of_z w a) *ℤ to_z w (of_z w b))
+times_fits w a b m n h k fits_m fits_n fits =
+    rw (cast_small w a m h fits_m, cast_small w b n k fits_n) (fits_signed_mul w a b m n h k fits)
 
 pub times : (w : Width) (a b : ℤ) (m n : ℕ) → unsigned_abs a ≤ m → unsigned_abs b ≤ n → m < 2 ^ hbits w
     → n < 2 ^ hbits w → m * n < 2 ^ hbits w → to_z w (of_z w (to_z w (of_z w a) *ℤ to_z w (of_z w b))) ≡ a *ℤ b
@@ -39,11 +47,40 @@ abs_span (negsuc a) n least most = omega (arith, ints, least)
 pub zero_of_bits : (z : ℤ) (n : ℕ) → unsigned_abs z ≤ n → n < 2 ^ 63 → of_z w64 z ≡ 0 → z ≡ pos 0
 zero_of_bits z n h small e = sym (cast_small w64 z n h small) ∙ ap (to_z w64) e
 
+pub under : (a m n : ℕ) → a ≤ m → m < n → a < n
+under a m n most below = omega arith
+
 pub abs_plus : (x y : ℤ) (m n : ℕ) → unsigned_abs x ≤ m → unsigned_abs y ≤ n → unsigned_abs (x +ℤ y) ≤ m + n
 abs_plus x y m n h k = omega (arith, ints, h, k)
 
 pub abs_minus : (x y : ℤ) (m n : ℕ) → unsigned_abs x ≤ m → unsigned_abs y ≤ n → unsigned_abs (x -ℤ y) ≤ m + n
 abs_minus x y m n h k = omega (arith, ints, h, k)
+
+pub small_fits : (w : Width) (a : ℤ) (m : ℕ) → unsigned_abs a ≤ m → m < 2 ^ hbits w → FitsSigned w a
+small_fits w a m h fits = fits_signed_from_abs w a (omega arith)
+
+pub plus_fits : (w : Width) (a b : ℤ) (m n : ℕ) → unsigned_abs a ≤ m → unsigned_abs b ≤ n → m + n < 2 ^ hbits w
+    → FitsSigned w (to_z w (of_z w a) +ℤ to_z w (of_z w b))
+plus_fits w a b m n h k fits =
+    rw (cast_small w a m h (omega arith), cast_small w b n k (omega arith)) (small_fits w (a +ℤ b) (m + n) (abs_plus a b m n h k) fits)
+
+pub plus : (w : Width) (a b : ℤ) (m n : ℕ) → unsigned_abs a ≤ m → unsigned_abs b ≤ n → m + n < 2 ^ hbits w
+    → to_z w (of_z w (to_z w (of_z w a) +ℤ to_z w (of_z w b))) ≡ a +ℤ b
+plus w a b m n h k fits =
+    rw (cast_small w a m h (omega arith), cast_small w b n k (omega arith)) (cast_small w (a +ℤ b) (m + n) (abs_plus a b m n h k) fits)
+
+pub minus_fits : (w : Width) (a b : ℤ) (m n : ℕ) → unsigned_abs a ≤ m → unsigned_abs b ≤ n → m + n < 2 ^ hbits w
+    → FitsSigned w (to_z w (of_z w a) -ℤ to_z w (of_z w b))
+minus_fits w a b m n h k fits =
+    rw (cast_small w a m h (omega arith), cast_small w b n k (omega arith)) (small_fits w (a -ℤ b) (m + n) (abs_minus a b m n h k) fits)
+
+pub minus : (w : Width) (a b : ℤ) (m n : ℕ) → unsigned_abs a ≤ m → unsigned_abs b ≤ n → m + n < 2 ^ hbits w
+    → to_z w (of_z w (to_z w (of_z w a) -ℤ to_z w (of_z w b))) ≡ a -ℤ b
+minus w a b m n h k fits =
+    rw (cast_small w a m h (omega arith), cast_small w b n k (omega arith)) (cast_small w (a -ℤ b) (m + n) (abs_minus a b m n h k) fits)
+
+pub zero_minus : (z : ℤ) → pos 0 -ℤ z ≡ neg_ℤ z
+zero_minus z = omega (arith, ints)
 
 pub pos_abs : (z : ℤ) → pos 0 ≤ℤ z → pos (unsigned_abs z) ≡ z
 pos_abs (pos n) h = refl

@@ -1,7 +1,8 @@
 -- Facts about the tide that follow from a curve's invariant.
 use Rattle.std.proofs.Common.{◌≡◌, ℕ, suc, ◌<◌, ◌≤◌, [], length, get_or, sym, ap, subst, ◌∙◌, arith}
+use Rattle.std.specs.Vec.{vec_len}
 use Rattle.std.proofs.lemmas.List.{get_or-map, length-map}
-use Rattle.year_blend.specs.Places.{start_of}
+use Rattle.year_blend.specs.Places.{start_of, AreYears}
 use Rattle.station_curve.specs.declared.years.Year.{Year}
 use Rattle.station_curve.specs.declared.curve.StationCurve.TheInside.{Inside}
 use Rattle.station_curve.specs.Waves.{Tide, amount_of, steepness_of}
@@ -41,3 +42,15 @@ year_of s tide year y ready is in_list at =
 
 pub within_limits_of : (s : Inside) (tide : Tide) → IsReady s → tide_in s ≡ tide → IsWithinLimits tide
 within_limits_of s tide ready is = subst IsWithinLimits is ready.within_limits
+
+-- the years are as many as are stored
+stored_length : (s : Inside) → vec_len s.years ≡ length (tide_in s).years
+stored_length s =
+    let length : vec_len s.years ≡ length s.years.items = omega (arith, s.years.ok.0) in
+    length ∙ sym (length-map s.years.items (λ y. y.waves.items))
+
+pub stored : (s : Inside) (tide : Tide) → tide_in s ≡ tide → vec_len s.years ≡ length tide.years
+stored s tide is = stored_length s ∙ ap (λ (t : Tide). length t.years) is
+
+pub are_years : (s : Inside) → IsReady s → AreYears s.first_year (vec_len s.years)
+are_years s ready = rw (stored_length s) ready.within_limits.years

@@ -1,8 +1,12 @@
 use Rattle.std.proofs.Common.{◌^◌, ◌≤◌, ◌*ℤ◌, ◌∙◌, arith, lit<}
 use Rattle.std.specs.Prelude.{unsigned_abs}
 use mir.Syntax.{w64}
-use Rattle.station_curve.proofs.Products.{cast_small, times, abs_times, half_up-le}
+use Rattle.station_curve.proofs.Products.{cast_small, times, times_fits, abs_times, half_up-le}
 use Rattle.station_curve.proofs.constants.effective.Goals as goal
+
+pub overflow_mul-amplitude : goal.overflow_mul-amplitude
+overflow_mul-amplitude c =
+    times_fits w64 c.args.amplitude c.args.factor (10 ^ 10) (10 ^ 7) c.requires.amplitude c.requires.factor (lit< tt) (lit< tt) (lit< tt)
 
 pub rounded_short-requires-clause-room : goal.rounded_short-requires-clause-room
 rounded_short-requires-clause-room c =

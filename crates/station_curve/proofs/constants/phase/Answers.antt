@@ -7,7 +7,7 @@ use mir.Val.{to_z, of_z}
 use Rattle.fixed_sine.specs.Circle.{circle}
 use Rattle.year_blend.specs.Places.{start_of}
 use Rattle.station_curve.specs.Schureman.{speed_of, angle_of}
-use Rattle.station_curve.proofs.Products.{cast_small, abs_onto}
+use Rattle.station_curve.proofs.Products.{cast_small, kept_small, small_fits, abs_onto}
 use Rattle.station_curve.proofs.BookValues.{station_epoch, book_angle, angle_an_hour_before}
 use Rattle.station_curve.proofs.constants.phase.Goals as goal
 
@@ -16,6 +16,23 @@ overflow_cast-result c = (
   omega (arith, ints, c.reduce.ensures.range.least, c.reduce.ensures.range.below),
   omega (arith, ints, c.reduce.ensures.range.least, c.reduce.ensures.range.below),
 )
+
+pub overflow_cast-speed : goal.overflow_cast-speed
+overflow_cast-speed c = small_fits w64 (pos c.speed.result) 3600000000 c.speed.ensures.size (lit< tt)
+
+pub angle-angle-requires-clause-speed : goal.angle-angle-requires-clause-speed
+angle-angle-requires-clause-speed c = kept_small w64 (pos c.speed.result) 3600000000 c.speed.ensures.size (lit< tt)
+
+pub angle-angle-requires-clause-argument : goal.angle-angle-requires-clause-argument
+angle-angle-requires-clause-argument c =
+    let place = c.place_in_table.result in
+    let small = book_angle c.args.book.now place c.get.ensures.valid c.place_in_table.ensures.within in
+    rw (c.as_slice.ensures, c.get.ensures.exact) (kept_small w64 (get_or c.args.book.now.angles place (pos 0)) 7200000000 small (lit< tt))
+
+pub angle-angle-requires-clause-epoch : goal.angle-angle-requires-clause-epoch
+angle-angle-requires-clause-epoch c =
+    let small = station_epoch (length c.args.book.now.constituents) c.args.station.now c.args.k c.requires.station c.requires.place in
+    rw c.as_slice-2.ensures (kept_small w64 (get_or c.args.station.now.epoch c.args.k (pos 0)) 7200000000 small (lit< tt))
 
 pub returns-clause-value : goal.returns-clause-value
 returns-clause-value c =

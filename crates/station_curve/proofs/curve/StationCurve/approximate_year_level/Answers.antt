@@ -1,18 +1,54 @@
-use Rattle.std.proofs.Common.{◌≡◌, ◌*◌, ◌^◌, pos, ◌+ℤ◌, ◌*ℤ◌, ap, ◌∙◌, arith, lit<}
-use Rattle.std.proofs.lemmas.Int.{ints, to_z-of_z}
+use Rattle.std.proofs.Common.{◌≡◌, ◌*◌, ◌^◌, pos, ◌+ℤ◌, ◌*ℤ◌, ◌≤◌, ap, ◌∙◌, lit<}
+use Rattle.std.specs.Prelude.{unsigned_abs}
+use Rattle.std.proofs.lemmas.Int.{to_z-of_z}
 use mir.Syntax.{w64, w128}
 use mir.Val.{to_z, of_z}
 use Rattle.station_curve.specs.Levels.{minutes_into, waves_in}
 use Rattle.station_curve.specs.Approximate.{approximate_heights_of, approximate_year_level}
-use Rattle.station_curve.proofs.Products.{cast_small}
-use Rattle.station_curve.proofs.Ready.{year_of}
+use Rattle.station_curve.proofs.Products.{cast_small, kept_small, abs_plus, plus, plus_fits}
+use Rattle.station_curve.proofs.Ready.{stored, year_of}
 use Rattle.station_curve.proofs.curve.StationCurve.approximate_year_level.Goals as goal
+use Rattle.station_curve.proofs.curve.StationCurve.approximate_year_level.Goals.{After-from}
+
+pub index-year-requires : goal.index-year-requires
+index-year-requires c = rw (stored c.self.inside c.args.self.now c.self.view_is) c.requires.year
+
+pub mean_level-requires : goal.mean_level-requires
+mean_level-requires c =
+    kept_small w64 c.self.inside.datum (10 ^ 10) c.self.invariant.within_limits.datum (lit< tt)
+
+pub minutes_to-requires-clause-least : goal.minutes_to-requires-clause-least
+minutes_to-requires-clause-least c =
+    let y = year_of c.self.inside c.args.self.now c.args.year c.index-year.result.now c.self.invariant c.self.view_is
+    c.requires.year c.index-year.ensures in
+    rw (to_z-of_z w64 c.args.m c.ranges.m, y.start) c.requires.in_range.least
+
+pub minutes_to-requires-clause-most : goal.minutes_to-requires-clause-most
+minutes_to-requires-clause-most c =
+    let y = year_of c.self.inside c.args.self.now c.args.year c.index-year.result.now c.self.invariant c.self.view_is
+    c.requires.year c.index-year.ensures in
+    rw (to_z-of_z w64 c.args.m c.ranges.m, y.start) c.requires.in_range.most
 
 pub approximate_heights-requires-clause-amount : goal.approximate_heights-requires-clause-amount
 approximate_heights-requires-clause-amount c =
     let y = year_of c.self.inside c.args.self.now c.args.year c.index-year.result.now c.self.invariant c.self.view_is
     c.requires.year c.index-year.ensures in
     rw c.as_slice.ensures.value y.amount
+
+heights : (c : After-from) → c.from.result ≡ c.approximate_heights.result
+heights c = c.from.ensures ∙ cast_small w64 c.approximate_heights.result (2 * 10 ^ 18) c.approximate_heights.ensures.size (lit< tt)
+
+heights_size : (c : After-from) → unsigned_abs c.from.result ≤ 2 * 10 ^ 18
+heights_size c = rw (heights c) c.approximate_heights.ensures.size
+
+pub overflow_add-result : goal.overflow_add-result
+overflow_add-result c =
+    plus_fits w128 c.mean_level.result c.from.result (10 ^ 19) (2 * 10 ^ 18) c.mean_level.ensures.size (heights_size c) (lit< tt)
+
+pub returns-clause-size : goal.returns-clause-size
+returns-clause-size c =
+    rw (plus w128 c.mean_level.result c.from.result (10 ^ 19) (2 * 10 ^ 18) c.mean_level.ensures.size (heights_size c) (lit< tt))
+    (abs_plus c.mean_level.result c.from.result (10 ^ 19) (2 * 10 ^ 18) c.mean_level.ensures.size (heights_size c))
 
 pub returns-clause-value : goal.returns-clause-value
 unfolding approximate_year_level
@@ -24,14 +60,10 @@ returns-clause-value c =
     let minutes : c.minutes_to.result ≡ minutes_into tide.first_year c.args.year c.args.m =
     rw (same, y.start) at c.minutes_to.ensures.value in
     let waves : c.as_slice.result.now ≡ waves_in tide c.args.year = c.as_slice.ensures.value ∙ y.waves in
-    let heights : c.from.result ≡ c.approximate_heights.result =
-    c.from.ensures ∙ cast_small w64 c.approximate_heights.result (2 * 10 ^ 18) c.approximate_heights.ensures.size (lit< tt) in
-    let sum : to_z w128 (of_z w128 (to_z w128 (of_z w128 c.mean_level.result) +ℤ to_z w128 (of_z w128 c.from.result)))
-    ≡ c.mean_level.result +ℤ c.from.result =
-    omega (arith, ints, c.mean_level.ensures.size, c.approximate_heights.ensures.size, heights) in
     let datum : to_z w64 (of_z w64 c.self.inside.datum) ≡ tide.datum =
     cast_small w64 c.self.inside.datum (10 ^ 10) c.self.invariant.within_limits.datum (lit< tt) ∙ ap (λ t. t.datum) c.self.view_is in
-    sum ∙ ap (λ x. x +ℤ c.from.result) (c.mean_level.ensures.value ∙ ap (λ d. pos (10 ^ 9) *ℤ d) datum)
+    plus w128 c.mean_level.result c.from.result (10 ^ 19) (2 * 10 ^ 18) c.mean_level.ensures.size (heights_size c) (lit< tt)
+    ∙ ap (λ x. x +ℤ c.from.result) (c.mean_level.ensures.value ∙ ap (λ d. pos (10 ^ 9) *ℤ d) datum)
     ∙ ap (λ y. (pos (10 ^ 9) *ℤ tide.datum) +ℤ y)
-    (heights ∙ c.approximate_heights.ensures.value ∙ ap (λ t. approximate_heights_of t c.as_slice.result.now) minutes
+    (heights c ∙ c.approximate_heights.ensures.value ∙ ap (λ t. approximate_heights_of t c.as_slice.result.now) minutes
     ∙ ap (approximate_heights_of (minutes_into tide.first_year c.args.year c.args.m)) waves)

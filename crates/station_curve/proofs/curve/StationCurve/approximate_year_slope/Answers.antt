@@ -1,11 +1,35 @@
-use Rattle.std.proofs.Common.{◌≡◌, pos, neg_ℤ, ◌-ℤ◌, ap, ◌∙◌, arith}
-use Rattle.std.proofs.lemmas.Int.{ints, to_z-of_z}
+use Rattle.std.proofs.Common.{◌≡◌, pos, neg_ℤ, ◌*◌, ◌^◌, ap, ◌∙◌, lit<, lit≤}
+use Rattle.std.proofs.lemmas.Int.{to_z-of_z}
 use mir.Syntax.{w64, w128}
-use mir.Val.{to_z, of_z}
 use Rattle.station_curve.specs.Levels.{minutes_into, waves_in}
 use Rattle.station_curve.specs.Approximate.{approximate_falls_of, approximate_year_slope}
-use Rattle.station_curve.proofs.Ready.{year_of}
+use Rattle.station_curve.proofs.Products.{abs_minus, minus, minus_fits, zero_minus}
+use Rattle.station_curve.proofs.Ready.{stored, year_of}
 use Rattle.station_curve.proofs.curve.StationCurve.approximate_year_slope.Goals as goal
+
+pub index-year-requires : goal.index-year-requires
+index-year-requires c = rw (stored c.self.inside c.args.self.now c.self.view_is) c.requires.year
+
+pub minutes_to-requires-clause-least : goal.minutes_to-requires-clause-least
+minutes_to-requires-clause-least c =
+    let y = year_of c.self.inside c.args.self.now c.args.year c.index-year.result.now c.self.invariant c.self.view_is
+    c.requires.year c.index-year.ensures in
+    rw (to_z-of_z w64 c.args.m c.ranges.m, y.start) c.requires.in_range.least
+
+pub minutes_to-requires-clause-most : goal.minutes_to-requires-clause-most
+minutes_to-requires-clause-most c =
+    let y = year_of c.self.inside c.args.self.now c.args.year c.index-year.result.now c.self.invariant c.self.view_is
+    c.requires.year c.index-year.ensures in
+    rw (to_z-of_z w64 c.args.m c.ranges.m, y.start) c.requires.in_range.most
+
+pub overflow_sub-result : goal.overflow_sub-result
+overflow_sub-result c =
+    minus_fits w128 (pos 0) c.approximate_falls.result 0 (2 * 10 ^ 26) (lit≤ tt) c.approximate_falls.ensures.size (lit< tt)
+
+pub returns-clause-size : goal.returns-clause-size
+returns-clause-size c =
+    rw (minus w128 (pos 0) c.approximate_falls.result 0 (2 * 10 ^ 26) (lit≤ tt) c.approximate_falls.ensures.size (lit< tt))
+    (abs_minus (pos 0) c.approximate_falls.result 0 (2 * 10 ^ 26) (lit≤ tt) c.approximate_falls.ensures.size)
 
 pub approximate_falls-requires-clause-steepness : goal.approximate_falls-requires-clause-steepness
 approximate_falls-requires-clause-steepness c =
@@ -23,7 +47,7 @@ returns-clause-value c =
     let minutes : c.minutes_to.result ≡ minutes_into tide.first_year c.args.year c.args.m =
     rw (same, y.start) at c.minutes_to.ensures.value in
     let waves : c.as_slice.result.now ≡ waves_in tide c.args.year = c.as_slice.ensures.value ∙ y.waves in
-    let negated : to_z w128 (of_z w128 (pos 0 -ℤ to_z w128 (of_z w128 c.approximate_falls.result))) ≡ neg_ℤ c.approximate_falls.result =
-    omega (arith, ints, c.approximate_falls.ensures.size) in
-    negated ∙ ap neg_ℤ (c.approximate_falls.ensures.value ∙ ap (λ t. approximate_falls_of t c.as_slice.result.now) minutes
+    minus w128 (pos 0) c.approximate_falls.result 0 (2 * 10 ^ 26) (lit≤ tt) c.approximate_falls.ensures.size (lit< tt)
+    ∙ zero_minus c.approximate_falls.result
+    ∙ ap neg_ℤ (c.approximate_falls.ensures.value ∙ ap (λ t. approximate_falls_of t c.as_slice.result.now) minutes
     ∙ ap (approximate_falls_of (minutes_into tide.first_year c.args.year c.args.m)) waves)

@@ -25,3 +25,26 @@ returns-in-None c =
     cast_small w32 c.self.inside.first_year 8800 (abs_within c.self.inside.first_year 2 8800 years.least years.most)
     (lit< tt) ∙ ap (λ t. t.first_year) c.self.view_is in
     rw (first, c.years.ensures, to_z-of_z w64 c.args.m c.ranges.m) at c.calendar_year_of.ensures
+
+pub year_around-requires-clause-first : goal.year_around-requires-clause-first
+year_around-requires-clause-first c = rw (to_z-of_z w64 c.args.m c.ranges.m) c.requires
+
+pub year_around-requires-clause-last : goal.year_around-requires-clause-last
+year_around-requires-clause-last c = rw (to_z-of_z w64 c.args.m c.ranges.m) c.requires
+
+pub calendar_year_of-requires-clause-years : goal.calendar_year_of-requires-clause-years
+calendar_year_of-requires-clause-years c =
+    let tide = c.args.self.now in
+    let years = c.self.invariant.within_limits.years in
+    let first : to_z w32 (of_z w32 c.self.inside.first_year) ≡ tide.first_year =
+    cast_small w32 c.self.inside.first_year 8800 (abs_within c.self.inside.first_year 2 8800 years.least years.most)
+    (lit< tt) ∙ ap (λ t. t.first_year) c.self.view_is in
+    rw (first, c.years.ensures) (within_limits_of c.self.inside tide c.self.invariant c.self.view_is).years
+
+pub calendar_year_of-requires-clause-domain : goal.calendar_year_of-requires-clause-domain
+calendar_year_of-requires-clause-domain c =
+    let years = c.self.invariant.within_limits.years in
+    let first : to_z w32 (of_z w32 c.self.inside.first_year) ≡ c.args.self.now.first_year =
+    cast_small w32 c.self.inside.first_year 8800 (abs_within c.self.inside.first_year 2 8800 years.least years.most)
+    (lit< tt) ∙ ap (λ t. t.first_year) c.self.view_is in
+    rw (first, c.years.ensures, to_z-of_z w64 c.args.m c.ranges.m) c.requires

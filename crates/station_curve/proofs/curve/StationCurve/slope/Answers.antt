@@ -1,11 +1,59 @@
-use Rattle.std.proofs.Common.{◌≡◌, ◌*◌, ◌^◌, ◌+ℤ◌, ◌-ℤ◌, arith, lit<, ◌∙◌}
-use Rattle.std.proofs.lemmas.Int.{ints, to_z-of_z}
+use Rattle.std.proofs.Common.{◌+◌, ◌*◌, ◌^◌, ◌-ℤ◌, lit<, ◌∙◌}
+use Rattle.std.proofs.lemmas.Int.{to_z-of_z}
 use mir.Syntax.{w64, w128}
-use mir.Val.{to_z, of_z}
+use Rattle.fixed_sine.specs.Circle.{radian}
 use Rattle.year_blend.specs.Weights.{total_weight}
 use Rattle.station_curve.proofs.Blending.{slope_plain, slope_blend, level_change}
-use Rattle.station_curve.proofs.Products.{cast_small}
+use Rattle.station_curve.proofs.Products.{cast_small, kept_small, abs_below, abs_span, abs_plus, abs_minus, plus, plus_fits, minus, minus_fits, under}
 use Rattle.station_curve.proofs.curve.StationCurve.slope.Goals as goal
+
+pub weighted-requires-clause-value : goal.weighted-requires-clause-value
+weighted-requires-clause-value c = kept_small w128 c.year_slope.result (10 ^ 26) c.year_slope.ensures.size (lit< tt)
+
+pub overflow_sub-change : goal.overflow_sub-change
+overflow_sub-change c =
+    minus_fits w64 c.year_heights.result c.year_heights-in-Blend.result (10 ^ 18) (10 ^ 18)
+    c.year_heights.ensures.size c.year_heights-in-Blend.ensures.size (lit< tt)
+
+pub weight-requires : goal.weight-requires
+weight-requires c =
+    let in_range = c.in-Blend.ensures.in_range.4 in
+    rw (cast_small w64 c.in-Blend.x 60 (abs_span c.in-Blend.x 59 in_range.least in_range.most) (lit< tt)) in_range
+
+pub mixed-requires-clause-earlier : goal.mixed-requires-clause-earlier
+mixed-requires-clause-earlier c =
+    kept_small w128 c.year_slope-in-Blend.result (10 ^ 26) c.year_slope-in-Blend.ensures.size (lit< tt)
+
+pub mixed-requires-clause-later : goal.mixed-requires-clause-later
+mixed-requires-clause-later c =
+    kept_small w128 c.year_slope-in-Blend-2.result (10 ^ 26) c.year_slope-in-Blend-2.ensures.size (lit< tt)
+
+pub mixed-requires-clause-least : goal.mixed-requires-clause-least
+mixed-requires-clause-least c =
+    let small = abs_below c.weight.result total_weight c.weight.ensures.least c.weight.ensures.most in
+    rw (cast_small w64 c.weight.result total_weight small (lit< tt)) c.weight.ensures.least
+
+pub mixed-requires-clause-most : goal.mixed-requires-clause-most
+mixed-requires-clause-most c =
+    let small = abs_below c.weight.result total_weight c.weight.ensures.least c.weight.ensures.most in
+    rw (cast_small w64 c.weight.result total_weight small (lit< tt)) c.weight.ensures.most
+
+pub drift-requires-clause-change : goal.drift-requires-clause-change
+drift-requires-clause-change c =
+    let high = c.year_heights.result in
+    let low = c.year_heights-in-Blend.result in
+    rw (minus w64 high low (10 ^ 18) (10 ^ 18) c.year_heights.ensures.size c.year_heights-in-Blend.ensures.size (lit< tt))
+    (abs_minus high low (10 ^ 18) (10 ^ 18) c.year_heights.ensures.size c.year_heights-in-Blend.ensures.size)
+
+pub drift-requires-clause-in_range : goal.drift-requires-clause-in_range
+drift-requires-clause-in_range c =
+    let in_range = c.in-Blend.ensures.in_range.4 in
+    rw (cast_small w64 c.in-Blend.x 60 (abs_span c.in-Blend.x 59 in_range.least in_range.most) (lit< tt)) in_range
+
+pub overflow_add-result : goal.overflow_add-result
+overflow_add-result c =
+    plus_fits w128 c.mixed.result c.drift.result (2 * (total_weight * 10 ^ 26)) ((64800000 * radian) * (2 * 10 ^ 18))
+    c.mixed.ensures.size c.drift.ensures.size (lit< tt)
 
 pub returns-in-Plain-clause-value : goal.returns-in-Plain-clause-value
 returns-in-Plain-clause-value c =
@@ -17,37 +65,37 @@ returns-in-Plain-clause-value c =
 
 pub returns-in-Plain-clause-size : goal.returns-in-Plain-clause-size
 returns-in-Plain-clause-size c =
-    rw (cast_small w128 c.weighted.result (total_weight * 10 ^ 26) c.weighted.ensures.size (lit< tt))
-    (omega (arith, c.weighted.ensures.size))
+    let most = total_weight * 10 ^ 26 in
+    under _ most (10 ^ 37) (kept_small w128 c.weighted.result most c.weighted.ensures.size (lit< tt)) (lit< tt)
 
 pub returns-in-Blend-clause-value : goal.returns-in-Blend-clause-value
 returns-in-Blend-clause-value c =
     let tide = c.args.self.now in
     let same = to_z-of_z w64 c.args.m c.ranges.m in
     let in_range = c.in-Blend.ensures.in_range.4 in
-    let x : to_z w64 (of_z w64 c.in-Blend.x) ≡ c.in-Blend.x = omega (arith, ints, in_range.least, in_range.most) in
-    let weight : to_z w64 (of_z w64 c.weight.result) ≡ c.weight.result =
-    omega (arith, ints, c.weight.ensures.least, c.weight.ensures.most) in
+    let x = cast_small w64 c.in-Blend.x 60 (abs_span c.in-Blend.x 59 in_range.least in_range.most) (lit< tt) in
+    let small = abs_below c.weight.result total_weight c.weight.ensures.least c.weight.ensures.most in
+    let weight = cast_small w64 c.weight.result total_weight small (lit< tt) in
     let earlier = cast_small w128 c.year_slope-in-Blend.result (10 ^ 26) c.year_slope-in-Blend.ensures.size (lit< tt) in
     let later = cast_small w128 c.year_slope-in-Blend-2.result (10 ^ 26) c.year_slope-in-Blend-2.ensures.size (lit< tt) in
     let high = c.year_heights.result in
     let low = c.year_heights-in-Blend.result in
-    let high_is = cast_small w64 high (10 ^ 18) c.year_heights.ensures.size (lit< tt) in
-    let low_is = cast_small w64 low (10 ^ 18) c.year_heights-in-Blend.ensures.size (lit< tt) in
-    let apart : to_z w64 (of_z w64 (high -ℤ low)) ≡ high -ℤ low =
-    omega (arith, ints, c.year_heights.ensures.size, c.year_heights-in-Blend.ensures.size) in
+    let apart = minus w64 high low (10 ^ 18) (10 ^ 18) c.year_heights.ensures.size c.year_heights-in-Blend.ensures.size (lit< tt) in
     let change = level_change tide c.args.m c.in-Blend.year high low (rw same at c.year_heights.ensures.value)
     (rw same at c.year_heights-in-Blend.ensures.value) in
-    let sum : to_z w128 (of_z w128 (to_z w128 (of_z w128 c.mixed.result) +ℤ to_z w128 (of_z w128 c.drift.result)))
-    ≡ c.mixed.result +ℤ c.drift.result =
-    omega (arith, ints, c.mixed.ensures.size, c.drift.ensures.size) in
-    sum ∙ slope_blend tide c.args.m c.in-Blend.year c.in-Blend.x c.year_slope-in-Blend.result
+    plus w128 c.mixed.result c.drift.result (2 * (total_weight * 10 ^ 26)) ((64800000 * radian) * (2 * 10 ^ 18))
+    c.mixed.ensures.size c.drift.ensures.size (lit< tt)
+    ∙ slope_blend tide c.args.m c.in-Blend.year c.in-Blend.x c.year_slope-in-Blend.result
     c.year_slope-in-Blend-2.result c.weight.result (high -ℤ low) c.mixed.result c.drift.result
     (rw same at c.in-Blend.ensures.value) (rw same at c.year_slope-in-Blend.ensures.value)
     (rw same at c.year_slope-in-Blend-2.ensures.value)
-    (rw x at c.weight.ensures.value) change (simp (x, high_is, low_is, apart) at c.drift.ensures.value)
+    (rw x at c.weight.ensures.value) change (rw (x, apart) at c.drift.ensures.value)
     (rw (weight, earlier, later) at c.mixed.ensures.value)
 
 pub returns-in-Blend-clause-size : goal.returns-in-Blend-clause-size
 returns-in-Blend-clause-size c =
-    omega (arith, ints, c.mixed.ensures.size, c.drift.ensures.size)
+    let mixed = 2 * (total_weight * 10 ^ 26) in
+    let drifted = (64800000 * radian) * (2 * 10 ^ 18) in
+    rw (plus w128 c.mixed.result c.drift.result mixed drifted c.mixed.ensures.size c.drift.ensures.size (lit< tt))
+    (under _ (mixed + drifted) (10 ^ 37)
+    (abs_plus c.mixed.result c.drift.result mixed drifted c.mixed.ensures.size c.drift.ensures.size) (lit< tt))

@@ -1,11 +1,22 @@
-use Rattle.std.proofs.Common.{◌≡◌, pos, neg_ℤ, ◌-ℤ◌, ap, ◌∙◌, arith}
-use Rattle.std.proofs.lemmas.Int.{ints, to_z-of_z}
+use Rattle.std.proofs.Common.{◌≡◌, pos, neg_ℤ, ◌^◌, ap, ◌∙◌, lit<, lit≤}
+use Rattle.std.proofs.lemmas.Int.{to_z-of_z}
 use mir.Syntax.{w64, w128}
-use mir.Val.{to_z, of_z}
 use Rattle.station_curve.specs.Waves.{falls_of}
 use Rattle.station_curve.specs.Levels.{minutes_into, waves_in, year_slope}
-use Rattle.station_curve.proofs.Ready.{year_of}
+use Rattle.station_curve.proofs.Products.{abs_minus, minus, minus_fits, zero_minus}
+use Rattle.station_curve.proofs.Ready.{stored, year_of}
 use Rattle.station_curve.proofs.curve.StationCurve.year_slope.Goals as goal
+
+pub index-year-requires : goal.index-year-requires
+index-year-requires c = rw (stored c.self.inside c.args.self.now c.self.view_is) c.requires.year
+
+pub overflow_sub-result : goal.overflow_sub-result
+overflow_sub-result c = minus_fits w128 (pos 0) c.falls.result 0 (10 ^ 26) (lit≤ tt) c.falls.ensures.size (lit< tt)
+
+pub returns-clause-size : goal.returns-clause-size
+returns-clause-size c =
+    rw (minus w128 (pos 0) c.falls.result 0 (10 ^ 26) (lit≤ tt) c.falls.ensures.size (lit< tt))
+    (abs_minus (pos 0) c.falls.result 0 (10 ^ 26) (lit≤ tt) c.falls.ensures.size)
 
 pub minutes_to-requires-clause-least : goal.minutes_to-requires-clause-least
 minutes_to-requires-clause-least c =
@@ -40,6 +51,4 @@ returns-clause-value c =
     (waves_in c.args.self.now c.args.year) =
     c.falls.ensures.value ∙ ap (λ t. falls_of t c.as_slice.result.now) minutes
     ∙ ap (falls_of (minutes_into c.args.self.now.first_year c.args.year c.args.m)) waves in
-    let negated : to_z w128 (of_z w128 (pos 0 -ℤ to_z w128 (of_z w128 c.falls.result))) ≡ neg_ℤ c.falls.result =
-    omega (arith, ints, c.falls.ensures.size) in
-    negated ∙ ap neg_ℤ falls
+    minus w128 (pos 0) c.falls.result 0 (10 ^ 26) (lit≤ tt) c.falls.ensures.size (lit< tt) ∙ zero_minus c.falls.result ∙ ap neg_ℤ falls

@@ -1,8 +1,12 @@
 use Rattle.std.proofs.Common.{◌^◌, ◌*ℤ◌, ap, ◌∙◌, arith, lit<}
 use Rattle.std.specs.Prelude.{unsigned_abs}
 use mir.Syntax.{w64}
-use Rattle.station_curve.proofs.Products.{times, abs_times}
+use Rattle.station_curve.proofs.Products.{times, times_fits, abs_times}
 use Rattle.station_curve.proofs.wave.Wave.by_amplitude.Goals as goal
+
+pub overflow_mul-result : goal.overflow_mul-result
+overflow_mul-result c =
+    times_fits w64 c.self.inside.amplitude c.args.sine (10 ^ 9) 1000038100 c.self.invariant.amount c.requires (lit< tt) (lit< tt) (lit< tt)
 
 pub returns-clause-value : goal.returns-clause-value
 returns-clause-value c =

@@ -2,8 +2,15 @@ use Rattle.std.proofs.Common.{◌≡◌, ◌*◌, ◌^◌, pos, ◌*ℤ◌, ap, 
 use Rattle.std.specs.Prelude.{unsigned_abs}
 use Rattle.std.proofs.lemmas.Int.{unsigned_abs-mul}
 use mir.Syntax.{w64, w128}
-use Rattle.station_curve.proofs.Products.{cast_small, times, abs_times}
+use Rattle.station_curve.proofs.Products.{cast_small, times, times_fits, abs_times}
 use Rattle.station_curve.proofs.wave.Wave.by_steepness.Goals as goal
+
+pub overflow_mul-result : goal.overflow_mul-result
+overflow_mul-result c =
+    let steep = c.self.inside.steepness in
+    let x = c.from.ensures ∙ cast_small w64 steep (10 ^ 17) c.self.invariant.steep (lit< tt) in
+    let y = c.from-2.ensures ∙ cast_small w64 c.args.sine 1000038100 c.requires (lit< tt) in
+    rw (x, y) (times_fits w128 steep c.args.sine (10 ^ 17) 1000038100 c.self.invariant.steep c.requires (lit< tt) (lit< tt) (lit< tt))
 
 pub returns-clause-value : goal.returns-clause-value
 returns-clause-value c =

@@ -1,10 +1,10 @@
-use Rattle.std.proofs.Common.{◌≡◌, ◌*◌, ◌^◌, ◌≤◌, pos, ◌*ℤ◌, ap, ◌∙◌, arith, lit<}
+use Rattle.std.proofs.Common.{◌≡◌, ℕ, ◌*◌, ◌^◌, ◌≤◌, pos, ◌*ℤ◌, ap, ◌∙◌, arith, lit<}
 use Rattle.std.specs.Prelude.{unsigned_abs}
 use Rattle.std.proofs.lemmas.Int.{ints, unsigned_abs-mul}
 use mir.Syntax.{w64, w128}
 use mir.Val.{to_z, of_z}
-use Rattle.fixed_sine.specs.Rate.{step_of}
-use Rattle.station_curve.proofs.Products.{cast_small, times}
+use Rattle.fixed_sine.specs.Rate.{step_of, IsSpeed}
+use Rattle.station_curve.proofs.Products.{cast_small, small_fits, times, times_fits}
 use Rattle.station_curve.proofs.YearChanges.{most_step, height_rate_size}
 use Rattle.station_curve.proofs.wave.Wave.sums.Goals as goal
 use Rattle.station_curve.proofs.wave.Wave.sums.Goals.{After-from-steep}
@@ -47,6 +47,29 @@ steep_small c =
     c.self.invariant.product ∙ ap (λ h. h.amplitude *ℤ pos h.speed) c.self.view_is in
     let small = c.self.invariant.steep in
     omega (arith, small, ap unsigned_abs product, unsigned_abs-mul wave.amplitude (pos wave.speed))
+
+is_speed : (w : ℕ) → w ≤ 3600000000 → IsSpeed (to_z w64 w)
+is_speed w quick = record { least = omega (arith, ints); most = omega (arith, ints) }
+
+pub overflow_cast-self-inside : goal.overflow_cast-self-inside
+overflow_cast-self-inside c = small_fits w64 (pos c.self.inside.speed) 3600000000 c.self.invariant.quick (lit< tt)
+
+pub step-requires : goal.step-requires
+step-requires c = is_speed c.self.inside.speed c.self.invariant.quick
+
+pub overflow_mul-result : goal.overflow_mul-result
+overflow_mul-result c =
+    let wave = c.args.self.now in
+    rw (amount c, step c)
+    (times_fits w128 (pos (unsigned_abs wave.amplitude)) (pos (step_of wave.speed)) (10 ^ 9) 104724001 (amount_small c)
+    (most_step wave.speed (quick c)) (lit< tt) (lit< tt) (lit< tt))
+
+pub overflow_mul-result-2 : goal.overflow_mul-result-2
+overflow_mul-result-2 c =
+    let wave = c.args.self.now in
+    rw (steep c, step c)
+    (times_fits w128 (pos (unsigned_abs wave.amplitude * wave.speed)) (pos (step_of wave.speed)) (10 ^ 17) 104724001
+    (steep_small c) (most_step wave.speed (quick c)) (lit< tt) (lit< tt) (lit< tt))
 
 pub returns-clause-amount : goal.returns-clause-amount
 returns-clause-amount c =

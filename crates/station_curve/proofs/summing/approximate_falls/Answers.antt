@@ -1,0 +1,35 @@
+use Rattle.std.proofs.Common.{◌^◌, ap, ◌∙◌, arith, lit<}
+use Rattle.std.proofs.lemmas.List.{take_all}
+use mir.Syntax.{w128}
+use mir.Val.{to_z}
+use Rattle.station_curve.specs.Approximate.{approximate_fall_at, approximate_falls_of}
+use Rattle.station_curve.proofs.OneMore.{steepness_size, IsMore, one_more, all_within}
+use Rattle.station_curve.proofs.summing.approximate_falls.Goals as goal
+use Rattle.station_curve.proofs.summing.approximate_falls.Goals.{After-approximate_fall-sum}
+
+more : (c : After-approximate_fall-sum)
+    → IsMore w128 (approximate_fall_at c.args.minutes) steepness_size 1000038100 c.args.waves.now c.loop-wave.wave-index
+    (to_z w128 c.loop-wave.sum-bits) c.approximate_fall-sum.result
+more c =
+    one_more w128 (approximate_fall_at c.args.minutes) steepness_size 1000038100 (10 ^ 17) c.args.waves.now c.loop-wave.wave-index
+    c.wave-item.result (to_z w128 c.loop-wave.sum-bits) c.approximate_fall-sum.result c.loop-wave-test.true c.wave-item.is
+    c.requires.steepness (lit< tt) c.loop-wave.invariant.value c.loop-wave.invariant.size
+    c.approximate_fall-sum.ensures.value c.approximate_fall-sum.ensures.size
+
+pub overflow_add-sum : goal.overflow_add-sum
+overflow_add-sum c = (more c).fits
+
+pub loop-wave-preserved : goal.loop-wave-preserved
+loop-wave-preserved c = record { value = (more c).value; size = (more c).bound }
+
+pub returns-clause-value : goal.returns-clause-value
+returns-clause-value c = c.loop-wave.invariant.value ∙ ap (approximate_falls_of c.args.minutes)
+    (take_all c.loop-wave.wave-index c.args.waves.now (omega (arith, c.loop-wave-test.false)))
+
+pub returns-clause-size : goal.returns-clause-size
+returns-clause-size c =
+    omega (
+      arith,
+      all_within steepness_size 1000038100 (10 ^ 17) c.args.waves.now c.loop-wave.wave-index (to_z w128 c.loop-wave.sum-bits)
+          c.loop-wave.invariant.size c.requires.steepness,
+    )
