@@ -1,7 +1,9 @@
 -- Facts about the tide that follow from a curve's invariant.
-use Rattle.std.proofs.Common.{◌≡◌, ℕ, suc, ◌<◌, ◌≤◌, [], length, get_or, sym, ap, subst, ◌∙◌, arith}
+use Rattle.std.proofs.Common.{◌≡◌, ℕ, suc, ◌<◌, ◌≤◌, [], length, get_or, sym, ap, subst, ◌∙◌, arith, lit<}
 use Rattle.std.specs.Vec.{vec_len}
 use Rattle.std.proofs.lemmas.List.{get_or-map, length-map}
+use mir.Syntax.{w32}
+use mir.Val.{to_z, of_z}
 use Rattle.year_blend.specs.Places.{start_of, AreYears}
 use Rattle.station_curve.specs.declared.years.Year.{Year}
 use Rattle.station_curve.specs.declared.curve.StationCurve.TheInside.{Inside}
@@ -10,6 +12,7 @@ use Rattle.station_curve.specs.Limits.{IsWithinLimits, most_amount, most_steepne
 use Rattle.station_curve.specs.Workings.Inside.{tide_in, IsReady}
 use Rattle.station_curve.specs.Levels.{waves_in}
 use Rattle.station_curve.specs.Sums.{sums_of}
+use Rattle.station_curve.proofs.Products.{cast_small, abs_within}
 
 -- a stored year is that of the tide
 pub record IsYearOf (tide : Tide) (year : ℕ) (y : Year) : Type 0 where
@@ -54,3 +57,8 @@ stored s tide is = stored_length s ∙ ap (λ (t : Tide). length t.years) is
 
 pub are_years : (s : Inside) → IsReady s → AreYears s.first_year (vec_len s.years)
 are_years s ready = rw (stored_length s) ready.within_limits.years
+
+pub first_year_of : (s : Inside) (tide : Tide) → IsReady s → tide_in s ≡ tide → to_z w32 (of_z w32 s.first_year) ≡ tide.first_year
+first_year_of s tide ready is =
+    let years = ready.within_limits.years in
+    cast_small w32 s.first_year 8800 (abs_within s.first_year 2 8800 years.least years.most) (lit< tt) ∙ ap (λ (t : Tide). t.first_year) is

@@ -1,13 +1,13 @@
-use Rattle.std.proofs.Common.{◌≡◌, ◌+◌, ◌*◌, ◌^◌, pos, ◌-ℤ◌, get_or, length, ap, ◌∙◌, arith, lit<}
+use Rattle.std.proofs.Common.{◌≡◌, ◌≤◌, ◌+◌, ◌*◌, ◌^◌, ℤ, negsuc, ◌≤ℤ◌, pos, ◌-ℤ◌, get_or, length, ap, ◌∙◌, arith, lit<, lit≤}
 use Rattle.std.specs.Prelude.{unsigned_abs}
 use Rattle.std.specs.Int.{int_rem_euclid}
 use Rattle.std.proofs.lemmas.Int.{ints, to_z_pos}
-use mir.Syntax.{w64, w128}
+use mir.Syntax.{w32, w64, w128}
 use mir.Val.{to_z, of_z}
 use Rattle.fixed_sine.specs.Circle.{circle}
 use Rattle.year_blend.specs.Places.{start_of}
 use Rattle.station_curve.specs.Schureman.{speed_of, angle_of}
-use Rattle.station_curve.proofs.Products.{cast_small, kept_small, small_fits, abs_onto}
+use Rattle.station_curve.proofs.Products.{cast_small, kept_small, small_fits, abs_span, abs_minus, minus, minus_fits, abs_onto}
 use Rattle.station_curve.proofs.BookValues.{station_epoch, book_angle, angle_an_hour_before}
 use Rattle.station_curve.proofs.constants.phase.Goals as goal
 
@@ -16,6 +16,27 @@ overflow_cast-result c = (
   omega (arith, ints, c.reduce.ensures.range.least, c.reduce.ensures.range.below),
   omega (arith, ints, c.reduce.ensures.range.least, c.reduce.ensures.range.below),
 )
+
+-- the meridian, and an hour less
+hour_before : (meridian minutes : ℤ) → negsuc 958 ≤ℤ meridian → meridian ≤ℤ pos 959 → minutes ≡ to_z w32 (of_z w32 meridian)
+    → (minutes ≡ meridian) × (unsigned_abs minutes ≤ 959)
+hour_before meridian minutes least most is =
+    let small = abs_span meridian 958 least most in
+    let same = is ∙ cast_small w32 meridian 959 small (lit< tt) in
+    (same, rw same small)
+
+pub overflow_sub-minutes : goal.overflow_sub-minutes
+overflow_sub-minutes c =
+    let meridian = c.requires.station.meridian in
+    let minutes = hour_before c.args.station.now.meridian c.from-minutes.result meridian.least meridian.most c.from-minutes.ensures in
+    minus_fits w64 c.from-minutes.result (pos 60) 959 60 minutes.1 (lit≤ tt) (lit< tt)
+
+pub angle-angle-requires-clause-minutes : goal.angle-angle-requires-clause-minutes
+angle-angle-requires-clause-minutes c =
+    let meridian = c.requires.station.meridian in
+    let minutes = hour_before c.args.station.now.meridian c.from-minutes.result meridian.least meridian.most c.from-minutes.ensures in
+    rw (minus w64 c.from-minutes.result (pos 60) 959 60 minutes.1 (lit≤ tt) (lit< tt))
+    (omega (arith, abs_minus c.from-minutes.result (pos 60) 959 60 minutes.1 (lit≤ tt)))
 
 pub overflow_cast-speed : goal.overflow_cast-speed
 overflow_cast-speed c = small_fits w64 (pos c.speed.result) 3600000000 c.speed.ensures.size (lit< tt)
@@ -44,7 +65,9 @@ returns-clause-value c =
     let speed : to_z w64 c.speed.result ≡ speed_of b k =
     to_z_pos w64 c.speed.result (omega (arith, c.speed.ensures.size)) ∙ c.speed.ensures.value in
     let minutes : to_z w64 (of_z w64 (to_z w64 (of_z w64 c.from-minutes.result) -ℤ pos 60)) ≡ s.meridian -ℤ pos 60 =
-    omega (arith, ints, c.from-minutes.ensures, c.requires.station.meridian.least, c.requires.station.meridian.most) in
+    (let meridian = c.requires.station.meridian in
+    let minutes = hour_before s.meridian c.from-minutes.result meridian.least meridian.most c.from-minutes.ensures in
+    minus w64 c.from-minutes.result (pos 60) 959 60 minutes.1 (lit≤ tt) (lit< tt) ∙ ap (λ z. z -ℤ pos 60) minutes.0) in
     let argument : to_z w64 (of_z w64 (get_or c.as_slice.result.now place (pos 0))) ≡ get_or b.angles (k * b.years + c.args.year) (pos 0) =
     rw (c.as_slice.ensures, c.get.ensures.exact) (cast_small w64 (get_or b.angles place (pos 0)) 7200000000
     (book_angle b place c.get.ensures.valid c.place_in_table.ensures.within) (lit< tt))

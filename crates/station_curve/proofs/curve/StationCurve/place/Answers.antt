@@ -1,11 +1,9 @@
-use Rattle.std.proofs.Common.{◌≡◌, length, sym, ap, ◌∙◌, arith, lit<}
+use Rattle.std.proofs.Common.{length, sym, arith}
 use Rattle.std.proofs.lemmas.Int.{ints, to_z-of_z}
-use mir.Syntax.{w32, w64}
-use mir.Val.{to_z, of_z}
+use mir.Syntax.{w64}
 use Rattle.station_curve.proofs.Around.{around_plain, around_in_range}
 use Rattle.station_curve.proofs.InRange.{in_range_place}
-use Rattle.station_curve.proofs.Products.{cast_small, abs_within}
-use Rattle.station_curve.proofs.Ready.{within_limits_of}
+use Rattle.station_curve.proofs.Ready.{first_year_of, within_limits_of}
 use Rattle.station_curve.proofs.curve.StationCurve.place.Goals as goal
 
 pub returns-in-Some-clause-value : goal.returns-in-Some-clause-value
@@ -24,18 +22,28 @@ returns-in-Some-clause-in_range c =
 
 pub returns-in-None-clause-value : goal.returns-in-None-clause-value
 returns-in-None-clause-value c =
-    let years = c.self.invariant.within_limits.years in
-    let first : to_z w32 (of_z w32 c.self.inside.first_year) ≡ c.args.self.now.first_year =
-    cast_small w32 c.self.inside.first_year 8800 (abs_within c.self.inside.first_year 2 8800 years.least years.most)
-    (lit< tt) ∙ ap (λ t. t.first_year) c.self.view_is in
+    let first = first_year_of c.self.inside c.args.self.now c.self.invariant c.self.view_is in
     rw (first, c.years.ensures, to_z-of_z w64 c.args.m c.ranges.m) at c.place.ensures.value
 
 pub returns-in-None-clause-in_range : goal.returns-in-None-clause-in_range
 returns-in-None-clause-in_range c =
-    let years = c.self.invariant.within_limits.years in
-    let first : to_z w32 (of_z w32 c.self.inside.first_year) ≡ c.args.self.now.first_year =
-    cast_small w32 c.self.inside.first_year 8800 (abs_within c.self.inside.first_year 2 8800 years.least years.most)
-    (lit< tt) ∙ ap (λ t. t.first_year) c.self.view_is in
+    let first = first_year_of c.self.inside c.args.self.now c.self.invariant c.self.view_is in
     in_range_place c.args.self.now.first_year (length c.args.self.now.years) c.args.m c.place.result
     (within_limits_of c.self.inside c.args.self.now c.self.invariant c.self.view_is).years.least
     (rw (first, c.years.ensures, to_z-of_z w64 c.args.m c.ranges.m) at c.place.ensures.rule)
+
+pub year_around-requires-clause-first : goal.year_around-requires-clause-first
+year_around-requires-clause-first c = rw (to_z-of_z w64 c.args.m c.ranges.m) c.requires
+
+pub year_around-requires-clause-last : goal.year_around-requires-clause-last
+year_around-requires-clause-last c = rw (to_z-of_z w64 c.args.m c.ranges.m) c.requires
+
+pub place-requires-clause-years : goal.place-requires-clause-years
+place-requires-clause-years c =
+    rw (first_year_of c.self.inside c.args.self.now c.self.invariant c.self.view_is, c.years.ensures)
+    (within_limits_of c.self.inside c.args.self.now c.self.invariant c.self.view_is).years
+
+pub place-requires-clause-domain : goal.place-requires-clause-domain
+place-requires-clause-domain c =
+    let first = first_year_of c.self.inside c.args.self.now c.self.invariant c.self.view_is in
+    rw (first, c.years.ensures, to_z-of_z w64 c.args.m c.ranges.m) c.requires

@@ -1,10 +1,8 @@
-use Rattle.std.proofs.Common.{◌≡◌, length, sym, ap, ◌∙◌, arith, lit<}
+use Rattle.std.proofs.Common.{length, sym, arith}
 use Rattle.std.proofs.lemmas.Int.{ints, to_z-of_z}
-use mir.Syntax.{w32, w64}
-use mir.Val.{to_z, of_z}
+use mir.Syntax.{w64}
 use Rattle.station_curve.proofs.Around.{around_plain, around_in_range}
-use Rattle.station_curve.proofs.Products.{cast_small, abs_within}
-use Rattle.station_curve.proofs.Ready.{within_limits_of}
+use Rattle.station_curve.proofs.Ready.{first_year_of, within_limits_of}
 use Rattle.station_curve.proofs.curve.StationCurve.plain_year.Goals as goal
 
 pub returns-in-Some : goal.returns-in-Some
@@ -20,10 +18,7 @@ returns-in-Some c =
 
 pub returns-in-None : goal.returns-in-None
 returns-in-None c =
-    let years = c.self.invariant.within_limits.years in
-    let first : to_z w32 (of_z w32 c.self.inside.first_year) ≡ c.args.self.now.first_year =
-    cast_small w32 c.self.inside.first_year 8800 (abs_within c.self.inside.first_year 2 8800 years.least years.most)
-    (lit< tt) ∙ ap (λ t. t.first_year) c.self.view_is in
+    let first = first_year_of c.self.inside c.args.self.now c.self.invariant c.self.view_is in
     rw (first, c.years.ensures, to_z-of_z w64 c.args.m c.ranges.m) at c.calendar_year_of.ensures
 
 pub year_around-requires-clause-first : goal.year_around-requires-clause-first
@@ -35,16 +30,10 @@ year_around-requires-clause-last c = rw (to_z-of_z w64 c.args.m c.ranges.m) c.re
 pub calendar_year_of-requires-clause-years : goal.calendar_year_of-requires-clause-years
 calendar_year_of-requires-clause-years c =
     let tide = c.args.self.now in
-    let years = c.self.invariant.within_limits.years in
-    let first : to_z w32 (of_z w32 c.self.inside.first_year) ≡ tide.first_year =
-    cast_small w32 c.self.inside.first_year 8800 (abs_within c.self.inside.first_year 2 8800 years.least years.most)
-    (lit< tt) ∙ ap (λ t. t.first_year) c.self.view_is in
+    let first = first_year_of c.self.inside c.args.self.now c.self.invariant c.self.view_is in
     rw (first, c.years.ensures) (within_limits_of c.self.inside tide c.self.invariant c.self.view_is).years
 
 pub calendar_year_of-requires-clause-domain : goal.calendar_year_of-requires-clause-domain
 calendar_year_of-requires-clause-domain c =
-    let years = c.self.invariant.within_limits.years in
-    let first : to_z w32 (of_z w32 c.self.inside.first_year) ≡ c.args.self.now.first_year =
-    cast_small w32 c.self.inside.first_year 8800 (abs_within c.self.inside.first_year 2 8800 years.least years.most)
-    (lit< tt) ∙ ap (λ t. t.first_year) c.self.view_is in
+    let first = first_year_of c.self.inside c.args.self.now c.self.invariant c.self.view_is in
     rw (first, c.years.ensures, to_z-of_z w64 c.args.m c.ranges.m) c.requires

@@ -1,10 +1,10 @@
-use Rattle.std.proofs.Common.{◌≡◌, length, pos, ◌+ℤ◌, ap, ◌∙◌, arith, lit<}
+use Rattle.std.proofs.Common.{◌≡◌, length, pos, ◌+ℤ◌, arith}
 use Rattle.std.proofs.lemmas.Int.{ints, to_z-of_z}
-use mir.Syntax.{w32, w64}
+use mir.Syntax.{w64}
 use mir.Val.{to_z, of_z}
 use Rattle.year_blend.proofs.PlaceLemmas.{domain_small}
 use Rattle.station_curve.proofs.Around.{around_within}
-use Rattle.station_curve.proofs.Products.{cast_small, abs_within}
+use Rattle.station_curve.proofs.Ready.{first_year_of}
 use Rattle.station_curve.proofs.curve.StationCurve.stretch.Goals as goal
 
 pub overflow_add-m : goal.overflow_add-m
@@ -34,8 +34,22 @@ returns-in-Some c =
 
 pub returns-in-None : goal.returns-in-None
 returns-in-None c =
-    let years = c.self.invariant.within_limits.years in
-    let first : to_z w32 (of_z w32 c.self.inside.first_year) ≡ c.args.self.now.first_year =
-    cast_small w32 c.self.inside.first_year 8800 (abs_within c.self.inside.first_year 2 8800 years.least years.most)
-    (lit< tt) ∙ ap (λ t. t.first_year) c.self.view_is in
+    let first = first_year_of c.self.inside c.args.self.now c.self.invariant c.self.view_is in
     rw (first, c.years.ensures, to_z-of_z w64 c.args.m c.ranges.m) at c.stretch.ensures.value
+
+pub year_around-requires-clause-first : goal.year_around-requires-clause-first
+year_around-requires-clause-first c = rw (to_z-of_z w64 c.args.m c.ranges.m) c.requires.first
+
+pub stretch-requires-clause-years : goal.stretch-requires-clause-years
+stretch-requires-clause-years c =
+    rw (first_year_of c.self.inside c.args.self.now c.self.invariant c.self.view_is, c.years.ensures) c.limits_hold.ensures.years
+
+pub stretch-requires-clause-first : goal.stretch-requires-clause-first
+stretch-requires-clause-first c =
+    let first = first_year_of c.self.inside c.args.self.now c.self.invariant c.self.view_is in
+    rw (first, c.years.ensures, to_z-of_z w64 c.args.m c.ranges.m) c.requires.first
+
+pub stretch-requires-clause-last : goal.stretch-requires-clause-last
+stretch-requires-clause-last c =
+    let first = first_year_of c.self.inside c.args.self.now c.self.invariant c.self.view_is in
+    rw (first, c.years.ensures, to_z-of_z w64 c.args.m c.ranges.m) c.requires.last
