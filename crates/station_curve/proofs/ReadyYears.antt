@@ -11,7 +11,7 @@ use Rattle.year_blend.proofs.YearLemmas.{year_start_of_size}
 use Rattle.station_curve.specs.declared.years.Year.{Year}
 use Rattle.station_curve.specs.declared.fault.CurveFault.{CurveFault}
 use Rattle.station_curve.specs.Curves.{waves_over, year_fault, first_fault}
-use Rattle.station_curve.specs.Workings.Prepared.{AreReady}
+use Rattle.station_curve.specs.Workings.Prepared.{IsReadyYear, AreReady}
 use Rattle.station_curve.specs.Sums.{sums_of}
 use Rattle.station_curve.proofs.Products.{cast_small, abs_within}
 use mir.Syntax.{w32, w64}
@@ -81,14 +81,12 @@ last_too P years y count counted before last k d h =
     ]
 
 pub ready_more : (b : Book) (s : Station) (first last : ℤ) (year : ℕ) (years : List Year) (y : Year)
-    → AreReady b s first last year years → year_fault b s year ≡ None → y.start ≡ start_of b.first_year year
-    → y.end ≡ start_of b.first_year (suc year) → y.waves.items ≡ waves_over b s first last year
-    → y.sums ≡ sums_of y.waves.items → AreReady b s first last (year + 1) (years ++ y ∷ [])
-ready_more b s first last year years y ready fault start end waves sums = record {
+    → AreReady b s first last year years → IsReadyYear b s first last year y → AreReady b s first last (year + 1) (years ++ y ∷ [])
+ready_more b s first last year years y ready last_one = record {
   counted = length-append years (y ∷ []) ∙ ap (λ n. n + 1) ready.counted;
-  waves = last_too (λ k y. y.waves.items ≡ waves_over b s first last k) years y year ready.counted ready.waves waves;
-  starts = last_too (λ k y. y.start ≡ start_of b.first_year k) years y year ready.counted ready.starts start;
-  ends = last_too (λ k y. y.end ≡ start_of b.first_year (suc k)) years y year ready.counted ready.ends end;
-  sums = last_too (λ k y. y.sums ≡ sums_of y.waves.items) years y year ready.counted ready.sums sums;
-  within = none_more b s year ready.within fault;
+  waves = last_too (λ k y. y.waves.items ≡ waves_over b s first last k) years y year ready.counted ready.waves last_one.waves;
+  starts = last_too (λ k y. y.start ≡ start_of b.first_year k) years y year ready.counted ready.starts last_one.start;
+  ends = last_too (λ k y. y.end ≡ start_of b.first_year (suc k)) years y year ready.counted ready.ends last_one.end;
+  sums = last_too (λ k y. y.sums ≡ sums_of y.waves.items) years y year ready.counted ready.sums last_one.sums;
+  within = none_more b s year ready.within last_one.within;
 }

@@ -1,9 +1,9 @@
 //! The waves of each year.
 
-ghost use Rattle.std.specs.Prelude.{◌≡◌, ◌^◌, ◌≤◌, ◌↔◌, IsTrue, length, Some, MatchResult, ◌⊎◌, pos, ◌+ℤ◌, ◌-ℤ◌, ◌≤ℤ◌, unsigned_abs};
+ghost use Rattle.std.specs.Prelude.{◌≡◌, ◌^◌, ◌<◌, ◌≤◌, ◌↔◌, IsTrue, length, Some, MatchResult, ◌⊎◌, pos, ◌+ℤ◌, ◌-ℤ◌, ◌≤ℤ◌, unsigned_abs};
 ghost use Rattle.harmonics_book.specs.Books.{IsStation};
-ghost use Rattle.station_curve.specs.Curves.{first_fault};
-ghost use Rattle.station_curve.specs.Workings.Prepared.{AreReady};
+ghost use Rattle.station_curve.specs.Curves.{year_fault, first_fault};
+ghost use Rattle.station_curve.specs.Workings.Prepared.{present_in, IsReadyYear, AreReady};
 ghost use Rattle.station_curve.specs.declared.fault.CurveFault.TheVariants.{NoMemory};
 
 use crate::constants::{calendar_year, check_year, present_places, waves_if_asked};
@@ -76,20 +76,50 @@ pub fn years_of(
     let present = places.as_slice();
     let mut years = Vec::with_capacity(alloc, book.get().years as usize)?;
     for year in 0..book.get().years {
-        if let Err(fault) = check_year(book, station, present, year) {
-            return Err(fault);
+        match year_of(alloc, book, station, present, year, minute_range) {
+            Ok(prepared) => years.push(prepared)?,
+            Err(fault) => return Err(fault),
         }
-        let start = year_start(calendar_year(book, year));
-        let end = year_start(calendar_year(book, year + 1));
-        let is_asked = minute_range.touches(start, end);
-        let waves = waves_if_asked(alloc, book, station, present, year, is_asked)?;
-        let sums = sums_of_waves(waves.as_slice());
-        years.push(Year {
-            start,
-            end,
-            waves,
-            sums,
-        })?;
     }
     Ok(years)
+}
+
+/// Returns year `year`, counted from 0, with its waves, if it is within the limits; `present` are the
+/// indices of the constituents with an amplitude.
+///
+/// # Errors
+/// The limit that the year exceeds; [`CurveFault::NoMemory`] if memory runs out.
+fn year_of(
+    alloc: Global,
+    book: &ValidBook<'_>,
+    station: &Station,
+    present: &[usize],
+    year: u32,
+    minute_range: MinuteRange,
+) -> Result<Year, CurveFault>
+    requires station { IsStation (length book.now.constituents) station.now }
+    requires present { present.now ≡ present_in book.now station.now }
+    requires count_bound { length present.now ≤ 500 }
+    requires year { year < book.now.years }
+    requires few { year < 500 }
+    requires first { unsigned_abs minute_range.first ≤ 10 ^ 12 }
+    requires last { unsigned_abs minute_range.last ≤ 10 ^ 12 }
+    ensures { MatchResult result
+        (λ prepared. IsReadyYear book.now station.now minute_range.first minute_range.last year prepared)
+        (λ fault. (fault ≡ NoMemory) ⊎ (year_fault book.now station.now year ≡ Some fault)) }
+{
+    if let Err(fault) = check_year(book, station, present, year) {
+        return Err(fault);
+    }
+    let start = year_start(calendar_year(book, year));
+    let end = year_start(calendar_year(book, year + 1));
+    let is_asked = minute_range.touches(start, end);
+    let waves = waves_if_asked(alloc, book, station, present, year, is_asked)?;
+    let sums = sums_of_waves(waves.as_slice());
+    Ok(Year {
+        start,
+        end,
+        waves,
+        sums,
+    })
 }

@@ -4,7 +4,7 @@ use Rattle.harmonics_book.specs.declared.book.Station.{Station}
 use Rattle.harmonics_book.specs.declared.book.Book.{Book}
 use Rattle.year_blend.specs.Places.{start_of}
 use Rattle.station_curve.specs.declared.years.Year.{Year}
-use Rattle.station_curve.specs.Curves.{waves_over, first_fault}
+use Rattle.station_curve.specs.Curves.{waves_over, year_fault, first_fault}
 use Rattle.station_curve.specs.Schureman.{constituents_of}
 use Rattle.station_curve.specs.Sums.{sums_of}
 
@@ -15,6 +15,14 @@ has_amplitude s k = not (unsigned_abs (slice_index_or s.amplitude k (pos 0)) == 
 -- the indices of the constituents with an amplitude
 abbrev pub present_in : Book → Station → List ℕ
 present_in b s = filter (has_amplitude s) (constituents_of b)
+
+-- a year that isn't beyond a limit, for the minutes from `first` to `last`
+pub record IsReadyYear (b : Book) (s : Station) (first last : ℤ) (year : ℕ) (y : Year) : Type 0 where
+  pub within : year_fault b s year ≡ None
+  pub start : y.start ≡ start_of b.first_year year
+  pub end : y.end ≡ start_of b.first_year (suc year)
+  pub waves : y.waves.items ≡ waves_over b s first last year
+  pub sums : y.sums ≡ sums_of y.waves.items
 
 -- the first years, `count` of them, none beyond a limit, for the minutes from `first` to `last`
 pub record AreReady (b : Book) (s : Station) (first last : ℤ) (count : ℕ) (years : List Year) : Type 0 where

@@ -10,11 +10,13 @@ use Rattle.station_curve.proofs.constants.angle.Goals.{Start}
 width : (c : Start) → unsigned_abs (c.args.argument -ℤ c.args.epoch) ≤ 14400000000
 width c = abs_minus c.args.argument c.args.epoch 7200000000 7200000000 c.requires.argument c.requires.epoch
 
-sweep : (c : Start) → to_z w64 (of_z w64 (to_z w64 (of_z w64 c.args.speed) *ℤ to_z w64 (of_z w64 c.args.minutes))) ≡ c.args.speed *ℤ c.args.minutes
+sweep : (c : Start) → to_z w64 (of_z w64 (to_z w64 (of_z w64 c.args.speed) *ℤ to_z w64 (of_z w64 c.args.minutes)))
+    ≡ c.args.speed *ℤ c.args.minutes
 sweep c =
     times w64 c.args.speed c.args.minutes 3600000000 1100 c.requires.speed c.requires.minutes (lit< tt) (lit< tt) (lit< tt)
 
-apart : (c : Start) → to_z w64 (of_z w64 (to_z w64 (of_z w64 c.args.argument) -ℤ to_z w64 (of_z w64 c.args.epoch))) ≡ c.args.argument -ℤ c.args.epoch
+apart : (c : Start) → to_z w64 (of_z w64 (to_z w64 (of_z w64 c.args.argument) -ℤ to_z w64 (of_z w64 c.args.epoch)))
+    ≡ c.args.argument -ℤ c.args.epoch
 apart c = minus w64 c.args.argument c.args.epoch 7200000000 7200000000 c.requires.argument c.requires.epoch (lit< tt)
 
 turned : (c : Start) → unsigned_abs (pos 60 *ℤ (c.args.argument -ℤ c.args.epoch)) ≤ 60 * 14400000000
