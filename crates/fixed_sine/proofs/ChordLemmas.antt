@@ -1,5 +1,5 @@
 -- The sine by a chord: the table's rows, and a bound on its error over a degree.
-use Rattle.std.proofs.Common.{◌≡◌, ℕ, suc, ◌+◌, ◌-◌, ◌*◌, ◌/◌, ◌%◌, ◌<◌, ◌≤◌, Bool, true, ◌&&◌, nat_lt, nat_le, min, inl, inr, refl, sym, ap, ◌∙◌, arith, ℤ, pos, negsuc, neg_ℤ, ◌+ℤ◌, ◌-ℤ◌, ◌*ℤ◌, unsigned_abs, get_or, to_z, of_z, w32, w64}
+use Rattle.std.proofs.Common.{◌≡◌, ℕ, suc, ◌+◌, ◌-◌, ◌*◌, ◌/◌, ◌%◌, ◌<◌, ◌≤◌, Bool, true, ◌&&◌, nat_lt, nat_le, min, inl, inr, refl, sym, ap, ◌∙◌, arith, lit<, ℤ, pos, negsuc, neg_ℤ, ◌+ℤ◌, ◌-ℤ◌, ◌*ℤ◌, unsigned_abs, get_or, to_z, of_z, w32, w64}
 use Rattle.std.specs.Int.{int_shr}
 use Rattle.std.specs.Ordering.{int_eq}
 use Rattle.std.proofs.lemmas.Bool.{agree_below_at, leb-true, and_parts, cases_lt, cond-true, cond-false, lt-ltb, le-ltb}
@@ -14,6 +14,7 @@ use Rattle.fixed_sine.specs.BinaryAngle.{units_of}
 use Rattle.fixed_sine.specs.Chords.{degree_sine, degree_rise, chord_sine_of}
 use Rattle.fixed_sine.proofs.CircleLemmas.{isin_of-first, isin_of-second, isin_of_size}
 use Rattle.fixed_sine.proofs.DegreeLemmas.{raised, multiplied, row-at, sine_at-size}
+use Rattle.fixed_sine.proofs.ProductLemmas.{shifted-size}
 use Rattle.fixed_sine.proofs.RateLemmas.{half_num, half_of-num}
 use Rattle.fixed_sine.proofs.RowLemmas.{half_num-row}
 
@@ -167,13 +168,9 @@ degree_rise-small k h = rw (← (chord-row k h).1) (chord-fits k h).rise
 rise-small : (k : ℕ) → k < 180 → unsigned_abs (rise k) ≤ 17452406
 rise-small k h = rw (← degree_rise-first k h) (degree_rise-small k (omega (arith, h)))
 
-cut-small : (z : ℤ) → unsigned_abs z ≤ 4294967296 * 17452406 → unsigned_abs (int_shr z 32) ≤ 17452406
-cut-small (pos n) small = omega (arith, ints, small)
-cut-small (negsuc n) small = omega (arith, ints, small)
-
 gain-small : (p : ℕ) (u : ℤ) → p < 4294967296 → unsigned_abs u ≤ 17452406 → unsigned_abs (int_shr (pos p *ℤ u) 32) ≤ 17452406
 gain-small p u in_degree small =
-    cut-small (pos p *ℤ u)
+    shifted-size (pos p *ℤ u) 32 17452406 (lit< tt)
     (rw (unsigned_abs-mul (pos p) u) (mul-le p (unsigned_abs u) 4294967296 17452406 (omega (arith, in_degree)) small))
 
 turned-rise : (u rise : ℤ) (w back : ℕ) → u ≡ neg_ℤ rise → rise +ℤ pos 17452406 ≡ pos w → back + w ≡ 34904812 → u +ℤ pos 17452406 ≡ pos back

@@ -1,3 +1,4 @@
+pub mod ProductLemmas
 pub mod TableLemmas
 pub mod QuarterLemmas
 pub mod CircleLemmas
