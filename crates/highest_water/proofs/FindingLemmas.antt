@@ -1,9 +1,11 @@
 -- The highest point so far, cell by cell.
-use Rattle.std.proofs.Common.{◌≡◌, ℕ, ◌+◌, ◌*◌, ◌≤◌, ◌<◌, ◌^◌, ℤ, pos, ◌+ℤ◌, ◌-ℤ◌, ◌≤ℤ◌, ◌<ℤ◌, int_lt, unsigned_abs, true, false, List, length, refl, sym, ap, ◌∙◌, arith}
+use Rattle.std.proofs.Common.{◌≡◌, ℕ, ◌+◌, ◌*◌, ◌≤◌, ◌<◌, ◌^◌, min, ℤ, pos, ◌+ℤ◌, ◌-ℤ◌, ◌≤ℤ◌, ◌<ℤ◌, int_lt, unsigned_abs, true, false, List, length, refl, sym, ap, ◌∙◌, arith}
 use Rattle.std.proofs.lemmas.Int.{ints}
 use Rattle.curve_law.specs.declared.point.Point.{Point}
-use Rattle.curve_law.specs.Meaning.{Meaning, IsLawful}
+use Rattle.curve_law.specs.Meaning.{Meaning, IsMinute, IsLawful}
+use Rattle.curve_law.specs.declared.quiet.TheConstants.{MOST_MINUTES}
 use Rattle.curve_law.proofs.CoverLemmas.{by_test}
+use Rattle.interval_search.specs.Workings.Ahead.{minutes_to}
 use Rattle.highest_water.specs.declared.peak.Peak.{Peak}
 use Rattle.highest_water.specs.declared.peak_cell.PeakCell.{PeakCell}
 use Rattle.highest_water.specs.declared.peak_cell.PeakCell.TheVariants.{Under, Single}
@@ -19,6 +21,52 @@ use Rattle.highest_water.proofs.VerdictLemmas.{below-append, below-none, below-o
 pub asked-point : (c : Meaning) (begin end m : ℤ) (p : Point) → begin ≤ℤ m → m <ℤ end
     → p ≡ record { minute = m; value = c.track.value m } → IsPoint c begin end p
 asked-point c begin end m p from before is = rw is (record { from = from; before = before; value = refl })
+
+-- a minute of a span of a lawful curve
+pub minute-between : (c : Meaning) (begin end m : ℤ) → c.first ≤ℤ begin → end ≤ℤ c.last → begin ≤ℤ m → m ≤ℤ end → IsMinute c m
+minute-between c begin end m first last from to = record { first = omega (arith, ints); last = omega (arith, ints) }
+
+pub begin-between : (c : Meaning) (begin end : ℤ) → c.first ≤ℤ begin → end ≤ℤ c.last → begin <ℤ end → IsMinute c begin
+begin-between c begin end first last some = record { first = first; last = omega (arith, ints) }
+
+pub minute-range : (c : Meaning) (m : ℤ) → IsLawful c → IsMinute c m → unsigned_abs m ≤ 2 ^ 60
+minute-range c m lawful at = omega (arith, ints, lawful.early, lawful.late, at.first, at.last)
+
+pub int_le-trans : (x y z : ℤ) → x ≤ℤ y → y ≤ℤ z → x ≤ℤ z
+int_le-trans x y z first second = omega (arith, ints)
+
+-- the end of a block that begins before the end of the span
+pub record IsBlockEnd (begin end next : ℤ) : Type 0 where
+  pub from : begin ≤ℤ next
+  pub within : next ≤ℤ end
+  pub fewer : minutes_to next end + 1 ≤ minutes_to begin end
+
+pub block-ends : (begin end next : ℤ) → begin <ℤ end → next ≡ begin +ℤ pos (min (minutes_to begin end) MOST_MINUTES)
+    → IsBlockEnd begin end next
+block-ends begin end next some is = record {
+  from = omega (arith, ints);
+  within = omega (arith, ints);
+  fewer = omega (arith, ints);
+}
+
+pub block-smaller : (begin end next : ℤ) → IsBlockEnd begin end next → minutes_to next end < minutes_to begin end
+block-smaller begin end next block = let fewer = block.fewer in omega arith
+
+pub block-few : (c : Meaning) (begin end : ℤ) (start count left : ℕ) → IsLawful c → c.first ≤ℤ begin → end ≤ℤ c.last
+    → begin <ℤ end → start ≤ 2 ^ 62 → count + left ≤ start + minutes_to begin end → count < 2 ^ 63
+block-few c begin end start count left lawful first last some few counted =
+    omega (arith, ints, lawful.early, lawful.late, first, last)
+
+pub begin-counted : (start after left fewer : ℕ) → after ≡ start + 1 → fewer + 1 ≤ left → after + fewer ≤ start + left
+begin-counted start after left fewer one less = omega arith
+
+pub block-counted : (start count after left fewer all : ℕ) → count + left ≤ start + all → after ≡ count + 1 → fewer + 1 ≤ left
+    → after + fewer ≤ start + all
+block-counted start count after left fewer all so_far one less = omega arith
+
+pub begin-point : (c : Meaning) (begin end : ℤ) (p : Point) → begin <ℤ end
+    → p ≡ record { minute = begin; value = c.track.value begin } → IsPoint c begin end p
+begin-point c begin end p some is = asked-point c begin end begin p (omega (arith, ints)) some is
 
 -- the higher of two points
 pub higher-point : (c : Meaning) (begin end : ℤ) (h p : Point) → IsPoint c begin end h → IsPoint c begin end p
@@ -139,6 +187,14 @@ pub highest-is : (c : Meaning) (begin end at value : ℤ) → IsHighest c begin 
 highest-is c begin end at value peak =
     let same = highest-peak_of c begin end at value (peak_cover c at value begin (unsigned_abs (end -ℤ begin))) peak refl in
     (ap (λ (p : Peak). p.at) same, ap (λ (p : Peak). p.value) same)
+
+pub some-forward : (begin end : ℤ) → begin <ℤ end → begin ≤ℤ end
+some-forward begin end some = omega (arith, ints)
+
+-- the number of evaluations of the search
+pub values-few : (begin end : ℤ) (before found : ℕ) → (end -ℤ begin) ≤ℤ pos 5270400 → begin <ℤ end → before ≤ 2 ^ 62
+    → found ≤ before + 2 * unsigned_abs (end -ℤ begin) + 1 → found ≤ 2 ^ 62 + 2 ^ 60
+values-few begin end before found short some few first = omega (arith, ints)
 
 -- the number of evaluations of the search and then of the cells
 pub values-counted : (c : Meaning) (begin end at value : ℤ) (before found after : ℕ) → IsHighest c begin end at value

@@ -1,5 +1,5 @@
 -- The verdict on one cell, and on the cells after it.
-use Rattle.std.proofs.Common.{◌≡◌, ◌≢◌, ℕ, ◌+◌, ◌<◌, ◌≤◌, ◌==◌, ℤ, pos, ◌+ℤ◌, ◌≤ℤ◌, ◌<ℤ◌, unsigned_abs, ◌-ℤ◌, List, ◌∷◌, get_or, drop, length, true, false, refl, sym, add-one, drop-cons, arith}
+use Rattle.std.proofs.Common.{◌≡◌, ◌≢◌, ℕ, ◌+◌, ◌<◌, ◌≤◌, ◌==◌, ℤ, pos, ◌+ℤ◌, ◌≤ℤ◌, ◌<ℤ◌, unsigned_abs, ◌-ℤ◌, Fits, w32, ◌^◌, List, ◌∷◌, get_or, drop, length, true, false, refl, sym, add-one, drop-cons, arith}
 use Rattle.std.proofs.lemmas.Int.{ints}
 use Rattle.std.proofs.lemmas.List.{drop_all}
 use Rattle.std.proofs.lemmas.Bool.Decides.{Decides-eqb}
@@ -101,3 +101,16 @@ is_inside-after at begin end forward late = grind (arith, ints)
 
 pub is_inside-within : (at begin end : ℤ) → begin ≤ℤ at → at <ℤ end → is_inside at begin (unsigned_abs (end -ℤ begin)) ≡ true
 is_inside-within at begin end from before = grind (arith, ints)
+
+-- the number of evaluations after i of n cells, and the number of the next cell
+pub few-counted : (count start i n : ℕ) → count ≡ start + i + 1 → i < n → start + n ≤ 2 ^ 62 → count < 2 ^ 63
+few-counted count start i n counted some few = omega arith
+
+pub more-counted : (count start i n after : ℕ) → count ≡ start + i + 1 → i < n → after ≡ count + 1 → after ≤ start + n + 1
+more-counted count start i n after counted some one = omega arith
+
+pub all-counted : (count start i n : ℕ) → count ≡ start + i + 1 → i ≤ n → count ≤ start + n + 1
+all-counted count start i n counted last = omega arith
+
+pub number-fits : (number i n : ℕ) → number ≡ i → i < n → n < 2 ^ 32 → Fits w32 (number + 1)
+number-fits number i n is some few = record { fits = omega arith }

@@ -1,5 +1,5 @@
 -- Cells that have the minutes of a span, or don't.
-use Rattle.std.proofs.Common.{◌≡◌, ◌≢◌, ◌-◌, ◌^◌, ◌==◌, min, w64, to_z, of_z, ℤ, pos, ◌+ℤ◌, ◌-ℤ◌, ◌≤ℤ◌, unsigned_abs, false, refl, sym, ap, arith, ◌∙◌}
+use Rattle.std.proofs.Common.{◌≡◌, ◌≢◌, ◌-◌, ◌^◌, ◌==◌, min, w64, to_z, of_z, FitsSigned, ℤ, pos, ◌+ℤ◌, ◌-ℤ◌, ◌≤ℤ◌, unsigned_abs, false, refl, sym, ap, arith, ◌∙◌}
 use Rattle.std.proofs.lemmas.Bool.{ne_eqb}
 use Rattle.std.proofs.lemmas.Int.{ints}
 use Rattle.curve_law.specs.Meaning.{Meaning}
@@ -8,6 +8,14 @@ use Rattle.highest_water.specs.declared.peak.Peak.{Peak}
 use Rattle.highest_water.specs.declared.verdict.PeakVerdict.TheVariants.{WrongLength}
 use Rattle.highest_water.specs.Covers.{all_minutes}
 use Rattle.highest_water.specs.Verdicts.{peak_verdict}
+
+-- the number of minutes fits 64 bits
+pub wanted-fits : (c : Meaning) (begin end : ℤ) → IsBetween c begin end
+    → FitsSigned w64 (to_z w64 (of_z w64 end) -ℤ to_z w64 (of_z w64 begin))
+wanted-fits c begin end between =
+    let few = minutes-few c begin end between in
+    let forward = between.forward in
+    rw (ends-are c begin end between) (omega (arith, ints))
 
 -- cells of another length
 pub wrong-length : (c : Meaning) (begin end covered : ℤ) (peak : Peak) → IsBetween c begin end

@@ -1,6 +1,6 @@
 -- A curve that changes by at most its rate in each minute stays under a value that is far enough from the
 -- values at both ends.
-use Rattle.std.proofs.Common.{◌≡◌, ◌⊎◌, inl, inr, ⊎_elim, ℕ, ◌+◌, ◌-◌, ◌*◌, ◌≤◌, ◌<◌, nat_le, ℤ, pos, negsuc, ◌+ℤ◌, ◌-ℤ◌, ◌*ℤ◌, ◌≤ℤ◌, ◌<ℤ◌, unsigned_abs, int_lt, int_le, Bool, true, false, ◌&&◌, ◌||◌, ◌^◌, cond, Option, Some, None, refl, sym, arith}
+use Rattle.std.proofs.Common.{◌≡◌, ◌⊎◌, inl, inr, ⊎_elim, ℕ, ◌+◌, ◌-◌, ◌*◌, ◌≤◌, ◌<◌, nat_le, ℤ, pos, negsuc, ◌+ℤ◌, ◌-ℤ◌, ◌*ℤ◌, ◌≤ℤ◌, ◌<ℤ◌, unsigned_abs, int_lt, int_le, Bool, true, false, ◌&&◌, ◌||◌, ◌^◌, cond, Option, Some, None, refl, arith}
 use Rattle.std.proofs.lemmas.Bool.{and_parts}
 use Rattle.std.proofs.lemmas.Bool.Decides.{nat_tests}
 use Rattle.std.proofs.lemmas.Int.{ints}
@@ -210,14 +210,6 @@ is_under-unrated c at value a n stated = rw (← stated) (no_way (int_le (a +ℤ
     no_way false true b = and_false b
     no_way false false b = and_false b
 
-pub rate-small : (c : Meaning) (a : ℤ) (n : ℕ) (rate : ℤ) → IsLawful c → IsSpan c a n → 2 ≤ n → n ≤ MOST_MINUTES
-    → Some rate ≡ c.rate a n → (rate *ℤ pos 1024) <ℤ pos (5 * 10 ^ 37)
-rate-small c a n rate lawful span two most is =
-    (lawful.rates a n rate (record { first = span.first; last = span.last; some = omega arith; few = most }) (sym is)).small
-
-pub value-small : (c : Meaning) (a m v : ℤ) (n : ℕ) → IsLawful c → IsSpan c a n → a ≤ℤ m → m ≤ℤ (a +ℤ pos n)
-    → v ≡ c.track.value m → unsigned_abs v < 10 ^ 37
-value-small c a m v n lawful span from to is =
-    let first = span.first in
-    let last = span.last in
-    rw is (lawful.values m (record { first = omega (arith, ints); last = omega (arith, ints) }))
+-- the first minute of a span of a lawful curve
+pub begin-range : (c : Meaning) (a : ℤ) (n : ℕ) → IsLawful c → IsSpan c a n → unsigned_abs a ≤ 2 ^ 60
+begin-range c a n lawful span = omega (arith, ints, lawful.early, lawful.late, span.first, span.last)

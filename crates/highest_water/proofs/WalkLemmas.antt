@@ -1,8 +1,8 @@
 -- The cells ahead of a walk are those of the pieces ahead.
-use Rattle.std.proofs.Common.{◌≡◌, ℕ, zero, suc, ◌+◌, ◌-◌, ◌/◌, ◌≤◌, ℤ, pos, ◌+ℤ◌, ◌≤ℤ◌, false, true, nat_le, List, [], ◌∷◌, ◌++◌, length, length-append, map, None, refl, sym, ap, arith, ◌∙◌}
+use Rattle.std.proofs.Common.{◌≡◌, ℕ, zero, suc, ◌+◌, ◌-◌, ◌/◌, ◌≤◌, ◌<◌, ℤ, pos, ◌+ℤ◌, ◌≤ℤ◌, false, true, nat_le, List, [], ◌∷◌, ◌++◌, length, length-append, append_assoc, map, None, refl, sym, ap, arith, ◌∙◌}
 use Rattle.std.proofs.lemmas.Int.{ints}
 use Rattle.std.proofs.lemmas.Bool.Decides.{nat_tests}
-use Rattle.std.proofs.lemmas.List.{length-map, map-append}
+use Rattle.std.proofs.lemmas.List.{length-map, map-append, append-nil}
 use Rattle.curve_law.specs.declared.point.Point.{Point}
 use Rattle.curve_law.specs.declared.quiet.TheConstants.{MOST_MINUTES}
 use Rattle.curve_law.specs.Meaning.{Meaning}
@@ -147,6 +147,25 @@ pub counted-more : (xs ahead rest all : List PeakCell) (cell : PeakCell) (start 
     → more ≤ start + length all + 1
 counted-more xs ahead rest all cell start count more w v whole next few step so_far =
     omega (arith, length-append xs ahead, ap length whole, ap length next)
+
+pub first-counted : (count start a b : ℕ) → count ≡ start + 1 → count ≤ start + a + b + 1
+first-counted count start a b one = omega arith
+
+-- one more cell is pushed
+pub cell-fewer : (ahead rest : List PeakCell) (cell : PeakCell) → ahead ≡ cell ∷ rest → length rest < length ahead
+cell-fewer ahead rest cell next = omega (arith, ap length next)
+
+pub cell-pushed : (xs ys ahead rest all : List PeakCell) (cell : PeakCell) → xs ++ ahead ≡ all → ahead ≡ cell ∷ rest
+    → ys ≡ xs ++ cell ∷ [] → ys ++ rest ≡ all
+cell-pushed xs ys ahead rest all cell whole next pushed = rw (pushed, append_assoc) (rw next at whole)
+
+pub cell-counted : (xs ys : List PeakCell) (cell : PeakCell) (start count more w v : ℕ) → ys ≡ xs ++ cell ∷ []
+    → more + w ≡ count + v + 1 → count ≤ start + length xs + w + 1 → more ≤ start + length ys + v + 1
+cell-counted xs ys cell start count more w v pushed step so_far =
+    omega (arith, ap length pushed, length-append xs (cell ∷ []))
+
+pub cells-all : (xs ahead all : List PeakCell) → xs ++ ahead ≡ all → ahead ≡ [] → xs ≡ all
+cells-all xs ahead all whole done = sym (append-nil xs) ∙ (rw done at whole)
 
 pub counted-all : (xs ahead all : List PeakCell) (ps : List Point) (start count : ℕ) → xs ++ ahead ≡ all → ahead ≡ []
     → ps ≡ [] → count ≤ start + length xs + length ps + 1 → count ≤ start + length all + 1

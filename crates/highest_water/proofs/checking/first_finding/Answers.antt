@@ -1,8 +1,50 @@
-use Rattle.std.proofs.Common.{w64, FitsSigned, rules, arith, ◌∙◌}
+use Rattle.std.proofs.Common.{w64, FitsSigned, rules, refl, arith, ◌∙◌}
 use Rattle.std.proofs.lemmas.Int.{to_z-of_z}
+use mir.Syntax.{w128}
+use Rattle.curve_law.proofs.QuietLemmas.{begin-minute}
 use Rattle.curve_law.proofs.StateLemmas.{facts-after, count-after}
-use Rattle.highest_water.proofs.JudgingLemmas.{first-span, rest-span, first-found, rest-found, none-found}
+use Rattle.highest_water.proofs.JudgingLemmas.{first-span, rest-span, first-found, rest-found, none-found, few-counted, more-counted, all-counted, number-fits}
 use Rattle.highest_water.proofs.checking.first_finding.Goals as goal
+
+pub point_at-at-requires-clause-minute : goal.point_at-at-requires-clause-minute
+point_at-at-requires-clause-minute g c =
+    rw (to_z-of_z w64 c.args.begin c.ranges.begin)
+    (begin-minute (g.C.Curve.state c.args.curve.now).facts.meaning c.args.begin _ c.requires.span)
+
+pub loop-cell-init : goal.loop-cell-init
+loop-cell-init g c =
+    let begun = c.point_at-at.ensures in
+    record {
+      unchanged = facts-after _ _ begun.after;
+      numbered = refl;
+      counted = omega (arith, count-after _ _ begun.after);
+      value = rw begun.point refl;
+      span = rw (begun.point, to_z-of_z w64 c.args.begin c.ranges.begin) c.requires.span;
+      left = rw begun.point refl;
+    }
+
+pub end_of-end-requires-clause-count_bound : goal.end_of-end-requires-clause-count_bound
+end_of-end-requires-clause-count_bound g c =
+    few-counted _ _ c.loop-cell.cell-index _ c.loop-cell.invariant.counted c.loop-cell-test.true c.requires.count
+
+pub overflow_add-number : goal.overflow_add-number
+overflow_add-number g c =
+    number-fits _ c.loop-cell.cell-index _ c.loop-cell.invariant.numbered c.loop-cell-test.true c.requires.count_bound
+
+pub finding_on-requires-clause-size : goal.finding_on-requires-clause-size
+finding_on-requires-clause-size g c = c.requires.size
+
+pub finding_on-requires-clause-value : goal.finding_on-requires-clause-value
+finding_on-requires-clause-value g c =
+    rw (c.end_of-end.ensures.after, c.loop-cell.invariant.unchanged) c.loop-cell.invariant.value
+
+pub finding_on-requires-clause-end_value : goal.finding_on-requires-clause-end_value
+finding_on-requires-clause-end_value g c =
+    let at : FitsSigned w64 c.loop-cell.at.minute = search rules in
+    let value : FitsSigned w128 c.end_of-end.result.value = search rules in
+    let minute = rw (to_z-of_z w64 _ at) at c.end_of-end.ensures.minute in
+    rw (to_z-of_z w128 _ value, c.end_of-end.ensures.after, c.loop-cell.invariant.unchanged, ← minute)
+    (rw c.loop-cell.invariant.unchanged at c.end_of-end.ensures.value)
 
 pub end_of-end-requires-clause-span : goal.end_of-end-requires-clause-span
 end_of-end-requires-clause-span g c =
@@ -41,3 +83,12 @@ pub returns-clause-verdict : goal.returns-clause-verdict
 returns-clause-verdict g c =
     none-found _ c.args.highest _ _ _ _ _ c.loop-cell-test.false
     (rw (to_z-of_z w64 c.args.begin c.ranges.begin) at c.loop-cell.invariant.left)
+
+pub returns-in_default-clause-count : goal.returns-in_default-clause-count
+returns-in_default-clause-count g c =
+    more-counted _ _ c.loop-cell.cell-index _ _ c.loop-cell.invariant.counted c.loop-cell-test.true
+    (count-after _ _ c.end_of-end.ensures.after)
+
+pub returns-clause-count : goal.returns-clause-count
+returns-clause-count g c =
+    all-counted _ _ c.loop-cell.cell-index _ c.loop-cell.invariant.counted c.loop-cell.auto.cell-index-end
