@@ -35,6 +35,31 @@ minute-range c m lawful at = omega (arith, ints, lawful.early, lawful.late, at.f
 pub int_le-trans : (x y z : ℤ) → x ≤ℤ y → y ≤ℤ z → x ≤ℤ z
 int_le-trans x y z first second = omega (arith, ints)
 
+pub int_le-same : (x y : ℤ) → y ≡ x → x ≤ℤ y
+int_le-same x y is = omega (arith, ints)
+
+pub int_le-more : (x y z : ℤ) (n : ℕ) → x ≤ℤ y → z ≡ y +ℤ pos n → x ≤ℤ z
+int_le-more x y z n from is = omega (arith, ints)
+
+-- a walk goes n minutes on
+pub walk-fewer : (a b end : ℤ) (n : ℕ) → b ≡ a +ℤ pos n → b ≤ℤ end → minutes_to b end + n ≡ minutes_to a end
+walk-fewer a b end n is within = omega (arith, ints)
+
+pub walk-smaller : (a b end : ℤ) (n : ℕ) → b ≡ a +ℤ pos n → b ≤ℤ end → 1 ≤ n → minutes_to b end < minutes_to a end
+walk-smaller a b end n is within some = let fewer = walk-fewer a b end n is within in omega arith
+
+pub walk-begun : (start found after all w : ℕ) → found ≤ start + all → after ≡ found + 1
+    → after + all ≤ start + 2 * all + 1 + w
+walk-begun start found after all w first one = omega arith
+
+pub walk-counted : (start count after left fewer n all w v : ℕ) → count + left ≤ start + 2 * all + 1 + w
+    → after + w ≡ count + v + 1 → fewer + n ≡ left → 1 ≤ n → after + fewer ≤ start + 2 * all + 1 + v
+walk-counted start count after left fewer n all w v so_far step less some = omega arith
+
+pub walk-done : (start count after left all w : ℕ) → count + left ≤ start + 2 * all + 1 + w → after ≡ count → w ≡ 0
+    → after ≤ start + 2 * all + 1
+walk-done start count after left all w so_far last none = omega arith
+
 -- the end of a block that begins before the end of the span
 pub record IsBlockEnd (begin end next : ℤ) : Type 0 where
   pub from : begin ≤ℤ next
@@ -191,7 +216,14 @@ highest-is c begin end at value peak =
 pub some-forward : (begin end : ℤ) → begin <ℤ end → begin ≤ℤ end
 some-forward begin end some = omega (arith, ints)
 
+pub highest-forward : (c : Meaning) (begin end at value : ℤ) → IsHighest c begin end at value → begin ≤ℤ end
+highest-forward c begin end at value peak = let from = peak.from in let before = peak.before in omega (arith, ints)
+
 -- the number of evaluations of the search
+pub blocks-few : (begin end : ℤ) (before found : ℕ) → (end -ℤ begin) ≤ℤ pos 5270400 → begin <ℤ end → before ≤ 2 ^ 62
+    → found ≤ before + minutes_to begin end → found ≤ 2 ^ 62 + 2 ^ 60
+blocks-few begin end before found short some few first = omega (arith, ints)
+
 pub values-few : (begin end : ℤ) (before found : ℕ) → (end -ℤ begin) ≤ℤ pos 5270400 → begin <ℤ end → before ≤ 2 ^ 62
     → found ≤ before + 2 * unsigned_abs (end -ℤ begin) + 1 → found ≤ 2 ^ 62 + 2 ^ 60
 values-few begin end before found short some few first = omega (arith, ints)

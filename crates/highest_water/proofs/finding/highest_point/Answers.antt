@@ -1,9 +1,24 @@
-use Rattle.std.proofs.Common.{w64, to_z, of_z, ◌≤ℤ◌, length, ap, arith, ◌∙◌}
-use Rattle.std.proofs.lemmas.Int.{ints, to_z-of_z}
+use Rattle.std.proofs.Common.{w64, to_z, of_z, ◌≤ℤ◌, length, ap, ◌∙◌}
+use Rattle.std.proofs.lemmas.Int.{to_z-of_z}
 use Rattle.curve_law.specs.declared.point.Point.{Point}
 use Rattle.curve_law.proofs.StateLemmas.{facts-after, count-after}
-use Rattle.highest_water.proofs.FindingLemmas.{first-so_far, cell-so_far, all-so_far, right-some, point-small, highest-is}
+use Rattle.highest_water.proofs.FindingLemmas.{some-forward, blocks-few, int_le-same, int_le-more, walk-fewer, walk-smaller, walk-begun, walk-counted, walk-done, first-so_far, cell-so_far, all-so_far, right-some, point-small, highest-is}
 use Rattle.highest_water.proofs.finding.highest_point.Goals as goal
+
+pub highest_block-highest-requires-clause-some : goal.highest_block-highest-requires-clause-some
+highest_block-highest-requires-clause-some g c =
+    rw (to_z-of_z w64 c.args.begin c.ranges.begin, to_z-of_z w64 c.args.end c.ranges.end) c.requires.some
+
+pub walk_from-front-requires-clause-forward : goal.walk_from-front-requires-clause-forward
+walk_from-front-requires-clause-forward g c =
+    rw (to_z-of_z w64 c.args.begin c.ranges.begin, to_z-of_z w64 c.args.end c.ranges.end)
+    (some-forward c.args.begin c.args.end c.requires.some)
+
+pub walk_from-front-requires-clause-count_bound : goal.walk_from-front-requires-clause-count_bound
+walk_from-front-requires-clause-count_bound g c =
+    let found = rw (to_z-of_z w64 c.args.begin c.ranges.begin, to_z-of_z w64 c.args.end c.ranges.end)
+    at c.highest_block-highest.ensures.count in
+    blocks-few c.args.begin c.args.end _ _ c.requires.length_bound c.requires.some c.requires.count_bound found
 
 pub walk_from-front-requires-clause-size : goal.walk_from-front-requires-clause-size
 walk_from-front-requires-clause-size g c =
@@ -20,9 +35,9 @@ loop-found-init g c =
       unchanged = facts-after _ _ walk.after ∙ block.unchanged;
       walk_invariant = rw block.unchanged at walk.walk_invariant;
       until = walk.end;
-      onward = omega (arith, ints, walk.at);
+      onward = int_le-same _ _ walk.at;
       so_far = rw walk.at (first-so_far (g.C.Curve.state c.args.curve.now).facts.meaning _ _ c.highest_block-highest.result block.point);
-      counted = omega (arith, ints, walk.at, count-after _ _ walk.after, block.count);
+      counted = rw walk.at (walk-begun _ _ _ _ _ block.count (count-after _ _ walk.after));
     }
 
 pub next_cell-requires-clause-size : goal.next_cell-requires-clause-size
@@ -36,7 +51,7 @@ pub loop-found-smaller : goal.loop-found-smaller
 loop-found-smaller g c =
     let found = c.in-Some.ensures.found in
     let some = right-some _ _ _ _ found.3 in
-    omega (arith, ints, found.2, found.4, some, c.loop-found.invariant.until)
+    walk-smaller _ _ _ _ found.2 (rw c.loop-found.invariant.until at found.4) some
 
 pub loop-found-preserved : goal.loop-found-preserved
 loop-found-preserved g c =
@@ -48,17 +63,18 @@ loop-found-preserved g c =
     let last : to_z w64 (of_z w64 c.args.end) ≤ℤ meaning.last = rw (to_z-of_z w64 c.args.end c.ranges.end) c.requires.last in
     let right = rw invariant.unchanged at found.3 in
     let some = right-some _ _ _ _ right in
+    let within = rw invariant.until at found.4 in
     record {
       unchanged = next.unchanged ∙ invariant.unchanged;
       walk_invariant = rw invariant.unchanged at next.walk_invariant;
       until = next.end ∙ invariant.until;
-      onward = omega (arith, ints, found.2, invariant.onward);
+      onward = int_le-more _ _ _ _ invariant.onward found.2;
       so_far = rw (c.raised_by-highest.ensures, found.2)
           (cell-so_far meaning _ _ c.loop-found.front.at.minute c.loop-found.highest c.in-Some.found.at
           c.in-Some.found.cell (g.met.C.Curve.lawful c.args.curve.now) first last invariant.so_far invariant.onward
           (ap (λ (p : Point). p.minute) found.0) (rw found.0 invariant.walk_invariant.value)
-          right (omega (arith, ints, found.2, found.4, invariant.until)));
-      counted = omega (arith, ints, found.2, found.4, some, next.count, invariant.counted, invariant.until);
+          right (rw found.2 at within));
+      counted = walk-counted _ _ _ _ _ _ _ _ _ invariant.counted next.count (walk-fewer _ _ _ _ found.2 within) some;
     }
 
 pub returns-clause-highest : goal.returns-clause-highest
@@ -81,4 +97,4 @@ returns-clause-count g c =
     let done = c.in_default.ensures.found.0 ∙ c.loop-found.invariant.until in
     let none = ap length c.in_default.ensures.found.1 in
     let counted = rw (to_z-of_z w64 c.args.begin c.ranges.begin, to_z-of_z w64 c.args.end c.ranges.end) at c.loop-found.invariant.counted in
-    omega (arith, ints, none, counted, c.in_default.ensures.count)
+    walk-done _ _ _ _ _ _ counted c.in_default.ensures.count none
