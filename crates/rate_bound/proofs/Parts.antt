@@ -1,10 +1,10 @@
 -- Sums and products of rates, within their types.
-use Rattle.std.proofs.Common.{◌≡◌, ℕ, ◌+◌, ◌*◌, ◌^◌, ◌<◌, ◌≤◌, ap, ◌∙◌, arith, ℤ, pos, ◌+ℤ◌, ◌*ℤ◌, FitsSigned, to_z, of_z}
+use Rattle.std.proofs.Common.{◌≡◌, ℕ, ◌+◌, ◌*◌, ◌^◌, ◌<◌, ◌≤◌, ap, ◌∙◌, arith, ℤ, pos, ◌+ℤ◌, ◌-ℤ◌, ◌*ℤ◌, FitsSigned, to_z, of_z}
 use Rattle.std.specs.Prelude.{unsigned_abs}
 use Rattle.std.specs.Int.{int_max}
-use Rattle.std.proofs.lemmas.Int.{ints, clamps, fits_signed_from_abs}
-use mir.Syntax.{w128}
-use Rattle.station_curve.proofs.Products.{cast_small, abs_times, abs_plus}
+use Rattle.std.proofs.lemmas.Int.{ints, clamps, fits_signed_mul, fits_signed_from_abs}
+use mir.Syntax.{w64, w128}
+use Rattle.station_curve.proofs.Products.{cast_small, abs_times, abs_plus, abs_minus}
 
 -- the sum of two numbers fits 128 bits
 sum_is : (x y : ℤ) (m n : ℕ) → unsigned_abs x ≤ m → unsigned_abs y ≤ n → m + n < 2 ^ 127 → to_z w128 (of_z w128 (x +ℤ y)) ≡ x +ℤ y
@@ -54,3 +54,44 @@ pub max_part : (k : ℕ) (z a b : ℤ) (m : ℕ) → z ≡ int_max (to_z w128 (o
 max_part k z a b m is first second high low fits =
     let same : z ≡ int_max a b = rw (cast_small w128 a m first low, cast_small w128 b m second low) at is in
     rw same (product_part k (int_max a b) m (max_size a b m first second) high low fits)
+
+-- the same products and sums fit
+product_fits : (k : ℕ) (a : ℤ) (m : ℕ) → unsigned_abs a ≤ m → m < 2 ^ 127 → k * m < 2 ^ 127
+    → FitsSigned w128 (pos k *ℤ to_z w128 (of_z w128 a))
+product_fits k a m small low fits =
+    rw (cast_small w128 a m small low) (fits_signed_mul w128 (pos k) a k m (omega arith) small fits)
+
+pub max_fits : (k : ℕ) (z a b : ℤ) (m : ℕ) → z ≡ int_max (to_z w128 (of_z w128 a)) (to_z w128 (of_z w128 b))
+    → unsigned_abs a ≤ m → unsigned_abs b ≤ m → m < 2 ^ 127 → k * m < 2 ^ 127
+    → FitsSigned w128 (pos k *ℤ to_z w128 (of_z w128 z))
+max_fits k z a b m is first second low fits =
+    let same : z ≡ int_max a b = rw (cast_small w128 a m first low, cast_small w128 b m second low) at is in
+    rw same (product_fits k (int_max a b) m (max_size a b m first second) low fits)
+
+pub sum_fits : (a b : ℤ) (m : ℕ) → unsigned_abs a ≤ m → unsigned_abs b ≤ m → m + m < 2 ^ 127
+    → FitsSigned w128 (to_z w128 (of_z w128 a) +ℤ to_z w128 (of_z w128 b))
+sum_fits a b m first second low =
+    let size = abs_plus a b m m first second in
+    rw (cast_small w128 a m first (omega (arith, low)), cast_small w128 b m second (omega (arith, low)))
+    (fits_signed_from_abs w128 (a +ℤ b) (omega (arith, size, low)))
+
+-- the difference of two numbers, with its size
+pub record IsApart (x y : ℤ) (most : ℕ) : Type 0 where
+  pub fits : FitsSigned w64 (to_z w64 (of_z w64 x) -ℤ to_z w64 (of_z w64 y))
+  pub same : to_z w64 (of_z w64 (to_z w64 (of_z w64 x) -ℤ to_z w64 (of_z w64 y))) ≡ x -ℤ y
+  pub size : unsigned_abs (x -ℤ y) ≤ most
+
+pub apart_of : (x y : ℤ) (m : ℕ) → unsigned_abs x ≤ m → unsigned_abs y ≤ m → m + m < 2 ^ 63 → IsApart x y (m + m)
+apart_of x y m first second low =
+    let one = cast_small w64 x m first (omega (arith, low)) in
+    let other = cast_small w64 y m second (omega (arith, low)) in
+    let size = abs_minus x y m m first second in
+    record {
+      fits = rw (one, other) (fits_signed_from_abs w64 (x -ℤ y) (omega (arith, size, low)));
+      same = rw (one, other) (cast_small w64 (x -ℤ y) (m + m) size low);
+      size = size;
+    }
+
+-- a number with its size
+pub kept_part : (z : ℤ) (m : ℕ) → unsigned_abs z ≤ m → m < 2 ^ 127 → IsPart (to_z w128 (of_z w128 z)) z m
+kept_part z m small low = record { same = cast_small w128 z m small low; size = small }
