@@ -1,7 +1,7 @@
 -- The values of a line, one token after the other, and the constants of a constituent.
 use Rattle.std.proofs.Common.{◌≡◌, ℕ, ℤ, pos, codes, zero, suc, ◌+◌, ◌-◌, ◌<◌, ◌≤◌, true, ltb, List, [], ◌∷◌, ◌++◌, length, get_or, Result, Ok, Err, refl, sym, ap, ◌∙◌, arith}
 use Rattle.std.specs.Str.{bytes_eq}
-use Rattle.std.specs.Result.{IfOk}
+use Rattle.std.specs.Result.{IfOk, result_and}
 use Rattle.std.proofs.lemmas.Bool.{lt-ltb}
 use Rattle.std.proofs.lemmas.Slice.Eq.{bytes_eq-Decides}
 use Rattle.std.proofs.lemmas.List.{get_or_default}
@@ -105,16 +105,16 @@ unfolding after_pair unnamed
 pair_added b c text name p amplitude epoch name_is e a_is e_is = rw (← name_is, e, a_is, e_is) refl
 
 -- a pair that isn't the station's last
-pub pair_within : (d : BookParser) (b : Book) (r : Record) (c new : Constants) (text : List ℕ)
-    (result : Result (Unit {0}) LineFault) → d ≡ parsing.Stations b r → r ≡ records.Constants c
-    → length c.amplitude + 1 < length b.constituents → IfOk result (λ _. length new.amplitude ≡ length c.amplitude + 1)
+pub pair_within : (b : Book) (r : Record) (c new : Constants) (text : List ℕ) (result : Result (Unit {0}) LineFault)
+    → r ≡ records.Constants c → length c.amplitude + 1 < length b.constituents
+    → IfOk result (λ _. length new.amplitude ≡ length c.amplitude + 1)
     → Follows (λ _. with_pair b new) result (after_pair b c text)
-    → Follows (λ _. parsing.Stations b (records.Constants new)) result (after_text d text)
-unfolding after_text after_record
-pair_within d b r c new text (Ok x) d_is r_is lt one is =
+    → Follows (λ _. parsing.Stations b (records.Constants new)) result (after_record b r text)
+unfolding after_record
+pair_within b r c new text (Ok x) r_is lt one is =
     let more : ltb (length new.amplitude) (length b.constituents) ≡ true = lt-ltb _ _ (omega (arith, one)) in
-    rw (d_is, r_is) (is ∙ rw more refl)
-pair_within d b r c new text (Err e) d_is r_is lt one is = rw (d_is, r_is) is
+    rw r_is (is ∙ rw more refl)
+pair_within b r c new text (Err e) r_is lt one is = rw r_is is
 
 pub absent_pair : (name text : List ℕ) → bytes_eq text (codes "x 0 0") ≡ true → pair_of name text ≡ Ok (pos 0, pos 0)
 unfolding pair_of pair_from tokens number_of in_scale read_of decimal_of after_point made_of scaled scaled_or_bad
@@ -123,3 +123,24 @@ absent_pair name text e = rw ((bytes_eq-Decides text (codes "x 0 0")).0 e) refl
 -- an element of a borrowed list
 pub element_is : {A : Type 0} (xs ys : List A) (i j : ℕ) (x d : A) → xs ≡ ys → i ≡ j → j < length ys → get_or xs i x ≡ get_or ys j d
 element_is xs ys i j x d xs_is i_is lt = rw (xs_is, i_is) (get_or_default ys j x d lt)
+
+-- a line of a station that is read in place
+pub station_read : (d : BookParser) (b new_b : Book) (r new_r : Record) (text : List ℕ) (result : Result (Unit {0}) LineFault)
+    → d ≡ parsing.Stations b r → Follows (λ _. parsing.Stations new_b new_r) result (after_record b r text)
+    → Follows (λ _. parsing.Stations new_b new_r) result (after_text d text)
+unfolding after_text
+station_read d b new_b r new_r text result d_is is = rw d_is is
+
+-- ---- the next state after a check, or after a line that is read in place
+
+pub follows_and : {X Y Z : Type 0} (view : X → Y) (k : Y → Z) (next : Z) (read : Result X LineFault) (rule : Result Y Why)
+    → ((x : X) → k (view x) ≡ next) → Follows view read rule
+    → Follows (λ d. d) (result_and read (Ok next)) (rule >>= λ y. Ok (k y))
+follows_and view k next (Ok x) rule is h = rw h (ap (λ d. Ok d) (is x))
+follows_and view k next (Err NoMemory) rule is h = tt
+follows_and view k next (Err (Bad why)) rule is h = rw h refl
+
+pub follows_in_place : {X Y : Type 0} (next : Y) (read : Result X LineFault) (rule : Result Y Why)
+    → Follows (λ _. next) read rule → Follows (λ d. d) (result_and read (Ok next)) rule
+follows_in_place next (Ok x) rule h = h
+follows_in_place next (Err e) rule h = h

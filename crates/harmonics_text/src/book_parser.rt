@@ -1,6 +1,7 @@
 //! The parser state of a book that is read line by line.
 
 ghost use Rattle.std.specs.Prelude.{◌≡◌, ◌+◌, ◌<◌, ◌≤◌, length};
+ghost use Rattle.std.specs.Bool.{then_some};
 ghost use Rattle.harmonics_text.specs.Rules.{end_of, same_count_of};
 ghost use Rattle.harmonics_text.specs.Workings.BookParsing.{
   Follows,
@@ -26,8 +27,8 @@ use crate::lines::{is_all_blank, is_comment, is_too_long, only_token, without_cr
 use crate::numbers::{count, first_year};
 use crate::record::Record;
 use crate::scale::Scale;
-use crate::station_lines::{add_pair, after_record};
-use crate::table::{Table, start_table, with_line};
+use crate::station_lines::add_station_line;
+use crate::table::{Table, add_table_line, start_table};
 use decimal_text::Numbers;
 use harmonics_book::{Book, Constituents, Stations};
 use std::alloc::Global;
@@ -73,25 +74,21 @@ impl BookParser {
         self.add_text(alloc, text)
     }
 
-    /// Reads a line that is no comment. A pair that isn't the station's last is added without moving the
-    /// state.
+    /// Reads a line that is no comment. A line of a station is read without moving the book.
     fn add_text(&mut self, alloc: Global, text: &[u8]) -> Result<(), LineFault>
         requires { IsBookParser self.old }
         ensures { Follows (λ _. self.new) result (after_text self.old text.now) }
     {
         if let BookParser::Stations(book, begun) = self {
-            if let Record::Constants(station) = begun {
-                if station.amplitude.len() + 1 < book.constituents.as_slice().len() {
-                    return add_pair(book, station, text);
-                }
-            }
+            return add_station_line(alloc, book, begun, text);
         }
-        *self = mem::replace(self, BookParser::Count).after_text(alloc, text)?;
+        let next = mem::replace(self, BookParser::Count).after_text(alloc, text)?;
+        drop(mem::replace(self, next));
         Ok(())
     }
 
     /// Returns the state after a line that is no comment.
-    #[tactic(auto, unfolding(crate::specs::Workings::BookParsing::after_text, crate::specs::Workings::BookParsing::after_count))]
+    #[tactic(auto, using(crate::proofs::Values::follows_and), unfolding(crate::specs::Workings::BookParsing::after_text, crate::specs::Workings::BookParsing::after_count))]
     fn after_text(self, alloc: Global, text: &[u8]) -> Result<BookParser, LineFault>
         requires { IsBookParser self }
         ensures { Follows (λ d. d) result (after_text self text.now) }
@@ -113,8 +110,7 @@ impl BookParser {
             }
             BookParser::Angles(heading, table) => after_angles(heading, table, text),
             BookParser::AnglesEnd(heading, angles) => {
-                check_end(text)?;
-                Ok(BookParser::YearsAgain(heading, angles))
+                check_end(text).and(Ok(BookParser::YearsAgain(heading, angles)))
             }
             BookParser::YearsAgain(heading, angles) => after_years_again(
                 alloc, heading, angles, text,
@@ -123,10 +119,13 @@ impl BookParser {
                 after_factors(heading, angles, table, text)
             }
             BookParser::FactorsEnd(heading, angles, factors) => {
-                check_end(text)?;
-                Ok(BookParser::Stations(new_book(alloc, heading, angles, factors), Record::Nothing))
+                let book = new_book(alloc, heading, angles, factors);
+                check_end(text).and(Ok(BookParser::Stations(book, Record::Nothing)))
             }
-            BookParser::Stations(book, begun) => after_record(alloc, book, begun, text),
+            BookParser::Stations(mut book, mut begun) => {
+                let read = add_station_line(alloc, &mut book, &mut begun, text);
+                read.and(Ok(BookParser::Stations(book, begun)))
+            }
         }
     }
 
@@ -135,33 +134,36 @@ impl BookParser {
         ensures { result ≡ book_in self }
     {
         match self {
-            BookParser::Stations(book, begun) => book_at(book, begun),
-            _ => None,
+            BookParser::Stations(book, begun) => is_complete(&begun).then_some(book),
+            earlier => {
+                drop(earlier);
+                None
+            }
         }
     }
 }
 
-/// Returns `book` if no station is incomplete.
-fn book_at(book: Book, begun: Record) -> Option<Book>
-    ensures { result ≡ book_at book begun }
+/// Returns true if no station is incomplete.
+fn is_complete(begun: &Record) -> bool
+    ensures { (book : Book) → then_some result book ≡ book_at book begun.now }
 {
     match begun {
-        Record::Nothing => Some(book),
-        _ => None,
+        Record::Nothing => true,
+        _ => false,
     }
 }
 
 #[tactic(auto, unfolding(crate::specs::Rules::end_of))]
-fn check_end(text: &[u8]) -> Result<(), Why>
-    ensures { result ≡ end_of text.now }
+fn check_end(text: &[u8]) -> Result<(), LineFault>
+    ensures { Follows (λ u. u) result (end_of text.now) }
 {
     let Some(token) = only_token(text) else {
-        return Err(Why::NoEnd);
+        return Err(LineFault::Bad(Why::NoEnd));
     };
     if is_end(token) {
         Ok(())
     } else {
-        Err(Why::NoEnd)
+        Err(LineFault::Bad(Why::NoEnd))
     }
 }
 
@@ -212,23 +214,23 @@ fn with_angles(heading: Heading, table: Table) -> BookParser
 }
 
 #[tactic(auto, unfolding(crate::specs::Workings::BookParsing::after_angles))]
-fn after_angles(heading: Heading, table: Table, text: &[u8]) -> Result<BookParser, LineFault>
+fn after_angles(heading: Heading, mut table: Table, text: &[u8]) -> Result<BookParser, LineFault>
     requires here { table.place < length heading.constituents }
     requires count_bound { length heading.constituents ≤ 500 }
     ensures { Follows (λ d. d) result (after_angles heading table text.now) }
 {
-    let table = with_line(table, &heading, Scale::Angle, text)?;
-    Ok(with_angles(heading, table))
+    let read = add_table_line(&mut table, &heading, Scale::Angle, text);
+    read.and(Ok(with_angles(heading, table)))
 }
 
 #[tactic(auto, unfolding(crate::specs::Rules::same_count_of))]
-fn check_years(years: u32, text: &[u8]) -> Result<(), Why>
-    ensures { result ≡ same_count_of years text.now }
+fn check_years(years: u32, text: &[u8]) -> Result<(), LineFault>
+    ensures { Follows (λ u. u) result (same_count_of years text.now) }
 {
     if count(text)? == years {
         Ok(())
     } else {
-        Err(Why::YearsDiffer)
+        Err(LineFault::Bad(Why::YearsDiffer))
     }
 }
 
@@ -241,8 +243,8 @@ fn after_years_again(
 ) -> Result<BookParser, LineFault>
     ensures { Follows (λ d. d) result (after_years_again heading angles text.now) }
 {
-    check_years(heading.years, text)?;
-    Ok(BookParser::Factors(heading, angles, start_table(alloc)))
+    let read = check_years(heading.years, text);
+    read.and(Ok(BookParser::Factors(heading, angles, start_table(alloc))))
 }
 
 fn with_factors(heading: Heading, angles: Numbers, table: Table) -> BookParser
@@ -259,15 +261,15 @@ fn with_factors(heading: Heading, angles: Numbers, table: Table) -> BookParser
 fn after_factors(
     heading: Heading,
     angles: Numbers,
-    table: Table,
+    mut table: Table,
     text: &[u8],
 ) -> Result<BookParser, LineFault>
     requires here { table.place < length heading.constituents }
     requires count_bound { length heading.constituents ≤ 500 }
     ensures { Follows (λ d. d) result (after_factors heading angles table text.now) }
 {
-    let table = with_line(table, &heading, Scale::Factor, text)?;
-    Ok(with_factors(heading, angles, table))
+    let read = add_table_line(&mut table, &heading, Scale::Factor, text);
+    read.and(Ok(with_factors(heading, angles, table)))
 }
 
 /// Returns the book without any station.

@@ -111,11 +111,8 @@ pub fn only_two_tokens(text: &[u8]) -> Option<(&[u8], &[u8])>
     ensures { option_map (λ r. (r.0.now, r.1.now)) result ≡ only_two (tokens text.now) }
 {
     let (first, rest) = next_token(text)?;
-    let (second, rest) = next_token(rest)?;
-    match next_token(rest) {
-        None => Some((first, second)),
-        Some(_) => None,
-    }
+    let second = only_token(rest)?;
+    Some((first, second))
 }
 
 /// Returns `text` without white space at both ends.

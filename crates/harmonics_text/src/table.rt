@@ -60,28 +60,23 @@ fn next_place(left: u32, place: usize) -> usize
     if left == 0 { place + 1 } else { place }
 }
 
-/// Returns `table` with the values of line `text`.
+/// Appends the values of line `text` to `table`.
 #[tactic(auto, unfolding(crate::specs::Workings::BookParsing::after_values))]
-fn with_values(table: Table, scale: Scale, text: &[u8]) -> Result<Table, LineFault>
-    requires { table.place < 500 }
-    ensures { Follows (λ t. t) result (after_values scale table text.now) }
+fn add_values(table: &mut Table, scale: Scale, text: &[u8]) -> Result<(), LineFault>
+    requires { table.old.place < 500 }
+    ensures { Follows (λ _. table.new) result (after_values scale table.old text.now) }
 {
-    let mut left = table.left;
-    let mut values = table.values;
     let mut rest = text;
     while let Some((token, after)) = next_token(rest) {
-        if left == 0 {
+        if table.left == 0 {
             return Err(LineFault::Bad(Why::BadNumber));
         }
-        push_number(&mut values, scale, token)?;
-        left -= 1;
+        push_number(&mut table.values, scale, token)?;
+        table.left -= 1;
         rest = after;
     }
-    Ok(Table {
-        place: next_place(left, table.place),
-        left,
-        values,
-    })
+    table.place = next_place(table.left, table.place);
+    Ok(())
 }
 
 /// Checks that line `text` is the name of the constituent of the next values.
@@ -99,29 +94,26 @@ fn check_name(name: &Text, text: &[u8]) -> Result<(), Why>
     }
 }
 
-/// Returns `table`, which is incomplete, after its next line `text`.
+/// Reads the next line `text` of `table`, which is incomplete.
 ///
 /// # Errors
 /// [`Why::WrongConstituent`] if the line should name the next constituent and doesn't, else the fault of
 /// the first bad number; [`LineFault::NoMemory`] if memory runs out.
 #[tactic(auto, unfolding(crate::specs::Workings::BookParsing::after_table_line, crate::specs::Workings::BookParsing::after_name))]
-pub fn with_line(
-    table: Table,
+pub fn add_table_line(
+    table: &mut Table,
     heading: &Heading,
     scale: Scale,
     text: &[u8],
-) -> Result<Table, LineFault>
-    requires here { table.place < length heading.now.constituents }
+) -> Result<(), LineFault>
+    requires here { table.old.place < length heading.now.constituents }
     requires count_bound { length heading.now.constituents ≤ 500 }
-    ensures { Follows (λ t. t) result (after_table_line scale heading.now table text.now) }
+    ensures { Follows (λ _. table.new) result (after_table_line scale heading.now table.old text.now) }
 {
     if table.left > 0 {
-        return with_values(table, scale, text);
+        return add_values(table, scale, text);
     }
     check_name(&heading.constituents.as_slice()[table.place].name, text)?;
-    Ok(Table {
-        place: table.place,
-        left: heading.years,
-        values: table.values,
-    })
+    table.left = heading.years;
+    Ok(())
 }
