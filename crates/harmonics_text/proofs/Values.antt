@@ -11,6 +11,7 @@ use Rattle.harmonics_text.specs.declared.fault.Why.TheVariants.{BadNumber}
 use Rattle.harmonics_text.specs.declared.fault.LineFault.{LineFault}
 use Rattle.harmonics_text.specs.declared.fault.LineFault.TheVariants.{NoMemory, Bad}
 use Rattle.harmonics_text.specs.declared.scale.Scale.{Scale}
+use Rattle.harmonics_text.specs.declared.heading.Heading.{Heading}
 use Rattle.harmonics_text.specs.declared.table.Table.{Table}
 use Rattle.harmonics_text.specs.declared.record.Constants.{Constants}
 use Rattle.harmonics_text.specs.declared.record.Record.{Record}
@@ -20,8 +21,8 @@ use Rattle.harmonics_text.specs.declared.book_parser.BookParser.TheVariants as p
 use Rattle.harmonics_text.specs.Lines.{tokens}
 use Rattle.decimal_text.specs.Decimal.{after_point, made_of, decimal_of, scaled, scaled_or_bad, read_of}
 use Rattle.decimal_text.specs.Expected.{◌>>=◌}
-use Rattle.harmonics_text.specs.Rules.{in_scale, number_of, values_from, pair_from, pair_of}
-use Rattle.harmonics_text.specs.Workings.BookParsing.{Fails, Follows, pushed, after_values, at_place, with_pair, after_pair, after_record, after_text}
+use Rattle.harmonics_text.specs.Rules.{end_of, in_scale, number_of, values_from, pair_from, pair_of}
+use Rattle.harmonics_text.specs.Workings.BookParsing.{Fails, Follows, pushed, after_values, at_place, with_pair, after_pair, after_record, after_text, new_book}
 use Rattle.harmonics_text.proofs.Steps.{unnamed}
 
 pub pushed_is : (s : Scale) (values : List ℤ) (token : List ℕ) (n : ℤ) (new : List ℤ) → number_of s token ≡ Ok n
@@ -144,3 +145,18 @@ pub follows_in_place : {X Y : Type 0} (next : Y) (read : Result X LineFault) (ru
     → Follows (λ _. next) read rule → Follows (λ d. d) (result_and read (Ok next)) rule
 follows_in_place next (Ok x) rule h = h
 follows_in_place next (Err e) rule h = h
+
+pub angles_end_read : (d : BookParser) (h : Heading) (angles : List ℤ) (text : List ℕ) (read : Result (Unit {0}) LineFault)
+    → d ≡ parsing.AnglesEnd h angles → Follows (λ u. u) read (end_of text)
+    → Follows (λ d. d) (result_and read (Ok (parsing.YearsAgain h angles))) (after_text d text)
+unfolding after_text
+angles_end_read d h angles text read d_is is =
+    rw d_is (follows_and (λ u. u) (λ _. parsing.YearsAgain h angles) _ read (end_of text) (λ _. refl) is)
+
+pub factors_end_read : (d : BookParser) (h : Heading) (angles factors : List ℤ) (text : List ℕ)
+    (read : Result (Unit {0}) LineFault) → d ≡ parsing.FactorsEnd h angles factors → Follows (λ u. u) read (end_of text)
+    → Follows (λ d. d) (result_and read (Ok (parsing.Stations (new_book h angles factors) records.Nothing))) (after_text d text)
+unfolding after_text
+factors_end_read d h angles factors text read d_is is =
+    rw d_is (follows_and (λ u. u) (λ _. parsing.Stations (new_book h angles factors) records.Nothing) _ read (end_of text)
+    (λ _. refl) is)

@@ -88,7 +88,7 @@ impl BookParser {
     }
 
     /// Returns the state after a line that is no comment.
-    #[tactic(auto, using(crate::proofs::Values::follows_and), unfolding(crate::specs::Workings::BookParsing::after_text, crate::specs::Workings::BookParsing::after_count))]
+    #[tactic(auto, unfolding(crate::specs::Workings::BookParsing::after_text, crate::specs::Workings::BookParsing::after_count))]
     fn after_text(self, alloc: Global, text: &[u8]) -> Result<BookParser, LineFault>
         requires { IsBookParser self }
         ensures { Follows (λ d. d) result (after_text self text.now) }
@@ -134,7 +134,11 @@ impl BookParser {
         ensures { result ≡ book_in self }
     {
         match self {
-            BookParser::Stations(book, begun) => is_complete(&begun).then_some(book),
+            BookParser::Stations(book, begun) => {
+                let complete = is_complete(&begun);
+                drop(begun);
+                complete.then_some(book)
+            }
             earlier => {
                 drop(earlier);
                 None

@@ -1,7 +1,17 @@
-use Rattle.harmonics_text.specs.declared.book_parser.BookParser.TheVariants.{Stations}
+use Rattle.harmonics_text.proofs.Values.{angles_end_read, factors_end_read, station_read, follows_in_place}
 use Rattle.harmonics_text.specs.Workings.BookParsing.{after_text}
-use Rattle.harmonics_text.proofs.Values.{follows_in_place, station_read}
 use Rattle.harmonics_text.proofs.book_parser.BookParser.after_text.Goals as goal
+
+pub returns-in-AnglesEnd : goal.returns-in-AnglesEnd
+returns-in-AnglesEnd c =
+    rw c.and.ensures (angles_end_read c.args.self c.in-AnglesEnd.heading c.in-AnglesEnd.angles c.args.text.now
+    c.check_end.result c.in-AnglesEnd.is c.check_end.ensures)
+
+pub returns-in-FactorsEnd : goal.returns-in-FactorsEnd
+returns-in-FactorsEnd c =
+    rw (c.and-in-FactorsEnd.ensures, c.new_book-book.ensures) (factors_end_read c.args.self c.in-FactorsEnd.heading
+    c.in-FactorsEnd.angles c.in-FactorsEnd.factors c.args.text.now c.check_end-in-FactorsEnd.result c.in-FactorsEnd.is
+    c.check_end-in-FactorsEnd.ensures)
 
 pub returns-in-Stations : goal.returns-in-Stations
 returns-in-Stations c =
