@@ -44,8 +44,21 @@ pub fn read_offsets(alloc: Global, bytes: &[u8]) -> Result<OffsetTable, OffsetFa
     ensures { ReturnsUnless is_out_of_memory (table_of bytes.now) result }
 {
     let mut records = records_of(alloc, bytes);
-    let header = read_header(&mut records)?;
-    read_rows(alloc, &mut records, header)
+    let table = read_table(alloc, &mut records);
+    drop(records);
+    table
+}
+
+/// Reads the header and the rows after it.
+fn read_table(
+    alloc: Global,
+    records: &mut ByteRecordsIntoIter<&[u8]>,
+) -> Result<OffsetTable, OffsetFault>
+    requires { (text : List ℕ) × HasGiven text [] records.old × (length text ≤ MOST_BYTES) }
+    ensures { (text : List ℕ) → HasGiven text [] records.old → ReturnsUnless is_out_of_memory (table_of text) result }
+{
+    let header = read_header(records)?;
+    read_rows(alloc, records, header)
 }
 
 /// Returns the records of the CSV text `bytes`, of any numbers of fields.
