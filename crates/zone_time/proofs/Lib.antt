@@ -1,4 +1,5 @@
 pub mod AppendLemmas
+pub mod ClosedLemmas
 pub mod DateLemmas
 pub mod FormLemmas
 pub mod MomentLemmas

@@ -24,7 +24,7 @@ moment_of-names text m e =
       | false ↦ λ is. absurd (cc)
     ] e
 
-is_date-civil : (y m d : ℕ) → is_date y m d ≡ true → (1 ≤ y) × (y ≤ 9999) × (1 ≤ m) × (m ≤ 12) × (1 ≤ d) × (d ≤ days_in_month (pos y) m)
+pub is_date-civil : (y m d : ℕ) → is_date y m d ≡ true → (1 ≤ y) × (y ≤ 9999) × (1 ≤ m) × (m ≤ 12) × (1 ≤ d) × (d ≤ days_in_month (pos y) m)
 is_date-civil y m d h =
     let day = and_parts _ _ h in let month = and_parts _ _ day.0 in
     let years = and_parts _ _ month.0 in let months = and_parts _ _ month.1 in let days = and_parts _ _ day.1 in (

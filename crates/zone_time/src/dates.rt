@@ -1,6 +1,6 @@
 //! Dates and times of day as text.
 
-ghost use Rattle.std.specs.Prelude.{◌≡◌, ◌+◌, ◌≤◌, ◌++◌, pos, ◌+ℤ◌};
+ghost use Rattle.std.specs.Prelude.{◌≡◌, ◌+◌, ◌<◌, ◌≤◌, [], ◌∷◌, ◌++◌, pos, ◌+ℤ◌};
 ghost use Rattle.arrayvec.specs.ArrayString.{array_string_len};
 ghost use Rattle.zone_time.specs.Dates.{IsDay, date_of, date_text, clock_text, two_digits};
 
@@ -23,9 +23,9 @@ pub fn write_date<const N: usize>(day: i64, out: &mut ArrayString<N>)
     let year = date.year as u32;
     push_pair(year / 100, out);
     push_pair(year % 100, out);
-    out.push('-');
+    push_ascii('-', out);
     push_pair(date.month as u32, out);
-    out.push('-');
+    push_ascii('-', out);
     push_pair(date.day as u32, out);
 }
 
@@ -37,8 +37,18 @@ pub fn write_clock<const N: usize>(minutes: u32, out: &mut ArrayString<N>)
     ensures len { array_string_len out.new ≡ array_string_len out.old + 5 }
 {
     push_pair(minutes / 60, out);
-    out.push(':');
+    push_ascii(':', out);
     push_pair(minutes % 60, out);
+}
+
+/// Appends `symbol`, an ASCII character.
+pub fn push_ascii<const N: usize>(symbol: char, out: &mut ArrayString<N>)
+    requires ascii { symbol < 128 }
+    requires room { array_string_len out.old + 1 ≤ N }
+    ensures bytes { out.new.bytes ≡ out.old.bytes ++ symbol ∷ [] }
+    ensures len { array_string_len out.new ≡ array_string_len out.old + 1 }
+{
+    out.push(symbol);
 }
 
 fn date_from_day(day: i64) -> Date

@@ -4,7 +4,7 @@ ghost use Rattle.std.specs.Prelude.{◌≡◌, ◌+◌, ◌≤◌, ◌++◌, len
 ghost use Rattle.arrayvec.specs.ArrayString.{array_string_len};
 ghost use Rattle.zone_time.specs.Locals.{IsWritten, IsLabel, IsLocal, time_text, label_text, local_text};
 
-use crate::dates::{MINUTES_OF_DAY, write_clock, write_date};
+use crate::dates::{MINUTES_OF_DAY, push_ascii, write_clock, write_date};
 use crate::local::{Label, Local};
 use arrayvec::ArrayString;
 
@@ -18,7 +18,7 @@ pub fn write_local<const N: usize>(local: &Local, out: &mut ArrayString<N>)
     ensures length_bound { array_string_len out.new ≤ array_string_len out.old + 23 }
 {
     write_time(local.minute, out);
-    out.push(' ');
+    push_ascii(' ', out);
     write_label(local.label, out);
 }
 
@@ -32,7 +32,7 @@ pub fn write_time<const N: usize>(minute: i64, out: &mut ArrayString<N>)
     ensures len { array_string_len out.new ≡ array_string_len out.old + 16 }
 {
     write_date(minute.div_euclid(MINUTES_OF_DAY), out);
-    out.push(' ');
+    push_ascii(' ', out);
     write_clock(minute.rem_euclid(MINUTES_OF_DAY) as u32, out);
 }
 
@@ -46,7 +46,7 @@ fn write_label<const N: usize>(label: Label, out: &mut ArrayString<N>)
     match label {
         Label::Utc => out.push_str("UTC"),
         Label::Minutes(ahead) => {
-            out.push(if ahead < 0 { '-' } else { '+' });
+            push_ascii(if ahead < 0 { '-' } else { '+' }, out);
             write_clock(ahead.unsigned_abs(), out);
         }
     }

@@ -3,7 +3,7 @@
 ghost use Rattle.std.specs.Prelude.{◌≡◌, []};
 ghost use Rattle.zone_time.specs.Moments.{IsMoment, moment_text};
 
-use crate::dates::{MINUTES_OF_DAY, write_clock, write_date};
+use crate::dates::{MINUTES_OF_DAY, push_ascii, write_clock, write_date};
 use arrayvec::ArrayString;
 
 /// Writes `m`, in minutes since 1970-01-01T00:00Z and of a year from 1 to 9999, to the empty `out` as
@@ -15,7 +15,7 @@ pub fn write_moment(m: i64, out: &mut ArrayString<20>)
     ensures { out.new.bytes ≡ moment_text m }
 {
     write_date(m.div_euclid(MINUTES_OF_DAY), out);
-    out.push('T');
+    push_ascii('T', out);
     write_clock(m.rem_euclid(MINUTES_OF_DAY) as u32, out);
-    out.push('Z');
+    push_ascii('Z', out);
 }
