@@ -1,9 +1,10 @@
 //! The question of items without a fault.
 
-ghost use Rattle.std.specs.Prelude.{◌≡◌, IfOk, option_and_then};
+ghost use Rattle.std.specs.Prelude.{◌≡◌, IfOk, OnOk, option_and_then};
 ghost use Rattle.zone_time.specs.Moments.{moment_of};
 ghost use Rattle.question.specs.Forms.{some_text, mark_of, step_of, zone_of, layout_of, seed_of, port_of, sheets_of};
-ghost use Rattle.question.specs.Questions.{asked};
+ghost use Rattle.question.specs.declared.key.Key.TheVariants as key;
+ghost use Rattle.question.specs.Questions.{asked, field_of};
 ghost use Rattle.question.specs.Workings.Said.{said_by};
 
 use crate::command::Command;
@@ -36,31 +37,62 @@ pub fn asked(
 ) -> Result<Question, AllocError>
     ensures { IfOk result (λ question. question ≡ asked origin command (said_by items.now)) }
 {
-    Ok(Question {
+    let mut question = Question {
         command,
-        file: name_for(alloc, items, Key::File)?,
-        offsets: name_for(alloc, items, Key::Offsets)?,
-        certificate: name_for(alloc, items, Key::Certificate)?,
-        station: name_for(alloc, items, Key::Station)?,
+        file: None,
+        offsets: None,
+        certificate: None,
+        station: None,
         begin: moment_for(items, Key::Begin),
         end: moment_for(items, Key::End),
         mark: mark_for(items, Key::Mark),
         step: step_for(items, Key::Step).unwrap_or(DEFAULT_STEP),
-        zone: zone_for(alloc, origin, items, Key::Zone)?.unwrap_or(ZoneWord::Utc),
+        zone: ZoneWord::Utc,
         layout: layout_for(items, Key::Layout).unwrap_or(Layout::Plain),
         seed: seed_for(items, Key::Seed),
         port: port_for(items, Key::Port).unwrap_or(DEFAULT_PORT),
-        sheets: sheets_for(alloc, items, Key::Sheets)?,
-    })
+        sheets: None,
+    };
+    put_texts(alloc, origin, items, &mut question).and(Ok(question))
 }
 
-fn name_for(alloc: Global, items: &[Item], key: Key) -> Result<Option<Text>, AllocError>
-    ensures { IfOk result (λ name. name ≡ option_and_then some_text (said_by items.now key)) }
+/// Puts the values that have texts of their own into `question`.
+fn put_texts(
+    alloc: Global,
+    origin: Origin,
+    items: &[Item],
+    question: &mut Question,
+) -> Result<(), AllocError>
+    ensures { OnOk result (question.new ≡ record question.old {
+      file = field_of origin (said_by items.now) key.File;
+      offsets = field_of origin (said_by items.now) key.Offsets;
+      certificate = field_of origin (said_by items.now) key.Certificate;
+      station = field_of origin (said_by items.now) key.Station;
+      zone = field_of origin (said_by items.now) key.Zone;
+      sheets = field_of origin (said_by items.now) key.Sheets;
+    }) }
 {
-    match text_for(items, key) {
-        Some(text) => some_text(alloc, text),
-        None => Ok(None),
-    }
+    put_name(alloc, items, Key::File, &mut question.file)?;
+    put_name(alloc, items, Key::Offsets, &mut question.offsets)?;
+    put_name(alloc, items, Key::Certificate, &mut question.certificate)?;
+    put_name(alloc, items, Key::Station, &mut question.station)?;
+    put_zone(alloc, origin, items, &mut question.zone)?;
+    put_sheets(alloc, items, &mut question.sheets)
+}
+
+fn put_name(
+    alloc: Global,
+    items: &[Item],
+    key: Key,
+    name: &mut Option<Text>,
+) -> Result<(), AllocError>
+    ensures { OnOk result (name.new ≡ option_and_then some_text (said_by items.now key)) }
+{
+    *name = match text_for(items, key) {
+        Some(text) => some_text(alloc, text)?,
+        None => None,
+    };
+    Ok(())
 }
 
 fn moment_for(items: &[Item], key: Key) -> Option<i64>
@@ -105,25 +137,27 @@ fn port_for(items: &[Item], key: Key) -> Option<u16>
     port(text)
 }
 
-fn zone_for(
+fn put_zone(
     alloc: Global,
     origin: Origin,
     items: &[Item],
-    key: Key,
-) -> Result<Option<ZoneWord>, AllocError>
-    ensures { IfOk result (λ zone. zone ≡ option_and_then (zone_of origin) (said_by items.now key)) }
+    word: &mut ZoneWord,
+) -> Result<(), AllocError>
+    ensures { OnOk result (word.new ≡ field_of origin (said_by items.now) key.Zone) }
 {
-    match text_for(items, key) {
-        Some(text) => zone(alloc, origin, text),
-        None => Ok(None),
-    }
+    *word = match text_for(items, Key::Zone) {
+        Some(text) => zone(alloc, origin, text)?.unwrap_or(ZoneWord::Utc),
+        None => ZoneWord::Utc,
+    };
+    Ok(())
 }
 
-fn sheets_for(alloc: Global, items: &[Item], key: Key) -> Result<Option<Words>, AllocError>
-    ensures { IfOk result (λ names. names ≡ option_and_then sheets_of (said_by items.now key)) }
+fn put_sheets(alloc: Global, items: &[Item], names: &mut Option<Words>) -> Result<(), AllocError>
+    ensures { OnOk result (names.new ≡ option_and_then sheets_of (said_by items.now key.Sheets)) }
 {
-    match text_for(items, key) {
-        Some(text) => sheets(alloc, text),
-        None => Ok(None),
-    }
+    *names = match text_for(items, Key::Sheets) {
+        Some(text) => sheets(alloc, text)?,
+        None => None,
+    };
+    Ok(())
 }

@@ -1,6 +1,6 @@
 //! The names of sheets.
 
-ghost use Rattle.std.specs.Prelude.{◌≡◌, [], IfOk, map};
+ghost use Rattle.std.specs.Prelude.{◌≡◌, [], if◌then◌else◌, IfOk, Some, None, map};
 ghost use Rattle.std.specs.List.{list_all, slice_split};
 ghost use Rattle.std.specs.Char.{is_ascii_lowercase};
 ghost use Rattle.question.specs.Forms.{is_comma, is_sheet, are_sheets, sheets_of};
@@ -61,8 +61,15 @@ pub fn sheets(alloc: Global, text: &str) -> Result<Option<Words>, AllocError>
     ensures { IfOk result (λ words. words ≡ sheets_of text.now) }
 {
     let words = parts(alloc, text)?;
-    if !are_sheets(alloc, &words)? {
+    words_if_sheets(alloc, &words)
+}
+
+fn words_if_sheets(alloc: Global, words: &[&str]) -> Result<Option<Words>, AllocError>
+    ensures { IfOk result (λ names. names ≡ (let texts = map (λ word. word.now) words.now in
+        if are_sheets [] texts then Some texts else None)) }
+{
+    if !are_sheets(alloc, words)? {
         return Ok(None);
     }
-    Ok(Some(Words::from_vec(texts(alloc, &words)?)))
+    Ok(Some(Words::from_vec(texts(alloc, words)?)))
 }

@@ -16,7 +16,7 @@ use std::alloc::{AllocError, Global};
 use zone_time::read_moment;
 
 /// The form of a key's values.
-#[derive(Clone, Copy, Debug)]
+#[derive(Clone, Copy)]
 pub enum Form {
     /// Any text other than the empty one.
     Text,

@@ -1,6 +1,6 @@
 //! The arguments of a command line as pairs.
 
-ghost use Rattle.std.specs.Prelude.{◌≡◌, IfOk, map};
+ghost use Rattle.std.specs.Prelude.{◌≡◌, IfOk, Some, map};
 ghost use Rattle.question.specs.Words.{item_of, pairs_of};
 
 use crate::origin::Origin;
@@ -44,13 +44,19 @@ fn item(alloc: Global, word: &Text) -> Result<Item, AllocError>
     ensures { IfOk result (λ item. item ≡ item_of word.now) }
 {
     match word.as_str().split_once('=') {
-        Some((key, value)) => Ok(Item {
-            key: Text::from_str(alloc, key)?,
-            value: Some(Text::from_str(alloc, value)?),
-        }),
+        Some((key, value)) => item_with_value(alloc, key, value),
         None => Ok(Item {
             key: word.copy()?,
             value: None,
         }),
     }
+}
+
+fn item_with_value(alloc: Global, key: &str, value: &str) -> Result<Item, AllocError>
+    ensures { IfOk result (λ item. item ≡ record { key = key.now; value = Some value.now }) }
+{
+    Ok(Item {
+        key: Text::from_str(alloc, key)?,
+        value: Some(Text::from_str(alloc, value)?),
+    })
 }
