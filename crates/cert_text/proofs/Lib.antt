@@ -3,6 +3,7 @@ pub mod NumberLemmas
 pub mod LineLemmas
 pub mod TextLemmas
 pub mod LengthLemmas
+pub mod AppendLemmas
 mod CertificateParserLemmas
 mod RunLemmas
 pub mod CutLemmas

@@ -4,7 +4,7 @@ ghost use Rattle.std.specs.Prelude.{◌≡◌, ◌<◌, ◌^◌};
 ghost use Rattle.cert_text.specs.Workings.LineReading.{quiet_for, quiet_of, event_cell_of, cell_of};
 
 use crate::lines::after;
-use crate::numbers::{LEVEL_DIGITS, number_of, size_of};
+use crate::numbers::{LEVEL_DIGITS, level_after, size_of};
 use crate::track_name::TrackName;
 use crate::words::{first_kind, prefix_of, second_kind};
 use curve_law::{Cell, Kind, MOST_MINUTES};
@@ -34,8 +34,8 @@ fn quiet_of(line: &[u8]) -> Option<Cell>
 fn event_cell_of(kind: Kind, line: &[u8]) -> Option<Cell>
     ensures { result ≡ event_cell_of kind line.now }
 {
-    let level = number_of(after(prefix_of(kind).as_bytes(), line)?, LEVEL_DIGITS)?;
-    Some(Cell::Turn(kind, level as i64))
+    let level = level_after(prefix_of(kind).as_bytes(), line)?;
+    Some(Cell::Turn(kind, level))
 }
 
 /// Reads the cell on `line`, or returns `None` if `line` is no cell of `track`.

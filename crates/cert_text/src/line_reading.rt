@@ -4,7 +4,7 @@ ghost use Rattle.std.specs.Prelude.{◌≡◌, option_copied};
 ghost use Rattle.cert_text.specs.Workings.LineReading.{version_of, named, station_of, moment_after, mark_within, mark_of};
 
 use crate::lines::after;
-use crate::numbers::{LEVEL_DIGITS, number_of};
+use crate::numbers::level_after;
 use decimal_text::are_name_bytes;
 use zone_time::read_moment;
 
@@ -54,11 +54,11 @@ pub fn moment_after(word: &[u8], line: &[u8]) -> Option<i64>
 }
 
 /// Returns `mark`, in millionths, if it is at most 10,000,000,000 in size.
-fn mark_within(mark: i128) -> Option<Option<i64>>
+fn mark_within(mark: i64) -> Option<Option<i64>>
     ensures { result ≡ mark_within mark }
 {
     if mark.unsigned_abs() <= 10_000_000_000 {
-        Some(Some(mark as i64))
+        Some(Some(mark))
     } else {
         None
     }
@@ -73,5 +73,5 @@ pub fn mark_of(line: &[u8]) -> Option<Option<i64>>
     if line == b"mark none".as_slice() {
         return Some(None);
     }
-    mark_within(number_of(after(b"mark ".as_slice(), line)?, LEVEL_DIGITS)?)
+    mark_within(level_after(b"mark ".as_slice(), line)?)
 }

@@ -1,7 +1,7 @@
 //! Whole numbers read from text.
 
-ghost use Rattle.std.specs.Prelude.{◌≡◌, ◌<◌, ◌≤◌, ◌^◌, IfSome, unsigned_abs};
-ghost use Rattle.cert_text.specs.Workings.LineReading.{size_of, negative, number_of};
+ghost use Rattle.std.specs.Prelude.{◌≡◌, ◌<◌, ◌≤◌, ◌^◌, IfSome, option_and_then, unsigned_abs};
+ghost use Rattle.cert_text.specs.Workings.LineReading.{after, size_of, negative, number_of};
 
 use crate::lines::after;
 use decimal_text::wide_digits;
@@ -47,4 +47,13 @@ pub fn number_of(text: &[u8], most: usize) -> Option<i128>
         Some(digits) => negative(size_of(digits, most)?),
         None => Some(size_of(text, most)? as i128),
     }
+}
+
+/// Reads the level in millionths that follows `word` on `line`, or returns `None` unless `line` is `word`
+/// and such a number.
+pub fn level_after(word: &[u8], line: &[u8]) -> Option<i64>
+    ensures { result ≡ option_and_then (number_of LEVEL_DIGITS) (after word.now line.now) }
+{
+    let level = number_of(after(word, line)?, LEVEL_DIGITS)?;
+    Some(level as i64)
 }
