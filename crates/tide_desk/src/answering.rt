@@ -27,6 +27,7 @@ ghost use Rattle.tide_desk.specs.Shown.{answer_by, given_between, minute_read, n
 ghost use Rattle.tide_desk.specs.Workings.Settled.{IsSettled, reading_of};
 ghost use Rattle.tide_edge.specs.Clocks.{IsClockMinute, clock_after, next_minute};
 ghost use Rattle.decimal_text.specs.Expected.{Meets};
+ghost use Rattle.tide_fault.specs.Faults.{IsPrintableRefusal};
 
 use crate::asking::read_words;
 use crate::reply::Reply;
@@ -35,10 +36,11 @@ use decimal_text::{Text, Words};
 use named_files::{Materials, NoAnswer, read_files};
 use question::{Command, ValidQuestion};
 use report_sheets::Sheet;
+use station_table::OffsetTable;
 use std::alloc::Global;
 use tide_answer::{Given, StationData, answer_alone};
 use tide_edge::{Clock, Files};
-use tide_fault::Fault;
+use tide_fault::{Fault, Refusal};
 
 /// Returns the answer to the arguments `words`, which is ready to be written. Files are opened and
 /// the clock is read as [`run`](crate::run) says.
@@ -78,8 +80,16 @@ pub fn answer_words<F: Files, K: Clock>(
     let question = read_words(alloc, words, &sheets)?;
     let valid = ValidQuestion::new(&question);
     match &question.file {
-        Some(name) => answer_over(alloc, &valid, name, files, clock, sheets),
-        None => answer_without(alloc, &valid),
+        Some(name) => {
+            let answered = answer_over(alloc, &valid, name, files, clock, sheets);
+            drop(question);
+            answered
+        }
+        None => {
+            let answered = answer_without(alloc, &valid);
+            drop(question);
+            answered
+        }
     }
 }
 
@@ -126,8 +136,13 @@ fn answer_over<F: Files, K: Clock>(
         → IfErr result IsSettled → (minute : ℤ) × (K.state clock.new ≡ clock_after (Ok minute) (K.state clock.old)) }
 {
     let read = read_files(alloc, files, question, name)?;
-    let now = read_minute(clock, question)?;
-    answer_with(alloc, read, question, now, sheets)
+    match read_minute(clock, question) {
+        Ok(now) => answer_with(alloc, read, question, now, sheets),
+        Err(none) => {
+            drop(read);
+            Err(none)
+        }
+    }
 }
 
 // Returns the present minute if the command needs it, and 0 otherwise.
@@ -187,7 +202,21 @@ fn answer_with(
         now,
     };
     let stations = StationData::new(&book, &table);
-    match reply_with(alloc, &stations, question, &given, sheets) {
+    let replied = reply_with(alloc, &stations, question, &given, sheets);
+    drop(given);
+    drop(book);
+    refused_over(replied, table)
+}
+
+// Returns `replied` for a command line whose table is `table`.
+fn refused_over(replied: Result<Reply, Refusal>, table: OffsetTable) -> Result<Reply, NoAnswer>
+    requires { IfErr replied (IsPrintableRefusal table) }
+    ensures exact { result ≡ refused_over table replied }
+    ensures printable { IfErr result IsPrintable }
+    ensures read { reading_failed result ≡ false }
+    ensures of_no_file { failing_file result ≡ None }
+{
+    match replied {
         Ok(reply) => Ok(reply),
         Err(refusal) => Err(NoAnswer::Refused(refusal, table)),
     }

@@ -31,8 +31,7 @@ pub fn read_words(
     ensures printable { IfErr result (IsPrintable []) }
 {
     let question = question_in_words(alloc, words)?;
-    check_found(&question.sheets, sheets)?;
-    Ok(question)
+    check_found(&question.sheets, sheets).and(Ok(question))
 }
 
 /// Returns the request of the arguments `words`, whose command isn't `serve`.

@@ -1,6 +1,6 @@
 //! One run, from the arguments to the exit status.
 
-ghost use Rattle.std.specs.Prelude.{◌≡◌, ◌⊎◌, ℤ, Bool, Ok, IsTrue, if◌then◌else◌, map};
+ghost use Rattle.std.specs.Prelude.{◌≡◌, ◌⊎◌, ℤ, Bool, false, Ok, IsTrue, if◌then◌else◌, map};
 ghost use Rattle.named_files.specs.NoAnswers.{is_read_fault};
 ghost use Rattle.tide_desk.specs.Answers.{ReadsClock, HasFiles, NamesFile, allowed_by, answer_of, question_of_words};
 ghost use Rattle.tide_desk.specs.Outcomes.{EndsAs, IsFirm, IsSilent, IsUntouched, WentOn, is_settled, outputs, sources};
@@ -10,6 +10,7 @@ ghost use Rattle.tide_edge.specs.Clocks.{clock_after, next_minute};
 ghost use Rattle.tide_fault.specs.declared.status.Status.{Status};
 
 use crate::answering::answer_words;
+use crate::reply::Reply;
 use decimal_text::Words;
 use named_files::{refuse, report};
 use report_sheets::Sheet;
@@ -90,11 +91,26 @@ fn write_answer<F: Files, O: Sink, E: Sink, K: Clock>(
         → IsTrue (is_settled result) → (minute : ℤ) × (K.state clock.new ≡ clock_after (Ok minute) (K.state clock.old)) }
 {
     match answer_words(alloc, words, files, clock, sheets) {
-        Ok(reply) => match reply.write(out) {
-            Ok(rejected) => judged(rejected),
-            Err(_) => refuse(err, Status::WriteFault, b"write fault\n"),
-        },
+        Ok(reply) => {
+            let status = write_reply(&reply, out, err);
+            drop(reply);
+            status
+        }
         Err(none) => report(alloc, none, err),
+    }
+}
+
+// Writes `reply` to `out`, or one line to `err` if that fails, and returns the exit status.
+fn write_reply<O: Sink, E: Sink>(reply: &Reply, out: &mut O, err: &mut E) -> Status
+    ensures ends { EndsAs (Ok reply.now) result
+        (outputs (O.state out.old) (E.state err.old)) (outputs (O.state out.new) (E.state err.new)) }
+    ensures read { is_read_fault result ≡ false }
+    ensures unwritten { IsUntouched result out.old out.new }
+    ensures unprinted { IsSilent result err.old err.new }
+{
+    match reply.write(out) {
+        Ok(rejected) => judged(rejected),
+        Err(_) => refuse(err, Status::WriteFault, b"write fault\n"),
     }
 }
 

@@ -93,6 +93,7 @@ fn body_for(
         if ready.streams() {
             return Ok(Body::Stream(ready));
         }
+        drop(ready);
     }
     Ok(Body::Text(answer(alloc, book, table, question, given)?))
 }

@@ -40,76 +40,72 @@ returns-in_err-read-clause-reads g c =
     (g.F.Files.state c.args.files.now) (g.F.Files.state c.read_files.new.files)
     (g.K.Clock.state c.args.clock.now) c.in_err-read.ensures.read)
 
-pub returns-in_err-now-clause-own : goal.returns-in_err-now-clause-own
-returns-in_err-now-clause-own g c =
-    λ t k. let p = err_from_is_err_and c.from_residual-in_err-now.result c.from_residual-in_err-now.ensures.1 in
-    rw (p.1, p.2, c.in_err-now.ensures.unread)
+pub returns-in-Err-clause-own : goal.returns-in-Err-clause-own
+returns-in-Err-clause-own g c =
+    λ t k. rw c.in-Err.ensures.unread
     (λ f. absurd (f.clock (
-      c.in_err-now.ensures.asked,
+      c.in-Err.ensures.asked,
       clock_rose (reads_clock c.args.question.now.command) (record {}) (g.K.Clock.state c.args.clock.now)
           (g.K.Clock.state c.read_minute.new.clock)
-          c.in_err-now.ensures.asked c.in_err-now.ensures.time,
+          c.in-Err.ensures.asked c.in-Err.ensures.time,
     )))
 
-pub returns-in_err-now-clause-shown : goal.returns-in_err-now-clause-shown
-returns-in_err-now-clause-shown g c =
-    let p = err_from_is_err_and c.from_residual-in_err-now.result c.from_residual-in_err-now.ensures.1 in
-    let given = rw c.in_err-now.ensures.unread at c.in_err-now.ensures.given in
-    rw (p.1, p.2, c.in_err-now.ensures.unread)
+pub returns-in-Err-clause-shown : goal.returns-in-Err-clause-shown
+returns-in-Err-clause-shown g c =
+    let given = rw c.in-Err.ensures.unread at c.in-Err.ensures.given in
+    rw c.in-Err.ensures.unread
     (shown_read _ _ c.args.question.now c.args.name.now
     (g.F.Files.state c.args.files.now).openings
     (g.F.Files.state c.read_files.new.files).openings
     c.in_ok-read.read (Err Unread) refl (rw given (λ firm. refl)) c.in_ok-read.ensures.opened)
 
-pub returns-in_err-now-clause-reads : goal.returns-in_err-now-clause-reads
-returns-in_err-now-clause-reads g c =
-    let p = err_from_is_err_and c.from_residual-in_err-now.result c.from_residual-in_err-now.ensures.1 in
-    rw (p.1, p.2, c.in_err-now.ensures.unread)
+pub returns-in-Err-clause-reads : goal.returns-in-Err-clause-reads
+returns-in-Err-clause-reads g c =
+    rw c.in-Err.ensures.unread
     (went_asking (reads_clock c.args.question.now.command) true (pos 0) (files_allowed c.args.question.now)
     (g.F.Files.state c.args.files.now) (g.F.Files.state c.read_files.new.files)
     (g.K.Clock.state c.args.clock.now) (g.K.Clock.state c.read_minute.new.clock)
-    (λ is. c.in_err-now.ensures.asked) c.in_ok-read.ensures.read c.in_err-now.ensures.time)
+    (λ is. c.in-Err.ensures.asked) c.in_ok-read.ensures.read c.in-Err.ensures.time)
 
-pub returns-in_err-now-clause-asked_last : goal.returns-in_err-now-clause-asked_last
-returns-in_err-now-clause-asked_last g c = λ t unread. absurd (unread (rw (c.in_ok-read.ensures.own t) (search rules)))
+pub returns-in-Err-clause-asked_last : goal.returns-in-Err-clause-asked_last
+returns-in-Err-clause-asked_last g c = λ t unread. absurd (unread (rw (c.in_ok-read.ensures.own t) (search rules)))
 
-pub returns-clause-own : goal.returns-clause-own
+pub returns-in-Ok-clause-own : goal.returns-in-Ok-clause-own
 unfolding answered_over_file
-returns-clause-own g c =
-    λ t k. let fits : FitsSigned w64 c.in_ok-now.now = search rules in
+returns-in-Ok-clause-own g c =
+    λ t k. let fits : FitsSigned w64 c.in-Ok.now = search rules in
     let exact = simp to_z-of_z at c.answer_with.ensures.exact in
-    rw (c.in_ok-read.ensures.own t, ← c.in_ok-now.ensures.own k) (meets_inside _ _ c.answer_with.result exact)
+    rw (c.in_ok-read.ensures.own t, ← c.in-Ok.ensures.own k) (meets_inside _ _ c.answer_with.result exact)
 
-pub returns-clause-shown : goal.returns-clause-shown
-returns-clause-shown g c =
-    let fits : FitsSigned w64 c.in_ok-now.now = search rules in
+pub returns-in-Ok-clause-shown : goal.returns-in-Ok-clause-shown
+returns-in-Ok-clause-shown g c =
+    let fits : FitsSigned w64 c.in-Ok.now = search rules in
     let exact = simp to_z-of_z at c.answer_with.ensures.exact in
     shown_read _ _ c.args.question.now c.args.name.now
     (g.F.Files.state c.args.files.now).openings
     (g.F.Files.state c.read_files.new.files).openings
     c.in_ok-read.read c.answer_with.result c.answer_with.ensures.of_no_file
-    (rw c.in_ok-now.ensures.given (meets_inside (Unit {0}) _ c.answer_with.result exact)) c.in_ok-read.ensures.opened
+    (rw c.in-Ok.ensures.given (meets_inside (Unit {0}) _ c.answer_with.result exact)) c.in_ok-read.ensures.opened
 
-pub returns-clause-reads : goal.returns-clause-reads
-returns-clause-reads g c =
+pub returns-in-Ok-clause-reads : goal.returns-in-Ok-clause-reads
+returns-in-Ok-clause-reads g c =
     rw c.answer_with.ensures.read
-    (went_asking (reads_clock c.args.question.now.command) false c.in_ok-now.now (files_allowed c.args.question.now)
+    (went_asking (reads_clock c.args.question.now.command) false c.in-Ok.now (files_allowed c.args.question.now)
     (g.F.Files.state c.args.files.now) (g.F.Files.state c.read_files.new.files)
     (g.K.Clock.state c.args.clock.now) (g.K.Clock.state c.read_minute.new.clock)
-    (λ is. let untrue : false ≡ true = is in cc) c.in_ok-read.ensures.read c.in_ok-now.ensures.time)
+    (λ is. let untrue : false ≡ true = is in cc) c.in_ok-read.ensures.read c.in-Ok.ensures.time)
 
-pub returns-clause-asked_last : goal.returns-clause-asked_last
-returns-clause-asked_last g c = λ t unread. absurd (unread (rw (c.in_ok-read.ensures.own t) (search rules)))
+pub returns-in-Ok-clause-asked_last : goal.returns-in-Ok-clause-asked_last
+returns-in-Ok-clause-asked_last g c = λ t unread. absurd (unread (rw (c.in_ok-read.ensures.own t) (search rules)))
 
 pub returns-in_err-read-clause-clock_read_once : goal.returns-in_err-read-clause-clock_read_once
 returns-in_err-read-clause-clock_read_once g c =
     λ t asks ok settled. let p = err_from_is_err_and c.from_residual.result c.from_residual.ensures.1 in
     absurd (unread_unsettled _ _ _ (c.in_err-read.ensures.own t) ok (rw (p.1, p.2) at settled))
 
-pub returns-in_err-now-clause-clock_read_once : goal.returns-in_err-now-clause-clock_read_once
-returns-in_err-now-clause-clock_read_once g c =
-    λ t asks ok settled. let p = err_from_is_err_and c.from_residual-in_err-now.result c.from_residual-in_err-now.ensures.1 in
-    never (rw (p.1, p.2, c.in_err-now.ensures.unread) at settled)
+pub returns-in-Err-clause-clock_read_once : goal.returns-in-Err-clause-clock_read_once
+returns-in-Err-clause-clock_read_once g c =
+    λ t asks ok settled. never (rw c.in-Err.ensures.unread at settled)
 
-pub returns-clause-clock_read_once : goal.returns-clause-clock_read_once
-returns-clause-clock_read_once g c = λ t asks ok settled. (c.in_ok-now.now, rw asks at c.in_ok-now.ensures.time)
+pub returns-in-Ok-clause-clock_read_once : goal.returns-in-Ok-clause-clock_read_once
+returns-in-Ok-clause-clock_read_once g c = λ t asks ok settled. (c.in-Ok.now, rw asks at c.in-Ok.ensures.time)

@@ -27,27 +27,27 @@ returns-in_err-question-clause-reads g c =
 pub returns-in-Some-clause-own : goal.returns-in-Some-clause-own
 returns-in-Some-clause-own g c =
     λ t k. rw c.in_ok-question.ensures.exact
-    (meets_named _ _ _ _ c.args.words.now c.in_ok-question.question c.in-Some.name c.answer_over.result
+    (meets_named _ _ _ _ c.args.words.now c.in_ok-question.question c.in-Some.name c.answer_over-answered.result
     c.in_ok-question.ensures.exact c.in-Some.is
-    ((rw c.new-valid.ensures at c.answer_over.ensures.own) t (rw c.in_ok-question.ensures.exact at k)))
+    ((rw c.new-valid.ensures at c.answer_over-answered.ensures.own) t (rw c.in_ok-question.ensures.exact at k)))
 
 pub returns-in-Some-clause-shown : goal.returns-in-Some-clause-shown
 returns-in-Some-clause-shown g c =
     shown_named _ _ c.args.words.now c.in_ok-question.question c.in-Some.name
     (g.F.Files.state c.args.files.now).openings
-    (g.F.Files.state c.answer_over.new.files).openings
-    c.answer_over.result c.in_ok-question.ensures.exact c.in-Some.is (rw c.new-valid.ensures at c.answer_over.ensures.shown)
+    (g.F.Files.state c.answer_over-answered.new.files).openings
+    c.answer_over-answered.result c.in_ok-question.ensures.exact c.in-Some.is (rw c.new-valid.ensures at c.answer_over-answered.ensures.shown)
 
 pub returns-in-Some-clause-reads : goal.returns-in-Some-clause-reads
 returns-in-Some-clause-reads g c =
-    went_by_words (reading_failed c.answer_over.result) _ c.in_ok-question.question c.in-Some.name
+    went_by_words (reading_failed c.answer_over-answered.result) _ c.in_ok-question.question c.in-Some.name
     (sources (g.F.Files.state c.args.files.now) (g.K.Clock.state c.args.clock.now))
-    (sources (g.F.Files.state c.answer_over.new.files) (g.K.Clock.state c.answer_over.new.clock))
-    c.in_ok-question.ensures.exact c.in-Some.is (rw c.new-valid.ensures at c.answer_over.ensures.reads)
+    (sources (g.F.Files.state c.answer_over-answered.new.files) (g.K.Clock.state c.answer_over-answered.new.clock))
+    c.in_ok-question.ensures.exact c.in-Some.is (rw c.new-valid.ensures at c.answer_over-answered.ensures.reads)
 
 pub returns-in-None-clause-reads : goal.returns-in-None-clause-reads
 returns-in-None-clause-reads g c =
-    rw c.answer_without.ensures.read
+    rw c.answer_without-answered.ensures.read
     (went_nowhere _ _ (g.F.Files.state c.args.files.now) (g.K.Clock.state c.args.clock.now))
 
 pub returns-in-Some-clause-unopened : goal.returns-in-Some-clause-unopened
@@ -55,28 +55,28 @@ returns-in-Some-clause-unopened g c =
     λ nameless. absurd (nameless (names_file _ c.in_ok-question.question c.in-Some.name c.in_ok-question.ensures.exact c.in-Some.is))
 
 pub returns-in-Some-clause-clock_unread : goal.returns-in-Some-clause-clock_unread
-returns-in-Some-clause-clock_unread g c = rw c.in_ok-question.ensures.exact (rw c.new-valid.ensures at c.answer_over.ensures.clock_unread)
+returns-in-Some-clause-clock_unread g c = rw c.in_ok-question.ensures.exact (rw c.new-valid.ensures at c.answer_over-answered.ensures.clock_unread)
 
 pub returns-in-Some-clause-asked_last : goal.returns-in-Some-clause-asked_last
 returns-in-Some-clause-asked_last g c =
-    λ t unread. (rw c.new-valid.ensures at c.answer_over.ensures.asked_last) t
+    λ t unread. (rw c.new-valid.ensures at c.answer_over-answered.ensures.asked_last) t
     (λ read. unread (has_files (λ slot. (g.F.Files.state c.args.files.now).store.folder) _ c.in_ok-question.question
     c.in-Some.name c.in_ok-question.ensures.exact c.in-Some.is read))
 
 pub returns-in-None-clause-own : goal.returns-in-None-clause-own
 returns-in-None-clause-own g c =
-    λ t k. meets_alone _ _ _ _ c.args.words.now c.in_ok-question.question c.answer_without.result
+    λ t k. meets_alone _ _ _ _ c.args.words.now c.in_ok-question.question c.answer_without-answered.result
     c.in_ok-question.ensures.exact c.in-None.is
-    (rw c.new-valid.ensures at c.answer_without.ensures.exact)
+    (rw c.new-valid.ensures at c.answer_without-answered.ensures.exact)
 
 pub returns-in-None-clause-shown : goal.returns-in-None-clause-shown
 returns-in-None-clause-shown g c =
     shown_unopened _ _
     (g.F.Files.state c.args.files.now).openings
     (g.F.Files.state c.args.files.now).openings
-    c.answer_without.result refl
-    (shown_alone _ _ c.args.words.now c.in_ok-question.question c.answer_without.result [] c.in_ok-question.ensures.exact c.in-None.is
-    (rw c.new-valid.ensures at c.answer_without.ensures.exact))
+    c.answer_without-answered.result refl
+    (shown_alone _ _ c.args.words.now c.in_ok-question.question c.answer_without-answered.result [] c.in_ok-question.ensures.exact c.in-None.is
+    (rw c.new-valid.ensures at c.answer_without-answered.ensures.exact))
 
 pub returns-in_err-question-clause-clock_read_once : goal.returns-in_err-question-clause-clock_read_once
 returns-in_err-question-clause-clock_read_once g c =
@@ -85,7 +85,7 @@ returns-in_err-question-clause-clock_read_once g c =
 
 pub returns-in-Some-clause-clock_read_once : goal.returns-in-Some-clause-clock_read_once
 returns-in-Some-clause-clock_read_once g c =
-    λ t asks has settled. (rw c.new-valid.ensures at c.answer_over.ensures.clock_read_once) t (rw c.in_ok-question.ensures.exact at asks)
+    λ t asks has settled. (rw c.new-valid.ensures at c.answer_over-answered.ensures.clock_read_once) t (rw c.in_ok-question.ensures.exact at asks)
     (files_named (λ slot. (g.F.Files.state c.args.files.now).store.folder) _ c.in_ok-question.question c.in-Some.name
     c.in_ok-question.ensures.exact c.in-Some.is has) settled
 
