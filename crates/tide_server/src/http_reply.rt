@@ -103,10 +103,14 @@ pub(crate) fn asking_reply(
     ensures { IfOk result (λ response. response ≡ asking_reply stations.now.book stations.now.table now (asking_seen asking.now)) }
 {
     let pairs = pairs_of(alloc, asking)?;
-    match read_question(alloc, &pairs) {
+    let read = read_question(alloc, &pairs);
+    drop(pairs);
+    match read {
         Ok(question) => {
-            let question = ValidQuestion::new(&question);
-            answer_reply(alloc, stations, &question, asking, now)
+            let valid = ValidQuestion::new(&question);
+            let replied = answer_reply(alloc, stations, &valid, asking, now);
+            drop(question);
+            replied
         }
         Err(fault) => {
             if is_out_of_memory(fault) {
@@ -116,7 +120,7 @@ pub(crate) fn asking_reply(
                 alloc,
                 Code::BadRequest,
                 stations.table(),
-                &Fault::Ask(fault),
+                Fault::Ask(fault),
                 asking.bodiless,
             )
         }
@@ -141,7 +145,9 @@ fn answer_reply(
 {
     let zone = zone_of(&question.get().zone);
     let given = given_with(&zone, asking.body, now);
-    match answer_valid(alloc, stations, question, given) {
+    let answered = answer_valid(alloc, stations, question, given);
+    drop(zone);
+    match answered {
         Ok(answer) => {
             let kind = type_of(question.get().layout);
             Ok(Response::new(Code::Success, kind, answer.text, asking.bodiless))
@@ -150,12 +156,11 @@ fn answer_reply(
             if refusal_is_out_of_memory(refusal) {
                 return Err(AllocError);
             }
-            let fault = Fault::Refused(refusal);
             fault_reply(
                 alloc,
                 Code::Unprocessable,
                 stations.table(),
-                &fault,
+                Fault::Refused(refusal),
                 asking.bodiless,
             )
         }
@@ -222,12 +227,13 @@ fn fault_reply(
     alloc: Global,
     code: Code,
     table: &OffsetTable,
-    fault: &Fault,
+    fault: Fault,
     bodiless: bool,
 ) -> Result<Response, AllocError>
-    requires { IsPrintable table.now fault.now }
-    ensures { IfOk result (λ response. response ≡ fault_reply code table.now fault.now bodiless) }
+    requires { IsPrintable table.now fault }
+    ensures { IfOk result (λ response. response ≡ fault_reply code table.now fault bodiless) }
 {
-    let line = fault_line(alloc, fault, table)?;
-    Ok(Response::new(code, "text/plain", line, bodiless))
+    let line = fault_line(alloc, &fault, table);
+    drop(fault);
+    Ok(Response::new(code, "text/plain", line?, bodiless))
 }

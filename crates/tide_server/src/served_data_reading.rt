@@ -43,8 +43,15 @@ pub(crate) fn read_served_data<F: Files>(
 {
     let question = read_service(alloc, words)?;
     match &question.file {
-        Some(name) => read_named(alloc, files, &question, name),
-        None => Err(NoAnswer::Faulty(Fault::Ask(AskFault::MissingKey(Key::File)))),
+        Some(name) => {
+            let read = read_named(alloc, files, &question, name);
+            drop(question);
+            read
+        }
+        None => {
+            drop(question);
+            Err(NoAnswer::Faulty(Fault::Ask(AskFault::MissingKey(Key::File))))
+        }
     }
 }
 
@@ -66,12 +73,17 @@ fn read_named<F: Files>(
         (reading_failed result) (F.state files.old) (F.state files.new) }
 {
     let book = read_book(alloc, files, name)?;
-    let table = read_table(alloc, files, &question.offsets)?;
-    Ok(ValidServedData::new(ServedData {
-        book,
-        table,
-        port: question.port,
-    }))
+    match read_table(alloc, files, &question.offsets) {
+        Ok(table) => Ok(ValidServedData::new(ServedData {
+            book,
+            table,
+            port: question.port,
+        })),
+        Err(none) => {
+            drop(book);
+            Err(none)
+        }
+    }
 }
 
 // Returns the request to serve in the arguments `words`.

@@ -106,8 +106,16 @@ fn serve_words<F: Files, D: Door, E: Sink, K: Clock>(
     }
     match read_served_data(alloc, words, files) {
         Ok(served_data) => match Request::new(alloc) {
-            Ok(mut request) => serve_data(alloc, &served_data, &mut request, door, err, clock),
-            Err(_) => refuse(err, Status::NoMemory, b"no memory\n"),
+            Ok(mut request) => {
+                let status = serve_data(alloc, &served_data, &mut request, door, err, clock);
+                drop(request);
+                drop(served_data);
+                status
+            }
+            Err(_) => {
+                drop(served_data);
+                refuse(err, Status::NoMemory, b"no memory\n")
+            }
         },
         Err(none) => report(alloc, none, err),
     }

@@ -1,4 +1,4 @@
-use Rattle.std.proofs.Common.{refl}
+use Rattle.std.proofs.Common.{Err, refl}
 use Rattle.std.specs.Bool.{IsTrue}
 use Rattle.named_files.specs.Readings.{book_named, table_named}
 use Rattle.named_files.proofs.ReadingLemmas.{meets_at}
@@ -21,37 +21,36 @@ returns-in_err-book-clause-shown g c =
     (g.F.Files.state c.read_book.new.files).openings
     _ c.from_residual.result c.from_residual.ensures.1 c.in_err-book.ensures.fault c.in_err-book.ensures.opened
 
-pub returns-in_err-table-clause-own : goal.returns-in_err-table-clause-own
+pub returns-in-Err-clause-own : goal.returns-in-Err-clause-own
 unfolding served_data_named
-returns-in_err-table-clause-own g c =
+returns-in-Err-clause-own g c =
     let book = c.in_ok-book.ensures.own in
-    let table = rw c.read_book.ensures.read.store at c.in_err-table.ensures.own in
+    let table = rw c.read_book.ensures.read.store at c.in-Err.ensures.own in
     λ t. rw (book t) (meets_at (IsTrue (g.F.Files.state c.args.files.now).store.is_steady)
     (table_named (g.F.Files.state c.args.files.now).store.folder c.args.question.now.offsets) _
-    c.from_residual-in_err-table.result _ c.from_residual-in_err-table.ensures.1 (table t))
+    (Err c.in-Err.none) _ refl (table t))
 
-pub returns-in_err-table-clause-shown : goal.returns-in_err-table-clause-shown
-returns-in_err-table-clause-shown g c =
+pub returns-in-Err-clause-shown : goal.returns-in-Err-clause-shown
+returns-in-Err-clause-shown g c =
     stopped_at_table c.args.question.now c.args.name.now
     (g.F.Files.state c.args.files.now).openings
     (g.F.Files.state c.read_book.new.files).openings
     (g.F.Files.state c.read_table.new.files).openings
     c.in_ok-book.book
-    _ c.from_residual-in_err-table.result c.from_residual-in_err-table.ensures.1 c.in_err-table.ensures.fault
-    c.in_ok-book.ensures.opened c.in_err-table.ensures.opened
+    _ (Err c.in-Err.none) refl c.in-Err.ensures.fault c.in_ok-book.ensures.opened c.in-Err.ensures.opened
 
-pub returns-clause-own : goal.returns-clause-own
+pub returns-in-Ok-clause-own : goal.returns-in-Ok-clause-own
 unfolding served_data_named
-returns-clause-own g c =
+returns-in-Ok-clause-own g c =
     let book = c.in_ok-book.ensures.own in
-    let table = rw c.read_book.ensures.read.store at c.in_ok-table.ensures.own in
+    let table = rw c.read_book.ensures.read.store at c.in-Ok.ensures.own in
     λ t. rw (book t, table t, c.new.ensures) refl
 
-pub returns-clause-shown : goal.returns-clause-shown
-returns-clause-shown g c =
+pub returns-in-Ok-clause-shown : goal.returns-in-Ok-clause-shown
+returns-in-Ok-clause-shown g c =
     all_opened c.args.question.now c.args.name.now
     (g.F.Files.state c.args.files.now).openings
     (g.F.Files.state c.read_book.new.files).openings
     (g.F.Files.state c.read_table.new.files).openings
-    c.in_ok-book.book c.in_ok-table.table _ c.new.ensures
-    c.in_ok-book.ensures.opened c.in_ok-table.ensures.opened
+    c.in_ok-book.book c.in-Ok.table _ c.new.ensures
+    c.in_ok-book.ensures.opened c.in-Ok.ensures.opened

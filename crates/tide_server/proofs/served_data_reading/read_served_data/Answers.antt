@@ -24,23 +24,23 @@ unfolding served_data_from
 returns-in-Some-clause-own g c =
     λ t. rw c.in_ok-question.ensures.exact
     (meets_named _ (λ slot. (g.F.Files.state c.args.files.now).store.folder) c.in_ok-question.question c.in-Some.name
-    c.read_named.result c.in-Some.is (c.read_named.ensures.own t))
+    c.read_named-read.result c.in-Some.is (c.read_named-read.ensures.own t))
 
 pub returns-in-Some-clause-shown : goal.returns-in-Some-clause-shown
 returns-in-Some-clause-shown g c =
     shown_named c.args.words.now c.in_ok-question.question c.in-Some.name
     (g.F.Files.state c.args.files.now).openings
-    (g.F.Files.state c.read_named.new.files).openings
-    c.read_named.result c.in_ok-question.ensures.exact c.in-Some.is c.read_named.ensures.shown
+    (g.F.Files.state c.read_named-read.new.files).openings
+    c.read_named-read.result c.in_ok-question.ensures.exact c.in-Some.is c.read_named-read.ensures.shown
 
-pub returns-clause-own : goal.returns-clause-own
+pub returns-in-None-clause-own : goal.returns-in-None-clause-own
 unfolding served_data_from
-returns-clause-own g c =
+returns-in-None-clause-own g c =
     λ t. rw c.in_ok-question.ensures.exact
     (meets_unnamed (λ slot. (g.F.Files.state c.args.files.now).store.folder) c.in_ok-question.question c.in-None.is)
 
-pub returns-clause-shown : goal.returns-clause-shown
-returns-clause-shown g c =
+pub returns-in-None-clause-shown : goal.returns-in-None-clause-shown
+returns-in-None-clause-shown g c =
     shown_nameless c.args.words.now c.in_ok-question.question
     (g.F.Files.state c.args.files.now).openings
     _ c.in_ok-question.ensures.exact (meets_unnamed _ c.in_ok-question.question c.in-None.is)

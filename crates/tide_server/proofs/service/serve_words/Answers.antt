@@ -6,8 +6,8 @@ use Rattle.tide_server.proofs.OpeningLemmas.{files_failed, refused_another, refu
 use Rattle.tide_server.proofs.ServedDataLemmas.{shown_another, shown_ready, shown_refused}
 use Rattle.tide_server.proofs.service.serve_words.Goals as goal
 
-pub returns-in-Ok-clause-own_files : goal.returns-in-Ok-clause-own_files
-returns-in-Ok-clause-own_files g c =
+pub returns-in-Err-new-clause-own_files : goal.returns-in-Err-new-clause-own_files
+returns-in-Err-new-clause-own_files g c =
     λ t. inl (refused_full
     (IsTrue (g.F.Files.state c.args.files.now).store.is_steady)
     (served_data_of (g.F.Files.state c.args.files.now).store.folder c.args.words.now)
@@ -22,8 +22,8 @@ returns-in-Ok-clause-own_files g c =
     refl
     c.refuse-in-Err-new.ensures.line.1)
 
-pub returns-in-Ok-clause-shown : goal.returns-in-Ok-clause-shown
-returns-in-Ok-clause-shown g c =
+pub returns-in-Err-new-clause-shown : goal.returns-in-Err-new-clause-shown
+returns-in-Err-new-clause-shown g c =
     shown_ready c.args.words.now _ c.refuse-in-Err-new.result
     (server_states (g.F.Files.state c.args.files.now) (g.D.Door.state c.args.door.now) (g.E.Sink.state c.args.err.now)
     (g.K.Clock.state c.args.clock.now))
@@ -44,8 +44,8 @@ returns-in-Ok-clause-shown g c =
     refl
     c.refuse-in-Err-new.ensures.line.1))
 
-pub returns-clause-own_files : goal.returns-clause-own_files
-returns-clause-own_files g c =
+pub returns-in-Err-clause-own_files : goal.returns-in-Err-clause-own_files
+returns-in-Err-clause-own_files g c =
     λ t. inl (refused_for
     (IsTrue (g.F.Files.state c.args.files.now).store.is_steady)
     (served_data_of (g.F.Files.state c.args.files.now).store.folder c.args.words.now)
@@ -60,8 +60,8 @@ returns-clause-own_files g c =
     refl
     c.report.ensures.reported)
 
-pub returns-clause-shown : goal.returns-clause-shown
-returns-clause-shown g c =
+pub returns-in-Err-clause-shown : goal.returns-in-Err-clause-shown
+returns-in-Err-clause-shown g c =
     shown_refused c.args.words.now c.in-Err.none c.report.result
     (server_states (g.F.Files.state c.args.files.now) (g.D.Door.state c.args.door.now) (g.E.Sink.state c.args.err.now)
     (g.K.Clock.state c.args.clock.now))
@@ -69,8 +69,8 @@ returns-clause-shown g c =
     (g.E.Sink.state c.report.new.err) (g.K.Clock.state c.args.clock.now))
     c.in-Err.ensures.shown refl refl c.report.ensures.reported
 
-pub returns-in-Ok-clause-read_fault : goal.returns-in-Ok-clause-read_fault
-returns-in-Ok-clause-read_fault g c =
+pub returns-in-Err-new-clause-read_fault : goal.returns-in-Err-new-clause-read_fault
+returns-in-Err-new-clause-read_fault g c =
     rw c.refuse-in-Err-new.ensures.same
     (files_failed false
     (server_states (g.F.Files.state c.args.files.now) (g.D.Door.state c.args.door.now) (g.E.Sink.state c.args.err.now)
@@ -79,8 +79,8 @@ returns-in-Ok-clause-read_fault g c =
     (g.E.Sink.state c.refuse-in-Err-new.new.err) (g.K.Clock.state c.args.clock.now))
     c.in-Ok.ensures.read.faults c.requires refl refl)
 
-pub returns-clause-read_fault : goal.returns-clause-read_fault
-returns-clause-read_fault g c =
+pub returns-in-Err-clause-read_fault : goal.returns-in-Err-clause-read_fault
+returns-in-Err-clause-read_fault g c =
     rw c.report.ensures.read
     (files_failed (is_unread c.in-Err.none)
     (server_states (g.F.Files.state c.args.files.now) (g.D.Door.state c.args.door.now) (g.E.Sink.state c.args.err.now)
@@ -94,33 +94,33 @@ returns-in-Ok-new-clause-own_files g c =
     λ t. inr (
       _,
       c.in-Ok.ensures.own t,
-      c.serve_data.ensures.ended.listened (g.F.Files.state c.args.files.now) (g.F.Files.state c.read_served_data.new.files),
+      c.serve_data-status.ensures.ended.listened (g.F.Files.state c.args.files.now) (g.F.Files.state c.read_served_data.new.files),
     )
 
 pub returns-in-Ok-new-clause-shown : goal.returns-in-Ok-new-clause-shown
 returns-in-Ok-new-clause-shown g c =
-    shown_ready c.args.words.now _ c.serve_data.result
+    shown_ready c.args.words.now _ c.serve_data-status.result
     (server_states (g.F.Files.state c.args.files.now) (g.D.Door.state c.args.door.now) (g.E.Sink.state c.args.err.now)
     (g.K.Clock.state c.args.clock.now))
-    (server_states (g.F.Files.state c.read_served_data.new.files) (g.D.Door.state c.serve_data.new.door)
-    (g.E.Sink.state c.serve_data.new.err) (g.K.Clock.state c.serve_data.new.clock))
+    (server_states (g.F.Files.state c.read_served_data.new.files) (g.D.Door.state c.serve_data-status.new.door)
+    (g.E.Sink.state c.serve_data-status.new.err) (g.K.Clock.state c.serve_data-status.new.clock))
     c.in-Ok.ensures.shown
     (λ expected is. inr (
       _,
       is,
-      c.serve_data.ensures.ended.listened (g.F.Files.state c.args.files.now) (g.F.Files.state c.read_served_data.new.files),
+      c.serve_data-status.ensures.ended.listened (g.F.Files.state c.args.files.now) (g.F.Files.state c.read_served_data.new.files),
     ))
 
 pub returns-in-Ok-new-clause-unlistened : goal.returns-in-Ok-new-clause-unlistened
 returns-in-Ok-new-clause-unlistened g c =
-    let listened = c.serve_data.ensures.ended.listened (g.F.Files.state c.args.files.now) (g.F.Files.state c.read_served_data.new.files) in
+    let listened = c.serve_data-status.ensures.ended.listened (g.F.Files.state c.args.files.now) (g.F.Files.state c.read_served_data.new.files) in
     let asked = listened.asked in λ none. absurd (cc)
 
 pub returns-in-Ok-new-clause-clock_unread : goal.returns-in-Ok-new-clause-clock_unread
 returns-in-Ok-new-clause-clock_unread g c =
-    let listened = c.serve_data.ensures.ended.listened (g.F.Files.state c.args.files.now) (g.F.Files.state c.read_served_data.new.files) in
+    let listened = c.serve_data-status.ensures.ended.listened (g.F.Files.state c.args.files.now) (g.F.Files.state c.read_served_data.new.files) in
     let asked = listened.asked in
-    λ took. elim took [ inl none ↦ absurd (cc) | inr none ↦ c.serve_data.ensures.unasked none ]
+    λ took. elim took [ inl none ↦ absurd (cc) | inr none ↦ c.serve_data-status.ensures.unasked none ]
 
 pub returns-then-names_another-clause-own_files : goal.returns-then-names_another-clause-own_files
 returns-then-names_another-clause-own_files g c =
