@@ -1,11 +1,13 @@
 ghost use Rattle.zone_time.specs.Zones.{IsZone};
 
+use crate::asserts::assert_holds;
 use crate::lists::{TIDE, events_of, is_in_years, is_text};
 use calendar_sheet::*;
 use curve_law::Kind;
 use decimal_text::Text;
 use harmonics_book::Units;
 use std::alloc::{AllocError, Global};
+use std::process::Abort;
 use zone_time::{Zone, read_zone};
 
 // A file of two offsets: six hours ahead of universal time, and one hour behind it from
@@ -81,23 +83,31 @@ const CALENDARS: &[Calendar] = &[
 ];
 
 // Returns true if a calendar of the events has this text.
-fn is_calendar(alloc: Global, name: &Text, calendar: &Calendar) -> Result<bool, AllocError> {
+fn is_calendar(alloc: Global, name: &Text, calendar: &Calendar) -> bool {
     let &(ahead, begin, end, items, expected) = calendar;
     if !is_in_years(begin) || !is_in_years(end) || end < begin {
-        return Ok(false);
+        return false;
     }
-    let events = events_of(alloc, Units::Feet, items)?;
     let zone = zone_of(alloc, ahead);
-    let text = calendar_text(alloc, name, Units::Feet, &events, &zone, begin, end);
-    Ok(is_text(text, expected))
+    match events_of(alloc, Units::Feet, items) {
+        Ok(events) => {
+            let text = calendar_text(alloc, name, Units::Feet, &events, &zone, begin, end);
+            is_text(text, expected)
+        }
+        Err(_) => false,
+    }
+}
+
+fn check_calendars(rt: &impl Abort, alloc: Global, name: &Text) {
+    for calendar in CALENDARS {
+        assert_holds(rt, is_calendar(alloc, name, calendar), calendar.4);
+    }
 }
 
 #[test]
 fn dates_are_shown(rt: HostRuntime) -> Result<(), AllocError> {
     let name = Text::from_str(rt.alloc(), "Pier")?;
-    for calendar in CALENDARS {
-        assert!(rt; is_calendar(rt.alloc(), &name, calendar)?, "{}", calendar.4);
-    }
+    check_calendars(&rt, rt.alloc(), &name);
     Ok(())
 }
 

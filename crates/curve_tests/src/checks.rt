@@ -2,10 +2,13 @@
 
 ghost use Rattle.std.specs.Prelude.{◌≡◌, ◌≤ℤ◌, IsTrue};
 
+use crate::asserts::assert_holds;
+use crate::evaluating::is_few;
 use cert_checker::check_track;
 use curve_law::samples::{Line, Ripple};
 use curve_law::{Cell, Cells, Curve, Kind, Verdict};
-use std::alloc::{AllocError, Global};
+use std::alloc::Global;
+use std::process::Abort;
 
 // Returns true if cells may be checked on `curve`, not yet evaluated.
 fn can_check<C: Curve>(curve: &C, begin: i64, end: i64) -> bool
@@ -13,6 +16,15 @@ fn can_check<C: Curve>(curve: &C, begin: i64, end: i64) -> bool
         × (end ≤ℤ (C.state curve.now).facts.meaning.last) × ((C.state curve.now).count ≡ 0) }
 {
     begin <= end && curve.first() <= begin && end <= curve.last() && curve.evaluations() == 0
+}
+
+// Returns the verdict on `cells` if they may be checked.
+fn verdict<C: Curve>(curve: &mut C, begin: i64, end: i64, cells: &Cells) -> Option<Verdict> {
+    if can_check(curve, begin, end) && cells.as_slice().len() <= 1000 {
+        Some(check_track(curve, cells, begin, end))
+    } else {
+        None
+    }
 }
 
 // Returns true if the verdict on `cells` is `wanted`, after at most one evaluation a cell and one more.
@@ -23,15 +35,13 @@ fn finds<C: Curve + Drop>(
     end: i64,
     cells: &[Cell],
     wanted: Verdict,
-) -> Result<bool, AllocError> {
+) -> bool {
     let mut curve = curve;
-    if !can_check(&curve, begin, end) || cells.len() > 1000 {
-        return Ok(false);
-    }
-    let mut copied = Vec::new(alloc);
-    copied.extend_from_slice(cells)?;
-    let found = check_track(&mut curve, &Cells::from_vec(copied), begin, end);
-    Ok(found == wanted && curve.evaluations() as usize <= cells.len() + 1)
+    let Ok(copied) = Vec::from_slice(alloc, cells) else {
+        return false;
+    };
+    let found = verdict(&mut curve, begin, end, &Cells::from_vec(copied));
+    found == Some(wanted) && is_few(curve.evaluations(), cells.len())
 }
 
 // Returns a line that rises past 0 after minute 2, where its level is 2.
@@ -149,32 +159,25 @@ const RIPPLES: &[Cell] = &[
     Cell::Turn(Kind::MarkFalling, 0),
 ];
 
-// Returns the first case whose verdict is another one.
-fn first_wrong(alloc: Global, cases: &[Case]) -> Result<Option<usize>, AllocError> {
+fn check_cases(rt: &impl Abort, alloc: Global, cases: &[Case]) {
     for (place, &(end, cells, wanted)) in cases.iter().enumerate() {
-        if !finds(alloc, rising(), 0, end, cells, wanted)? {
-            return Ok(Some(place));
-        }
+        assert_holds(rt, finds(alloc, rising(), 0, end, cells, wanted), place);
     }
-    Ok(None)
 }
 
 #[test]
-fn right_cells_are_accepted(rt: HostRuntime) -> Result<(), AllocError> {
+fn right_cells_are_accepted(rt: HostRuntime) {
     let alloc = rt.alloc();
-    assert!(rt; first_wrong(alloc, RIGHT)?.is_none());
-    assert!(rt; finds(alloc, Ripple::new(), -1, 1, RIPPLES, ACCEPTED)?);
-    Ok(())
+    check_cases(&rt, alloc, RIGHT);
+    assert!(rt; finds(alloc, Ripple::new(), -1, 1, RIPPLES, ACCEPTED));
 }
 
 #[test]
-fn the_first_fault_is_named(rt: HostRuntime) -> Result<(), AllocError> {
+fn the_first_fault_is_named(rt: HostRuntime) {
     let alloc = rt.alloc();
-    for cases in [WRONG_LENGTHS, NOT_QUIET, WRONG_MINUTES] {
-        let wrong = first_wrong(alloc, cases)?;
-        assert!(rt; wrong.is_none(), "case {wrong:?}");
-    }
+    check_cases(&rt, alloc, WRONG_LENGTHS);
+    check_cases(&rt, alloc, NOT_QUIET);
+    check_cases(&rt, alloc, WRONG_MINUTES);
     let without_rate = Verdict::NotQuiet { cell: 1 };
-    assert!(rt; finds(alloc, Ripple::new(), 0, 2, &[QUIET], without_rate)?);
-    Ok(())
+    assert!(rt; finds(alloc, Ripple::new(), 0, 2, &[QUIET], without_rate));
 }

@@ -1,8 +1,10 @@
 //! The laws of cells and curves, and small curves.
 
+use crate::asserts::assert_holds;
+use crate::evaluating::value_at;
 use curve_law::samples::{Line, Ripple};
 use curve_law::*;
-use std::alloc::AllocError;
+use std::alloc::Global;
 
 #[test]
 fn laws_and_rows_stand(_rt: HostRuntime) {
@@ -33,10 +35,7 @@ fn kinds_go_by_the_side(rt: HostRuntime) {
 fn sum<C: Curve>(curve: &mut C, begin: i64, end: i64) -> Option<i128> {
     let mut sum: i128 = 0;
     for m in begin..end {
-        if m < curve.first() || curve.last() < m || curve.evaluations() > 1000 {
-            return None;
-        }
-        sum = sum.checked_add(curve.value(m))?;
+        sum = sum.checked_add(value_at(curve, m)?)?;
     }
     Some(sum)
 }
@@ -53,20 +52,21 @@ fn has_kinds<C: Curve>(curve: &C, rising: Kind, falling: Kind) -> bool {
 #[test]
 fn lines_return_their_values(rt: HostRuntime) {
     let mut line = Line::new(3, true, 5);
-    assert!(rt; has_sum(&mut line, 0, 6, 3));
-    assert!(rt; line.evaluations() == 6);
-    assert!(rt; line.rate(0, 8) == Some(5));
-    assert!(rt; line.note(-7) == -7);
-    assert!(rt; has_kinds(&line, Kind::Low, Kind::High));
+    assert_holds(&rt, has_sum(&mut line, 0, 6, 3), "sum");
+    assert_holds(&rt, line.evaluations() == 6, "evaluations");
+    assert_holds(&rt, line.rate(0, 8) == Some(5), "rate");
+    assert_holds(&rt, line.note(-7) == -7, "level");
+    assert_holds(&rt, has_kinds(&line, Kind::Low, Kind::High), "kinds");
 }
 
 #[test]
 fn ripples_return_their_values(rt: HostRuntime) {
     let mut ripple = Ripple::new();
-    assert!(rt; has_sum(&mut ripple, -3, 4, -1));
-    assert!(rt; ripple.evaluations() == 7);
-    assert!(rt; ripple.rate(0, 8).is_none());
-    assert!(rt; has_kinds(&ripple, Kind::MarkRising, Kind::MarkFalling));
+    assert_holds(&rt, has_sum(&mut ripple, -3, 4, -1), "sum");
+    assert_holds(&rt, ripple.evaluations() == 7, "evaluations");
+    assert_holds(&rt, ripple.rate(0, 8).is_none(), "rate");
+    let has_kinds = has_kinds(&ripple, Kind::MarkRising, Kind::MarkFalling);
+    assert_holds(&rt, has_kinds, "kinds");
 }
 
 // Returns whether the eight minutes from 0 on are quiet, and the cell of the first one, by approximate
@@ -124,13 +124,16 @@ fn is_line_decided(start: i64, falls: bool, rate: i64, is_quiet: bool, cell: Cel
 #[test]
 fn approximate_values_decide_cells(rt: HostRuntime) {
     for &(start, falls, rate, is_quiet, cell) in DECIDED {
-        assert!(rt;
-            is_line_decided(start, falls, rate, is_quiet, cell),
-            "from {start}"
-        );
+        let is_right = is_line_decided(start, falls, rate, is_quiet, cell);
+        assert_holds(&rt, is_right, start);
     }
-    assert!(rt; Line::new(1, false, 1).error() == 1);
-    assert!(rt; is_decided(Ripple::new(), false, Cell::Turn(Kind::MarkFalling, 0)));
+    let turn = Cell::Turn(Kind::MarkFalling, 0);
+    assert_holds(&rt, is_decided(Ripple::new(), false, turn), "a ripple");
+    assert_holds(&rt, Line::new(1, false, 1).error() == 1, "the error");
+}
+
+#[test]
+fn approximate_values_lead_to_exact_ones(rt: HostRuntime) {
     assert!(rt; exact(&mut Line::new(4, true, 1)) == Some(4));
     assert!(rt; exact(&mut Ripple::new()) == Some(1));
 }
@@ -143,11 +146,22 @@ const EVENTS: &[Event] = &[Event {
     level: -1,
 }];
 
+fn are_cells_kept(alloc: Global) -> bool {
+    match Vec::from_slice(alloc, CELLS) {
+        Ok(cells) => Cells::from_vec(cells).as_slice() == CELLS,
+        Err(_) => false,
+    }
+}
+
+fn are_events_kept(alloc: Global) -> bool {
+    match Vec::from_slice(alloc, EVENTS) {
+        Ok(events) => Events::from_vec(events).as_slice() == EVENTS,
+        Err(_) => false,
+    }
+}
+
 #[test]
-fn lists_keep_their_items(rt: HostRuntime) -> Result<(), AllocError> {
-    let cells = Cells::from_vec(Vec::from_slice(rt.alloc(), CELLS)?);
-    assert!(rt; cells.as_slice() == CELLS);
-    let events = Events::from_vec(Vec::from_slice(rt.alloc(), EVENTS)?);
-    assert!(rt; events.as_slice() == EVENTS);
-    Ok(())
+fn lists_keep_their_items(rt: HostRuntime) {
+    assert!(rt; are_cells_kept(rt.alloc()));
+    assert!(rt; are_events_kept(rt.alloc()));
 }

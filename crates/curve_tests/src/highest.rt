@@ -1,7 +1,10 @@
 //! The highest water of a span: found, covered and checked.
 
 ghost use Rattle.std.specs.Prelude.{◌+◌, ◌^◌, ◌<◌, ◌≤◌, ◌≤ℤ◌, ◌<ℤ◌, ◌-ℤ◌, pos, unsigned_abs, length, IsTrue};
+ghost use Rattle.highest_water.specs.Peaks.{IsHighest};
 
+use crate::asserts::assert_holds;
+use crate::evaluating::{is_few, value_at};
 use crate::hills::{Hills, Top};
 use curve_law::Curve;
 use curve_law::samples::{Line, Ripple};
@@ -12,7 +15,8 @@ use highest_water::{
     under_cells_hold_nothing_higher, worked_cells_under, worked_covers, worked_minutes,
     worked_verdicts,
 };
-use std::alloc::{AllocError, Global};
+use std::alloc::Global;
+use std::process::Abort;
 
 // Returns true if the curve is valid over a span that has a minute.
 fn covers_span<C: Curve>(curve: &C, begin: i64, end: i64) -> bool
@@ -43,6 +47,15 @@ fn can_find<C: Curve>(curve: &C, begin: i64, end: i64) -> bool
     covers_span(curve, begin, end) && is_short(begin, end) && is_asked_little(curve)
 }
 
+// Returns the highest water that a search finds, or `None` if there is none.
+fn found<C: Curve>(alloc: Global, curve: &mut C, begin: i64, end: i64) -> Option<Peak> {
+    if can_find(curve, begin, end) {
+        find_peak(alloc, curve, begin, end).ok()
+    } else {
+        None
+    }
+}
+
 // Returns true if the written highest water may be checked.
 fn is_small(peak: &Peak) -> bool
     ensures { IsTrue result → (unsigned_abs peak.now.value < 10 ^ 37) × (length peak.now.cells ≤ 10 ^ 6) }
@@ -54,10 +67,7 @@ fn is_small(peak: &Peak) -> bool
 fn looked_at<C: Curve>(curve: &mut C, begin: i64, end: i64) -> Option<(i64, i128)> {
     let mut highest = None;
     for m in begin..end {
-        if m < curve.first() || curve.last() < m || curve.evaluations() > 1_000_000 {
-            return None;
-        }
-        let value = curve.value(m);
+        let value = value_at(curve, m)?;
         highest = match highest {
             Some((at, most)) if most >= value => Some((at, most)),
             _ => Some((m, value)),
@@ -66,36 +76,35 @@ fn looked_at<C: Curve>(curve: &mut C, begin: i64, end: i64) -> Option<(i64, i128
     highest
 }
 
+// Returns the verdict on a highest water, or `None` if it may not be checked.
+fn verdict_on<C: Curve>(curve: &mut C, peak: &Peak, begin: i64, end: i64) -> Option<PeakVerdict> {
+    if can_find(curve, begin, end) && is_small(peak) {
+        Some(check_peak(curve, peak, begin, end))
+    } else {
+        None
+    }
+}
+
 // Returns the verdict of a check, if it evaluates the curve at most once a cell and once more.
 fn checked<C: Curve>(curve: &mut C, peak: &Peak, begin: i64, end: i64) -> Option<PeakVerdict> {
-    if !can_find(curve, begin, end) || !is_small(peak) {
-        return None;
-    }
     let before = curve.evaluations();
-    let verdict = check_peak(curve, peak, begin, end);
+    let verdict = verdict_on(curve, peak, begin, end)?;
     let asked = curve.evaluations().saturating_sub(before);
-    (asked <= peak.cells.as_slice().len() as u64 + 1).then_some(verdict)
+    is_few(asked, peak.cells.as_slice().len()).then_some(verdict)
 }
 
 // Returns true if the search finds what an evaluation of every minute does, and the check accepts
 // it.
-fn finds<C: Curve + Drop>(
-    alloc: Global,
-    curve: C,
-    looked: C,
-    begin: i64,
-    end: i64,
-) -> Result<bool, AllocError> {
+fn finds<C: Curve + Drop>(alloc: Global, curve: C, looked: C, begin: i64, end: i64) -> bool {
     let mut curve = curve;
     let mut looked = looked;
-    if !can_find(&curve, begin, end) {
-        return Ok(false);
+    match found(alloc, &mut curve, begin, end) {
+        Some(peak) => {
+            looked_at(&mut looked, begin, end) == Some((peak.at, peak.value))
+                && checked(&mut curve, &peak, begin, end) == Some(PeakVerdict::Accepted)
+        }
+        None => false,
     }
-    let peak = find_peak(alloc, &mut curve, begin, end)?;
-    Ok(
-        looked_at(&mut looked, begin, end) == Some((peak.at, peak.value))
-            && checked(&mut curve, &peak, begin, end) == Some(PeakVerdict::Accepted),
-    )
 }
 
 fn hills() -> Hills {
@@ -142,41 +151,39 @@ fn falling() -> Line {
 }
 
 #[test]
-fn every_minute_agrees(rt: HostRuntime) -> Result<(), AllocError> {
-    let alloc = rt.alloc();
+fn every_minute_agrees(rt: HostRuntime) {
     for &(begin, end) in SPANS {
-        assert!(rt; finds(alloc, hills(), hills(), begin, end)?);
-        assert!(rt; finds(alloc, equal_hills(), equal_hills(), begin, end)?);
-        assert!(rt; finds(alloc, rising(), rising(), begin, end)?);
-        assert!(rt; finds(alloc, falling(), falling(), begin, end)?);
-        assert!(rt; finds(alloc, Ripple::new(), Ripple::new(), begin, end)?);
+        check_span(&rt, rt.alloc(), begin, end);
     }
-    Ok(())
+}
+
+fn check_span(rt: &impl Abort, alloc: Global, begin: i64, end: i64) {
+    assert_holds(rt, finds(alloc, hills(), hills(), begin, end), "hills");
+    let are_found = finds(alloc, equal_hills(), equal_hills(), begin, end);
+    assert_holds(rt, are_found, "equal hills");
+    assert_holds(rt, finds(alloc, rising(), rising(), begin, end), "rising");
+    assert_holds(
+        rt,
+        finds(alloc, falling(), falling(), begin, end),
+        "falling",
+    );
+    let are_found = finds(alloc, Ripple::new(), Ripple::new(), begin, end);
+    assert_holds(rt, are_found, "ripple");
 }
 
 // Returns true if a search evaluates the curve less than 7,000 times.
-fn asks_little<C: Curve + Drop>(
-    alloc: Global,
-    curve: C,
-    begin: i64,
-    end: i64,
-) -> Result<bool, AllocError> {
+fn asks_little<C: Curve + Drop>(alloc: Global, curve: C, begin: i64, end: i64) -> bool {
     let mut curve = curve;
-    if !can_find(&curve, begin, end) {
-        return Ok(false);
-    }
-    let _peak = find_peak(alloc, &mut curve, begin, end)?;
-    Ok(curve.evaluations() < 7000)
+    found(alloc, &mut curve, begin, end).is_some() && curve.evaluations() < 7000
 }
 
 // A search over some 2,000,000 minutes, which are 1,952 blocks.
 #[test]
-fn few_values_are_asked_for(rt: HostRuntime) -> Result<(), AllocError> {
+fn few_values_are_asked_for(rt: HostRuntime) {
     let alloc = rt.alloc();
-    assert!(rt; asks_little(alloc, equal_hills(), -999_000, 999_000)?);
+    assert!(rt; asks_little(alloc, equal_hills(), -999_000, 999_000));
     let rising = Line::new(0, false, 1);
-    assert!(rt; asks_little(alloc, rising, -999_000, 999_000)?);
-    Ok(())
+    assert!(rt; asks_little(alloc, rising, -999_000, 999_000));
 }
 
 // Returns true if the cells of a highest water are these, and their making evaluates the curve at
@@ -187,23 +194,40 @@ fn covers<C: Curve + Drop>(
     begin: i64,
     end: i64,
     wanted: &[PeakCell],
-) -> Result<bool, AllocError> {
+) -> bool {
     let mut curve = curve;
     if !can_find(&curve, begin, end) {
-        return Ok(false);
+        return false;
     }
-    let peak = find_peak(alloc, &mut curve, begin, end)?;
-    if !can_find(&curve, begin, end) {
-        return Ok(false);
+    match find_peak(alloc, &mut curve, begin, end) {
+        Ok(peak) => has_cover(alloc, &mut curve, begin, end, &peak, wanted),
+        Err(_) => false,
+    }
+}
+
+fn has_cover<C: Curve>(
+    alloc: Global,
+    curve: &mut C,
+    begin: i64,
+    end: i64,
+    peak: &Peak,
+    wanted: &[PeakCell],
+) -> bool
+    requires { IsHighest (C.state curve.old).facts.meaning begin end peak.now.at peak.now.value }
+{
+    if !can_find(curve, begin, end) {
+        return false;
     }
     let before = curve.evaluations();
-    let cells = peak_cover(alloc, &mut curve, begin, end, peak.at, peak.value)?;
-    let asked = curve.evaluations().saturating_sub(before);
-    Ok(
-        peak.cells.as_slice() == wanted
-            && cells.as_slice() == wanted
-            && asked as usize <= wanted.len() + 1,
-    )
+    match peak_cover(alloc, curve, begin, end, peak.at, peak.value) {
+        Ok(cells) => {
+            let asked = curve.evaluations().saturating_sub(before);
+            peak.cells.as_slice() == wanted
+                && cells.as_slice() == wanted
+                && is_few(asked, wanted.len())
+        }
+        Err(_) => false,
+    }
 }
 
 const SINGLE: PeakCell = PeakCell::Single;
@@ -215,30 +239,26 @@ const LONGEST: &[PeakCell] = &[PeakCell::Under(1024), SINGLE, SINGLE];
 const ODD: &[PeakCell] = &[SINGLE, SINGLE, PeakCell::Under(3)];
 
 #[test]
-fn covers_are_those_of_the_rule(rt: HostRuntime) -> Result<(), AllocError> {
+fn covers_are_those_of_the_rule(rt: HostRuntime) {
     let alloc = rt.alloc();
-    assert!(rt; covers(alloc, Line::new(0, false, 1), 0, 8, LAST)?);
-    assert!(rt; covers(alloc, Line::new(0, false, 1), 0, 1026, LONGEST)?);
-    assert!(rt; covers(alloc, Line::new(0, true, 1), 0, 5, ODD)?);
-    assert!(rt; covers(alloc, Ripple::new(), 4, 6, &[SINGLE, SINGLE])?);
-    Ok(())
+    let rising = Line::new(0, false, 1);
+    assert_holds(&rt, covers(alloc, rising, 0, 8, LAST), "last");
+    let rising = Line::new(0, false, 1);
+    assert_holds(&rt, covers(alloc, rising, 0, 1026, LONGEST), "longest");
+    let falling = Line::new(0, true, 1);
+    assert_holds(&rt, covers(alloc, falling, 0, 5, ODD), "odd");
+    let ripple = covers(alloc, Ripple::new(), 4, 6, &[SINGLE, SINGLE]);
+    assert_holds(&rt, ripple, "ripple");
 }
 
 // Returns the verdict on a highest water of two equal tops, at minutes 2 and 6, over minutes 0 to
 // 8.
-fn verdict(
-    alloc: Global,
-    at: i64,
-    value: i128,
-    cells: &[PeakCell],
-) -> Result<Option<PeakVerdict>, AllocError> {
-    let mut copied = Vec::new(alloc);
-    copied.extend_from_slice(cells)?;
-    let cells = PeakCells::from_vec(copied);
+fn verdict(alloc: Global, at: i64, value: i128, cells: &[PeakCell]) -> Option<PeakVerdict> {
+    let cells = PeakCells::from_vec(Vec::from_slice(alloc, cells).ok()?);
     let first = Top { at: 2, value: 5 };
     let second = Top { at: 6, value: 5 };
     let mut curve = Hills::new(first, second, 1);
-    Ok(checked(&mut curve, &Peak { at, value, cells }, 0, 8))
+    checked(&mut curve, &Peak { at, value, cells }, 0, 8)
 }
 
 const SINGLES: &[PeakCell] = &[SINGLE; 8];
@@ -278,10 +298,9 @@ const VERDICTS: &[(i64, i128, &[PeakCell], PeakVerdict)] = &[
 ];
 
 #[test]
-fn verdicts_are_named(rt: HostRuntime) -> Result<(), AllocError> {
-    for &(at, value, cells, wanted) in VERDICTS {
-        let is_right = verdict(rt.alloc(), at, value, cells)? == Some(wanted);
-        assert!(rt; is_right, "{wanted:?}");
+fn verdicts_are_named(rt: HostRuntime) {
+    for (place, &(at, value, cells, wanted)) in VERDICTS.iter().enumerate() {
+        let found = verdict(rt.alloc(), at, value, cells);
+        assert_holds(&rt, found == Some(wanted), place);
     }
-    Ok(())
 }

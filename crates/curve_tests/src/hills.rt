@@ -5,7 +5,7 @@ ghost use Rattle.std.specs.Prelude.{◌≡◌, ◌^◌, ◌≤◌, unsigned_abs,
 use curve_law::{Curve, Kind};
 
 /// A top at a minute, from which the value falls by 1 each minute to both sides.
-#[derive(Clone, Copy, Debug)]
+#[derive(Clone, Copy)]
 pub struct Top {
     pub at: i64,
     pub value: i64,
@@ -13,7 +13,7 @@ pub struct Top {
 
 /// A curve of two tops over minutes -1,000,000 to 1,000,000, whose value at each minute is the
 /// greater one. The rate may be greater than it need be.
-#[derive(Debug, Drop)]
+#[derive(Drop)]
 pub struct Hills {
     first: Top,
     second: Top,

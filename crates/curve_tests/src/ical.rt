@@ -4,6 +4,7 @@ ghost use Rattle.std.specs.Prelude.{◌≡◌, IfOk, IsTrue};
 ghost use Rattle.harmonics_book.specs.declared.book.Units.{Units};
 ghost use Rattle.ical_sheet.specs.Folding.{IsContentLine};
 
+use crate::asserts::assert_holds;
 use crate::lists::{is_listed, is_text};
 use crate::reports::is_printable;
 use curve_law::{Event, Kind};
@@ -16,6 +17,7 @@ use ical_sheet::{
 };
 use report_sheets::{Head, Sheet, Taken};
 use std::alloc::{AllocError, Global};
+use std::process::Abort;
 
 type Item = (i64, Kind, i64);
 
@@ -151,38 +153,59 @@ const FOLDED: &[(usize, &[usize])] = &[
     (150, &[75, 75, 2]),
 ];
 
-fn is_folded(alloc: Global, line: &[u8], lengths: &[usize]) -> Result<bool, AllocError> {
-    let text = folded(alloc, line)?;
-    Ok(has_lengths(text.as_slice(), lengths) && text.as_slice().ends_with(b"\r\n"))
+fn is_folded(alloc: Global, line: &[u8], lengths: &[usize]) -> bool {
+    match folded(alloc, line) {
+        Ok(text) => has_lengths(text.as_slice(), lengths) && text.as_slice().ends_with(b"\r\n"),
+        Err(_) => false,
+    }
+}
+
+fn are_letters_folded(alloc: Global, count: usize, lengths: &[usize]) -> bool {
+    match "a".repeat(alloc, count) {
+        Ok(line) => is_folded(alloc, line.as_bytes(), lengths),
+        Err(_) => false,
+    }
 }
 
 #[test]
-fn lines_are_folded(rt: HostRuntime) -> Result<(), AllocError> {
+fn lines_are_folded(rt: HostRuntime) {
     for &(count, lengths) in FOLDED {
-        let line = "a".repeat(rt.alloc(), count)?;
-        assert!(rt;
-            is_folded(rt.alloc(), line.as_bytes(), lengths)?,
-            "{count} letters"
-        );
+        assert_holds(&rt, are_letters_folded(rt.alloc(), count, lengths), count);
     }
-    Ok(())
+}
+
+// Returns true if `text` is unfolded to `line` and its end.
+fn unfolds_to(alloc: Global, text: &[u8], line: &[u8]) -> bool {
+    match unfold(alloc, text) {
+        Ok(unfolded) => unfolded.as_slice().strip_suffix(b"\r\n") == Some(line),
+        Err(_) => false,
+    }
 }
 
 // Returns true if a line is unfolded to what it was before it was folded.
-fn is_unfolded(alloc: Global, line: &[u8]) -> Result<bool, AllocError> {
-    let text = folded(alloc, line)?;
-    let unfolded = unfold(alloc, text.as_slice())?;
-    Ok(unfolded.as_slice().strip_suffix(b"\r\n") == Some(line))
+fn is_unfolded(alloc: Global, line: &[u8]) -> bool {
+    match folded(alloc, line) {
+        Ok(text) => unfolds_to(alloc, text.as_slice(), line),
+        Err(_) => false,
+    }
+}
+
+fn check_letters(rt: &impl Abort, alloc: Global, line: &[u8]) {
+    let is_folded = is_folded(alloc, line, &[74, 75, 75, 75, 75, 31]);
+    assert_holds(rt, is_folded, "folded letters");
+    assert_holds(rt, is_unfolded(alloc, line), "unfolded letters");
 }
 
 #[test]
 fn letters_are_not_cut(rt: HostRuntime) -> Result<(), AllocError> {
     let letters = "\u{e9}".repeat(rt.alloc(), 200)?;
-    let line = letters.as_bytes();
-    assert!(rt; is_folded(rt.alloc(), line, &[74, 75, 75, 75, 75, 31])?);
-    assert!(rt; is_unfolded(rt.alloc(), line)?);
-    assert!(rt; is_text(unfold(rt.alloc(), b"a\r\n b\r\n\tc\r\nd"), "abc\r\nd"));
+    check_letters(&rt, rt.alloc(), letters.as_bytes());
     Ok(())
+}
+
+#[test]
+fn lines_are_unfolded(rt: HostRuntime) {
+    assert!(rt; is_text(unfold(rt.alloc(), b"a\r\n b\r\n\tc\r\nd"), "abc\r\nd"));
 }
 
 // A name, and how it stands in a calendar.
@@ -193,39 +216,60 @@ const NAMES: &[(&str, &str)] = &[
 ];
 
 // Returns true if the calendar of a tide has a part.
-fn has_part(alloc: Global, name: &str, now: i64, part: &str) -> Result<bool, AllocError> {
-    let text = calendar(alloc, name, now, TIDE)?;
-    Ok(holds(text.as_slice(), part))
+fn has_part(alloc: Global, name: &str, now: i64, part: &str) -> bool {
+    match calendar(alloc, name, now, TIDE) {
+        Ok(text) => holds(text.as_slice(), part),
+        Err(_) => false,
+    }
+}
+
+// Returns true if the calendar of a tide has a summary of this name.
+fn has_summary(alloc: Global, name: &str, expected: &str) -> bool {
+    match format!(in alloc; "\r\nSUMMARY:{expected} Low Tide -1.00 feet\r\n") {
+        Ok(summary) => has_part(alloc, name, NOW, summary.as_str()),
+        Err(_) => false,
+    }
 }
 
 #[test]
-fn names_are_escaped(rt: HostRuntime) -> Result<(), AllocError> {
+fn names_are_escaped(rt: HostRuntime) {
     let alloc = rt.alloc();
     for &(name, expected) in NAMES {
-        assert!(rt; is_text(escape_name(alloc, name), expected), "{name}");
-        let summary = format!(in alloc; "\r\nSUMMARY:{expected} Low Tide -1.00 feet\r\n")?;
-        assert!(rt; has_part(alloc, name, NOW, summary.as_str())?, "{name}");
+        assert_holds(&rt, is_text(escape_name(alloc, name), expected), name);
+        assert_holds(&rt, has_summary(alloc, name, expected), name);
     }
-    Ok(())
 }
 
-// Returns true if the lines of a text, unfolded, have a part.
-fn has_unfolded(alloc: Global, text: &[u8], part: &str) -> Result<bool, AllocError> {
-    let lines = unfold(alloc, text)?;
-    Ok(holds(lines.as_slice(), part))
+// Returns true if the lines of a text, unfolded, have `letters` between `before` and `after`.
+fn has_unfolded(alloc: Global, text: &[u8], before: &str, letters: &str, after: &str) -> bool {
+    let Ok(part) = format!(in alloc; "{before}{letters}{after}") else {
+        return false;
+    };
+    match unfold(alloc, text) {
+        Ok(lines) => holds(lines.as_slice(), part.as_str()),
+        Err(_) => false,
+    }
+}
+
+const SUMMARY: (&str, &str) = ("\r\nSUMMARY:", " High Tide 1.00 feet\r\n");
+
+const IDENTIFIER: (&str, &str) = ("\r\nUID:15791400-1-", "@tide.invalid\r\n");
+
+fn check_long_name(rt: &impl Abort, alloc: Global, text: &[u8], name: &str, digits: &str) {
+    assert_holds(rt, has_short_lines(text), "short lines");
+    let has_name = has_unfolded(alloc, text, SUMMARY.0, name, SUMMARY.1);
+    assert_holds(rt, has_name, "summary");
+    let has_digits = has_unfolded(alloc, text, IDENTIFIER.0, digits, IDENTIFIER.1);
+    assert_holds(rt, has_digits, "identifier");
 }
 
 #[test]
 fn a_long_name_is_folded_between_its_letters(rt: HostRuntime) -> Result<(), AllocError> {
     let alloc = rt.alloc();
     let name = "\u{e9}".repeat(alloc, 200)?;
-    let text = calendar(alloc, name.as_str(), NOW, TIDE)?;
-    assert!(rt; has_short_lines(text.as_slice()));
-    let summary = format!(in alloc; "\r\nSUMMARY:{name} High Tide 1.00 feet\r\n")?;
-    assert!(rt; has_unfolded(alloc, text.as_slice(), summary.as_str())?);
     let digits = "c3a9".repeat(alloc, 200)?;
-    let uid = format!(in alloc; "\r\nUID:15791400-1-{digits}@tide.invalid\r\n")?;
-    assert!(rt; has_unfolded(alloc, text.as_slice(), uid.as_str())?);
+    let text = calendar(alloc, name.as_str(), NOW, TIDE)?;
+    check_long_name(&rt, alloc, text.as_slice(), name.as_str(), digits.as_str());
     Ok(())
 }
 
@@ -238,9 +282,10 @@ fn full_sheet(alloc: Global) -> Result<Bytes, AllocError> {
     sheet.text()
 }
 
-fn is_named(alloc: Global, word: &str) -> Result<bool, AllocError> {
-    let word = Text::from_str(alloc, word)?;
-    Ok(IcalSheet::new(alloc, 2).named(&word))
+// Returns true if a sheet has this word, or `None` if memory runs out.
+fn is_named(alloc: Global, word: &str) -> Option<bool> {
+    let word = Text::from_str(alloc, word).ok()?;
+    Some(IcalSheet::new(alloc, 2).named(&word))
 }
 
 #[test]
@@ -248,9 +293,13 @@ fn a_full_sheet_has_the_first_events(rt: HostRuntime) -> Result<(), AllocError> 
     let text = full_sheet(rt.alloc())?;
     let two = calendar(rt.alloc(), "Pier", NOW, &TIDE[..2])?;
     assert!(rt; text.as_slice() == two.as_slice());
-    assert!(rt; is_named(rt.alloc(), "ical")?);
-    assert!(rt; !is_named(rt.alloc(), "first")?);
     Ok(())
+}
+
+#[test]
+fn sheets_have_their_word(rt: HostRuntime) {
+    assert!(rt; is_named(rt.alloc(), "ical") == Some(true));
+    assert!(rt; is_named(rt.alloc(), "first") == Some(false));
 }
 
 // A minute, and the stamp of a calendar that is made then.
@@ -263,11 +312,10 @@ const STAMPS: &[(i64, &str)] = &[
 ];
 
 #[test]
-fn clocks_are_kept_within_the_years(rt: HostRuntime) -> Result<(), AllocError> {
+fn clocks_are_kept_within_the_years(rt: HostRuntime) {
     for &(now, stamp) in STAMPS {
-        assert!(rt; has_part(rt.alloc(), "Pier", now, stamp)?, "{now}");
+        assert_holds(&rt, has_part(rt.alloc(), "Pier", now, stamp), now);
     }
-    Ok(())
 }
 
 #[test]

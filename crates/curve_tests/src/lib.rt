@@ -6,11 +6,15 @@
 #![tactic(auto)]
 
 #[cfg(test)]
+mod asserts;
+#[cfg(test)]
 mod calendars;
 #[cfg(test)]
 mod checks;
 #[cfg(test)]
 mod curves;
+#[cfg(test)]
+mod evaluating;
 #[cfg(test)]
 mod events;
 #[cfg(test)]

@@ -2,6 +2,7 @@ ghost use Rattle.std.specs.Prelude.{All, IfOk, IsTrue};
 ghost use Rattle.event_text.specs.Lines.{IsListed};
 ghost use Rattle.zone_time.specs.Zones.{IsZone, InZoneYears};
 
+use crate::asserts::assert_holds;
 use arrayvec::ArrayString;
 use curve_law::{Event, Events, Kind};
 use decimal_text::{Bytes, Text};
@@ -9,6 +10,7 @@ use event_text::{height_line, worked_levels, worked_lines};
 use harmonics_book::Units;
 use listing::*;
 use std::alloc::{AllocError, Global};
+use std::process::Abort;
 use zone_time::{Label, Local, Zone};
 
 pub fn is_in_years(minute: i64) -> bool
@@ -36,7 +38,13 @@ pub fn is_listed(units: Units, event: &Event) -> bool
     is_named && is_in_years(event.minute)
 }
 
-// Returns minutes, kinds and levels as events, if they can be listed.
+fn are_listed(units: Units, events: &[Event]) -> bool
+    ensures { IsTrue result → All (IsListed units) events.now }
+{
+    events.iter().all(|event| is_listed(units, event))
+}
+
+// Returns minutes, kinds and levels as events, or an error if one can't be listed.
 pub fn events_of(
     alloc: Global,
     units: Units,
@@ -46,29 +54,38 @@ pub fn events_of(
 {
     let mut events = Vec::new(alloc);
     for &(minute, kind, level) in items {
-        let event = Event {
+        events.push(Event {
             minute,
             kind,
             level,
-        };
-        if is_listed(units, &event) {
-            events.push(event)?;
-        }
+        })?;
     }
-    Ok(Events::from_vec(events))
+    if are_listed(units, &events) {
+        Ok(Events::from_vec(events))
+    } else {
+        Err(AllocError)
+    }
 }
 
+fn are_rows(rows: &[Row]) -> bool
+    ensures { IsTrue result → All (λ row. InZoneYears row.minute) rows.now }
+{
+    rows.iter().all(|row| is_row(row))
+}
+
+// Returns minutes and levels as rows, or an error if one is out of range.
 pub fn rows_of(alloc: Global, items: &[(i64, i64)]) -> Result<Rows, AllocError>
     ensures { IfOk result (All (λ row. InZoneYears row.minute)) }
 {
     let mut rows = Vec::new(alloc);
     for &(minute, level) in items {
-        let row = Row { minute, level };
-        if is_row(&row) {
-            rows.push(row)?;
-        }
+        rows.push(Row { minute, level })?;
     }
-    Ok(Rows::from_vec(rows))
+    if are_rows(&rows) {
+        Ok(Rows::from_vec(rows))
+    } else {
+        Err(AllocError)
+    }
 }
 
 // Returns the zone `ahead` minutes ahead of universal time, or universal time if `ahead` is 0.
@@ -166,22 +183,30 @@ const EVENTS: &[EventLists] = &[
     ),
 ];
 
-fn are_event_lists(alloc: Global, lists: &EventLists) -> Result<bool, AllocError> {
-    let &(name, units, ahead, items, plain, csv) = lists;
-    let name = Text::from_str(alloc, name)?;
-    let events = events_of(alloc, units, items)?;
+fn are_lists_of(alloc: Global, name: &Text, lists: &EventLists) -> bool {
+    let &(_, units, ahead, items, plain, csv) = lists;
     let zone = zone_of(ahead);
-    let text = plain_events(alloc, &name, units, &events, &zone);
-    let records = csv_events(alloc, &name, units, &events, &zone);
-    Ok(is_text(text, plain) && is_text(records, csv))
+    match events_of(alloc, units, items) {
+        Ok(events) => {
+            is_text(plain_events(alloc, name, units, &events, &zone), plain)
+                && is_text(csv_events(alloc, name, units, &events, &zone), csv)
+        }
+        Err(_) => false,
+    }
+}
+
+fn are_event_lists(alloc: Global, lists: &EventLists) -> bool {
+    match Text::from_str(alloc, lists.0) {
+        Ok(name) => are_lists_of(alloc, &name, lists),
+        Err(_) => false,
+    }
 }
 
 #[test]
-fn events_are_listed(rt: HostRuntime) -> Result<(), AllocError> {
+fn events_are_listed(rt: HostRuntime) {
     for lists in EVENTS {
-        assert!(rt; are_event_lists(rt.alloc(), lists)?, "{}", lists.4);
+        assert_holds(&rt, are_event_lists(rt.alloc(), lists), lists.4);
     }
-    Ok(())
 }
 
 // The minutes by which a clock is ahead, levels, and both listings of them.
@@ -207,21 +232,28 @@ const HEIGHTS: &[HeightLists] = &[
     ),
 ];
 
-fn are_height_lists(alloc: Global, name: &Text, lists: &HeightLists) -> Result<bool, AllocError> {
+fn are_height_lists(alloc: Global, name: &Text, lists: &HeightLists) -> bool {
     let &(ahead, items, plain, csv) = lists;
-    let rows = rows_of(alloc, items)?;
     let zone = zone_of(ahead);
-    let text = plain_heights(alloc, name, Units::Feet, &rows, &zone);
-    let records = csv_heights(alloc, name, Units::Feet, &rows, &zone);
-    Ok(is_text(text, plain) && is_text(records, csv))
+    match rows_of(alloc, items) {
+        Ok(rows) => {
+            is_text(plain_heights(alloc, name, Units::Feet, &rows, &zone), plain)
+                && is_text(csv_heights(alloc, name, Units::Feet, &rows, &zone), csv)
+        }
+        Err(_) => false,
+    }
+}
+
+fn check_heights(rt: &impl Abort, alloc: Global, name: &Text) {
+    for lists in HEIGHTS {
+        assert_holds(rt, are_height_lists(alloc, name, lists), lists.2);
+    }
 }
 
 #[test]
 fn heights_are_listed(rt: HostRuntime) -> Result<(), AllocError> {
     let name = Text::from_str(rt.alloc(), "Pier")?;
-    for lists in HEIGHTS {
-        assert!(rt; are_height_lists(rt.alloc(), &name, lists)?, "{}", lists.2);
-    }
+    check_heights(&rt, rt.alloc(), &name);
     Ok(())
 }
 
@@ -248,21 +280,29 @@ const CLOCKS: &[Clock] = &[
     ),
 ];
 
-fn is_clock(alloc: Global, name: &Text, clock: &Clock) -> Result<bool, AllocError> {
+fn is_clock(alloc: Global, name: &Text, clock: &Clock) -> bool {
     let &(rising, ahead, items, expected) = clock;
-    let events = events_of(alloc, Units::Feet, items)?;
     let zone = zone_of(ahead);
-    let now = 15_791_220;
-    let text = clock_text(alloc, name, Units::Feet, now, 0, rising, &events, &zone);
-    Ok(is_text(text, expected))
+    match events_of(alloc, Units::Feet, items) {
+        Ok(events) => {
+            let now = 15_791_220;
+            let text = clock_text(alloc, name, Units::Feet, now, 0, rising, &events, &zone);
+            is_text(text, expected)
+        }
+        Err(_) => false,
+    }
+}
+
+fn check_clocks(rt: &impl Abort, alloc: Global, name: &Text) {
+    for clock in CLOCKS {
+        assert_holds(rt, is_clock(alloc, name, clock), clock.3);
+    }
 }
 
 #[test]
 fn clocks_are_printed(rt: HostRuntime) -> Result<(), AllocError> {
     let name = Text::from_str(rt.alloc(), "Pier")?;
-    for clock in CLOCKS {
-        assert!(rt; is_clock(rt.alloc(), &name, clock)?, "{}", clock.3);
-    }
+    check_clocks(&rt, rt.alloc(), &name);
     Ok(())
 }
 
@@ -303,7 +343,7 @@ fn is_level_line(level: i64, units: Units, line: &str) -> bool {
 #[test]
 fn levels_are_rounded(rt: HostRuntime) {
     for &(level, units, line) in LEVELS {
-        assert!(rt; is_level_line(level, units, line), "{line}");
+        assert_holds(&rt, is_level_line(level, units, line), line);
     }
 }
 

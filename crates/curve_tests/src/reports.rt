@@ -2,16 +2,19 @@
 
 ghost use Rattle.std.specs.Prelude.{◌≢◌, ◌≤◌, All, IsTrue};
 
+use crate::asserts::assert_holds;
 use crate::lists::{TIDE, events_of, is_text};
 use crate::sheets::{Counter, Refusal, Refusing};
 use curve_law::Kind;
-use decimal_text::{Bytes, Text, Words};
+use decimal_text::{Bytes, Text};
 use harmonics_book::Units;
 use report_sheets::{
     FirstLines, Head, Ranges, Sheet, Tally, fill, missing, pages_show_the_first_events,
     sheets_write_their_layouts, worked_pages, worked_ranges, worked_tallies, worked_words,
 };
 use std::alloc::{AllocError, Global};
+use std::process::Abort;
+use texts_for_tests::words_of;
 
 pub fn is_printable(name: &str) -> bool
     ensures { IsTrue result → All (λ b. (32 ≤ b) × (b ≢ 127)) name.now }
@@ -19,19 +22,12 @@ pub fn is_printable(name: &str) -> bool
     name.as_bytes().iter().all(|b| *b >= 32 && *b != 127)
 }
 
-fn words_of(alloc: Global, words: &[&str]) -> Result<Words, AllocError> {
-    let mut texts = Vec::new(alloc);
-    for word in words {
-        texts.push(Text::from_str(alloc, word)?)?;
-    }
-    Ok(Words::from_vec(texts))
-}
-
-// Returns the text of the sheets `wanted`, if the name and the events are in range.
+// Returns the text of the sheets whose words are in `wanted`, separated by '|', if the name and the
+// events are in range.
 fn report(
     alloc: Global,
     sheets: Vec<Box<dyn Sheet>>,
-    wanted: &[&str],
+    wanted: &str,
     name: &str,
     items: &[(i64, Kind, i64)],
 ) -> Result<Bytes, AllocError> {
@@ -53,7 +49,7 @@ fn report(
 fn report_of_three(
     alloc: Global,
     limits: (u32, u32),
-    wanted: &[&str],
+    wanted: &str,
     name: &str,
     items: &[(i64, Kind, i64)],
 ) -> Result<Bytes, AllocError> {
@@ -94,35 +90,44 @@ const LAST_TWO: &str = "2000-01-10 18:00 UTC      -1.00 feet  Low Tide\n\
     2000-01-10 23:59 UTC       1.00 feet  High Tide\n";
 
 // The requested words, the limit of the sheet `first`, and the parts of the text.
-const REPORTS: &[(&[&str], u32, &[&str])] = &[
+const REPORTS: &[(&str, u32, &[&str])] = &[
     (
-        &["first", "tally", "range"],
+        "first|tally|range",
         10,
         &[TALLY, RANGE, FIRST_TWO, LAST_TWO],
     ),
-    (&["first", "tally", "range"], 2, &[TALLY, RANGE, FIRST_TWO]),
-    (&["first"], 4, &[FIRST_TWO, LAST_TWO]),
-    (&["range", "tally"], 10, &[TALLY, RANGE]),
-    (&["graph"], 10, &[]),
+    ("first|tally|range", 2, &[TALLY, RANGE, FIRST_TWO]),
+    ("first", 4, &[FIRST_TWO, LAST_TWO]),
+    ("range|tally", 10, &[TALLY, RANGE]),
+    ("graph", 10, &[]),
 ];
 
-#[test]
-fn reports_are_filled(rt: HostRuntime) -> Result<(), AllocError> {
-    for &(wanted, limit, parts) in REPORTS {
-        let text = report_of_three(rt.alloc(), (1_000_000, limit), wanted, "Pier", TIDE)?;
-        assert!(rt; consists_of(text.as_slice(), parts));
+// Returns true if a text was made, and consists of these parts.
+fn has_parts(made: Result<Bytes, AllocError>, parts: &[&str]) -> bool {
+    match made {
+        Ok(text) => consists_of(text.as_slice(), parts),
+        Err(_) => false,
     }
-    Ok(())
+}
+
+#[test]
+fn reports_are_filled(rt: HostRuntime) {
+    for &(wanted, limit, parts) in REPORTS {
+        let text = report_of_three(rt.alloc(), (1_000_000, limit), wanted, "Pier", TIDE);
+        assert_holds(&rt, has_parts(text, parts), wanted);
+    }
+}
+
+fn check_empty_lists(rt: &impl Abort, alloc: Global, name: &str) {
+    let text = report_of_three(alloc, (1, 1), "first|range|tally", name, &[]);
+    let parts = [name, "\n", name, "\n", name, "\n"];
+    assert!(rt; has_parts(text, &parts));
 }
 
 #[test]
 fn empty_lists_leave_the_name(rt: HostRuntime) -> Result<(), AllocError> {
     let name = "a".repeat(rt.alloc(), 400)?;
-    let wanted = ["first", "range", "tally"].as_slice();
-    let text = report_of_three(rt.alloc(), (1, 1), wanted, name.as_str(), &[])?;
-    let name = name.as_str();
-    let parts = [name, "\n", name, "\n", name, "\n"];
-    assert!(rt; consists_of(text.as_slice(), &parts));
+    check_empty_lists(&rt, rt.alloc(), name.as_str());
     Ok(())
 }
 
@@ -134,8 +139,7 @@ fn sheets_of_any_kind_are_filled(rt: HostRuntime) -> Result<(), AllocError> {
     sheets.push(Box::new(alloc, Counter::new(alloc, "four", 4)?)?)?;
     sheets.push(Box::new(alloc, Counter::new(alloc, "none", 9)?)?)?;
     sheets.push(Box::new(alloc, Counter::new(alloc, "many", 1_000_000)?)?)?;
-    let wanted = ["many", "four", "few"].as_slice();
-    let text = report(alloc, sheets, wanted, "Pier", TIDE);
+    let text = report(alloc, sheets, "many|four|few", "Pier", TIDE);
     assert!(rt; is_text(text, "few 1\nfour 4\nmany 4\n"));
     Ok(())
 }
@@ -145,28 +149,51 @@ fn refused(alloc: Global, at: Option<Refusal>) -> Result<Bytes, AllocError> {
     let mut sheets: Vec<Box<dyn Sheet>> = Vec::new(alloc);
     sheets.push(Box::new(alloc, Tally::new(alloc, 4))?)?;
     sheets.push(Box::new(alloc, Refusing::new(alloc, at))?)?;
-    let wanted = ["tally", "refusing"].as_slice();
-    report(alloc, sheets, wanted, "Pier", TIDE)
+    report(alloc, sheets, "tally|refusing", "Pier", TIDE)
 }
+
+const CALLS: &[(Refusal, &str)] = &[
+    (Refusal::Open, "open"),
+    (Refusal::Take, "take"),
+    (Refusal::Text, "text"),
+];
 
 // The same report has its text where no call fails, so that the error is the sheet's own.
 #[test]
 fn refusals_leave_no_text(rt: HostRuntime) {
     let kept = refused(rt.alloc(), None);
     assert!(rt; is_text(kept, "Pier\n2 High Tide\n2 Low Tide\nkept"));
-    for at in [Refusal::Open, Refusal::Take, Refusal::Text] {
-        assert!(rt; refused(rt.alloc(), Some(at)).is_err(), "at {at:?}");
+    for &(at, call) in CALLS {
+        assert_holds(&rt, refused(rt.alloc(), Some(at)).is_err(), call);
     }
 }
 
 // Requested words, and the place of the first one that no sheet has.
-const MISSING: &[(&[&str], Option<u64>)] = &[
-    (&["tally", "few"], None),
-    (&["few", "tally"], None),
-    (&["few", "graph", "table"], Some(1)),
-    (&["Tally"], Some(0)),
-    (&[], None),
+const MISSING: &[(&str, Option<u64>)] = &[
+    ("tally|few", None),
+    ("few|tally", None),
+    ("few|graph|table", Some(1)),
+    ("Tally", Some(0)),
+    ("", None),
 ];
+
+fn is_missing(
+    alloc: Global,
+    sheets: &Vec<Box<dyn Sheet>>,
+    wanted: &str,
+    place: Option<u64>,
+) -> bool {
+    match words_of(alloc, wanted) {
+        Ok(words) => missing(sheets, &words) == place,
+        Err(_) => false,
+    }
+}
+
+fn check_missing(rt: &impl Abort, alloc: Global, sheets: &Vec<Box<dyn Sheet>>) {
+    for &(wanted, place) in MISSING {
+        assert_holds(rt, is_missing(alloc, sheets, wanted, place), wanted);
+    }
+}
 
 #[test]
 fn unknown_words_are_missing(rt: HostRuntime) -> Result<(), AllocError> {
@@ -174,10 +201,7 @@ fn unknown_words_are_missing(rt: HostRuntime) -> Result<(), AllocError> {
     let mut sheets: Vec<Box<dyn Sheet>> = Vec::new(alloc);
     sheets.push(Box::new(alloc, Tally::new(alloc, 4))?)?;
     sheets.push(Box::new(alloc, Counter::new(alloc, "few", 1)?)?)?;
-    for &(wanted, place) in MISSING {
-        let words = words_of(alloc, wanted)?;
-        assert!(rt; missing(&sheets, &words) == place);
-    }
+    check_missing(&rt, alloc, &sheets);
     Ok(())
 }
 

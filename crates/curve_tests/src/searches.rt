@@ -2,6 +2,8 @@
 
 ghost use Rattle.std.specs.Prelude.{◌≡◌, ◌≤ℤ◌, IsTrue};
 
+use crate::asserts::assert_holds;
+use crate::evaluating::is_few;
 use curve_law::samples::{Line, Ripple};
 use curve_law::{Cell, Curve, Kind};
 use interval_search::{Found, Search, search};
@@ -28,7 +30,7 @@ fn has_cells<C: Curve + Drop>(
         return false;
     }
     match search(alloc, &mut curve, begin, end) {
-        Ok(cells) => cells.as_slice() == wanted && curve.evaluations() as usize <= wanted.len() + 1,
+        Ok(cells) => cells.as_slice() == wanted && is_few(curve.evaluations(), wanted.len()),
         Err(_) => false,
     }
 }
@@ -44,8 +46,8 @@ fn has_steps<C: Curve + Drop>(curve: C, begin: i64, end: i64, wanted: &[Found]) 
             return false;
         }
     }
-    let asked = search.evaluations() as usize;
-    search.next().is_none() && search.next().is_none() && asked <= wanted.len() + 1
+    let is_few = is_few(search.evaluations(), wanted.len());
+    search.next().is_none() && search.next().is_none() && is_few
 }
 
 const ABOVE: &[Cell] = &[Cell::Still, Cell::Still, Cell::Quiet(2), Cell::Quiet(4)];
@@ -73,12 +75,15 @@ fn rising() -> Line {
 #[test]
 fn spans_have_their_cells(rt: HostRuntime) {
     let alloc = rt.alloc();
-    assert!(rt; has_cells(alloc, Line::new(1, false, 3), 0, 8, ABOVE));
-    assert!(rt; has_cells(alloc, rising(), 0, 8, RISING));
-    assert!(rt; has_cells(alloc, Line::new(2, false, 3), 0, 3, ODD));
-    assert!(rt; has_cells(alloc, Line::new(10_000, true, 1), -7, 2042, BLOCKS));
-    assert!(rt; has_cells(alloc, Ripple::new(), 4, 6, TURNS));
-    assert!(rt; has_cells(alloc, Ripple::new(), 5, 5, &[]));
+    let above = Line::new(1, false, 3);
+    assert_holds(&rt, has_cells(alloc, above, 0, 8, ABOVE), "above");
+    assert_holds(&rt, has_cells(alloc, rising(), 0, 8, RISING), "rising");
+    let odd = Line::new(2, false, 3);
+    assert_holds(&rt, has_cells(alloc, odd, 0, 3, ODD), "odd");
+    let long = Line::new(10_000, true, 1);
+    assert_holds(&rt, has_cells(alloc, long, -7, 2042, BLOCKS), "blocks");
+    assert_holds(&rt, has_cells(alloc, Ripple::new(), 4, 6, TURNS), "turns");
+    assert_holds(&rt, has_cells(alloc, Ripple::new(), 5, 5, &[]), "none");
 }
 
 const RISING_STEPS: &[Found] = &[
@@ -113,7 +118,7 @@ const TURN_STEPS: &[Found] = &[
 
 #[test]
 fn steps_give_the_same_cells(rt: HostRuntime) {
-    assert!(rt; has_steps(rising(), 0, 8, RISING_STEPS));
-    assert!(rt; has_steps(Ripple::new(), -1, 1, TURN_STEPS));
-    assert!(rt; has_steps(Ripple::new(), 5, 5, &[]));
+    assert_holds(&rt, has_steps(rising(), 0, 8, RISING_STEPS), "rising");
+    assert_holds(&rt, has_steps(Ripple::new(), -1, 1, TURN_STEPS), "turns");
+    assert_holds(&rt, has_steps(Ripple::new(), 5, 5, &[]), "none");
 }

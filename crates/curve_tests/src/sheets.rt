@@ -64,7 +64,7 @@ impl Sheet for Counter {
 }
 
 /// The call of a sheet that fails.
-#[derive(Clone, Copy, Debug, PartialEq, Eq)]
+#[derive(Clone, Copy, PartialEq)]
 pub enum Refusal {
     Open,
     Take,

@@ -4,6 +4,7 @@ ghost use Rattle.std.specs.Prelude.{IsTrue};
 ghost use Rattle.fixed_sine.specs.Circle.{IsOnCircle};
 ghost use Rattle.fixed_sine.specs.Rate.{IsSpeed};
 
+use crate::asserts::assert_holds;
 use fixed_sine::*;
 
 // A place on the circle, its sine and its cosine.
@@ -41,7 +42,7 @@ fn has_sines(place: i64, sine: i64, cosine: i64) -> bool {
 #[test]
 fn sines_and_cosines(rt: HostRuntime) {
     for &(place, sine, cosine) in SINES {
-        assert!(rt; has_sines(place, sine, cosine), "at {place}");
+        assert_holds(&rt, has_sines(place, sine, cosine), place);
     }
 }
 
@@ -61,7 +62,7 @@ pub fn is_speed(speed: i64) -> bool
 #[test]
 fn steps_of_speeds(rt: HostRuntime) {
     for &(speed, most) in STEPS {
-        assert!(rt; is_speed(speed) && step(speed) == most, "of {speed}");
+        assert_holds(&rt, is_speed(speed) && step(speed) == most, speed);
     }
 }
 
@@ -77,7 +78,7 @@ const PLACES: &[(i128, i64)] = &[
 #[test]
 fn places_of_angles(rt: HostRuntime) {
     for &(angle, place) in PLACES {
-        assert!(rt; reduce(angle) == place, "of {angle}");
+        assert_holds(&rt, reduce(angle) == place, angle);
     }
 }
 
@@ -115,7 +116,7 @@ fn has_binary_sines(place: i64, sine: i64, cosine: i64) -> bool {
 #[test]
 fn sines_and_cosines_of_binary_angles(rt: HostRuntime) {
     for &(place, sine, cosine) in BINARY_SINES {
-        assert!(rt; has_binary_sines(place, sine, cosine), "at {place}");
+        assert_holds(&rt, has_binary_sines(place, sine, cosine), place);
     }
 }
 
@@ -141,6 +142,6 @@ fn has_chord_sines(place: i64, sine: i64, cosine: i64) -> bool {
 #[test]
 fn sines_and_cosines_by_chords(rt: HostRuntime) {
     for &(place, sine, cosine) in CHORD_SINES {
-        assert!(rt; has_chord_sines(place, sine, cosine), "at {place}");
+        assert_holds(&rt, has_chord_sines(place, sine, cosine), place);
     }
 }

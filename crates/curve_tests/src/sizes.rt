@@ -4,8 +4,9 @@ ghost use Rattle.std.specs.Prelude.{◌≡◌, ◌≤◌, pos, ◌≤ℤ◌, All
 ghost use Rattle.curve_law.specs.Cells.{all_minutes};
 ghost use Rattle.zone_time.specs.Zones.{InZoneYears};
 
+use crate::asserts::assert_holds;
 use crate::events::{are_movable, dock, event, taken};
-use crate::lists::{rows_of, zone_of};
+use crate::lists::rows_of;
 use crate::station_lists::{BOOK, TABLE, listed_stations};
 use crate::stations::pier;
 use curve_law::{Cells, Curve, Event, Events, Kind, Tracks};
@@ -15,8 +16,10 @@ use harmonics_book::Units;
 use interval_search::{Search, search};
 use listing::{Rows, csv_heights, plain_heights};
 use rate_bound::{MarkCurve, TurnCurve};
-use station_curve::StationCurve;
+use station_curve::{CurveFault, StationCurve};
 use std::alloc::{AllocError, Global};
+use std::process::Abort;
+use zone_time::Zone;
 
 /// The first minute of 2000.
 const BEGIN: i64 = 15_778_080;
@@ -75,27 +78,38 @@ fn is_a_year(events: &[Event]) -> bool {
 }
 
 // Returns true if the events of the year are moved to the dock.
-fn are_moved(alloc: Global, events: &Events) -> Result<bool, AllocError> {
+fn are_moved(alloc: Global, events: &Events) -> bool {
     if !are_movable(events.as_slice()) {
-        return Ok(false);
+        return false;
     }
-    let moved = shifted(alloc, events, &dock(None), BEGIN, END)?;
     let last = event(END - 370, Kind::Low, -900_000);
-    Ok(moved.as_slice().len() == 1_463 && moved.as_slice().last() == Some(&last))
+    match shifted(alloc, events, &dock(None), BEGIN, END) {
+        Ok(moved) => moved.as_slice().len() == 1_463 && moved.as_slice().last() == Some(&last),
+        Err(_) => false,
+    }
+}
+
+fn check_merged(rt: &impl Abort, alloc: Global, events: &Events, turns: &Events) {
+    assert_holds(rt, is_a_year(turns.as_slice()), "turns");
+    assert_holds(rt, events.as_slice() == turns.as_slice(), "merged turns");
+    assert_holds(rt, are_moved(alloc, events), "moved turns");
+}
+
+fn check_cells(rt: &impl Abort, alloc: Global, cells: Cells) -> Result<(), AllocError>
+    requires { all_minutes cells ≤ 6000000 }
+{
+    let turns = track_events(alloc, &cells, BEGIN)?;
+    let events = merged_turns(alloc, cells)?;
+    check_merged(rt, alloc, &events, &turns);
+    Ok(())
 }
 
 #[test]
 fn a_year_has_its_events(rt: HostRuntime) -> Result<(), AllocError> {
-    let alloc = rt.alloc();
-    let (cells, evaluations) = pier_cells(alloc)?;
-    assert!(rt; cells.as_slice().len() == 20_553);
-    assert!(rt; evaluations <= 20_554);
-    let turns = track_events(alloc, &cells, BEGIN)?;
-    assert!(rt; is_a_year(turns.as_slice()));
-    let events = merged_turns(alloc, cells)?;
-    assert!(rt; events.as_slice() == turns.as_slice());
-    assert!(rt; are_moved(alloc, &events)?);
-    Ok(())
+    let (cells, evaluations) = pier_cells(rt.alloc())?;
+    assert_holds(&rt, cells.as_slice().len() == 20_553, "cells");
+    assert_holds(&rt, evaluations <= 20_554, "evaluations");
+    check_cells(&rt, rt.alloc(), cells)
 }
 
 /// Returns the events of a curve in the year, found one at a time, and the number of their cells, or an
@@ -109,24 +123,30 @@ fn one_by_one<C: Curve + Drop>(alloc: Global, curve: C) -> Result<(Vec<Event>, u
     Ok((events, merge.cells()))
 }
 
-fn are_turns(alloc: Global, station: &StationCurve) -> Result<bool, AllocError> {
-    let (events, cells) = one_by_one(alloc, TurnCurve::blended(station))?;
-    Ok(is_a_year(events.as_slice()) && cells == 20_553)
+fn are_turns(alloc: Global, station: &StationCurve) -> bool {
+    match one_by_one(alloc, TurnCurve::blended(station)) {
+        Ok((events, cells)) => is_a_year(events.as_slice()) && cells == 20_553,
+        Err(_) => false,
+    }
 }
 
-fn are_marks(alloc: Global, station: &StationCurve) -> Result<bool, AllocError> {
+fn are_marks(alloc: Global, station: &StationCurve) -> bool {
     let mark = MarkCurve::blended(station, 1_000_000, 0, 500_000, false);
-    let (events, cells) = one_by_one(alloc, mark)?;
-    Ok(events.len() == 1_464 && cells == 19_767)
+    match one_by_one(alloc, mark) {
+        Ok((events, cells)) => events.len() == 1_464 && cells == 19_767,
+        Err(_) => false,
+    }
+}
+
+fn check_one_by_one(rt: &impl Abort, alloc: Global, station: &StationCurve) {
+    assert_holds(rt, are_turns(alloc, station), "turns");
+    assert_holds(rt, are_marks(alloc, station), "marks");
 }
 
 #[test]
-fn a_year_comes_one_event_at_a_time(rt: HostRuntime) -> Result<(), AllocError> {
-    let Ok(station) = pier(rt.alloc(), "0", "1") else {
-        return Err(AllocError);
-    };
-    assert!(rt; are_turns(rt.alloc(), &station)?);
-    assert!(rt; are_marks(rt.alloc(), &station)?);
+fn a_year_comes_one_event_at_a_time(rt: HostRuntime) -> Result<(), CurveFault> {
+    let station = pier(rt.alloc(), "0", "1")?;
+    check_one_by_one(&rt, rt.alloc(), &station);
     Ok(())
 }
 
@@ -176,15 +196,20 @@ fn many_rows(alloc: Global) -> Result<Rows, AllocError>
     rows_of(alloc, items.as_slice())
 }
 
+fn check_rows(rt: &impl Abort, alloc: Global, name: &Text, rows: &Rows)
+    requires { All (λ row. InZoneYears row.minute) rows.now }
+{
+    let plain = plain_heights(alloc, name, Units::Feet, rows, &Zone::Utc);
+    assert_holds(rt, has_form(plain, PLAIN_HEIGHTS), "text");
+    let csv = csv_heights(alloc, name, Units::Feet, rows, &Zone::Utc);
+    assert_holds(rt, has_form(csv, CSV_HEIGHTS), "csv");
+}
+
 #[test]
 fn many_heights_are_listed(rt: HostRuntime) -> Result<(), AllocError> {
-    let (alloc, zone) = (rt.alloc(), zone_of(0));
-    let name = Text::from_str(alloc, "Pier")?;
-    let rows = many_rows(alloc)?;
-    let plain = plain_heights(alloc, &name, Units::Feet, &rows, &zone);
-    assert!(rt; has_form(plain, PLAIN_HEIGHTS));
-    let csv = csv_heights(alloc, &name, Units::Feet, &rows, &zone);
-    assert!(rt; has_form(csv, CSV_HEIGHTS));
+    let name = Text::from_str(rt.alloc(), "Pier")?;
+    let rows = many_rows(rt.alloc())?;
+    check_rows(&rt, rt.alloc(), &name, &rows);
     Ok(())
 }
 

@@ -4,10 +4,12 @@ ghost use Rattle.std.specs.Prelude.{◌≡◌, length, IsTrue, IfSome};
 ghost use Rattle.harmonics_book.specs.Books.{IsBook};
 ghost use Rattle.year_blend.specs.Places.{InDomain};
 
+use crate::asserts::assert_holds;
 use harmonics_book::Book;
 use harmonics_text::read_book;
 use station_curve::*;
 use std::alloc::{AllocError, Global};
+use std::process::Abort;
 use year_blend::{LONGEST_SPAN, Stretch, year_start};
 
 // Returns a file with one constituent, three years from 1999 and one station.
@@ -102,13 +104,17 @@ fn has_three_years(curve: &StationCurve) -> bool {
         && curve.years() == 3
 }
 
+fn check_levels(rt: &impl Abort, curve: &StationCurve) {
+    for &(m, level, rises) in LEVELS {
+        assert_holds(rt, has_level(curve, m, level, rises), m);
+    }
+    assert_holds(rt, has_three_years(curve), "years");
+}
+
 #[test]
 fn levels_round_a_new_year(rt: HostRuntime) -> Result<(), CurveFault> {
     let curve = pier(rt.alloc(), "60", "1")?;
-    for &(m, level, rises) in LEVELS {
-        assert!(rt; has_level(&curve, m, level, rises), "at {m}");
-    }
-    assert!(rt; has_three_years(&curve));
+    check_levels(&rt, &curve);
     Ok(())
 }
 
@@ -140,15 +146,20 @@ fn has_errors(curve: &StationCurve) -> bool {
 }
 
 // The level at a new year is exact.
+fn check_approximate_levels(rt: &impl Abort, curve: &StationCurve) {
+    for &(m, level, slope) in NEAR {
+        assert_holds(rt, is_level_near(curve, m, level), m);
+        assert_holds(rt, is_slope_near(curve, m, slope), m);
+    }
+    let exact = 3_110_400_000_000_000_000_000_000;
+    assert_holds(rt, is_level_near(curve, 15_778_080, exact), "new year");
+    assert_holds(rt, has_errors(curve), "errors");
+}
+
 #[test]
 fn approximate_levels(rt: HostRuntime) -> Result<(), CurveFault> {
     let curve = pier(rt.alloc(), "60", "1")?;
-    for &(m, level, slope) in NEAR {
-        assert!(rt; is_level_near(&curve, m, level), "at {m}");
-        assert!(rt; is_slope_near(&curve, m, slope), "at {m}");
-    }
-    assert!(rt; is_level_near(&curve, 15_778_080, 3_110_400_000_000_000_000_000_000));
-    assert!(rt; has_errors(&curve));
+    check_approximate_levels(&rt, &curve);
     Ok(())
 }
 
@@ -175,12 +186,16 @@ const STRETCHES: &[(i64, u32, Stretch)] = &[
     (16_829_696, 1_024, Stretch::Within { year: 2 }),
 ];
 
+fn check_stretches(rt: &impl Abort, curve: &StationCurve) {
+    for &(m, n, want) in STRETCHES {
+        assert_holds(rt, is_stretch(curve, m, n, want), m);
+    }
+}
+
 #[test]
 fn stretches_round_new_years(rt: HostRuntime) -> Result<(), CurveFault> {
     let curve = pier(rt.alloc(), "60", "1")?;
-    for &(m, n, want) in STRETCHES {
-        assert!(rt; is_stretch(&curve, m, n, want), "{n} minutes from {m}");
-    }
+    check_stretches(&rt, &curve);
     Ok(())
 }
 
@@ -191,14 +206,22 @@ const SUMS: Sums = Sums {
     far: 2_618_100_300_000_000_000_000,
 };
 
+fn has_sums(curve: &StationCurve, year: u32) -> bool {
+    year < curve.years() && curve.sums(year) == SUMS
+}
+
+fn check_sums(rt: &impl Abort, curve: &StationCurve) {
+    assert_holds(rt, curve.years() == 3, "years");
+    for year in 0..3 {
+        assert_holds(rt, has_sums(curve, year), year);
+    }
+    curve.limits_hold();
+}
+
 #[test]
 fn sums_of_years(rt: HostRuntime) -> Result<(), CurveFault> {
     let curve = pier(rt.alloc(), "60", "-1")?;
-    assert!(rt; curve.years() == 3);
-    for year in 0..3 {
-        assert!(rt; curve.sums(year) == SUMS, "in {year}");
-    }
-    curve.limits_hold();
+    check_sums(&rt, &curve);
     Ok(())
 }
 
@@ -223,19 +246,37 @@ const WAVES: &[(i64, i64, bool, bool, bool)] = &[
     (16_830_720, 16_830_720, false, false, true),
 ];
 
-#[test]
-fn minutes_are_placed_by_their_years(rt: HostRuntime) -> Result<(), CurveFault> {
-    let Ok(file) = pier_file(rt.alloc(), "30", "60", "1", "feet") else {
-        return Err(CurveFault::NoMemory);
-    };
-    for &(first, last, in_first, in_second, in_third) in WAVES {
-        let curve = curve_over(rt.alloc(), file.as_bytes(), first, last)?;
-        assert!(rt; has_waves(&curve, 0) == in_first, "from {first} to {last}");
-        assert!(rt; has_waves(&curve, 1) == in_second, "from {first} to {last}");
-        assert!(rt; has_waves(&curve, 2) == in_third, "from {first} to {last}");
+// Returns for each year whether the curve of a file from `first` to `last` has waves.
+fn waves_over(alloc: Global, file: &[u8], first: i64, last: i64) -> Option<(bool, bool, bool)> {
+    match curve_over(alloc, file, first, last) {
+        Ok(curve) => Some((
+            has_waves(&curve, 0),
+            has_waves(&curve, 1),
+            has_waves(&curve, 2),
+        )),
+        Err(_) => None,
     }
-    let curve = curve_over(rt.alloc(), file.as_bytes(), 15_777_960, 15_778_200)?;
-    assert!(rt; has_level(&curve, 15_778_048, 940_281, false));
+}
+
+fn has_level_over(alloc: Global, file: &[u8]) -> bool {
+    match curve_over(alloc, file, 15_777_960, 15_778_200) {
+        Ok(curve) => has_level(&curve, 15_778_048, 940_281, false),
+        Err(_) => false,
+    }
+}
+
+fn check_waves(rt: &impl Abort, alloc: Global, file: &[u8]) {
+    for &(first, last, in_first, in_second, in_third) in WAVES {
+        let wanted = Some((in_first, in_second, in_third));
+        assert_holds(rt, waves_over(alloc, file, first, last) == wanted, first);
+    }
+    assert_holds(rt, has_level_over(alloc, file), "level");
+}
+
+#[test]
+fn minutes_are_placed_by_their_years(rt: HostRuntime) -> Result<(), AllocError> {
+    let file = pier_file(rt.alloc(), "30", "60", "1", "feet")?;
+    check_waves(&rt, rt.alloc(), file.as_bytes());
     Ok(())
 }
 
@@ -252,20 +293,30 @@ const LIMITS: &[(&str, &str, &str, Option<CurveFault>)] = &[
     ("10", "1000.000001", "knots^2", Some(CurveFault::Hydraulic)),
 ];
 
-#[test]
-fn limits(rt: HostRuntime) -> Result<(), AllocError> {
-    let alloc = rt.alloc();
-    for &(speed, amplitude, unit, want) in LIMITS {
-        let file = pier_file(alloc, speed, "0", amplitude, unit)?;
-        let fault = curve_of(alloc, file.as_bytes()).err();
-        assert!(rt; fault == want, "amplitude {amplitude}");
-        let fault = curve_over(alloc, file.as_bytes(), 0, 0).err();
-        assert!(rt;
-            fault == want,
-            "amplitude {amplitude}, no minute of the years"
-        );
+// Returns true if both the curve of a file and that for no minute of its years have this fault.
+fn has_fault(alloc: Global, file: &[u8], want: Option<CurveFault>) -> bool {
+    curve_of(alloc, file).err() == want && curve_over(alloc, file, 0, 0).err() == want
+}
+
+fn is_limit(
+    alloc: Global,
+    speed: &str,
+    amplitude: &str,
+    unit: &str,
+    want: Option<CurveFault>,
+) -> bool {
+    match pier_file(alloc, speed, "0", amplitude, unit) {
+        Ok(file) => has_fault(alloc, file.as_bytes(), want),
+        Err(_) => false,
     }
-    Ok(())
+}
+
+#[test]
+fn limits(rt: HostRuntime) {
+    for &(speed, amplitude, unit, want) in LIMITS {
+        let is_limit = is_limit(rt.alloc(), speed, amplitude, unit, want);
+        assert_holds(&rt, is_limit, amplitude);
+    }
 }
 
 const FAULTS: &[(CurveFault, &str)] = &[
@@ -285,6 +336,6 @@ fn is_printed(alloc: Global, fault: CurveFault, text: &str) -> bool {
 #[test]
 fn faults_are_printed(rt: HostRuntime) {
     for &(fault, text) in FAULTS {
-        assert!(rt; is_printed(rt.alloc(), fault, text), "{text}");
+        assert_holds(&rt, is_printed(rt.alloc(), fault, text), text);
     }
 }

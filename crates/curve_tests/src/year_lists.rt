@@ -4,6 +4,7 @@ ghost use Rattle.std.specs.Prelude.{All, IfOk};
 ghost use Rattle.event_text.specs.Lines.{IsListed};
 ghost use Rattle.zone_time.specs.Zones.{InZoneYears};
 
+use crate::asserts::assert_holds;
 use crate::lists::{events_of, rows_of};
 use calendar_sheet::calendar_text;
 use curve_law::{Events, Kind};
@@ -11,6 +12,7 @@ use decimal_text::{Bytes, Text};
 use harmonics_book::Units;
 use listing::{Rows, clock_text, csv_events, csv_heights, plain_events, plain_heights};
 use std::alloc::{AllocError, Global};
+use std::process::Abort;
 use zone_time::Zone;
 
 // The year from 2000-01-01T00:00Z up to 2001-01-01T00:00Z.
@@ -66,30 +68,41 @@ fn has_length(made: Result<Bytes, AllocError>, length: usize) -> bool {
     }
 }
 
+fn check_events(rt: &impl Abort, alloc: Global, name: &Text, events: &Events)
+    requires { All (IsListed Units.Feet) events.now }
+{
+    let (units, zone) = (Units::Feet, Zone::Utc);
+    let plain = plain_events(alloc, name, units, events, &zone);
+    assert_holds(rt, has_length(plain, 67_471), "text");
+    let csv = csv_events(alloc, name, units, events, &zone);
+    assert_holds(rt, has_length(csv, 649_559), "csv");
+    let clock = clock_text(alloc, name, units, BEGIN, 0, false, events, &zone);
+    assert_holds(rt, has_length(clock, 67_521), "clock");
+    let calendar = calendar_text(alloc, name, units, events, &zone, BEGIN, END);
+    assert_holds(rt, has_length(calendar, 35_491), "calendar");
+}
+
 #[test]
 fn events_of_a_year_are_listed_below_a_long_name(rt: HostRuntime) -> Result<(), AllocError> {
-    let (alloc, units, zone) = (rt.alloc(), Units::Feet, Zone::Utc);
-    let name = Text::from_str(alloc, NAME)?;
-    let events = events_of_year(alloc)?;
-    let plain = plain_events(alloc, &name, units, &events, &zone);
-    assert!(rt; has_length(plain, 67_471));
-    let csv = csv_events(alloc, &name, units, &events, &zone);
-    assert!(rt; has_length(csv, 649_559));
-    let clock = clock_text(alloc, &name, units, BEGIN, 0, false, &events, &zone);
-    assert!(rt; has_length(clock, 67_521));
-    let calendar = calendar_text(alloc, &name, units, &events, &zone, BEGIN, END);
-    assert!(rt; has_length(calendar, 35_491));
+    let name = Text::from_str(rt.alloc(), NAME)?;
+    let events = events_of_year(rt.alloc())?;
+    check_events(&rt, rt.alloc(), &name, &events);
     Ok(())
+}
+
+fn check_rows(rt: &impl Abort, alloc: Global, name: &Text, rows: &Rows)
+    requires { All (λ row. InZoneYears row.minute) rows.now }
+{
+    let heights = plain_heights(alloc, name, Units::Feet, rows, &Zone::Utc);
+    assert_holds(rt, has_length(heights, 325_409), "text");
+    let records = csv_heights(alloc, name, Units::Feet, rows, &Zone::Utc);
+    assert_holds(rt, has_length(records, 3_957_225), "csv");
 }
 
 #[test]
 fn levels_of_a_year_are_listed_below_a_long_name(rt: HostRuntime) -> Result<(), AllocError> {
-    let (alloc, units, zone) = (rt.alloc(), Units::Feet, Zone::Utc);
-    let name = Text::from_str(alloc, NAME)?;
-    let rows = rows_of_year(alloc)?;
-    let heights = plain_heights(alloc, &name, units, &rows, &zone);
-    assert!(rt; has_length(heights, 325_409));
-    let records = csv_heights(alloc, &name, units, &rows, &zone);
-    assert!(rt; has_length(records, 3_957_225));
+    let name = Text::from_str(rt.alloc(), NAME)?;
+    let rows = rows_of_year(rt.alloc())?;
+    check_rows(&rt, rt.alloc(), &name, &rows);
     Ok(())
 }

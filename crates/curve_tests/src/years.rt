@@ -5,6 +5,7 @@ ghost use Rattle.year_blend.specs.Places.{InDomain};
 ghost use Rattle.year_blend.specs.Years.{IsYearInReach};
 ghost use Rattle.year_blend.specs.Weights.{IsWithinHourOfNewYear};
 
+use crate::asserts::assert_holds;
 use year_blend::*;
 
 // A year and its first minute.
@@ -27,7 +28,7 @@ fn is_in_reach(year: i32) -> bool
 #[test]
 fn starts_of_years(rt: HostRuntime) {
     for &(year, want) in STARTS {
-        assert!(rt; is_in_reach(year) && year_start(year) == want, "of {year}");
+        assert_holds(&rt, is_in_reach(year) && year_start(year) == want, year);
     }
 }
 
@@ -56,7 +57,7 @@ fn is_in_years(minute: i64) -> bool
 fn places_of_minutes(rt: HostRuntime) {
     for &(minute, want) in PLACES {
         let is_right = is_in_years(minute) && place(1999, 3, minute) == want;
-        assert!(rt; is_right, "of {minute}");
+        assert_holds(&rt, is_right, minute);
     }
 }
 
@@ -86,7 +87,7 @@ fn is_stretch(minute: i64, n: u32, want: Stretch) -> bool {
 #[test]
 fn stretches_of_minutes(rt: HostRuntime) {
     for &(minute, n, want) in STRETCHES {
-        assert!(rt; is_stretch(minute, n, want), "{n} minutes from {minute}");
+        assert_holds(&rt, is_stretch(minute, n, want), minute);
     }
 }
 
@@ -97,7 +98,7 @@ const ENDS: &[(u32, i64)] = &[(0, 15_778_020), (1, 16_305_060), (2, 16_830_720)]
 fn ends_of_plain_parts(rt: HostRuntime) {
     for &(year, want) in ENDS {
         let is_right = year < 3 && plain_end(1999, 3, year) == want;
-        assert!(rt; is_right, "of {year}");
+        assert_holds(&rt, is_right, year);
     }
 }
 
@@ -123,6 +124,6 @@ fn has_weight(x: i64, want: i64, slope: i64) -> bool {
 #[test]
 fn weights_of_minutes(rt: HostRuntime) {
     for &(x, want, slope) in WEIGHTS {
-        assert!(rt; has_weight(x, want, slope), "at {x}");
+        assert_holds(&rt, has_weight(x, want, slope), x);
     }
 }

@@ -1,0 +1,43 @@
+//! Evaluations of curves, within their minutes.
+
+ghost use Rattle.std.specs.Prelude.{◌<◌, ◌^◌, IsTrue};
+ghost use Rattle.curve_law.specs.Meaning.{IsMinute};
+
+use curve_law::Curve;
+
+// Returns true if the curve has a value at minute `m`.
+fn has_minute<C: Curve>(curve: &C, m: i64) -> bool
+    ensures { IsTrue result → IsMinute (C.state curve.now).facts.meaning m }
+{
+    curve.first() <= m && m <= curve.last()
+}
+
+// Returns true if the curve was evaluated at most a million times.
+fn is_evaluated_seldom<C: Curve>(curve: &C) -> bool
+    ensures { IsTrue result → (C.state curve.now).count < 2 ^ 63 }
+{
+    curve.evaluations() <= 1_000_000
+}
+
+/// Returns the value at minute `m`, or `None` if there is none or the curve was evaluated too often.
+pub fn value_at<C: Curve>(curve: &mut C, m: i64) -> Option<i128> {
+    if has_minute(curve, m) && is_evaluated_seldom(curve) {
+        Some(curve.value(m))
+    } else {
+        None
+    }
+}
+
+/// Returns the level at minute `m`, or `None` if there is none.
+pub fn note_at<C: Curve>(curve: &C, m: i64) -> Option<i64> {
+    if has_minute(curve, m) {
+        Some(curve.note(m))
+    } else {
+        None
+    }
+}
+
+/// Returns true if there were at most as many evaluations as `cells`, and one more.
+pub fn is_few(evaluations: u64, cells: usize) -> bool {
+    evaluations.saturating_sub(1) <= cells as u64
+}
