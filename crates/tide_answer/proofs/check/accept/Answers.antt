@@ -5,5 +5,11 @@ push_plain_events-requires-clause-listed c = rw c.args.found.now.unit c.in_ok-ev
 
 pub returns : goal.returns
 returns c =
-    rw (c.from_vec.ensures, c.in_ok-push_plain_events.ensures, c.in_ok-text.ensures, c.in_ok-events.ensures.exact, c.args.found.now.unit,
-    c.zone.ensures.exact) at c.text_alone.ensures
+    rw (
+      c.from_vec.ensures,
+      c.in_ok-push_plain_events.ensures,
+      c.in_ok-text.ensures,
+      c.in_ok-events.ensures.exact,
+      c.args.found.now.unit,
+      c.zone.ensures.exact,
+    ) at c.text_alone.ensures
