@@ -1,1 +1,2 @@
 mod UnitLemmas
+pub mod AppendLemmas
