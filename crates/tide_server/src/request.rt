@@ -7,7 +7,7 @@ use tide_edge::{Door, Failed, PIECE};
 
 /// The bytes of a request so far, in memory that is allocated once for the longest one. Contracts
 /// see it as the bytes.
-#[derive(Debug, Drop)]
+#[derive(Drop)]
 pub(crate) struct Request {
     bytes: Vec<u8>,
     piece: Vec<u8>,

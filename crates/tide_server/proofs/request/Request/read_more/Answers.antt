@@ -1,0 +1,27 @@
+use Rattle.std.proofs.Common.{◌≡◌, ◌∙◌, ◌++◌, take, ap}
+use Rattle.tide_server.proofs.PieceLemmas.{first_of_room}
+use Rattle.tide_server.proofs.request.Request.read_more.Given.{Over}
+use Rattle.tide_server.proofs.request.Request.read_more.Goals as goal
+
+-- the bytes that were read are behind those so far
+read_behind : (g : Over) (c : goal.After-unwrap g)
+    → c.extend_from_slice.new.self.items ≡ c.args.self.now ++ take c.in_ok-count.count c.read.new.room
+read_behind g c =
+    rw (← c.self.view_is)
+    ((rw c.unwrap.ensures at c.extend_from_slice.ensures.items)
+    ∙ ap (λ bytes. c.self.inside.bytes.items ++ bytes)
+    (first_of_room c.read.new.room _ c.deref.result.now c.self.inside.piece.len c.in_ok-count.count c.deref.ensures.value
+    (c.read.auto.room ∙ c.deref_mut.ensures.len) (rw c.deref_mut.ensures.len at c.in_ok-count.ensures.within)))
+
+pub returns-clause-after : goal.returns-clause-after
+returns-clause-after g c = (c.read.new.room, c.in_ok-count.ensures.after, read_behind g c)
+
+pub returns-clause-next_bytes : goal.returns-clause-next_bytes
+returns-clause-next_bytes g c =
+    λ t. read_behind g c ∙ ap (λ bytes. c.args.self.now ++ bytes) (c.in_ok-count.ensures.next_bytes t)
+
+pub returns-clause-end : goal.returns-clause-end
+returns-clause-end g c = c.in_ok-count.ensures.end
+
+pub returns-clause-within_piece : goal.returns-clause-within_piece
+returns-clause-within_piece g c = c.in_ok-count.ensures.within_piece
