@@ -8,3 +8,4 @@ pub mod PlainLemmas
 pub mod ScaleLemmas
 pub mod ShiftLemmas
 pub mod TurnLemmas
+pub mod WideningLemmas

@@ -1,8 +1,8 @@
 -- The order of events is total, and a list has one sorted form.
-use Rattle.std.proofs.Common.{◌≡◌, ℕ, suc, ◌+◌, ◌<◌, ◌≤◌, ◌==◌, ℤ, nat_lt, int_lt, Bool, true, false, ◌&&◌, ◌||◌, cond, List, [], ◌∷◌, refl, sym, ap, ◌∙◌, arith}
+use Rattle.std.proofs.Common.{◌≡◌, ℕ, suc, ◌+◌, ◌<◌, ◌≤◌, ◌==◌, ℤ, nat_lt, int_lt, Bool, true, false, ◌&&◌, ◌||◌, cond, List, [], ◌∷◌, refl, sym, ap, ◌∙◌, arith, Some, Ordering, Less, Equal, Greater}
 use Rattle.std.specs.Prelude.{sum_by, All, get_or, length, IsPermutation, IsSortedBy}
 use Rattle.std.specs.Cmp.{IsStrictWeakOrder}
-use Rattle.std.specs.Ordering.{int_eq, int_cmp, nat_cmp, is_lt, ordering_then}
+use Rattle.std.specs.Ordering.{int_eq, int_cmp, nat_cmp, is_lt, is_eq, ordering_then, is_some_and, partial_ordering_then}
 use Rattle.std.proofs.lemmas.Bool.Decides.{nat_tests, Decides-eqb}
 use Rattle.std.proofs.lemmas.Int.{ints}
 use Rattle.std.proofs.lemmas.List.Sums.{sum_by-cons}
@@ -19,16 +19,53 @@ use Rattle.event_list.specs.Workings.Coming.{IsAscending}
 abbrev before : ℤ → ℕ → ℤ → ℤ → ℕ → ℤ → Bool
 before m p l n q k = int_lt m n || (int_eq m n && (nat_lt p q || (p == q && int_lt l k)))
 
+-- an order by one number, and by another test where two are equal
+minute-asym : (m n : ℤ) (b d : Bool) → (b ≡ true → d ≡ false) → (int_lt m n || (int_eq m n && b)) ≡ true
+    → (int_lt n m || (int_eq n m && d)) ≡ false
+minute-asym m n b d rest h = grind (arith, ints)
+
+place-asym : (p q : ℕ) (b d : Bool) → (b ≡ true → d ≡ false) → (nat_lt p q || (p == q && b)) ≡ true
+    → (nat_lt q p || (q == p && d)) ≡ false
+place-asym p q b d rest h = grind (arith, nat_tests)
+
+level-asym : (l k : ℤ) → int_lt l k ≡ true → int_lt k l ≡ false
+level-asym l k h = grind (arith, ints)
+
+minute-trans : (m n o : ℤ) (b d e : Bool) → (b ≡ false → d ≡ false → e ≡ false) → (int_lt m n || (int_eq m n && b)) ≡ false
+    → (int_lt n o || (int_eq n o && d)) ≡ false → (int_lt m o || (int_eq m o && e)) ≡ false
+minute-trans m n o b d e rest h i = grind (arith, ints)
+
+place-trans : (p q r : ℕ) (b d e : Bool) → (b ≡ false → d ≡ false → e ≡ false) → (nat_lt p q || (p == q && b)) ≡ false
+    → (nat_lt q r || (q == r && d)) ≡ false → (nat_lt p r || (p == r && e)) ≡ false
+place-trans p q r b d e rest h i = grind (arith, nat_tests)
+
+level-trans : (l k j : ℤ) → int_lt l k ≡ false → int_lt k j ≡ false → int_lt l j ≡ false
+level-trans l k j h i = grind (arith, ints)
+
+minute-same : (m n : ℤ) (b d : Bool) → (int_lt m n || (int_eq m n && b)) ≡ false → (int_lt n m || (int_eq n m && d)) ≡ false
+    → (m ≡ n) × (b ≡ false) × (d ≡ false)
+minute-same m n b d h i = (grind (arith, ints), grind (arith, ints), grind (arith, ints))
+
+place-same : (p q : ℕ) (b d : Bool) → (nat_lt p q || (p == q && b)) ≡ false → (nat_lt q p || (q == p && d)) ≡ false
+    → (p ≡ q) × (b ≡ false) × (d ≡ false)
+place-same p q b d h i = (grind (arith, nat_tests), grind (arith, nat_tests), grind (arith, nat_tests))
+
+level-same : (l k : ℤ) → int_lt l k ≡ false → int_lt k l ≡ false → l ≡ k
+level-same l k h i = grind (arith, ints)
+
 before-asym : (m : ℤ) (p : ℕ) (l n : ℤ) (q : ℕ) (k : ℤ) → before m p l n q k ≡ true → before n q k m p l ≡ false
-before-asym m p l n q k h = grind (arith, ints, nat_tests)
+before-asym m p l n q k h = minute-asym m n _ _ (place-asym p q _ _ (level-asym l k)) h
 
 before-trans : (m : ℤ) (p : ℕ) (l n : ℤ) (q : ℕ) (k o : ℤ) (r : ℕ) (j : ℤ) → before m p l n q k ≡ false
     → before n q k o r j ≡ false → before m p l o r j ≡ false
-before-trans m p l n q k o r j h i = grind (arith, ints, nat_tests)
+before-trans m p l n q k o r j h i = minute-trans m n o _ _ _ (place-trans p q r _ _ _ (level-trans l k j)) h i
 
 before-same : (m : ℤ) (p : ℕ) (l n : ℤ) (q : ℕ) (k : ℤ) → before m p l n q k ≡ false → before n q k m p l ≡ false
     → (m ≡ n) × (p ≡ q) × (l ≡ k)
-before-same m p l n q k h i = (grind (arith, ints, nat_tests), grind (arith, ints, nat_tests), grind (arith, ints, nat_tests))
+before-same m p l n q k h i =
+    let minute = minute-same m n (nat_lt p q || (p == q && int_lt l k)) (nat_lt q p || (q == p && int_lt k l)) h i in
+    let place = place-same p q (int_lt l k) (int_lt k l) minute.1 minute.2 in
+    (minute.0, place.0, level-same l k place.1 place.2)
 
 pub comes_before-asym : (d e : Event) → comes_before d e ≡ true → comes_before e d ≡ false
 comes_before-asym d e h = before-asym d.minute (place_of d.kind) d.level e.minute (place_of e.kind) e.level h
@@ -151,9 +188,50 @@ far-ascending (x ∷ xs) far = (
 )
 
 -- the order of three numbers as tuples compare
+less-then : (o r : Ordering) → is_lt (ordering_then o r) ≡ (is_lt o || (is_eq o && is_lt r))
+less-then Less r = refl
+less-then Equal r = refl
+less-then Greater r = refl
+
+then-assoc : (o r s : Ordering) → ordering_then (ordering_then o r) s ≡ ordering_then o (ordering_then r s)
+then-assoc Less r s = refl
+then-assoc Equal r s = refl
+then-assoc Greater r s = refl
+
+less-int : (m n : ℤ) → (is_lt (int_cmp m n) ≡ int_lt m n) × (is_eq (int_cmp m n) ≡ int_eq m n)
+less-int m n = (grind (arith, ints), grind (arith, ints))
+
+less-nat : (p q : ℕ) → (is_lt (nat_cmp p q) ≡ nat_lt p q) × (is_eq (nat_cmp p q) ≡ (p == q))
+less-nat p q = (grind (arith, nat_tests), grind (arith, nat_tests))
+
 ranked : (m : ℤ) (p : ℕ) (l n : ℤ) (q : ℕ) (k : ℤ)
     → is_lt (ordering_then (ordering_then (int_cmp m n) (nat_cmp p q)) (int_cmp l k)) ≡ before m p l n q k
-ranked m p l n q k = grind (arith, ints, nat_tests)
+ranked m p l n q k =
+    let minute = less-int m n in
+    let place = less-nat p q in
+    let level = (less-int l k).0 in
+    rw (
+      then-assoc (int_cmp m n) (nat_cmp p q) (int_cmp l k),
+      less-then (int_cmp m n) (ordering_then (nat_cmp p q) (int_cmp l k)),
+      less-then (nat_cmp p q) (int_cmp l k),
+      minute.0,
+      minute.1,
+      place.0,
+      place.1,
+      level,
+    ) refl
+
+some-then : (o r : Ordering) → partial_ordering_then (Some o) (Some r) ≡ Some (ordering_then o r)
+some-then Less r = refl
+some-then Equal r = refl
+some-then Greater r = refl
+
+pub partly-ranked : (m : ℤ) (p : ℕ) (l n : ℤ) (q : ℕ) (k : ℤ) → is_some_and is_lt
+    (partial_ordering_then (partial_ordering_then (Some (int_cmp m n)) (Some (nat_cmp p q))) (Some (int_cmp l k)))
+    ≡ before m p l n q k
+partly-ranked m p l n q k =
+    rw (some-then (int_cmp m n) (nat_cmp p q), some-then (ordering_then (int_cmp m n) (nat_cmp p q)) (int_cmp l k))
+    (ranked m p l n q k)
 
 abbrev pub ranks_before : Event → Event → Bool
 ranks_before d e =

@@ -1,7 +1,8 @@
 -- A scaled level: a bound on it, and the offset that leaves it unchanged.
-use Rattle.std.proofs.Common.{◌≡◌, ℕ, suc, ◌+◌, ◌*◌, ◌≤◌, ℤ, pos, negsuc, ◌*ℤ◌, neg_ℤ, refl, sym, ap, ◌∙◌, mul-le-mul, arith}
+use Rattle.std.proofs.Common.{◌≡◌, ℕ, suc, ◌+◌, ◌*◌, ◌≤◌, ℤ, pos, negsuc, ◌*ℤ◌, neg_ℤ, to_z, of_z, FitsSigned, refl, sym, ap, ◌∙◌, mul-le-mul, lit<, arith}
 use Rattle.std.specs.Prelude.{unsigned_abs}
-use Rattle.std.proofs.lemmas.Int.{ints, unsigned_abs-mul}
+use Rattle.std.proofs.lemmas.Int.{ints, to_z-of_z, unsigned_abs-mul, fits_signed_mul, fits_signed_from_abs}
+use mir.Syntax.{w128}
 use Rattle.decimal_text.specs.Rounding.{half_up, rounded_of}
 use Rattle.station_table.specs.declared.offset.Offset.{Offset}
 use Rattle.station_table.specs.Bases.{usual}
@@ -39,3 +40,21 @@ scaled-small offset level range small =
     let rounded = rounded-size (level *ℤ offset.times) 1000000 in
     let half : half_up (unsigned_abs (level *ℤ offset.times)) 1000000 ≤ 1100000000000 = omega arith in
     omega (arith, ints)
+
+-- the product of a level and a factor fits 128 bits
+pub record IsProduct (x y level times : ℤ) : Type 0 where
+  pub fits : FitsSigned w128 (to_z w128 (of_z w128 x) *ℤ to_z w128 (of_z w128 y))
+  pub kept : to_z w128 (of_z w128 (to_z w128 (of_z w128 x) *ℤ to_z w128 (of_z w128 y))) ≡ level *ℤ times
+  pub size : unsigned_abs (level *ℤ times) ≤ 11000000000 * 100000000
+
+pub product-of : (x y level times : ℤ) → x ≡ level → y ≡ times → unsigned_abs level ≤ 11000000000
+    → unsigned_abs times ≤ 100000000 → IsProduct x y level times
+product-of x y level times is_x is_y small factor =
+    let first = to_z-of_z w128 level (fits_signed_from_abs w128 level (omega (arith, small))) in
+    let second = to_z-of_z w128 times (fits_signed_from_abs w128 times (omega (arith, factor))) in
+    let fits = fits_signed_mul w128 level times 11000000000 100000000 small factor (lit< tt) in
+    rw (is_x, is_y) (record {
+      fits = rw (first, second) fits;
+      kept = rw (first, second) (to_z-of_z w128 (level *ℤ times) fits);
+      size = rw (unsigned_abs-mul level times) (mul-le-mul small factor);
+    })

@@ -13,18 +13,11 @@ fn rank(event: &Event) -> (i64, u8, i64)
     (event.minute, place(event.kind), event.level)
 }
 
-/// Returns the rank of a kind among the events of one minute.
+/// Returns the rank of a kind among the events of one minute: its position among the variants.
 fn place(kind: Kind) -> u8
     ensures { result ≡ place_of kind }
 {
-    match kind {
-        Kind::High => 0,
-        Kind::Low => 1,
-        Kind::FloodBegins => 2,
-        Kind::EbbBegins => 3,
-        Kind::MarkRising => 4,
-        Kind::MarkFalling => 5,
-    }
+    kind as u8
 }
 
 /// Returns true if `first` is listed before `second`.
