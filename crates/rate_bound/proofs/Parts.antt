@@ -77,7 +77,6 @@ sum_fits a b m first second low =
 
 -- the difference of two numbers, with its size
 pub record IsApart (x y : ℤ) (most : ℕ) : Type 0 where
-  pub fits : FitsSigned w64 (to_z w64 (of_z w64 x) -ℤ to_z w64 (of_z w64 y))
   pub same : to_z w64 (of_z w64 (to_z w64 (of_z w64 x) -ℤ to_z w64 (of_z w64 y))) ≡ x -ℤ y
   pub size : unsigned_abs (x -ℤ y) ≤ most
 
@@ -87,7 +86,6 @@ apart_of x y m first second low =
     let other = cast_small w64 y m second (omega (arith, low)) in
     let size = abs_minus x y m m first second in
     record {
-      fits = rw (one, other) (fits_signed_from_abs w64 (x -ℤ y) (omega (arith, size, low)));
       same = rw (one, other) (cast_small w64 (x -ℤ y) (m + m) size low);
       size = size;
     }

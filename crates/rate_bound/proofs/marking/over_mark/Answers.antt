@@ -20,9 +20,6 @@ pub scaled-requires-clause-level : goal.scaled-requires-clause-level
 scaled-requires-clause-level c =
     rw (to_z-of_z w128 c.args.level c.ranges.level) (level_size c.args.level c.requires.level)
 
-pub overflow_sub-plus : goal.overflow_sub-plus
-overflow_sub-plus c = (apart c).fits
-
 pub raised-requires : goal.raised-requires
 raised-requires c = rw (apart c).same (apart c).size
 
@@ -35,8 +32,8 @@ pub returns : goal.returns
 returns c =
     let times = to_z-of_z w64 c.args.times c.ranges.times in
     let level = to_z-of_z w128 c.args.level c.ranges.level in
-    let apart = (apart_of c.args.plus c.args.mark (10 ^ 10) c.requires.plus c.requires.mark (lit< tt)).same in
+    let difference = (apart_of c.args.plus c.args.mark (10 ^ 10) c.requires.plus c.requires.mark (lit< tt)).same in
     let sum = plus_part _ _ _ _ _ _ (kept_part c.scaled.result (10 ^ 37) c.scaled.ensures.size (lit< tt))
     (kept_part c.raised.result (10 ^ 35) c.raised.ensures.size (lit< tt)) (lit< tt) in
     sum.same ∙ ap (λ x. x +ℤ c.raised.result) (rw (times, level) at c.scaled.ensures.value)
-    ∙ ap (λ y. (c.args.times *ℤ c.args.level) +ℤ y) (rw apart at c.raised.ensures.value)
+    ∙ ap (λ y. (c.args.times *ℤ c.args.level) +ℤ y) (rw difference at c.raised.ensures.value)
