@@ -58,7 +58,6 @@ pub fn weight_steps()
 {}
 
 /// Proves the positions of minutes among three years from 1999 on: at both ends, and about a new year.
-#[tactic(auto, unfolding(crate::specs::Places::place_of, crate::specs::Places::place_in, crate::specs::Places::year_at, crate::specs::Years::year_start_of, jiff_core::specs::Calendar::days_from_civil, jiff_core::specs::Calendar::day_count, jiff_core::specs::Calendar::days_of_years, jiff_core::specs::Calendar::days_of_months))]
 pub fn worked_places()
     ensures first { place_of (pos 1999) 3 (pos 15252480) ≡ Place.Plain 0 }
     ensures hour_before { place_of (pos 1999) 3 (pos 15778020) ≡ Place.Plain 0 }
@@ -71,7 +70,6 @@ pub fn worked_places()
 
 /// Proves the stretches of hours among three years from 1999 on: up to the end of a plain part, past it,
 /// beside a blend, over it, in it, and up to the last minute of the domain.
-#[tactic(auto, unfolding(crate::specs::Stretches::stretch_of, crate::specs::Places::plain_end_of, crate::specs::Places::place_of, crate::specs::Places::place_in, crate::specs::Places::year_at, crate::specs::Years::year_start_of, jiff_core::specs::Calendar::days_from_civil, jiff_core::specs::Calendar::day_count, jiff_core::specs::Calendar::days_of_years, jiff_core::specs::Calendar::days_of_months))]
 pub fn worked_stretches()
     ensures up_to_the_end { stretch_of (pos 1999) 3 (pos 15776996) 1024 ≡ Stretch.Within 0 }
     ensures past_the_end { stretch_of (pos 1999) 3 (pos 15776997) 1024 ≡ Stretch.Across 1 }
