@@ -3,3 +3,4 @@ pub mod YearLemmas
 pub mod PlaceLemmas
 pub mod PlainLemmas
 pub mod StretchLemmas
+pub mod StartLemmas
