@@ -1,13 +1,13 @@
 -- The end of the first token.
 use Rattle.std.proofs.Common.{◌≡◌, ℕ, suc, ◌+◌, ◌-◌, ◌<◌, ◌≤◌, Bool, true, false, cond, ltb, List, [], ◌∷◌, length, take, drop, Option, Some, None, refl, sym, ap, ◌∙◌, arith}
-use Rattle.std.specs.Prelude.{not, filter, position, unwrap_or, option_map}
+use Rattle.std.specs.Prelude.{not, filter, position, unwrap_or}
 use Rattle.std.specs.List.{onto_first, slice_split, position_or_len}
 use Rattle.std.proofs.lemmas.Bool.{ltb-true, ltb-false, lt-ltb}
 use Rattle.std.proofs.lemmas.List.{drop-drop}
 use Rattle.decimal_text.specs.Digits.{digits_of}
 use Rattle.harmonics_text.specs.Rules.{is_colon, two_digits_of, minutes_of, clock_of}
 use Rattle.std.proofs.lemmas.List.Sums.{prefix_len-le-length}
-use Rattle.harmonics_text.specs.Lines.{only, only_two, is_blank, is_visible, is_filled, tokens, trimmed, without_blank_end}
+use Rattle.harmonics_text.specs.Lines.{is_blank, is_visible, is_filled, tokens, trimmed, without_blank_end}
 
 -- ---- the results of `position`
 
@@ -150,9 +150,3 @@ clock_is text hour rest minute k r e h d m i =
     let p = position_some is_colon text k e in
     let after : minute ≡ drop (k + 1) text = m ∙ ap (drop 1) d ∙ drop-drop 1 k text in
     i ∙ rw (h, after, ← p.0, lt-ltb (position_or_len is_colon text) (length text) p.1) refl
-
--- two tokens are one, and the only one after it
-pub only_two_after : (t : List ℕ) (ts : List (List ℕ)) → only_two (t ∷ ts) ≡ option_map (λ u. (t, u)) (only ts)
-only_two_after t [] = refl
-only_two_after t (u ∷ []) = refl
-only_two_after t (u ∷ v ∷ ts) = refl
