@@ -1,43 +1,64 @@
+use crate::asserts::assert_holds;
 use arrayvec::ArrayString;
 use decimal_text::*;
-use std::test::Fail;
+use std::alloc::{AllocError, Global};
+
+fn copied_text(alloc: Global) -> Result<Text, AllocError> {
+    Text::from_str(alloc, "Pier")?.copy()
+}
+
+fn copied_numbers(alloc: Global) -> Result<Numbers, AllocError> {
+    Numbers::from_vec(vec![in alloc; -1, 2]?).copy()
+}
+
+fn copied_bytes(alloc: Global) -> Result<Bytes, AllocError> {
+    Bytes::from_vec(vec![in alloc; 1, 2]?).copy()
+}
+
+fn copied_words(alloc: Global) -> Result<Words, AllocError> {
+    let text = Text::from_str(alloc, "Pier")?;
+    Words::from_vec(vec![in alloc; text]?).copy()
+}
 
 #[test]
-fn copies_of_texts_are_equal(rt: HostRuntime) -> Result<(), Fail> {
-    assert!(rt; Text::empty(rt.alloc()).as_str() == "");
-    let text = Text::from_str(rt.alloc(), "Pier")?.copy()?;
+fn copies_of_texts_are_equal(rt: HostRuntime) -> Result<(), AllocError> {
+    let text = copied_text(rt.alloc())?;
     assert!(rt; text.as_str() == "Pier");
     Ok(())
 }
 
 #[test]
-fn copies_of_numbers_are_equal(rt: HostRuntime) -> Result<(), Fail> {
-    let numbers = Numbers::from_vec(vec![in rt.alloc(); -1, 2]?).copy()?;
+fn an_empty_text_has_no_byte(rt: HostRuntime) {
+    assert!(rt; Text::empty(rt.alloc()).as_str() == "");
+}
+
+#[test]
+fn copies_of_numbers_are_equal(rt: HostRuntime) -> Result<(), AllocError> {
+    let numbers = copied_numbers(rt.alloc())?;
     assert!(rt; numbers.as_slice() == [-1, 2].as_slice());
     Ok(())
 }
 
 #[test]
-fn copies_of_bytes_are_equal(rt: HostRuntime) -> Result<(), Fail> {
-    let bytes = Bytes::from_vec(vec![in rt.alloc(); 1, 2]?).copy()?;
+fn copies_of_bytes_are_equal(rt: HostRuntime) -> Result<(), AllocError> {
+    let bytes = copied_bytes(rt.alloc())?;
     assert!(rt; bytes.as_slice() == [1, 2].as_slice());
     Ok(())
 }
 
 #[test]
-fn copies_of_words_are_equal(rt: HostRuntime) -> Result<(), Fail> {
-    let text = Text::from_str(rt.alloc(), "Pier")?;
-    let words = Words::from_vec(vec![in rt.alloc(); text]?).copy()?;
+fn copies_of_words_are_equal(rt: HostRuntime) -> Result<(), AllocError> {
+    let words = copied_words(rt.alloc())?;
     assert!(rt; words.as_slice().len() == 1);
     Ok(())
 }
 
 #[test]
 fn bytes_of_names_are_kept(rt: HostRuntime) {
-    assert!(rt; are_name_bytes(b"Pier 1~\xc3\xa9"));
-    assert!(rt; are_name_bytes(b""));
-    assert!(rt; !are_name_bytes(b"Pier\x1f"));
-    assert!(rt; !are_name_bytes(b"Pier\x7f"));
+    assert_holds(&rt, are_name_bytes(b"Pier 1~\xc3\xa9"), "a name");
+    assert_holds(&rt, are_name_bytes(b""), "no byte");
+    assert_holds(&rt, !are_name_bytes(b"Pier\x1f"), "byte 31");
+    assert_holds(&rt, !are_name_bytes(b"Pier\x7f"), "byte 127");
 }
 
 /// A text, the number of places, and the value or the fault.
@@ -59,8 +80,8 @@ fn is_read(text: &[u8], places: u32, value: &Result<i128, DecimalFault>) -> bool
 
 #[test]
 fn decimals_are_read(rt: HostRuntime) {
-    for (text, places, value) in DECIMALS {
-        assert!(rt; is_read(text, *places, value), "{text:?}");
+    for (row, (text, places, value)) in DECIMALS.iter().enumerate() {
+        assert_holds(&rt, is_read(text, *places, value), row);
     }
 }
 
@@ -79,8 +100,8 @@ fn is_whole(text: &[u8], most: usize, value: Option<u64>) -> bool {
 
 #[test]
 fn whole_numbers_are_read(rt: HostRuntime) {
-    for (text, most, value) in WHOLE_NUMBERS {
-        assert!(rt; is_whole(text, *most, *value), "{text:?}");
+    for (row, (text, most, value)) in WHOLE_NUMBERS.iter().enumerate() {
+        assert_holds(&rt, is_whole(text, *most, *value), row);
     }
 }
 
@@ -105,8 +126,8 @@ fn is_wide(text: &[u8], most: usize, value: Option<u128>) -> bool {
 
 #[test]
 fn wide_numbers_are_read(rt: HostRuntime) {
-    for (text, most, value) in WIDE_NUMBERS {
-        assert!(rt; is_wide(text, *most, *value), "{text:?}");
+    for (row, (text, most, value)) in WIDE_NUMBERS.iter().enumerate() {
+        assert_holds(&rt, is_wide(text, *most, *value), row);
     }
 }
 
@@ -139,7 +160,7 @@ fn is_written(value: i64, places: u32, text: &str) -> bool {
 #[test]
 fn decimals_are_written(rt: HostRuntime) {
     for (value, places, text) in WRITTEN {
-        assert!(rt; is_written(*value, *places, text), "{text}");
+        assert_holds(&rt, is_written(*value, *places, text), *text);
     }
 }
 

@@ -6,12 +6,14 @@ ghost use Rattle.tide_edge.specs.Doors.{not_listening};
 ghost use Rattle.tide_edge.specs.Memory.{are_pieces, folder_of};
 ghost use Rattle.tide_edge.specs.Whole.{whole};
 
+use crate::asserts::assert_holds;
 use decimal_text::{Bytes, Text};
 use std::alloc::{AllocError, Global};
 use std::fs::OpenOptions;
 use std::io;
 use std::io::{Read, Write};
 use std::net::{Ipv4Addr, TcpStream};
+use std::process::Abort;
 use std::test::Fail;
 use tide_edge::{
     Clock, Door, Failed, Files, FixedClock, HostClock, HostDoor, HostFiles, HostSink, MemoryDoor,
@@ -21,24 +23,30 @@ use tide_edge::{
 const PIER: [u8; 10] = *b"pier files";
 
 /// Appends the file `name` to `files`.
-fn add_file(
+pub fn add_file(
     alloc: Global,
     files: &mut Vec<NamedFile>,
     name: &str,
-    bytes: Vec<u8>,
+    bytes: &[u8],
 ) -> Result<(), AllocError> {
     let name = Text::from_str(alloc, name)?;
-    let bytes = Bytes::from_vec(bytes);
+    let bytes = Bytes::from_vec(bytes.to_vec(alloc)?);
     Ok(files.push(NamedFile { name, bytes })?)
 }
 
-/// Returns a folder with the file `pier`, another one that can't be opened, and a long one.
+/// Appends the file `pier`, another one that can't be opened, and a long one.
+fn add_files(alloc: Global, files: &mut Vec<NamedFile>) -> Result<(), AllocError> {
+    add_file(alloc, files, "pier", &PIER)?;
+    add_file(alloc, files, "pier", b"hidden")?;
+    let long = vec![in alloc; 7; 131_073]?;
+    add_file(alloc, files, "long", &long)
+}
+
 fn folder(alloc: Global, fails: &[u64]) -> Result<MemoryFiles, AllocError> {
+    let fails = fails.to_vec(alloc)?;
     let mut files = Vec::new(alloc);
-    add_file(alloc, &mut files, "pier", PIER.to_vec(alloc)?)?;
-    add_file(alloc, &mut files, "pier", b"hidden".to_vec(alloc)?)?;
-    add_file(alloc, &mut files, "long", vec![in alloc; 7; 131_073]?)?;
-    Ok(MemoryFiles::new(files, fails.to_vec(alloc)?))
+    let added = add_files(alloc, &mut files);
+    added.and(Ok(MemoryFiles::new(files, fails)))
 }
 
 /// Reads from steady files in memory, with the facts that a caller knows as its contract.
@@ -87,30 +95,34 @@ fn is_read(
     limit: u64,
     failing: u64,
     expected: &Result<usize, ReadAllFault>,
-) -> Result<bool, AllocError> {
-    let mut files = folder(alloc, &[failing])?;
-    Ok(length_read(alloc, &mut files, name, limit) == *expected)
+) -> bool {
+    match folder(alloc, &[failing]) {
+        Ok(mut files) => length_read(alloc, &mut files, name, limit) == *expected,
+        Err(_) => false,
+    }
 }
 
 #[test]
 fn a_file_is_read_whole_or_not_at_all(rt: HostRuntime) {
-    for (name, limit, failing, expected) in MEMORY_FILES {
-        let is_so = is_read(rt.alloc(), name, *limit, *failing, expected);
-        assert!(rt; is_so == Ok(true), "limit {limit}, call {failing} fails");
+    for (place, (name, limit, failing, expected)) in MEMORY_FILES.iter().enumerate() {
+        let is_read = is_read(rt.alloc(), name, *limit, *failing, expected);
+        assert_holds(&rt, is_read, place);
     }
 }
 
-/// Returns true if the file `pier` of `files` has its bytes.
-fn has_bytes(alloc: Global, files: &mut MemoryFiles) -> Result<bool, ReadAllFault> {
-    let name = Text::from_str(alloc, "pier")?;
-    let bytes = read_all(alloc, files, &name, 10)?;
-    Ok(bytes.as_slice() == PIER.as_slice())
+/// Returns true if the file `name` of `files` has the pier's bytes.
+fn has_bytes(alloc: Global, files: &mut MemoryFiles, name: &Text) -> bool {
+    match read_all(alloc, files, name, 10) {
+        Ok(bytes) => bytes.as_slice() == PIER.as_slice(),
+        Err(_) => false,
+    }
 }
 
 /// Returns true if the file `pier` of steady files has its bytes.
-fn are_known(alloc: Global) -> Result<bool, ReadAllFault> {
+fn are_known(alloc: Global) -> Result<bool, AllocError> {
+    let name = Text::from_str(alloc, "pier")?;
     let mut files = folder(alloc, &[])?;
-    has_bytes(alloc, &mut files)
+    Ok(has_bytes(alloc, &mut files, &name))
 }
 
 #[test]
@@ -142,36 +154,43 @@ const SINKS: &[(u64, u64, Option<u64>)] = &[
     (0, 0, Some(0)),
 ];
 
-/// Returns true if such a sink has taken `sent` bytes, or all.
-fn is_sent(alloc: Global, room: u64, failing: u64, sent: Option<u64>) -> Result<bool, AllocError> {
-    let fails = [failing].to_vec(alloc)?;
-    let mut sink = MemorySink::new(alloc, 3, room, fails)?;
-    let found = count_sent(&mut sink);
-    Ok(found == sent && has_taken(&sink, sent.unwrap_or(10)))
+/// Returns a sink that takes `most` bytes in a write and `room` in all, whose call `failing` fails.
+fn sink(alloc: Global, most: u64, room: u64, failing: u64) -> Result<MemorySink, AllocError> {
+    MemorySink::new(alloc, most.max(1), room, [failing].to_vec(alloc)?)
 }
 
-#[test]
-fn a_failed_write_is_the_last(rt: HostRuntime) {
-    for (room, failing, sent) in SINKS {
-        let is_so = is_sent(rt.alloc(), *room, *failing, *sent);
-        assert!(rt; is_so == Ok(true), "room {room}, call {failing} fails");
+/// Returns true if such a sink has taken `sent` bytes, or all.
+fn is_sent(alloc: Global, room: u64, failing: u64, sent: Option<u64>) -> bool {
+    match sink(alloc, 3, room, failing) {
+        Ok(mut sink) => count_sent(&mut sink) == sent && has_taken(&sink, sent.unwrap_or(10)),
+        Err(_) => false,
     }
 }
 
 #[test]
-fn an_empty_write_calls_nothing(rt: HostRuntime) -> Result<(), Fail> {
-    let fails = [1].to_vec(rt.alloc())?;
-    let mut closed = MemorySink::new(rt.alloc(), 1, 0, fails)?;
+fn a_failed_write_is_the_last(rt: HostRuntime) {
+    for (place, (room, failing, sent)) in SINKS.iter().enumerate() {
+        assert_holds(&rt, is_sent(rt.alloc(), *room, *failing, *sent), place);
+    }
+}
+
+#[test]
+fn an_empty_write_calls_nothing(rt: HostRuntime) -> Result<(), AllocError> {
+    let mut closed = sink(rt.alloc(), 1, 0, 1)?;
     assert!(rt; write_all(&mut closed, &[]) == Ok(()));
     Ok(())
 }
 
+fn check_clock(rt: &impl Abort, clock: &mut FixedClock) {
+    assert_holds(rt, clock.minute() == Ok(-10_000_000_000), "first call");
+    assert_holds(rt, clock.minute() == Err(Failed), "second call");
+    assert_holds(rt, clock.minute() == Ok(-10_000_000_000), "third call");
+}
+
 #[test]
-fn a_fixed_clock_fails_as_required(rt: HostRuntime) -> Result<(), Fail> {
-    let mut clock = FixedClock::new(-10_000_000_000, [2].to_vec(rt.alloc())?);
-    assert!(rt; clock.minute() == Ok(-10_000_000_000));
-    assert!(rt; clock.minute() == Err(Failed));
-    assert!(rt; clock.minute() == Ok(-10_000_000_000));
+fn a_fixed_clock_fails_as_required(rt: HostRuntime) -> Result<(), AllocError> {
+    let fails = [2].to_vec(rt.alloc())?;
+    check_clock(&rt, &mut FixedClock::new(-10_000_000_000, fails));
     Ok(())
 }
 
@@ -188,7 +207,7 @@ fn the_files_of_the_machine_are_read(rt: HostRuntime) -> Result<(), Fail> {
     let mut files = HostFiles::new(rt.clone()?);
     for (name, expected) in MACHINE_FILES {
         let read = length_read(rt.alloc(), &mut files, name, 1_000_000);
-        assert!(rt; read == *expected, "{name}");
+        assert_holds(&rt, read == *expected, *name);
     }
     Ok(())
 }
@@ -301,49 +320,95 @@ fn is_served(
     failing: u64,
     expected: &[Result<bool, Failed>; 3],
     first: &str,
-) -> Result<bool, AllocError> {
-    let mut door = memory_door(alloc, room, failing)?;
-    if door.listen(80) != Ok(()) {
-        return Ok(false);
+) -> bool {
+    match memory_door(alloc, room, failing) {
+        Ok(mut door) => gives(&mut door, expected) && has_replies(&door, first),
+        Err(_) => false,
     }
-    let outcomes = echo_thrice(&mut door);
-    Ok(outcomes == *expected && has_replies(&door, first))
+}
+
+/// Returns true if `door`, listening, has those outcomes.
+fn gives(door: &mut MemoryDoor, expected: &[Result<bool, Failed>; 3]) -> bool
+    requires { door.old.doorway ≡ not_listening }
+{
+    if door.listen(80) != Ok(()) {
+        return false;
+    }
+    echo_thrice(door) == *expected
 }
 
 #[test]
 fn a_door_in_memory_fails_as_required(rt: HostRuntime) {
-    for (room, failing, expected, first) in DOORS {
-        let is_so = is_served(rt.alloc(), *room, *failing, expected, first);
-        assert!(rt; is_so == Ok(true), "room {room}, call {failing} fails");
+    for (place, (room, failing, expected, first)) in DOORS.iter().enumerate() {
+        let is_served = is_served(rt.alloc(), *room, *failing, expected, first);
+        assert_holds(&rt, is_served, place);
     }
 }
 
+/// Returns a door without a request, whose call `failing` fails.
+fn shut_door(alloc: Global, failing: u64) -> Result<MemoryDoor, AllocError>
+    ensures { IfOk result (λ door. door.doorway ≡ not_listening) }
+{
+    MemoryDoor::new(alloc, Vec::new(alloc), 0, [failing].to_vec(alloc)?)
+}
+
 #[test]
-fn a_shut_door_fails(rt: HostRuntime) -> Result<(), Fail> {
-    let fails = [1].to_vec(rt.alloc())?;
-    let mut shut = MemoryDoor::new(rt.alloc(), Vec::new(rt.alloc()), 0, fails)?;
+fn a_shut_door_fails(rt: HostRuntime) -> Result<(), AllocError> {
+    let mut shut = shut_door(rt.alloc(), 1)?;
     assert!(rt; shut.listen(80) == Err(Failed));
     Ok(())
 }
 
-/// Returns the bytes that are left of `peer`.
-fn rest_of<P: Read>(alloc: Global, peer: &mut P) -> Result<Bytes, Fail> {
+/// Returns true if the bytes that are left of `peer` are `expected`.
+fn rest_is<P: Read>(alloc: Global, peer: &mut P, expected: &[u8]) -> bool {
     let mut answer = Vec::new(alloc);
-    peer.read_to_end(&mut answer)?;
-    Ok(Bytes::from_vec(answer))
+    peer.read_to_end(&mut answer).is_ok() && answer.as_slice() == expected
+}
+
+/// Sends bytes over `peer` to `door`, which sends them back.
+fn check_echo<D: Door, P: Read + Write>(
+    rt: &impl Abort,
+    alloc: Global,
+    door: &mut D,
+    peer: &mut P,
+) -> Result<(), Fail>
+    requires listens { IsTrue (D.state door.old).doorway.listens }
+    requires none_open { (D.state door.old).doorway.is_open ≡ false }
+{
+    peer.write_all(b"pier")?;
+    assert!(rt; echo(door) == Ok(true));
+    assert!(rt; rest_is(alloc, peer, b"pier"));
+    Ok(())
+}
+
+/// Returns true if the port is taken.
+fn is_taken(system: &HostRuntime, port: u16) -> Result<bool, Fail> {
+    Ok(HostDoor::new(system.clone()?).listen(port) == Err(Failed))
+}
+
+/// Returns false if `door` can't listen on `port`.
+fn takes_connection(
+    rt: &impl Abort,
+    system: &HostRuntime,
+    door: &mut HostDoor<HostRuntime>,
+    port: u16,
+) -> Result<bool, Fail>
+    requires { (⟦<HostDoor<HostRuntime> as Door>⟧.state door.old).doorway ≡ not_listening }
+{
+    if door.listen(port).is_err() {
+        return Ok(false);
+    }
+    assert!(rt; is_taken(system, port)?);
+    let mut peer = TcpStream::connect(system, (Ipv4Addr::LOCALHOST, port))?;
+    check_echo(rt, system.alloc(), door, &mut peer)?;
+    Ok(true)
 }
 
 #[test]
 fn a_port_of_the_machine_takes_a_connection(rt: HostRuntime) -> Result<(), Fail> {
     for port in 47_100..47_200 {
         let mut door = HostDoor::new(rt.clone()?);
-        if door.listen(port).is_ok() {
-            assert!(rt; HostDoor::new(rt.clone()?).listen(port) == Err(Failed));
-            let mut peer = TcpStream::connect(&rt, (Ipv4Addr::LOCALHOST, port))?;
-            peer.write_all(b"pier")?;
-            assert!(rt; echo(&mut door) == Ok(true));
-            let answer = rest_of(rt.alloc(), &mut peer)?;
-            assert!(rt; answer.as_slice() == b"pier".as_slice());
+        if takes_connection(&rt, &rt, &mut door, port)? {
             return Ok(());
         }
     }

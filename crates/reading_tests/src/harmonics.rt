@@ -3,13 +3,13 @@
 ghost use Rattle.std.specs.Prelude.{◌<◌, ◌≤◌, ◌+◌, length};
 ghost use Rattle.decimal_text.specs.declared.limits.TheConstants.{MOST_BYTES};
 
+use crate::asserts::assert_holds;
 use crate::texts::{PIER, changed};
 use decimal_text::{MOST_BYTES, Text};
 use harmonics_book::{Book, Constituent, Constituents, Station, Stations, Units};
 use harmonics_text::{BookFault, BookReader, Why, read_book, worked_files, worked_lines};
 use std::alloc::{AllocError, Global};
 use std::process::Abort;
-use std::test::Fail;
 
 /// Returns the line and the number of the fault of `bytes`, or two zeros if they are a harmonics
 /// file.
@@ -26,13 +26,13 @@ fn fault(alloc: Global, bytes: &[u8]) -> (u32, u32) {
 
 /// Checks the first year of `book`, the number of its years, and what it has for them.
 fn check_years(rt: &impl Abort, book: &Book, years: (i32, u32), angles: &[i64], factors: &[i64]) {
-    assert!(rt; (book.first_year, book.years) == years);
-    assert!(rt; book.angles.as_slice() == angles);
-    assert!(rt; book.factors.as_slice() == factors);
+    assert_holds(rt, (book.first_year, book.years) == years, "years");
+    assert_holds(rt, book.angles.as_slice() == angles, "angles");
+    assert_holds(rt, book.factors.as_slice() == factors, "factors");
 }
 
 #[test]
-fn the_years_of_the_pier_are_read(rt: HostRuntime) -> Result<(), Fail> {
+fn the_years_of_the_pier_are_read(rt: HostRuntime) -> Result<(), BookFault> {
     let book = read_book(rt.alloc(), PIER.as_bytes())?;
     let factors = [1_000_000, 1_000_000, 1_000_000];
     check_years(&rt, &book, (1999, 3), &[0, 0, 0], &factors);
@@ -45,13 +45,13 @@ fn is_of_pier(constituent: &Constituent) -> bool {
 
 fn check_constituents(rt: &impl Abort, book: &Book) {
     for constituent in book.constituents.as_slice() {
-        assert!(rt; is_of_pier(constituent));
+        assert_holds(rt, is_of_pier(constituent), "constituent");
     }
-    assert!(rt; book.stations.as_slice().len() == 1);
+    assert_holds(rt, book.stations.as_slice().len() == 1, "stations");
 }
 
 #[test]
-fn the_constituent_of_the_pier_is_read(rt: HostRuntime) -> Result<(), Fail> {
+fn the_constituent_of_the_pier_is_read(rt: HostRuntime) -> Result<(), BookFault> {
     let book = read_book(rt.alloc(), PIER.as_bytes())?;
     check_constituents(&rt, &book);
     Ok(())
@@ -68,31 +68,43 @@ const ELEVEN_YEARS: &str =
     Pier\n0:00\n1 feet\nM2 3 40\n";
 
 #[test]
-fn a_file_as_people_write_it(rt: HostRuntime) -> Result<(), Fail> {
+fn a_file_as_people_write_it(rt: HostRuntime) -> Result<(), BookFault> {
     let book = read_book(rt.alloc(), &REAL)?;
     check_real(&rt, &book);
     Ok(())
 }
 
 fn check_real(rt: &impl Abort, book: &Book) {
-    assert!(rt; book.constituents.as_slice().len() == 2);
-    assert!(rt; book.angles.as_slice() == [1_205_000_000, 0].as_slice());
-    assert!(rt; book.factors.as_slice() == [985_000, 1_000_000].as_slice());
+    assert_holds(rt, book.constituents.as_slice().len() == 2, "constituents");
+    let angles = [1_205_000_000, 0];
+    assert_holds(rt, book.angles.as_slice() == angles.as_slice(), "angles");
+    let factors = [985_000, 1_000_000];
+    assert_holds(rt, book.factors.as_slice() == factors.as_slice(), "factors");
 }
 
 #[test]
-fn a_station_as_people_write_it(rt: HostRuntime) -> Result<(), Fail> {
+fn a_station_as_people_write_it(rt: HostRuntime) -> Result<(), BookFault> {
     let book = read_book(rt.alloc(), &REAL)?;
-    for station in book.stations.as_slice() {
-        check_station(&rt, station);
-    }
+    check_stations(&rt, book.stations.as_slice());
     Ok(())
 }
 
+fn check_stations(rt: &impl Abort, stations: &[Station]) {
+    for station in stations {
+        check_station(rt, station);
+    }
+}
+
 fn check_station(rt: &impl Abort, station: &Station) {
-    assert!(rt; has_head(station));
-    assert!(rt; station.amplitude.as_slice() == [1_234_000, 400_000].as_slice());
-    assert!(rt; station.epoch.as_slice() == [450_000_000, 3_000_000_000].as_slice());
+    assert_holds(rt, has_head(station), "head");
+    let amplitude = [1_234_000, 400_000];
+    assert_holds(
+        rt,
+        station.amplitude.as_slice() == amplitude.as_slice(),
+        "amplitude",
+    );
+    let epoch = [450_000_000, 3_000_000_000];
+    assert_holds(rt, station.epoch.as_slice() == epoch.as_slice(), "epoch");
 }
 
 fn has_head(station: &Station) -> bool {
@@ -151,16 +163,18 @@ const CHANGES: &[(usize, &str, u32, u32)] = &[
 ];
 
 /// Returns the line and the number of the fault of the pier with `text` in place of line `line`.
-fn fault_of_change(alloc: Global, line: usize, text: &str) -> Result<(u32, u32), AllocError> {
-    let file = changed(alloc, PIER, line, text)?;
-    Ok(fault(alloc, file.as_bytes()))
+fn fault_of_change(alloc: Global, line: usize, text: &str) -> (u32, u32) {
+    match changed(alloc, PIER, line, text) {
+        Ok(file) => fault(alloc, file.as_bytes()),
+        Err(_) => (0, 97),
+    }
 }
 
 #[test]
 fn changes_of_a_line(rt: HostRuntime) {
     for (line, text, at, number) in CHANGES {
         let found = fault_of_change(rt.alloc(), *line, text);
-        assert!(rt; found == Ok((*at, *number)), "line {line}: {text}");
+        assert_holds(&rt, found == (*at, *number), *text);
     }
 }
 
@@ -198,56 +212,62 @@ fn printed_in_pieces(alloc: Global, bytes: &[u8], count: usize) -> Result<String
 }
 
 /// Returns true if `file`, fed in pieces of `count` bytes, is printed as `whole`.
-fn is_printed(alloc: Global, file: &[u8], count: usize, whole: &str) -> Result<bool, AllocError> {
-    let printed = printed_in_pieces(alloc, file, count)?;
-    Ok(printed.as_str() == whole)
+fn is_printed(alloc: Global, file: &[u8], count: usize, whole: &str) -> bool {
+    match printed_in_pieces(alloc, file, count) {
+        Ok(printed) => printed.as_str() == whole,
+        Err(_) => false,
+    }
 }
 
-fn are_printed(
-    alloc: Global,
-    file: &[u8],
-    counts: &[usize],
-    whole: &str,
-) -> Result<bool, AllocError> {
+fn are_printed(alloc: Global, file: &[u8], counts: &[usize], whole: &str) -> bool {
     for count in counts {
-        if !is_printed(alloc, file, *count, whole)? {
-            return Ok(false);
+        if !is_printed(alloc, file, *count, whole) {
+            return false;
         }
     }
-    Ok(true)
+    true
 }
 
 /// Returns true if `file` is read in pieces of each of `counts` bytes as it is read whole.
-pub fn may_be_cut(alloc: Global, file: &[u8], counts: &[usize]) -> Result<bool, AllocError> {
-    let whole = printed_in_pieces(alloc, file, file.len())?;
-    are_printed(alloc, file, counts, whole.as_str())
+pub fn may_be_cut(alloc: Global, file: &[u8], counts: &[usize]) -> bool {
+    match printed_in_pieces(alloc, file, file.len()) {
+        Ok(whole) => are_printed(alloc, file, counts, whole.as_str()),
+        Err(_) => false,
+    }
 }
 
 /// Returns true if `file` is harmonic constants.
-pub fn is_book(alloc: Global, file: &[u8]) -> Result<bool, AllocError> {
-    let whole = printed_in_pieces(alloc, file, file.len())?;
-    Ok(whole.starts_with("Ok("))
+pub fn is_book(alloc: Global, file: &[u8]) -> bool {
+    match printed_in_pieces(alloc, file, file.len()) {
+        Ok(whole) => whole.starts_with("Ok("),
+        Err(_) => false,
+    }
+}
+
+fn check_cuts(rt: &impl Abort, alloc: Global, file: &[u8], case: &str) {
+    assert_holds(rt, is_book(alloc, file), case);
+    assert_holds(rt, may_be_cut(alloc, file, &[1, 7]), case);
 }
 
 #[test]
 fn a_file_may_be_cut_anywhere(rt: HostRuntime) {
-    for file in [PIER.as_bytes(), REAL.as_slice(), ELEVEN_YEARS.as_bytes()] {
-        assert!(rt; is_book(rt.alloc(), file) == Ok(true));
-        assert!(rt; may_be_cut(rt.alloc(), file, &[1, 7]) == Ok(true));
-    }
+    check_cuts(&rt, rt.alloc(), PIER.as_bytes(), "pier");
+    check_cuts(&rt, rt.alloc(), &REAL, "real");
+    check_cuts(&rt, rt.alloc(), ELEVEN_YEARS.as_bytes(), "eleven years");
 }
 
 /// Returns true if the pier with `text` in place of line `line` may be cut.
-fn may_change_be_cut(alloc: Global, line: usize, text: &str) -> Result<bool, AllocError> {
-    let file = changed(alloc, PIER, line, text)?;
-    may_be_cut(alloc, file.as_bytes(), &[1, 7])
+fn may_change_be_cut(alloc: Global, line: usize, text: &str) -> bool {
+    match changed(alloc, PIER, line, text) {
+        Ok(file) => may_be_cut(alloc, file.as_bytes(), &[1, 7]),
+        Err(_) => false,
+    }
 }
 
 #[test]
 fn a_changed_file_may_be_cut_anywhere(rt: HostRuntime) {
     for (line, text, _, _) in CHANGES {
-        let may = may_change_be_cut(rt.alloc(), *line, text);
-        assert!(rt; may == Ok(true), "line {line}: {text}");
+        assert_holds(&rt, may_change_be_cut(rt.alloc(), *line, text), *text);
     }
 }
 
@@ -289,16 +309,18 @@ fn fault_of_letters(
     before: &str,
     count: u32,
     behind: &str,
-) -> Result<(u32, u32), AllocError> {
-    let text = with_letters(alloc, before, count, behind)?;
-    fault_of_change(alloc, line, text.as_str())
+) -> (u32, u32) {
+    match with_letters(alloc, before, count, behind) {
+        Ok(text) => fault_of_change(alloc, line, text.as_str()),
+        Err(_) => (0, 97),
+    }
 }
 
 #[test]
 fn long_lines(rt: HostRuntime) {
     for (line, before, count, behind, at, number) in LETTERS {
         let found = fault_of_letters(rt.alloc(), *line, before, *count, behind);
-        assert!(rt; found == Ok((*at, *number)), "line {line}: {count} letters");
+        assert_holds(&rt, found == (*at, *number), *count);
     }
 }
 
@@ -312,15 +334,17 @@ fn stations(alloc: Global, count: u32, end: &str) -> Result<String, AllocError> 
     Ok(file)
 }
 
-fn fault_of_stations(alloc: Global, count: u32, end: &str) -> Result<(u32, u32), AllocError> {
-    let file = stations(alloc, count, end)?;
-    Ok(fault(alloc, file.as_bytes()))
+fn fault_of_stations(alloc: Global, count: u32, end: &str) -> (u32, u32) {
+    match stations(alloc, count, end) {
+        Ok(file) => fault(alloc, file.as_bytes()),
+        Err(_) => (0, 97),
+    }
 }
 
 #[test]
 fn many_stations(rt: HostRuntime) {
-    assert!(rt; fault_of_stations(rt.alloc(), 20_000, "") == Ok((0, 0)));
-    assert!(rt; fault_of_stations(rt.alloc(), 20_000, "Pier\n") == Ok((80_013, 12)));
+    assert!(rt; fault_of_stations(rt.alloc(), 20_000, "") == (0, 0));
+    assert!(rt; fault_of_stations(rt.alloc(), 20_000, "Pier\n") == (80_013, 12));
 }
 
 /// Returns the length of a list of one constituent.
@@ -352,7 +376,7 @@ fn is_whole(alloc: Global, end: usize) -> bool {
 fn prefixes(rt: HostRuntime) {
     for end in 0..97usize {
         let whole = end == 66 || end == 67 || end == 95 || end == 96;
-        assert!(rt; is_whole(rt.alloc(), end) == whole, "{end} bytes");
+        assert_holds(&rt, is_whole(rt.alloc(), end) == whole, end);
     }
 }
 

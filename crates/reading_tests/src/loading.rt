@@ -3,8 +3,10 @@
 ghost use Rattle.std.specs.Prelude.{◌≤◌};
 ghost use Rattle.decimal_text.specs.declared.limits.TheConstants.{MOST_BYTES};
 
+use crate::asserts::assert_holds;
+use crate::edge::add_file;
 use book_loading::{LoadFault, load_book};
-use decimal_text::{Bytes, MOST_BYTES, Text};
+use decimal_text::{MOST_BYTES, Text};
 use harmonics_text::{BookFault, Why};
 use std::alloc::{AllocError, Global};
 use tide_edge::{MemoryFiles, NamedFile};
@@ -19,18 +21,6 @@ const FAULT: LoadFault = LoadFault::Book(BookFault::At {
     why: Why::BadNumber,
 });
 
-/// Appends the file `name` to `files`.
-fn add_file(
-    alloc: Global,
-    files: &mut Vec<NamedFile>,
-    name: &str,
-    bytes: Vec<u8>,
-) -> Result<(), AllocError> {
-    let name = Text::from_str(alloc, name)?;
-    let bytes = Bytes::from_vec(bytes);
-    Ok(files.push(NamedFile { name, bytes })?)
-}
-
 /// Returns the harmonics file after a long comment.
 fn long_file(alloc: Global) -> Result<Vec<u8>, AllocError> {
     let mut long = vec![in alloc; b'#'; 131_072]?;
@@ -39,13 +29,19 @@ fn long_file(alloc: Global) -> Result<Vec<u8>, AllocError> {
     Ok(long)
 }
 
-/// Returns a folder with the file `pier`, a bad one, and one of three pieces.
+/// Appends the file `pier`, a bad one, and one of three pieces.
+fn add_files(alloc: Global, files: &mut Vec<NamedFile>) -> Result<(), AllocError> {
+    add_file(alloc, files, "pier", PIER)?;
+    add_file(alloc, files, "bad", BAD)?;
+    let long = long_file(alloc)?;
+    add_file(alloc, files, "long", &long)
+}
+
 fn folder(alloc: Global, failing: u64) -> Result<MemoryFiles, AllocError> {
+    let fails = [failing].to_vec(alloc)?;
     let mut files = Vec::new(alloc);
-    add_file(alloc, &mut files, "pier", PIER.to_vec(alloc)?)?;
-    add_file(alloc, &mut files, "bad", BAD.to_vec(alloc)?)?;
-    add_file(alloc, &mut files, "long", long_file(alloc)?)?;
-    Ok(MemoryFiles::new(files, [failing].to_vec(alloc)?))
+    let added = add_files(alloc, &mut files);
+    added.and(Ok(MemoryFiles::new(files, fails)))
 }
 
 /// Returns the number of stations of the file `name`.
@@ -84,18 +80,20 @@ fn is_loaded(
     limit: u64,
     failing: u64,
     expected: &Result<usize, LoadFault>,
-) -> Result<bool, AllocError> {
+) -> bool {
     if limit > MOST_BYTES as u64 {
-        return Ok(false);
+        return false;
     }
-    let mut files = folder(alloc, failing)?;
-    Ok(stations_loaded(alloc, &mut files, name, limit) == *expected)
+    match folder(alloc, failing) {
+        Ok(mut files) => stations_loaded(alloc, &mut files, name, limit) == *expected,
+        Err(_) => false,
+    }
 }
 
 #[test]
 fn a_book_is_loaded_in_pieces(rt: HostRuntime) {
-    for (name, limit, failing, expected) in LOADINGS {
-        let is_so = is_loaded(rt.alloc(), name, *limit, *failing, expected);
-        assert!(rt; is_so == Ok(true), "limit {limit}, call {failing} fails");
+    for (place, (name, limit, failing, expected)) in LOADINGS.iter().enumerate() {
+        let is_loaded = is_loaded(rt.alloc(), name, *limit, *failing, expected);
+        assert_holds(&rt, is_loaded, place);
     }
 }

@@ -2,6 +2,7 @@
 
 ghost use Rattle.harmonics_book.specs.Books.{IsBook};
 
+use crate::asserts::assert_holds;
 use crate::texts::PIER;
 use decimal_text::{MOST_BYTES, Text};
 use harmonics_book::Book;
@@ -12,7 +13,6 @@ use station_table::{
 };
 use std::alloc::{AllocError, Global};
 use std::process::Abort;
-use std::test::Fail;
 
 const PLAIN: &[u8] = b"name,reference,high_add,low_add,high_times,low_times,high_plus,low_plus";
 
@@ -45,13 +45,15 @@ fn joined(alloc: Global, pieces: &[&[u8]]) -> Result<Vec<u8>, AllocError> {
 }
 
 /// Returns the row and the number of the fault of the text of `pieces`.
-fn fault_of_pieces(alloc: Global, pieces: &[&[u8]]) -> Result<(u32, u32), AllocError> {
-    let text = joined(alloc, pieces)?;
-    Ok(fault(alloc, text.as_slice()))
+fn fault_of_pieces(alloc: Global, pieces: &[&[u8]]) -> (u32, u32) {
+    match joined(alloc, pieces) {
+        Ok(text) => fault(alloc, text.as_slice()),
+        Err(_) => (0, 97),
+    }
 }
 
 #[test]
-fn rows_are_read(rt: HostRuntime) -> Result<(), Fail> {
+fn rows_are_read(rt: HostRuntime) -> Result<(), OffsetFault> {
     let table = read_offsets(rt.alloc(), DOCKS)?;
     check_docks(&rt, table.as_slice());
     Ok(())
@@ -75,11 +77,11 @@ fn check_dock(rt: &impl Abort, dock: &Offsets) {
         times: 900_000,
         plus: 0,
     };
-    assert!(rt; dock.name.as_str() == "Dock");
-    assert!(rt; dock.reference.as_str() == "Pier");
-    assert!(rt; dock.high == high);
-    assert!(rt; dock.low == low);
-    assert!(rt; dock.slack == None);
+    assert_holds(rt, dock.name.as_str() == "Dock", "name");
+    assert_holds(rt, dock.reference.as_str() == "Pier", "reference");
+    assert_holds(rt, dock.high == high, "high waters");
+    assert_holds(rt, dock.low == low, "low waters");
+    assert_holds(rt, dock.slack == None, "slacks");
 }
 
 #[test]
@@ -88,7 +90,7 @@ fn a_new_table_is_empty(rt: HostRuntime) {
 }
 
 #[test]
-fn slack_times_are_read(rt: HostRuntime) -> Result<(), Fail> {
+fn slack_times_are_read(rt: HostRuntime) -> Result<(), OffsetFault> {
     let table = read_offsets(rt.alloc(), GATES)?;
     check_gates(&rt, table.as_slice());
     Ok(())
@@ -121,17 +123,17 @@ const FILES: &[(&[u8], u32, u32)] = &[
 
 #[test]
 fn files_are_refused(rt: HostRuntime) {
-    for (end, row, number) in FILES {
+    for (place, (end, row, number)) in FILES.iter().enumerate() {
         let found = fault_of_pieces(rt.alloc(), &[PLAIN, end]);
-        assert!(rt; found == Ok((*row, *number)), "{end:?} gives {found:?}");
+        assert_holds(&rt, found == (*row, *number), place);
     }
 }
 
 #[test]
 fn other_headers_are_refused(rt: HostRuntime) {
-    for text in [b"".as_slice(), b"\n\r\n", b"name"] {
-        assert!(rt; fault(rt.alloc(), text) == (1, 1), "{text:?}");
-    }
+    assert_holds(&rt, fault(rt.alloc(), b"") == (1, 1), "no header");
+    assert_holds(&rt, fault(rt.alloc(), b"\n\r\n") == (1, 1), "empty lines");
+    assert_holds(&rt, fault(rt.alloc(), b"name") == (1, 1), "one column");
 }
 
 /// The text before a field and after it, the field, and the number of the fault.
@@ -191,26 +193,25 @@ const FIELDS: &[(&[u8], &[u8], &[u8], u32)] = &[
 const OWN_SLACKS: &[u8] = b",flood_add,ebb_add\n";
 
 /// Returns the row and the number of the fault of a table with `field` in its row.
-fn fault_of_field(
-    alloc: Global,
-    before: &[u8],
-    field: &[u8],
-    after: &[u8],
-) -> Result<(u32, u32), AllocError> {
+fn fault_of_field(alloc: Global, before: &[u8], field: &[u8], after: &[u8]) -> (u32, u32) {
     fault_of_pieces(alloc, &[PLAIN, OWN_SLACKS, before, field, after])
+}
+
+/// Returns the row of the fault `number`.
+fn row_of(number: u32) -> u32 {
+    if number == 0 { 0 } else { 2 }
 }
 
 #[test]
 fn fields_are_read(rt: HostRuntime) {
-    for (before, field, after, number) in FIELDS {
+    for (place, (before, field, after, number)) in FIELDS.iter().enumerate() {
         let found = fault_of_field(rt.alloc(), before, field, after);
-        let row = if *number == 0 { 0 } else { 2 };
-        assert!(rt; found == Ok((row, *number)), "{field:?} gives {found:?}");
+        assert_holds(&rt, found == (row_of(*number), *number), place);
     }
 }
 
-/// What the station of a name is over the pier and the docks.
-type Found = Result<Result<Basis, FindFault>, Fail>;
+/// What the station of a name is over the pier and the docks: an error if one of them isn't read.
+type Found = Result<Result<Basis, FindFault>, AllocError>;
 
 fn found_over(alloc: Global, book: &Book, table: &OffsetTable, name: &str) -> Found
     requires { IsBook book.now }
@@ -222,14 +223,18 @@ fn found_over(alloc: Global, book: &Book, table: &OffsetTable, name: &str) -> Fo
 fn found_in_book(alloc: Global, book: &Book, name: &str) -> Found
     requires { IsBook book.now }
 {
-    let table = read_offsets(alloc, DOCKS)?;
-    found_over(alloc, book, &table, name)
+    match read_offsets(alloc, DOCKS) {
+        Ok(table) => found_over(alloc, book, &table, name),
+        Err(_) => Err(AllocError),
+    }
 }
 
 /// Returns the station `name` over the pier and the docks.
 fn found(alloc: Global, name: &str) -> Found {
-    let book = read_book(alloc, PIER.as_bytes())?;
-    found_in_book(alloc, &book, name)
+    match read_book(alloc, PIER.as_bytes()) {
+        Ok(book) => found_in_book(alloc, &book, name),
+        Err(_) => Err(AllocError),
+    }
 }
 
 /// A name, its row in the table, and the minutes added to high waters.
@@ -247,33 +252,31 @@ fn is_basis(basis: &Basis, row: Option<u32>, add: i32) -> bool {
         && basis.plain() == (add == 0)
 }
 
-fn is_found(alloc: Global, name: &str, row: Option<u32>, add: i32) -> Result<bool, Fail> {
-    match found(alloc, name)? {
-        Ok(basis) => Ok(is_basis(&basis, row, add)),
-        Err(_) => Ok(false),
+fn is_found(alloc: Global, name: &str, row: Option<u32>, add: i32) -> bool {
+    match found(alloc, name) {
+        Ok(Ok(basis)) => is_basis(&basis, row, add),
+        _ => false,
     }
 }
 
 #[test]
-fn names_are_found(rt: HostRuntime) -> Result<(), Fail> {
+fn names_are_found(rt: HostRuntime) {
     for (name, row, add) in NAMES {
-        let is_found = is_found(rt.alloc(), name, *row, *add)?;
-        assert!(rt; is_found, "{name}");
+        assert_holds(&rt, is_found(rt.alloc(), name, *row, *add), *name);
     }
-    Ok(())
 }
 
-fn fault_of_name(alloc: Global, name: &str) -> Result<Option<FindFault>, Fail> {
-    Ok(found(alloc, name)?.err())
+fn fault_of_name(alloc: Global, name: &str) -> Option<FindFault> {
+    found(alloc, name).ok()?.err()
 }
 
 #[test]
-fn other_names_are_refused(rt: HostRuntime) -> Result<(), Fail> {
+fn other_names_are_refused(rt: HostRuntime) {
     let lost = FindFault::NoReference { row: 4 };
-    assert!(rt; fault_of_name(rt.alloc(), "Buoy")? == Some(lost));
-    assert!(rt; fault_of_name(rt.alloc(), "pier")? == Some(FindFault::NoStation));
-    assert!(rt; OffsetWhy::NotUtf8.text() == "not UTF-8");
-    Ok(())
+    assert_holds(&rt, fault_of_name(rt.alloc(), "Buoy") == Some(lost), "Buoy");
+    let fault = fault_of_name(rt.alloc(), "pier");
+    assert_holds(&rt, fault == Some(FindFault::NoStation), "pier");
+    assert_holds(&rt, OffsetWhy::NotUtf8.text() == "not UTF-8", "a reason");
 }
 
 #[test]

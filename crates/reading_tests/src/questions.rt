@@ -1,5 +1,6 @@
 //! Requests, and the faults of command lines and queries that are none.
 
+use crate::asserts::assert_holds;
 use decimal_text::{Text, Words};
 use question::{
     AskFault, Command, Key, Layout, Origin, Pairs, Question, ZoneWord, pairs_of_words,
@@ -251,7 +252,7 @@ fn fault_of(alloc: Global, origin: Origin, line: &str) -> Option<AskFault> {
 fn faults_of_command_lines_are_reported(rt: HostRuntime) {
     for (words, fault) in LINES {
         let found = fault_of(rt.alloc(), Origin::Line, words);
-        assert!(rt; found == *fault, "{words}");
+        assert_holds(&rt, found == *fault, *words);
     }
 }
 
@@ -259,7 +260,7 @@ fn faults_of_command_lines_are_reported(rt: HostRuntime) {
 fn faults_of_queries_are_reported(rt: HostRuntime) {
     for (words, fault) in QUERIES {
         let found = fault_of(rt.alloc(), Origin::Query, words);
-        assert!(rt; found == *fault, "{words}");
+        assert_holds(&rt, found == *fault, *words);
     }
 }
 
@@ -288,26 +289,26 @@ fn questions_have_their_values(rt: HostRuntime) -> Result<(), AskFault> {
 }
 
 fn check_left_out(rt: &impl Abort, plain: &Question) {
-    assert!(rt; plain.offsets.is_none());
-    assert!(rt; plain.certificate.is_none());
-    assert!(rt; plain.sheets.is_none());
+    assert_holds(rt, plain.offsets.is_none(), "offsets");
+    assert_holds(rt, plain.certificate.is_none(), "certificate");
+    assert_holds(rt, plain.sheets.is_none(), "sheets");
 }
 
 fn check_words(rt: &impl Abort, plain: &Question) {
-    assert!(rt; plain.command == Command::Predict);
-    assert!(rt; is_name(&plain.file, "pier.txt"));
-    assert!(rt; is_name(&plain.station, "Pier"));
-    assert!(rt; plain.begin == Some(15_791_040));
-    assert!(rt; plain.end == Some(15_792_480));
+    assert_holds(rt, plain.command == Command::Predict, "command");
+    assert_holds(rt, is_name(&plain.file, "pier.txt"), "file");
+    assert_holds(rt, is_name(&plain.station, "Pier"), "station");
+    assert_holds(rt, plain.begin == Some(15_791_040), "begin");
+    assert_holds(rt, plain.end == Some(15_792_480), "end");
 }
 
 fn check_usual(rt: &impl Abort, plain: &Question) {
-    assert!(rt; plain.mark == None);
-    assert!(rt; plain.step == 60);
-    assert!(rt; matches!(&plain.zone, ZoneWord::Utc));
-    assert!(rt; plain.layout == Layout::Plain);
-    assert!(rt; plain.seed == None);
-    assert!(rt; plain.port == 8080);
+    assert_holds(rt, plain.mark == None, "mark");
+    assert_holds(rt, plain.step == 60, "step");
+    assert_holds(rt, matches!(&plain.zone, ZoneWord::Utc), "zone");
+    assert_holds(rt, plain.layout == Layout::Plain, "layout");
+    assert_holds(rt, plain.seed == None, "seed");
+    assert_holds(rt, plain.port == 8080, "port");
 }
 
 #[test]
@@ -321,11 +322,11 @@ fn a_question_about_a_span_is_read(rt: HostRuntime) -> Result<(), AskFault> {
 }
 
 fn check_full(rt: &impl Abort, full: &Question) {
-    assert!(rt; is_name(&full.file, "a=b"));
-    assert!(rt; is_name(&full.offsets, "o.csv"));
-    assert!(rt; full.mark == Some(-500_000));
-    assert!(rt; matches!(&full.zone, ZoneWord::Fixed(-330)));
-    assert!(rt; full.layout == Layout::Csv);
+    assert_holds(rt, is_name(&full.file, "a=b"), "file");
+    assert_holds(rt, is_name(&full.offsets, "o.csv"), "offsets");
+    assert_holds(rt, full.mark == Some(-500_000), "mark");
+    assert_holds(rt, matches!(&full.zone, ZoneWord::Fixed(-330)), "zone");
+    assert_holds(rt, full.layout == Layout::Csv, "layout");
 }
 
 fn check_zone(rt: &impl Abort, check: &Question) {

@@ -3,6 +3,7 @@
 ghost use Rattle.std.specs.Prelude.{◌≤◌, length};
 ghost use Rattle.decimal_text.specs.declared.limits.TheConstants.{MOST_BYTES};
 
+use crate::asserts::assert_holds;
 use crate::certificates::is_rewritten;
 use crate::harmonics::{is_book, may_be_cut};
 use crate::questions::asked;
@@ -16,15 +17,10 @@ use sample_tides::sample;
 use station_table::{Offsets, read_offsets};
 use std::alloc::{AllocError, Global};
 use std::process::Abort;
-use std::test::Fail;
 
-/// Returns `count` letters.
-fn letters(alloc: Global, count: usize) -> Result<String, AllocError> {
-    let mut text = String::new(alloc);
-    for _ in 0..count {
-        text.push_str("a")?;
-    }
-    Ok(text)
+/// Returns 400 letters.
+fn letters(alloc: Global) -> Result<String, AllocError> {
+    "a".repeat(alloc, 400)
 }
 
 /// Returns `text` with `name` in place of each `%`.
@@ -41,30 +37,39 @@ fn with_names(alloc: Global, text: &str, name: &str) -> Result<String, AllocErro
 
 /// Returns `text` with 400 letters in place of each `%`.
 fn filled(alloc: Global, text: &str) -> Result<String, AllocError> {
-    let long = letters(alloc, 400)?;
+    let long = letters(alloc)?;
     with_names(alloc, text, long.as_str())
 }
 
-fn is_copied(alloc: Global, long: &str) -> Result<bool, AllocError> {
-    let text = Text::from_str(alloc, long)?.copy()?;
-    Ok(text.as_str() == long)
+fn copied(alloc: Global, long: &str) -> Result<Text, AllocError> {
+    Text::from_str(alloc, long)?.copy()
 }
 
-/// Returns true if 400 letters are copied.
-fn are_letters_copied(alloc: Global) -> Result<bool, AllocError> {
-    let long = letters(alloc, 400)?;
-    is_copied(alloc, long.as_str())
-}
-
-#[test]
-fn long_texts_are_copied(rt: HostRuntime) {
-    assert!(rt; are_letters_copied(rt.alloc()) == Ok(true));
+fn is_copied(alloc: Global, long: &str) -> bool {
+    match copied(alloc, long) {
+        Ok(text) => text.as_str() == long,
+        Err(_) => false,
+    }
 }
 
 #[test]
-fn long_bytes_are_copied(rt: HostRuntime) -> Result<(), Fail> {
+fn long_texts_are_copied(rt: HostRuntime) -> Result<(), AllocError> {
+    let long = letters(rt.alloc())?;
+    assert!(rt; is_copied(rt.alloc(), long.as_str()));
+    Ok(())
+}
+
+fn are_bytes_copied(bytes: &Bytes) -> bool {
+    match bytes.copy() {
+        Ok(copy) => copy.as_slice() == bytes.as_slice(),
+        Err(_) => false,
+    }
+}
+
+#[test]
+fn long_bytes_are_copied(rt: HostRuntime) -> Result<(), AllocError> {
     let bytes = Bytes::from_vec(vec![in rt.alloc(); b'a'; 10_000]?);
-    assert!(rt; bytes.copy()?.as_slice() == bytes.as_slice());
+    assert!(rt; are_bytes_copied(&bytes));
     Ok(())
 }
 
@@ -77,15 +82,18 @@ fn many_numbers(alloc: Global) -> Result<Numbers, AllocError> {
     Ok(Numbers::from_vec(numbers))
 }
 
-fn are_numbers_copied(alloc: Global) -> Result<bool, AllocError> {
-    let numbers = many_numbers(alloc)?;
-    let copy = numbers.copy()?;
-    Ok(copy.as_slice() == numbers.as_slice())
+fn are_numbers_copied(numbers: &Numbers) -> bool {
+    match numbers.copy() {
+        Ok(copy) => copy.as_slice() == numbers.as_slice(),
+        Err(_) => false,
+    }
 }
 
 #[test]
-fn long_lists_of_numbers_are_copied(rt: HostRuntime) {
-    assert!(rt; are_numbers_copied(rt.alloc()) == Ok(true));
+fn long_lists_of_numbers_are_copied(rt: HostRuntime) -> Result<(), AllocError> {
+    let numbers = many_numbers(rt.alloc())?;
+    assert!(rt; are_numbers_copied(&numbers));
+    Ok(())
 }
 
 /// Returns 10,000 words `text`.
@@ -101,58 +109,61 @@ fn are_equal_to(words: &[Text], long: &str) -> bool {
     words.iter().all(|word| word.as_str() == long)
 }
 
-fn check_copies(rt: &impl Abort, alloc: Global, long: &str) -> Result<(), Fail> {
+fn check_copies(rt: &impl Abort, alloc: Global, long: &str) -> Result<(), AllocError> {
     let words = many_words(alloc, long)?.copy()?;
-    assert!(rt; words.as_slice().len() == 10_000);
-    assert!(rt; are_equal_to(words.as_slice(), long));
+    assert_holds(rt, words.as_slice().len() == 10_000, "words");
+    assert_holds(rt, are_equal_to(words.as_slice(), long), "letters");
     Ok(())
 }
 
 #[test]
-fn long_lists_of_words_are_copied(rt: HostRuntime) -> Result<(), Fail> {
-    let long = letters(rt.alloc(), 400)?;
+fn long_lists_of_words_are_copied(rt: HostRuntime) -> Result<(), AllocError> {
+    let long = letters(rt.alloc())?;
     check_copies(&rt, rt.alloc(), long.as_str())
 }
 
 // The sample file has as many lines as the harmonics file of a harbour office.
 #[test]
-fn a_file_of_many_stations_is_read(rt: HostRuntime) -> Result<(), Fail> {
+fn a_file_of_many_stations_is_read(rt: HostRuntime) -> Result<(), AllocError> {
     let file = sample(rt.alloc(), 0)?;
-    check_sample(&rt, rt.alloc(), file.as_slice())
+    check_sample(&rt, rt.alloc(), file.as_slice());
+    Ok(())
 }
 
-fn check_sample(rt: &impl Abort, alloc: Global, text: &[u8]) -> Result<(), Fail>
+fn check_sample(rt: &impl Abort, alloc: Global, text: &[u8])
     requires { length text.now ≤ MOST_BYTES }
 {
-    assert!(rt; text.split(|byte| *byte == b'\n').count() == 8_193);
-    let book = read_book(alloc, text)?;
-    check_book(rt, &book);
-    Ok(())
+    let lines = text.split(|byte| *byte == b'\n').count();
+    assert_holds(rt, lines == 8_193, "lines");
+    match read_book(alloc, text) {
+        Ok(book) => check_book(rt, &book),
+        Err(_) => assert_holds(rt, false, "the sample is read"),
+    }
 }
 
 fn check_book(rt: &impl Abort, book: &Book) {
     check_constituents(rt, book.constituents.as_slice());
-    assert!(rt; book.angles.as_slice().len() == 1_110);
-    assert!(rt; book.factors.as_slice().len() == 1_110);
-    assert!(rt; book.stations.as_slice().len() == 200);
+    assert_holds(rt, book.angles.as_slice().len() == 1_110, "angles");
+    assert_holds(rt, book.factors.as_slice().len() == 1_110, "factors");
+    assert_holds(rt, book.stations.as_slice().len() == 200, "stations");
 }
 
 fn check_constituents(rt: &impl Abort, constituents: &[Constituent]) {
     assert!(rt; constituents.len() == 37);
-    assert!(rt; constituents[5].name.as_str() == "C6");
-    assert!(rt; constituents[5].speed == 273_128_346);
+    assert_holds(rt, constituents[5].name.as_str() == "C6", "name");
+    assert_holds(rt, constituents[5].speed == 273_128_346, "speed");
 }
 
 #[test]
-fn a_file_of_many_stations_is_read_in_pieces(rt: HostRuntime) -> Result<(), Fail> {
+fn a_file_of_many_stations_is_read_in_pieces(rt: HostRuntime) -> Result<(), AllocError> {
     let file = sample(rt.alloc(), 0)?;
-    check_pieces(&rt, rt.alloc(), file.as_slice())
+    check_pieces(&rt, rt.alloc(), file.as_slice());
+    Ok(())
 }
 
-fn check_pieces(rt: &impl Abort, alloc: Global, text: &[u8]) -> Result<(), Fail> {
-    assert!(rt; is_book(alloc, text)?);
-    assert!(rt; may_be_cut(alloc, text, &[4_096])?);
-    Ok(())
+fn check_pieces(rt: &impl Abort, alloc: Global, text: &[u8]) {
+    assert_holds(rt, is_book(alloc, text), "a book");
+    assert_holds(rt, may_be_cut(alloc, text, &[4_096]), "pieces");
 }
 
 const HEADER: &str =
@@ -172,31 +183,35 @@ fn long_table(alloc: Global) -> Result<String, AllocError> {
 }
 
 #[test]
-fn a_table_of_many_rows_is_read(rt: HostRuntime) -> Result<(), Fail> {
+fn a_table_of_many_rows_is_read(rt: HostRuntime) -> Result<(), AllocError> {
     let text = long_table(rt.alloc())?;
-    check_table(&rt, rt.alloc(), text.as_bytes())
-}
-
-fn check_table(rt: &impl Abort, alloc: Global, text: &[u8]) -> Result<(), Fail> {
-    assert!(rt; text.len() < 2_000_000);
-    let table = read_offsets(alloc, text)?;
-    check_rows(rt, table.as_slice());
+    check_table(&rt, rt.alloc(), text.as_bytes());
     Ok(())
 }
 
+fn check_table(rt: &impl Abort, alloc: Global, text: &[u8]) {
+    assert!(rt; text.len() < 2_000_000);
+    match read_offsets(alloc, text) {
+        Ok(table) => check_rows(rt, table.as_slice()),
+        Err(_) => assert_holds(rt, false, "the table is read"),
+    }
+}
+
 fn check_rows(rt: &impl Abort, rows: &[Offsets]) {
-    assert!(rt; rows.len() == 1_200);
+    assert_holds(rt, rows.len() == 1_200, "rows");
     for row in rows {
         check_row(rt, row);
     }
 }
 
 fn check_row(rt: &impl Abort, row: &Offsets) {
-    assert!(rt; row.name.as_str().len() == 400);
-    assert!(rt; row.reference.as_str().len() == 400);
-    assert!(rt; (row.high.add, row.low.add) == (-1_439, 1_440));
-    assert!(rt; (row.high.times, row.low.times) == (100_000_000, 1));
-    assert!(rt; row.slack.is_some());
+    assert_holds(rt, row.name.as_str().len() == 400, "name");
+    assert_holds(rt, row.reference.as_str().len() == 400, "reference");
+    let adds = (row.high.add, row.low.add);
+    assert_holds(rt, adds == (-1_439, 1_440), "minutes");
+    let times = (row.high.times, row.low.times);
+    assert_holds(rt, times == (100_000_000, 1), "factors");
+    assert_holds(rt, row.slack.is_some(), "slacks");
 }
 
 /// Returns the request of the arguments in `line`, separated by `|`, whose names have 400 letters.
@@ -227,8 +242,8 @@ fn is_long(name: &Option<Text>) -> bool {
 
 /// Checks that `name` has 400 letters if `line` has the key, and is none otherwise.
 fn check_name(rt: &impl Abort, name: &Option<Text>, line: &str, key: &str) {
-    assert!(rt; is_long(name) == line.contains(key), "{line}");
-    assert!(rt; name.is_some() == line.contains(key), "{line}");
+    assert_holds(rt, is_long(name) == line.contains(key), line);
+    assert_holds(rt, name.is_some() == line.contains(key), line);
 }
 
 fn check_names(rt: &impl Abort, asked: &Question, line: &str) {
@@ -250,7 +265,7 @@ fn has_others(asked: &Question, line: &str) -> bool {
 
 fn check_question(rt: &impl Abort, asked: &Question, line: &str) {
     check_names(rt, asked, line);
-    assert!(rt; has_others(asked, line), "{line}");
+    assert_holds(rt, has_others(asked, line), line);
 }
 
 #[test]
@@ -289,25 +304,33 @@ fn push_tracks(text: &mut String) -> Result<(), AllocError> {
 }
 
 #[test]
-fn a_long_certificate_is_read_and_written(rt: HostRuntime) -> Result<(), Fail> {
+fn a_long_certificate_is_read_and_written(rt: HostRuntime) -> Result<(), AllocError> {
     let text = long_certificate(rt.alloc())?;
-    check_certificate(&rt, rt.alloc(), text.as_bytes())
-}
-
-fn check_certificate(rt: &impl Abort, alloc: Global, text: &[u8]) -> Result<(), Fail> {
-    assert!(rt; text.len() < 1_000_000);
-    assert!(rt; is_rewritten(alloc, text)?);
-    let cert = read_certificate(alloc, text)?;
-    check_tracks(rt, &cert);
+    check_certificate(&rt, rt.alloc(), text.as_bytes());
     Ok(())
 }
 
+fn check_certificate(rt: &impl Abort, alloc: Global, text: &[u8]) {
+    assert!(rt; text.len() < 1_000_000);
+    assert_holds(rt, is_rewritten(alloc, text), "the written text");
+    match read_certificate(alloc, text) {
+        Ok(cert) => check_tracks(rt, &cert),
+        Err(_) => assert_holds(rt, false, "the certificate is read"),
+    }
+}
+
 fn check_tracks(rt: &impl Abort, cert: &Certificate) {
-    assert!(rt; cert.station.as_str().len() == 400);
-    let turn = cert.tracks.turn.as_slice();
+    assert_holds(rt, cert.station.as_str().len() == 400, "name");
+    check_turns(rt, cert.tracks.turn.as_slice());
+    let slack = match &cert.tracks.slack {
+        Some(cells) => cells.as_slice().len(),
+        None => 0,
+    };
+    assert_holds(rt, slack == 10_000, "cells of slacks");
+}
+
+fn check_turns(rt: &impl Abort, turn: &[Cell]) {
     assert!(rt; turn.len() == 20_000);
-    assert!(rt; turn[19_998] == Cell::Turn(Kind::High, 99_999_999_999_999));
-    let slack = cert.tracks.slack.as_ref();
-    let slack = slack.map_or(0, |cells| cells.as_slice().len());
-    assert!(rt; slack == 10_000);
+    let high = Cell::Turn(Kind::High, 99_999_999_999_999);
+    assert_holds(rt, turn[19_998] == high, "the last event");
 }
