@@ -201,7 +201,10 @@ fn fault_of_longer(alloc: Global, text: &str) -> Result<u32, AllocError> {
 
 /// Returns true if another last line of `text` is its fault.
 fn is_last_found(alloc: Global, text: &str) -> bool {
-    fault_of_longer(alloc, text) == Ok(text.lines().count() as u32 + 1)
+    match fault_of_longer(alloc, text) {
+        Ok(line) => line as usize == text.lines().count().saturating_add(1),
+        Err(_) => false,
+    }
 }
 
 #[test]
