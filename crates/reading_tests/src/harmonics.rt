@@ -1,13 +1,10 @@
 //! Files of harmonic constants, and the faults of others.
 
-ghost use Rattle.std.specs.Prelude.{◌<◌, ◌≤◌, ◌+◌, length};
-ghost use Rattle.decimal_text.specs.declared.limits.TheConstants.{MOST_BYTES};
-
 use crate::asserts::assert_holds;
 use crate::texts::{PIER, changed};
 use decimal_text::{MOST_BYTES, Text};
 use harmonics_book::{Book, Constituent, Constituents, Station, Stations, Units};
-use harmonics_text::{BookFault, BookReader, Why, read_book, worked_files, worked_lines};
+use harmonics_text::{BookFault, Why, read_book, worked_files, worked_lines};
 use std::alloc::{AllocError, Global};
 use std::process::Abort;
 
@@ -57,12 +54,12 @@ fn the_constituent_of_the_pier_is_read(rt: HostRuntime) -> Result<(), BookFault>
     Ok(())
 }
 
-const REAL: [u8; 227] =
+pub const REAL: [u8; 227] =
     *b"# Constituents\r\n2\r\nM2 28.9841042\r\n  S2\t30.0000000  \r\n\r\n2000\r\n1\r\nM2\r\n120.50\r\n# between\r\n\
     S2\r\n0.00\r\n*END*\r\n1\r\nM2\r\n0.9850\r\nS2\r\n1.0000\r\n*END*\r\n# A station\r\nPort\xe9, Bay\r\n\
     -5:00 :America/New_York\r\n2.5 feet\r\nM2 1.234 45.0\r\nS2 0.4 300.0\r\n";
 
-const ELEVEN_YEARS: &str =
+pub const ELEVEN_YEARS: &str =
     "1\nM2 28.9841042\n1999\n11\nM2\n0 20 40 60 80 100 120 140 160 180 200\n*END*\n11\nM2\n\
     0.9800 0.9840 0.9880 0.9920 0.9960 1.0000 1.0040 1.0080 1.0120 1.0160 1.0200\n*END*\n\
     Pier\n0:00\n1 feet\nM2 3 40\n";
@@ -116,7 +113,7 @@ fn has_head(station: &Station) -> bool {
 }
 
 /// The number of a line, its text, and the line and the number of the fault.
-const CHANGES: &[(usize, &str, u32, u32)] = &[
+pub const CHANGES: &[(usize, &str, u32, u32)] = &[
     (2, "2", 4, 3),
     (2, "0000000001", 2, 1),
     (2, "000000001", 0, 0),
@@ -175,99 +172,6 @@ fn changes_of_a_line(rt: HostRuntime) {
     for (line, text, at, number) in CHANGES {
         let found = fault_of_change(rt.alloc(), *line, text);
         assert_holds(&rt, found == (*at, *number), *text);
-    }
-}
-
-/// Passes `bytes` to `reader` in pieces of `count` bytes.
-fn feed_pieces(reader: &mut BookReader, bytes: &[u8], count: usize) -> Result<(), BookFault>
-    requires count_bound { length reader.old.bytes + length bytes.now ≤ MOST_BYTES }
-    requires some { 0 < count }
-{
-    let mut rest = bytes;
-    'pieces: while !rest.is_empty() {
-        let (piece, after) = rest.split_at(count.min(rest.len()));
-        reader.feed(piece)?;
-        rest = after;
-    }
-    Ok(())
-}
-
-/// Reads `bytes` in pieces of `count` bytes.
-fn read_in_pieces(alloc: Global, bytes: &[u8], count: usize) -> Result<Book, BookFault>
-    requires count_bound { length bytes.now ≤ MOST_BYTES }
-    requires some { 0 < count }
-{
-    let mut reader = BookReader::new(alloc)?;
-    let fed = feed_pieces(&mut reader, bytes, count);
-    fed.and(reader.finish())
-}
-
-/// Returns the harmonic constants of `bytes`, fed in pieces of `count` bytes, as text, or their
-/// fault.
-fn printed_in_pieces(alloc: Global, bytes: &[u8], count: usize) -> Result<String, AllocError> {
-    if bytes.len() > MOST_BYTES || count == 0 {
-        return Ok(String::new(alloc));
-    }
-    format!(in alloc; "{:?}", read_in_pieces(alloc, bytes, count))
-}
-
-/// Returns true if `file`, fed in pieces of `count` bytes, is printed as `whole`.
-fn is_printed(alloc: Global, file: &[u8], count: usize, whole: &str) -> bool {
-    match printed_in_pieces(alloc, file, count) {
-        Ok(printed) => printed.as_str() == whole,
-        Err(_) => false,
-    }
-}
-
-fn are_printed(alloc: Global, file: &[u8], counts: &[usize], whole: &str) -> bool {
-    for count in counts {
-        if !is_printed(alloc, file, *count, whole) {
-            return false;
-        }
-    }
-    true
-}
-
-/// Returns true if `file` is read in pieces of each of `counts` bytes as it is read whole.
-pub fn may_be_cut(alloc: Global, file: &[u8], counts: &[usize]) -> bool {
-    match printed_in_pieces(alloc, file, file.len()) {
-        Ok(whole) => are_printed(alloc, file, counts, whole.as_str()),
-        Err(_) => false,
-    }
-}
-
-/// Returns true if `file` is harmonic constants.
-pub fn is_book(alloc: Global, file: &[u8]) -> bool {
-    match printed_in_pieces(alloc, file, file.len()) {
-        Ok(whole) => whole.starts_with("Ok("),
-        Err(_) => false,
-    }
-}
-
-fn check_cuts(rt: &impl Abort, alloc: Global, file: &[u8], case: &str) {
-    assert_holds(rt, is_book(alloc, file), case);
-    assert_holds(rt, may_be_cut(alloc, file, &[1, 7]), case);
-}
-
-#[test]
-fn a_file_may_be_cut_anywhere(rt: HostRuntime) {
-    check_cuts(&rt, rt.alloc(), PIER.as_bytes(), "pier");
-    check_cuts(&rt, rt.alloc(), &REAL, "real");
-    check_cuts(&rt, rt.alloc(), ELEVEN_YEARS.as_bytes(), "eleven years");
-}
-
-/// Returns true if the pier with `text` in place of line `line` may be cut.
-fn may_change_be_cut(alloc: Global, line: usize, text: &str) -> bool {
-    match changed(alloc, PIER, line, text) {
-        Ok(file) => may_be_cut(alloc, file.as_bytes(), &[1, 7]),
-        Err(_) => false,
-    }
-}
-
-#[test]
-fn a_changed_file_may_be_cut_anywhere(rt: HostRuntime) {
-    for (line, text, _, _) in CHANGES {
-        assert_holds(&rt, may_change_be_cut(rt.alloc(), *line, text), *text);
     }
 }
 

@@ -10,7 +10,11 @@ mod asserts;
 #[cfg(test)]
 mod certificates;
 #[cfg(test)]
+mod cuts;
+#[cfg(test)]
 mod decimals;
+#[cfg(test)]
+mod doors;
 #[cfg(test)]
 mod edge;
 #[cfg(test)]

@@ -5,7 +5,7 @@ ghost use Rattle.decimal_text.specs.declared.limits.TheConstants.{MOST_BYTES};
 
 use crate::asserts::assert_holds;
 use crate::certificates::is_rewritten;
-use crate::harmonics::{is_book, may_be_cut};
+use crate::cuts::{is_book, may_be_cut};
 use crate::questions::asked;
 use cert_text::{Certificate, read_certificate};
 use curve_law::{Cell, Kind};

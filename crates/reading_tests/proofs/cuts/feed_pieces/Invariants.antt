@@ -1,5 +1,5 @@
 use Rattle.std.proofs.Common.{◌+◌, ◌≤◌, length}
-use Rattle.reading_tests.proofs.harmonics.feed_pieces.Given as goal
+use Rattle.reading_tests.proofs.cuts.feed_pieces.Given as goal
 use Rattle.decimal_text.specs.declared.limits.TheConstants.{MOST_BYTES}
 
 abbrev pub invariant-pieces : goal.invariant-pieces

@@ -1,0 +1,188 @@
+//! Doors in memory, and a port of the machine.
+
+ghost use Rattle.std.specs.Prelude.{◌≡◌, false, IsTrue, IfOk};
+ghost use Rattle.std.specs.List.{list_all};
+ghost use Rattle.tide_edge.specs.Doors.{not_listening};
+ghost use Rattle.tide_edge.specs.Memory.{are_pieces};
+
+use crate::asserts::assert_holds;
+use decimal_text::Bytes;
+use std::alloc::{AllocError, Global};
+use std::io::{Read, Write};
+use std::net::{Ipv4Addr, TcpStream};
+use std::process::Abort;
+use std::test::Fail;
+use tide_edge::{Door, Failed, HostDoor, MemoryDoor};
+
+/// Accepts one connection, and sends back the first bytes that are read over it.
+fn echo<D: Door>(door: &mut D) -> Result<bool, Failed>
+    requires listens { IsTrue (D.state door.old).doorway.listens }
+    requires none_open { (D.state door.old).doorway.is_open ≡ false }
+    ensures listens { IsTrue (D.state door.new).doorway.listens }
+    ensures none_open { (D.state door.new).doorway.is_open ≡ false }
+{
+    if !door.next()? {
+        return Ok(false);
+    }
+    let mut room = [0; 8];
+    let mut sent = door.read(&mut room);
+    if let Ok(count) = sent
+        && count > 0
+    {
+        sent = door.write(&room[..count]);
+    }
+    door.close();
+    sent.map(|_| true)
+}
+
+/// Returns a request in two pieces, and one without a byte.
+fn requests(alloc: Global) -> Result<Vec<Vec<Bytes>>, AllocError>
+    ensures { IfOk result (λ requests. IsTrue (list_all (λ request. are_pieces request.items) requests.items)) }
+{
+    let mut pieces = Vec::new(alloc);
+    pieces.push(Bytes::from_vec(b"pier".to_vec(alloc)?))?;
+    pieces.push(Bytes::from_vec(b" files".to_vec(alloc)?))?;
+    let mut requests = Vec::new(alloc);
+    requests.push(pieces)?;
+    requests.push(Vec::new(alloc))?;
+    Ok(requests)
+}
+
+/// Returns the outcomes of three connections.
+fn echo_thrice<D: Door>(door: &mut D) -> [Result<bool, Failed>; 3]
+    requires listens { IsTrue (D.state door.old).doorway.listens }
+    requires none_open { (D.state door.old).doorway.is_open ≡ false }
+{
+    [echo(door), echo(door), echo(door)]
+}
+
+fn has_reply(door: &MemoryDoor, i: u64, text: &str) -> bool {
+    door.reply(i).is_some_and(|reply| reply == text.as_bytes())
+}
+
+/// The room for replies, the call that fails, the outcomes of three connections, and the first
+/// reply.
+const DOORS: &[(u64, u64, [Result<bool, Failed>; 3], &str)] = &[
+    (4, 0, [Ok(true), Ok(true), Ok(false)], "pier"),
+    (4, 2, [Err(Failed), Ok(true), Ok(true)], "pier"),
+    (4, 3, [Err(Failed), Ok(true), Ok(false)], ""),
+    (4, 4, [Err(Failed), Ok(true), Ok(false)], ""),
+    (4, 5, [Ok(true), Err(Failed), Ok(true)], "pier"),
+    (3, 7, [Ok(true), Ok(true), Err(Failed)], "pie"),
+    (0, 0, [Err(Failed), Ok(true), Ok(false)], ""),
+];
+
+fn has_replies(door: &MemoryDoor, first: &str) -> bool {
+    has_reply(door, 0, first) && has_reply(door, 1, "") && door.reply(2) == None
+}
+
+/// Returns a door whose call `failing` fails, with room for `room` bytes of each reply.
+fn memory_door(alloc: Global, room: u64, failing: u64) -> Result<MemoryDoor, AllocError>
+    ensures { IfOk result (λ door. door.doorway ≡ not_listening) }
+{
+    let fails = [failing].to_vec(alloc)?;
+    let requests = requests(alloc)?;
+    MemoryDoor::new(alloc, requests, room, fails)
+}
+
+/// Returns true if such a door has those outcomes and replies.
+fn is_served(
+    alloc: Global,
+    room: u64,
+    failing: u64,
+    expected: &[Result<bool, Failed>; 3],
+    first: &str,
+) -> bool {
+    match memory_door(alloc, room, failing) {
+        Ok(mut door) => gives(&mut door, expected) && has_replies(&door, first),
+        Err(_) => false,
+    }
+}
+
+/// Returns true if `door`, listening, has those outcomes.
+fn gives(door: &mut MemoryDoor, expected: &[Result<bool, Failed>; 3]) -> bool
+    requires { door.old.doorway ≡ not_listening }
+{
+    if door.listen(80) != Ok(()) {
+        return false;
+    }
+    echo_thrice(door) == *expected
+}
+
+#[test]
+fn a_door_in_memory_fails_as_required(rt: HostRuntime) {
+    for (place, (room, failing, expected, first)) in DOORS.iter().enumerate() {
+        let is_served = is_served(rt.alloc(), *room, *failing, expected, first);
+        assert_holds(&rt, is_served, place);
+    }
+}
+
+/// Returns a door without a request, whose call `failing` fails.
+fn shut_door(alloc: Global, failing: u64) -> Result<MemoryDoor, AllocError>
+    ensures { IfOk result (λ door. door.doorway ≡ not_listening) }
+{
+    MemoryDoor::new(alloc, Vec::new(alloc), 0, [failing].to_vec(alloc)?)
+}
+
+#[test]
+fn a_shut_door_fails(rt: HostRuntime) -> Result<(), AllocError> {
+    let mut shut = shut_door(rt.alloc(), 1)?;
+    assert!(rt; shut.listen(80) == Err(Failed));
+    Ok(())
+}
+
+/// Returns true if the bytes that are left of `peer` are `expected`.
+fn rest_is<P: Read>(alloc: Global, peer: &mut P, expected: &[u8]) -> bool {
+    let mut answer = Vec::new(alloc);
+    peer.read_to_end(&mut answer).is_ok() && answer.as_slice() == expected
+}
+
+/// Sends bytes over `peer` to `door`, which sends them back.
+fn check_echo<D: Door, P: Read + Write>(
+    rt: &impl Abort,
+    alloc: Global,
+    door: &mut D,
+    peer: &mut P,
+) -> Result<(), Fail>
+    requires listens { IsTrue (D.state door.old).doorway.listens }
+    requires none_open { (D.state door.old).doorway.is_open ≡ false }
+{
+    peer.write_all(b"pier")?;
+    assert!(rt; echo(door) == Ok(true));
+    assert!(rt; rest_is(alloc, peer, b"pier"));
+    Ok(())
+}
+
+/// Returns true if the port is taken.
+fn is_taken(system: &HostRuntime, port: u16) -> Result<bool, Fail> {
+    Ok(HostDoor::new(system.clone()?).listen(port) == Err(Failed))
+}
+
+/// Returns false if `door` can't listen on `port`.
+fn takes_connection(
+    rt: &impl Abort,
+    system: &HostRuntime,
+    door: &mut HostDoor<HostRuntime>,
+    port: u16,
+) -> Result<bool, Fail>
+    requires { (⟦<HostDoor<HostRuntime> as Door>⟧.state door.old).doorway ≡ not_listening }
+{
+    if door.listen(port).is_err() {
+        return Ok(false);
+    }
+    assert!(rt; is_taken(system, port)?);
+    let mut peer = TcpStream::connect(system, (Ipv4Addr::LOCALHOST, port))?;
+    check_echo(rt, system.alloc(), door, &mut peer)?;
+    Ok(true)
+}
+
+#[test]
+fn a_port_of_the_machine_takes_a_connection(rt: HostRuntime) -> Result<(), Fail> {
+    for port in 47_100..47_200 {
+        let mut door = HostDoor::new(rt.clone()?);
+        if takes_connection(&rt, &rt, &mut door, port)? {
+            return Ok(());
+        }
+    }
+    Err("no port is free")?
+}
