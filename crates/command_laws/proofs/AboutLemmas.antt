@@ -22,7 +22,7 @@ use Rattle.harmonics_book.specs.Books.{IsBook, IsStation}
 use Rattle.listing.specs.Abouts.{about_text_of}
 use Rattle.named_files.specs.Readings.{book_named, table_named}
 use Rattle.question.specs.declared.command.Command.TheVariants.{About, Predict}
-use Rattle.question.specs.declared.question.Layout.{Layout}
+use Rattle.question.specs.declared.layout.Layout.{Layout}
 use Rattle.question.specs.declared.question.Question.{Question}
 use Rattle.rate_bound.specs.declared.version.Version.TheVariants.{Second}
 use Rattle.rate_bound.specs.Meanings.{predicted_turn, predicted_mark}
@@ -38,7 +38,8 @@ use Rattle.station_table.specs.declared.basis.Basis.{Basis}
 use Rattle.station_table.specs.declared.offsets.Offsets.{Offsets}
 use Rattle.station_table.specs.Bases.{basis_of}
 use Rattle.tide_answer.specs.declared.text.Answer.{Answer}
-use Rattle.tide_answer.specs.Answers.{asks_name, constituent_count, events_text, station_about, named_by, predicted, text_alone, text_of_events}
+use Rattle.listing.specs.ByLayout.{events_text}
+use Rattle.tide_answer.specs.Answers.{asks_name, constituent_count, station_about, named_by, predicted, text_alone, text_of_events}
 use Rattle.tide_desk.specs.Answers.{given_with, is_report, minute_for}
 use Rattle.tide_desk.proofs.AskedLemmas.{went_over_span}
 use Rattle.tide_desk.proofs.CheckingLemmas.{named_read, text_at}

@@ -14,12 +14,13 @@ use Rattle.question.specs.declared.key.Key.{Key}
 use Rattle.question.specs.declared.key.Key.TheVariants as key
 use Rattle.question.specs.declared.origin.Origin.TheVariants.{Line}
 use Rattle.question.specs.declared.pairs.Item.{Item}
-use Rattle.question.specs.declared.question.Layout.{Layout}
-use Rattle.question.specs.declared.question.Layout.TheVariants.{Plain}
+use Rattle.question.specs.declared.layout.Layout.{Layout}
+use Rattle.question.specs.declared.layout.Layout.TheVariants.{Plain}
 use Rattle.question.specs.declared.question.Question.{Question}
 use Rattle.question.specs.declared.question.ZoneWord.{ZoneWord}
 use Rattle.question.specs.declared.question.ZoneWord.TheVariants.{Utc}
-use Rattle.question.specs.Forms.{layout_of, zone_of}
+use Rattle.question.specs.Forms.{zone_of}
+use Rattle.question.specs.Layouts.{layout_of}
 use Rattle.question.specs.Keys.{all_keys, has_key, key_named, name_of}
 use Rattle.question.specs.Questions.{Said, nothing_said, also, asked, command_of, complete, has_form, missing_key, question_of, refuse_if, with_item, with_items}
 use Rattle.question.specs.Words.{pairs_of}

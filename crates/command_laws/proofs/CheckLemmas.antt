@@ -2,7 +2,7 @@
 use Rattle.std.proofs.Common.{◌≡◌, ◌∷◌, Ok, refl, sym, ap, ◌∙◌}
 use Rattle.std.specs.Prelude.{codes}
 use Rattle.question.specs.declared.command.Command.TheVariants.{Predict}
-use Rattle.question.specs.declared.question.Layout.TheVariants.{Plain}
+use Rattle.question.specs.declared.layout.Layout.TheVariants.{Plain}
 use Rattle.question.specs.declared.question.Question.{Question}
 use Rattle.question.specs.declared.question.ZoneWord.TheVariants.{Utc}
 use Rattle.zone_time.specs.declared.zone.Zone.TheVariants as zones

@@ -9,7 +9,7 @@ use Rattle.harmonics_book.specs.declared.book.Units.{Units}
 use Rattle.listing.specs.declared.row.Row.{Row}
 use Rattle.listing.specs.Listings.{clock_text_of, plain_events_of, plain_heights_of, row_line_in}
 use Rattle.question.specs.declared.command.Command.TheVariants.{Clock, Heights, Predict}
-use Rattle.question.specs.declared.question.Layout.TheVariants.{Plain}
+use Rattle.question.specs.declared.layout.Layout.TheVariants.{Plain}
 use Rattle.question.specs.declared.question.Question.{Question}
 use Rattle.station_span.specs.declared.asked.Asked.{Asked}
 use Rattle.station_span.specs.declared.reach.Reach.TheVariants.{Events, Levels}

@@ -12,13 +12,14 @@ use Rattle.station_span.proofs.SiteLemmas.{then_ok}
 use Rattle.station_table.specs.declared.offsets.Offsets.{Offsets}
 use Rattle.text_laws.specs.Heights.{row_until, rows_over}
 use Rattle.tide_answer.specs.declared.text.Answer.{Answer}
-use Rattle.tide_answer.specs.Answers.{heights, heights_text, rows_in, rows_of, text_alone}
+use Rattle.listing.specs.ByLayout.{heights_text}
+use Rattle.tide_answer.specs.Answers.{heights, rows_in, rows_of, text_alone}
 use Rattle.tide_desk.specs.Answers.{given_with, is_report, minute_for}
 use Rattle.tide_desk.proofs.AskedLemmas.{went_over_span}
 use Rattle.tide_desk.proofs.CheckingLemmas.{named_read, text_at}
 use Rattle.tide_desk.proofs.FileLemmas.{ReadsFiles, was_answered}
 use Rattle.zone_time.specs.declared.zone.Zone.{Zone}
-use Rattle.question.specs.declared.question.Layout.{Layout}
+use Rattle.question.specs.declared.layout.Layout.{Layout}
 use Rattle.command_laws.specs.Heights.{HeightsAreLevels}
 use Rattle.command_laws.proofs.RequestLemmas.{was_found, span_named, step_asked}
 

@@ -8,7 +8,7 @@ use Rattle.std.proofs.lemmas.List.FromFn.{get_or-map-range_with_len, length-map-
 use Rattle.harmonics_book.specs.declared.book.Book.{Book}
 use Rattle.listing.specs.declared.row.Row.{Row}
 use Rattle.question.specs.declared.command.Command.TheVariants.{Predict, Heights, Highest}
-use Rattle.question.specs.declared.question.Layout.{Layout}
+use Rattle.question.specs.declared.layout.Layout.{Layout}
 use Rattle.question.specs.declared.question.Question.{Question}
 use Rattle.station_span.specs.declared.asked.Asked.{Asked}
 use Rattle.station_span.specs.declared.reach.Reach.TheVariants.{Events, Levels, Highest as HighestReach}
@@ -21,7 +21,8 @@ use Rattle.station_table.specs.declared.offsets.Offsets.{Offsets}
 use Rattle.station_table.specs.Bases.{is_equal}
 use Rattle.tide_answer.specs.declared.given.Given.{Given}
 use Rattle.tide_answer.specs.declared.text.Answer.{Answer}
-use Rattle.tide_answer.specs.Answers.{answered, events_text, heights, heights_text, row_at, row_count, rows_in, rows_of, text_alone, text_over}
+use Rattle.listing.specs.ByLayout.{events_text, heights_text}
+use Rattle.tide_answer.specs.Answers.{answered, heights, row_at, row_count, rows_in, rows_of, text_alone, text_over}
 use Rattle.zone_time.specs.declared.zone.Zone.{Zone}
 use Rattle.tide_answer.specs.PeakLaws.{ReportsTheHighest}
 use Rattle.command_laws.specs.Peaks.{AskOneSpan, IsRowBelow, ListsEventsBelow, ListsRowsBelow, NothingIsHigher}

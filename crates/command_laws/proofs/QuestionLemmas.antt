@@ -7,13 +7,14 @@ use Rattle.station_span.specs.Following.{events_of}
 use Rattle.station_span.specs.Sites.{Site, site_in}
 use Rattle.station_span.proofs.SiteLemmas.{then_ok}
 use Rattle.zone_time.specs.declared.zone.Zone.{Zone}
-use Rattle.question.specs.declared.question.Layout.{Layout}
+use Rattle.question.specs.declared.layout.Layout.{Layout}
 use Rattle.tide_answer.specs.declared.text.Answer.{Answer}
 use Rattle.harmonics_book.specs.declared.book.Book.{Book}
 use Rattle.question.specs.declared.command.Command.TheVariants.{Predict, Heights, Highest}
 use Rattle.station_table.specs.declared.offsets.Offsets.{Offsets}
 use Rattle.tide_answer.specs.declared.given.Given.{Given}
-use Rattle.tide_answer.specs.Answers.{answered, asks_span, events_text, listed, named_by, predicted, text_of_events, text_over}
+use Rattle.listing.specs.ByLayout.{events_text}
+use Rattle.tide_answer.specs.Answers.{answered, asks_span, listed, named_by, predicted, text_of_events, text_over}
 use Rattle.tide_answer.specs.Asking.{asked_by_question}
 use Rattle.tide_fault.specs.declared.refusal.Refusal.{Refusal}
 use Rattle.tide_fault.specs.declared.refusal.Refusal.TheVariants.{NoStation}

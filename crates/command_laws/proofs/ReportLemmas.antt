@@ -17,7 +17,7 @@ use Rattle.named_files.specs.NoAnswers.{refused_over}
 use Rattle.named_files.specs.Readings.{book_named, certificate_named, files_in, table_named, zone_named}
 use Rattle.question.specs.declared.command.Command.{Command}
 use Rattle.question.specs.declared.command.Command.TheVariants.{Predict, Report}
-use Rattle.question.specs.declared.question.Layout.{Layout}
+use Rattle.question.specs.declared.layout.Layout.{Layout}
 use Rattle.question.specs.declared.question.Question.{Question}
 use Rattle.report_sheets.specs.declared.head.Head.{Head}
 use Rattle.report_sheets.specs.Pages.{has_sheet, is_wanted, missing_of, page_of, pages_of}
@@ -30,7 +30,8 @@ use Rattle.station_span.proofs.SiteLemmas.{then_ok}
 use Rattle.station_table.specs.declared.offsets.Offsets.{Offsets}
 use Rattle.tide_answer.specs.declared.listed.Listed.{Listed}
 use Rattle.tide_answer.specs.declared.text.Answer.{Answer}
-use Rattle.tide_answer.specs.Answers.{answered_without_files, events_text, listed, named_by, predicted, text_alone, text_by, text_from, text_of_events}
+use Rattle.listing.specs.ByLayout.{events_text}
+use Rattle.tide_answer.specs.Answers.{answered_without_files, listed, named_by, predicted, text_alone, text_by, text_from, text_of_events}
 use Rattle.tide_answer.specs.Asking.{asked_by_question}
 use Rattle.tide_desk.specs.Answers.{answered_over_optional_file, answered_over_file, answered_over_book, given_with, head_of, is_report, found_in, minute_for, reported, wanted_by}
 use Rattle.tide_desk.specs.Laws.{NameSameFiles, subject_of}

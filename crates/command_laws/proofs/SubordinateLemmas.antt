@@ -7,7 +7,7 @@ use Rattle.event_list.specs.Shifts.{widened_of}
 use Rattle.event_list.proofs.PlainLemmas.{plain-span}
 use Rattle.harmonics_book.specs.declared.book.Book.{Book}
 use Rattle.question.specs.declared.command.Command.TheVariants.{Predict}
-use Rattle.question.specs.declared.question.Layout.{Layout}
+use Rattle.question.specs.declared.layout.Layout.{Layout}
 use Rattle.question.specs.declared.question.Question.{Question}
 use Rattle.station_span.specs.declared.asked.Asked.{Asked}
 use Rattle.station_span.specs.declared.reach.Reach.TheVariants.{Events}
@@ -22,7 +22,8 @@ use Rattle.station_table.specs.Bases.{basis_in, basis_of, basis_over, reference_
 use Rattle.station_table.specs.Offsets.{IsTable}
 use Rattle.tide_answer.specs.declared.given.Given.{Given}
 use Rattle.tide_answer.specs.declared.text.Answer.{Answer}
-use Rattle.tide_answer.specs.Answers.{answered, events_text, predicted, text_of_events, text_over}
+use Rattle.listing.specs.ByLayout.{events_text}
+use Rattle.tide_answer.specs.Answers.{answered, predicted, text_of_events, text_over}
 use Rattle.zone_time.specs.declared.zone.Zone.{Zone}
 use Rattle.command_laws.specs.Subordinates.{AreTwoSteps, AsksReference, ListsInTwoSteps, ReferenceIsAnswered}
 use Rattle.command_laws.proofs.QuestionLemmas.{WasPredicted, answers_predict, asks_of, predicts}

@@ -3,7 +3,7 @@ use Rattle.std.specs.Prelude.{◌≡◌, ℕ, ℤ, List, ◌∷◌, codes, Resul
 use Rattle.named_files.specs.declared.no_answer.NoAnswer.{NoAnswer}
 use Rattle.named_files.specs.Readings.{zone_named}
 use Rattle.question.specs.declared.command.Command.TheVariants.{Predict, Certify, Check}
-use Rattle.question.specs.declared.question.Layout.TheVariants.{Plain}
+use Rattle.question.specs.declared.layout.Layout.TheVariants.{Plain}
 use Rattle.question.specs.declared.question.Question.{Question}
 use Rattle.question.specs.declared.question.ZoneWord.TheVariants.{Utc}
 use Rattle.report_sheets.specs.Sheets.{SheetMeaning}

@@ -13,7 +13,8 @@ use Rattle.station_span.specs.Sites.{Site, site_in}
 use Rattle.station_table.specs.declared.offsets.Offsets.{Offsets}
 use Rattle.text_laws.specs.Heights.{row_until}
 use Rattle.tide_answer.specs.declared.text.Answer.{Answer}
-use Rattle.tide_answer.specs.Answers.{heights_text, text_alone}
+use Rattle.listing.specs.ByLayout.{heights_text}
+use Rattle.tide_answer.specs.Answers.{text_alone}
 use Rattle.tide_answer.specs.Asking.{asked_by_question}
 use Rattle.tide_desk.specs.Answers.{answer_of}
 use Rattle.tide_desk.specs.Laws.{Asks}

@@ -21,7 +21,8 @@ use Rattle.station_table.specs.declared.offsets.Offsets.{Offsets}
 use Rattle.station_table.specs.Offsets.{IsTable}
 use Rattle.tide_answer.specs.declared.given.Given.{Given}
 use Rattle.tide_answer.specs.declared.text.Answer.{Answer}
-use Rattle.tide_answer.specs.Answers.{answered, events_text, heights_text, rows_of}
+use Rattle.listing.specs.ByLayout.{events_text, heights_text}
+use Rattle.tide_answer.specs.Answers.{answered, rows_of}
 
 -- two requests about one station and one span
 pub record AskOneSpan (question other : Question) : Type 0 where

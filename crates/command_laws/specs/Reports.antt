@@ -10,7 +10,7 @@ use Rattle.report_sheets.specs.Pages.{is_wanted}
 use Rattle.report_sheets.specs.Sheets.{SheetMeaning}
 use Rattle.tide_answer.specs.declared.listed.Listed.{Listed}
 use Rattle.tide_answer.specs.declared.text.Answer.{Answer}
-use Rattle.tide_answer.specs.Answers.{events_text}
+use Rattle.listing.specs.ByLayout.{events_text}
 use Rattle.tide_desk.specs.Answers.{answer_of, head_of, wanted_by}
 use Rattle.tide_desk.specs.Laws.{Asks, NameSameFiles, subject_of}
 use Rattle.tide_edge.specs.FileStates.{Folder}
@@ -49,7 +49,7 @@ pub record ShowOneList (sheets : List SheetMeaning) (report predict : Question) 
   pub shown : IsReport sheets (wanted_by report) (head_of listed now) listed.events pages.text
 
 -- If `report` has an answer at a minute, `predict` has one for the same station, span, mark and files at
--- any minute, in any zone that can be read and in either layout; and both show one list.
+-- any minute, in any zone that can be read and in any layout; and both show one list.
 abbrev pub ReportsAreComplete : Type 0
 ReportsAreComplete = (sheets : List SheetMeaning) (folder : Folder) (now later : ℤ) (words more : List (List ℕ))
     (report predict : Question) (pages : Answer) (zone : Zone) →

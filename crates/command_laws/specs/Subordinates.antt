@@ -42,7 +42,8 @@ use Rattle.station_table.specs.Bases.{basis_of}
 use Rattle.station_table.specs.Offsets.{IsTable}
 use Rattle.tide_answer.specs.declared.given.Given.{Given}
 use Rattle.tide_answer.specs.declared.text.Answer.{Answer}
-use Rattle.tide_answer.specs.Answers.{answered, events_text, listed}
+use Rattle.listing.specs.ByLayout.{events_text}
+use Rattle.tide_answer.specs.Answers.{answered, listed}
 use Rattle.command_laws.specs.Clock.{turns_in}
 
 -- ---- the two requests

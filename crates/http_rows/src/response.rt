@@ -30,7 +30,7 @@ impl Response {
     /// Returns the response with `body`, of the type `kind` in UTF-8; `bodiless` leaves the body out, but
     /// not its length. It doesn't allocate.
     pub fn new(code: Code, kind: &str, body: Bytes, bodiless: bool) -> Response
-        requires { length kind.now ≤ 10 }
+        requires { length kind.now ≤ 40 }
         ensures { result ≡ response code kind.now [] body bodiless }
     {
         let mut head = ArrayString::new();

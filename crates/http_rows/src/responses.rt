@@ -91,10 +91,10 @@ pub(crate) fn write_head(
     out: &mut ArrayString<256>,
 )
     requires empty { out.old.bytes ≡ [] }
-    requires kind { length kind.now ≤ 10 }
+    requires kind { length kind.now ≤ 40 }
     requires allow { length allow.now ≤ 18 }
     ensures bytes { out.new.bytes ≡ response_head code kind.now allow.now size }
-    ensures length_bound { array_string_len out.new ≤ 184 }
+    ensures length_bound { array_string_len out.new ≤ 214 }
 {
     out.push_str("HTTP/1.1 ");
     out.push_str(status_of(code));

@@ -1,4 +1,5 @@
 pub mod Abouts
+pub mod ByLayout
 pub mod Listings
 pub mod Records
 pub mod StationLists

@@ -4,7 +4,8 @@
 //! unit and the event's name: [`event_line`].
 //!
 //! - [`plain_events`] returns such lines below the station's name, and [`csv_events`] the same
-//!   events as records; [`plain_heights`] and [`csv_heights`] do so for levels.
+//!   events as records; [`plain_heights`] and [`csv_heights`] do so for levels. [`events_text`] and
+//!   [`heights_text`] choose between them by the layout.
 //! - [`clock_text`] begins with the level now, and [`highest_text`] has the highest level alone.
 //! - [`stations_text`] lists the stations of a harmonics file and of a table, and [`about_text`]
 //!   the facts of one station.
@@ -13,6 +14,7 @@
 #![tactic(auto)]
 
 mod about;
+mod by_layout;
 mod clock;
 mod highest;
 mod plain;
@@ -23,6 +25,7 @@ mod stations;
 mod worked;
 
 pub use about::about_text;
+pub use by_layout::{events_text, heights_text};
 pub use clock::clock_text;
 pub use event_text::{event_line, height_line};
 pub use highest::highest_text;

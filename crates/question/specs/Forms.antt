@@ -39,8 +39,7 @@ use Rattle.decimal_text.specs.Decimal.{read_of}
 use Rattle.zone_time.specs.Moments.{moment_of}
 use Rattle.question.specs.declared.origin.Origin.{Origin}
 use Rattle.question.specs.declared.origin.Origin.TheVariants.{Line, Query}
-use Rattle.question.specs.declared.question.Layout.{Layout}
-use Rattle.question.specs.declared.question.Layout.TheVariants.{Plain, Csv}
+use Rattle.question.specs.Layouts.{layout_of}
 use Rattle.question.specs.declared.question.ZoneWord.{ZoneWord}
 use Rattle.question.specs.declared.question.ZoneWord.TheVariants.{Utc, Fixed, Named}
 use Rattle.question.specs.declared.values.Form.{Form}
@@ -77,13 +76,6 @@ mark_from (Err fault) = None
 -- a mark in millionths
 unfoldable pub mark_of : List ℕ → Option ℤ
 mark_of text = mark_from (read_of text 6)
-
--- the layout of a name
-unfoldable pub layout_of : List ℕ → Option Layout
-layout_of text =
-    if bytes_eq text (codes "plain") then Some Plain
-    else if bytes_eq text (codes "csv") then Some Csv
-    else None
 
 -- the rest of a text after the byte `first`, if it begins with it
 abbrev pub after : ℕ → List ℕ → Option (List ℕ)

@@ -25,13 +25,14 @@ use Rattle.question.specs.declared.key.Key.{Key}
 use Rattle.question.specs.declared.key.Key.TheVariants as key
 use Rattle.question.specs.declared.origin.Origin.{Origin}
 use Rattle.question.specs.declared.origin.Origin.TheVariants.{Line, Query}
-use Rattle.question.specs.declared.question.Layout.{Layout}
-use Rattle.question.specs.declared.question.Layout.TheVariants.{Plain}
+use Rattle.question.specs.declared.layout.Layout.{Layout}
+use Rattle.question.specs.declared.layout.Layout.TheVariants.{Plain}
 use Rattle.question.specs.declared.question.ZoneWord.{ZoneWord}
 use Rattle.question.specs.declared.question.ZoneWord.TheVariants.{Utc}
 use Rattle.question.specs.Commands.{is_among}
 use Rattle.question.specs.Origins.{is_one_of}
-use Rattle.question.specs.Forms.{some_text, mark_of, step_of, zone_of, layout_of, seed_of, port_of, sheets_of}
+use Rattle.question.specs.Forms.{some_text, mark_of, step_of, zone_of, seed_of, port_of, sheets_of}
+use Rattle.question.specs.Layouts.{layout_of}
 
 -- all keys, in the order in which a missing one is reported
 abbrev pub all_keys : List Key

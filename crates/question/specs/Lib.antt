@@ -2,6 +2,7 @@ pub mod Asked
 pub mod Commands
 pub mod Forms
 pub mod Keys
+pub mod Layouts
 pub mod Origins
 pub mod Questions
 pub mod Words

@@ -4,7 +4,7 @@ use Rattle.std.specs.List.{slice_split}
 use Rattle.question.specs.declared.command.Command.{Command}
 use Rattle.question.specs.declared.fault.AskFault.{AskFault}
 use Rattle.question.specs.declared.origin.Origin.TheVariants.{Query}
-use Rattle.question.specs.declared.question.Layout.TheVariants.{Plain}
+use Rattle.question.specs.declared.layout.Layout.TheVariants.{Plain}
 use Rattle.question.specs.declared.question.Question.{Question}
 use Rattle.question.specs.declared.question.ZoneWord.TheVariants.{Utc}
 use Rattle.question.specs.Questions.{question_of}

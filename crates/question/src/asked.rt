@@ -2,19 +2,21 @@
 
 ghost use Rattle.std.specs.Prelude.{◌≡◌, IfOk, OnOk, option_and_then};
 ghost use Rattle.zone_time.specs.Moments.{moment_of};
-ghost use Rattle.question.specs.Forms.{some_text, mark_of, step_of, zone_of, layout_of, seed_of, port_of, sheets_of};
+ghost use Rattle.question.specs.Forms.{some_text, mark_of, step_of, zone_of, seed_of, port_of, sheets_of};
+ghost use Rattle.question.specs.Layouts.{layout_of};
 ghost use Rattle.question.specs.declared.key.Key.TheVariants as key;
 ghost use Rattle.question.specs.Questions.{asked, field_of};
 ghost use Rattle.question.specs.Workings.Said.{said_by};
 
 use crate::command::Command;
 use crate::key::Key;
+use crate::layout::Layout;
 use crate::origin::Origin;
 use crate::pairs::Item;
-use crate::question::{Layout, Question, ZoneWord};
+use crate::question::{Question, ZoneWord};
 use crate::said::text_for;
 use crate::sheets::sheets;
-use crate::values::{layout, mark, port, seed, some_text, step};
+use crate::values::{mark, port, seed, some_text, step};
 use crate::zone_word::zone;
 use decimal_text::{Text, Words};
 use std::alloc::{AllocError, Global};
@@ -120,7 +122,7 @@ fn layout_for(items: &[Item], key: Key) -> Option<Layout>
     ensures { result ≡ option_and_then layout_of (said_by items.now key) }
 {
     let text = text_for(items, key)?;
-    layout(text)
+    Layout::named(text)
 }
 
 fn seed_for(items: &[Item], key: Key) -> Option<u64>

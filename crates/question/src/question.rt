@@ -1,6 +1,7 @@
 //! Questions: a command with the values of its keys.
 
 use crate::command::Command;
+use crate::layout::Layout;
 use decimal_text::{Text, Words};
 
 /// The zone in which times are shown.
@@ -13,15 +14,6 @@ pub enum ZoneWord {
     Fixed(i32),
     /// The name of a zone file.
     Named(Text),
-}
-
-/// The layout of a listing.
-#[derive(Clone, Copy, Debug, PartialEq, Eq)]
-pub enum Layout {
-    /// Text in columns.
-    Plain,
-    /// Comma-separated values.
-    Csv,
 }
 
 /// A question: a command with the values of its keys. Keys that the table doesn't give to the command

@@ -5,10 +5,10 @@ ghost use Rattle.std.specs.Option.{ForSome};
 ghost use Rattle.std.specs.List.{list_all};
 ghost use Rattle.std.specs.Char.{is_ascii_digit};
 ghost use Rattle.std.specs.Str.Parse.{digits_value};
-ghost use Rattle.question.specs.Forms.{some_text, number_of, seed_of, port_of, step_of, mark_of, layout_of};
+ghost use Rattle.question.specs.Forms.{some_text, number_of, seed_of, port_of, step_of, mark_of};
 
+use crate::layout::Layout;
 use crate::origin::Origin;
-use crate::question::Layout;
 use crate::sheets::sheets;
 use crate::zone_word::zone;
 use decimal_text::{Text, are_digits, read};
@@ -47,7 +47,7 @@ impl Form {
             Form::Mark => mark(text).is_some(),
             Form::Step => step(text).is_some(),
             Form::Zone => zone(alloc, origin, text)?.is_some(),
-            Form::Layout => layout(text).is_some(),
+            Form::Layout => Layout::named(text).is_some(),
             Form::Seed => seed(text).is_some(),
             Form::Port => port(text).is_some(),
             Form::Sheets => sheets(alloc, text)?.is_some(),
@@ -133,18 +133,4 @@ pub fn mark(text: &str) -> Option<i64>
         Ok(millionths) if millionths.unsigned_abs() <= GREATEST_MARK => Some(millionths as i64),
         _ => None,
     }
-}
-
-/// Returns the layout called `text`.
-#[tactic(auto, unfolding(crate::specs::Forms::layout_of))]
-pub fn layout(text: &str) -> Option<Layout>
-    ensures { result ≡ layout_of text.now }
-{
-    if text == "plain" {
-        return Some(Layout::Plain);
-    }
-    if text == "csv" {
-        return Some(Layout::Csv);
-    }
-    None
 }

@@ -5,7 +5,7 @@ use Rattle.calendar_sheet.specs.Calendars.{calendar_text_of}
 use Rattle.decimal_text.specs.Expected.{◌>>=◌, Excused}
 use Rattle.harmonics_book.specs.declared.book.Book.{Book}
 use Rattle.listing.specs.Abouts.{about_text_of}
-use Rattle.question.specs.declared.question.Layout.{Layout}
+use Rattle.question.specs.declared.layout.Layout.{Layout}
 use Rattle.question.specs.declared.question.Question.{Question}
 use Rattle.question.specs.Asked.{IsAsked}
 use Rattle.slope_agreement.specs.Agreements.{agreement_of, predicted_agreement}
@@ -17,7 +17,8 @@ use Rattle.station_span.specs.declared.following.FoundEvents.{FoundEvents}
 use Rattle.station_span.specs.declared.reach.Reach.TheVariants.{Events}
 use Rattle.station_span.specs.declared.reference_station.ReferenceStation.{ReferenceStation}
 use Rattle.tide_answer.specs.declared.text.Answer.{Answer}
-use Rattle.tide_answer.specs.Answers.{asks_span, constituent_count, events_text, station_about, listed, named_by, predicted, on_calendar, text_alone}
+use Rattle.listing.specs.ByLayout.{events_text}
+use Rattle.tide_answer.specs.Answers.{asks_span, constituent_count, station_about, listed, named_by, predicted, on_calendar, text_alone}
 use Rattle.tide_answer.specs.Asking.{asked_by_question}
 use Rattle.tide_answer.specs.Workings.Requests.{named_span}
 use Rattle.station_span.specs.Sites.{NamedSpan, Site, site_in, station_in}

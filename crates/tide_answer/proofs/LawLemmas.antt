@@ -20,7 +20,7 @@ use Rattle.event_list.specs.Shifts.{widened_of}
 use Rattle.event_list.proofs.EventLemmas.{covers-accepted}
 use Rattle.harmonics_book.specs.declared.book.Book.{Book}
 use Rattle.harmonics_book.specs.Books.{IsBook}
-use Rattle.question.specs.declared.question.Layout.TheVariants.{Plain}
+use Rattle.question.specs.declared.layout.Layout.TheVariants.{Plain}
 use Rattle.rate_bound.specs.declared.version.Version.{Version}
 use Rattle.rate_bound.specs.declared.version.Version.TheVariants.{Second}
 use Rattle.rate_bound.specs.Meanings.{mark_meaning}
@@ -32,7 +32,8 @@ use Rattle.station_span.specs.declared.reach.Reach.TheVariants.{Events}
 use Rattle.station_cells.specs.declared.rejection.Rejection.{Rejection}
 use Rattle.station_span.specs.Workings.Tides.{SiteTide}
 use Rattle.tide_answer.specs.declared.text.Answer.{Answer}
-use Rattle.tide_answer.specs.Answers.{predicted, certified, checked, certificate_by, certificate_from, version_of, judged, text_of_events, events_text}
+use Rattle.listing.specs.ByLayout.{events_text}
+use Rattle.tide_answer.specs.Answers.{predicted, certified, checked, certificate_by, certificate_from, version_of, judged, text_of_events}
 use Rattle.tide_answer.specs.Asking.{asked_by_certificate}
 use Rattle.station_span.specs.Following.{asks_slack, slack_times, slack_plus, if_asked, followed, followed_by, events_of, tracks_of}
 use Rattle.tide_answer.specs.Laws.{IsAskable, AcceptsListing, ListsTrack, ListsEvents, AcceptsWhatIsCertified, AcceptsOnlyInShort, AcceptsOnlyWhatIsTrue, CertifiesInShort}

@@ -4,7 +4,7 @@ use Rattle.decimal_text.specs.Expected.{Excused}
 use Rattle.harmonics_book.specs.declared.book.Book.{Book}
 use Rattle.listing.specs.declared.row.Row.{Row}
 use Rattle.listing.specs.Listings.{clock_text_of}
-use Rattle.question.specs.declared.question.Layout.{Layout}
+use Rattle.question.specs.declared.layout.Layout.{Layout}
 use Rattle.station_table.specs.declared.offsets.Offsets.{Offsets}
 use Rattle.zone_time.specs.declared.zone.Zone.{Zone}
 use Rattle.station_span.specs.declared.asked.Asked.{Asked}
@@ -15,7 +15,8 @@ use Rattle.station_span.specs.Levels.{is_rising_at, level_at, level_in}
 use Rattle.station_span.specs.Sites.{Site, site_in}
 use Rattle.station_span.specs.Workings.Finds.{IsSiteList}
 use Rattle.station_span.proofs.FoundLemmas.{excused_then}
-use Rattle.tide_answer.specs.Answers.{heights, heights_text, on_clock, rows_in, rows_of, text_alone}
+use Rattle.listing.specs.ByLayout.{heights_text}
+use Rattle.tide_answer.specs.Answers.{heights, on_clock, rows_in, rows_of, text_alone}
 use Rattle.tide_answer.specs.Asking.{asked_from_minute}
 
 -- ---- a list of levels

@@ -4,8 +4,8 @@ use Rattle.decimal_text.specs.Expected.{◌>>=◌, Excused}
 use Rattle.harmonics_book.specs.declared.book.Book.{Book}
 use Rattle.question.specs.declared.command.Command.{Command}
 use Rattle.question.specs.declared.command.Command.TheVariants.{Predict, Certify}
-use Rattle.question.specs.declared.question.Layout.{Layout}
-use Rattle.question.specs.declared.question.Layout.TheVariants.{Plain, Csv}
+use Rattle.question.specs.declared.layout.Layout.{Layout}
+use Rattle.question.specs.declared.layout.Layout.TheVariants.{Plain}
 use Rattle.question.specs.declared.question.Question.{Question}
 use Rattle.station_table.specs.declared.offsets.Offsets.{Offsets}
 use Rattle.station_table.specs.declared.basis.Basis.{Basis}
@@ -75,7 +75,7 @@ pub ready_some : (command : Command) (layout : Layout) (book : Book) (table : Li
 unfolding prepared answered asks_span asked_by_question predicted certified
 ready_some Predict Plain book table question given text asked site is lay can name span at streams =
     rw (is, lay, name, span, at, streams) refl
-ready_some Predict Csv book table question given text asked site is lay can name span at streams =
+ready_some Predict _ book table question given text asked site is lay can name span at streams =
     absurd (let no = (both (is_plain site.basis) false streams).1 in cc)
 ready_some Certify layout book table question given text asked site is lay can name span at streams =
     rw (is, lay, name, span, at, streams) refl

@@ -35,12 +35,10 @@ use Rattle.cert_text.specs.declared.fault.CertFault.{CertFault}
 use Rattle.cert_text.specs.Lines.{certificate_text}
 use Rattle.cert_text.specs.Readings.{certificate_of}
 use Rattle.calendar_sheet.specs.Calendars.{calendar_text_of}
-use Rattle.curve_law.specs.declared.event.Event.{Event}
 use Rattle.decimal_text.specs.Expected.{◌>>=◌}
 use Rattle.event_list.specs.Shifts.{widened_of}
 use Rattle.harmonics_book.specs.declared.book.Book.{Book}
 use Rattle.harmonics_book.specs.declared.book.Station.{Station}
-use Rattle.harmonics_book.specs.declared.book.Units.{Units}
 use Rattle.peak_text.specs.declared.certificate.PeakCertificate.{PeakCertificate}
 use Rattle.peak_text.specs.declared.fault.PeakFault.{PeakFault}
 use Rattle.peak_text.specs.declared.fault.PeakFault.TheVariants as peak
@@ -51,8 +49,8 @@ use Rattle.peak_text.specs.PeakReadings.{peak_of}
 use Rattle.peak_text.specs.VerdictLines.{verdict_line}
 use Rattle.listing.specs.declared.row.Row.{Row}
 use Rattle.listing.specs.Abouts.{about_text_of}
-use Rattle.listing.specs.Listings.{plain_events_of, plain_heights_of, clock_text_of, highest_text_of}
-use Rattle.listing.specs.Records.{csv_events_of, csv_heights_of}
+use Rattle.listing.specs.ByLayout.{events_text, heights_text}
+use Rattle.listing.specs.Listings.{plain_events_of, clock_text_of, highest_text_of}
 use Rattle.listing.specs.StationLists.{stations_text_of}
 use Rattle.question.specs.declared.command.Command.{Command}
 use Rattle.question.specs.declared.command.Command.TheVariants.{
@@ -72,8 +70,7 @@ use Rattle.question.specs.declared.command.Command.TheVariants.{
   PeakCheck,
   About,
 }
-use Rattle.question.specs.declared.question.Layout.{Layout}
-use Rattle.question.specs.declared.question.Layout.TheVariants.{Plain, Csv}
+use Rattle.question.specs.declared.layout.Layout.{Layout}
 use Rattle.question.specs.declared.question.Question.{Question}
 use Rattle.rate_bound.specs.declared.version.Version.{Version}
 use Rattle.rate_bound.specs.declared.version.Version.TheVariants.{First, Second}
@@ -116,11 +113,6 @@ abbrev pub text_rejected : List ℕ → Answer
 text_rejected line = record { text = line; rejected = true; cells = 0 }
 
 -- ---- events
-
--- the text of events in a layout
-abbrev pub events_text : Layout → List ℕ → Units → List Event → Zone → List ℕ
-events_text Plain name units events zone = plain_events_of name units events zone
-events_text Csv name units events zone = csv_events_of name units events zone
 
 -- the answer of `predict`
 unfoldable pub predicted : Book → List Offsets → List ℕ → Asked → Layout → Zone → Result Answer Refusal
@@ -200,11 +192,6 @@ row_at book site begin step place =
 -- the rows of a span
 abbrev pub rows_of : Book → Site → ℤ → ℤ → ℤ → List Row
 rows_of book site begin end step = map (row_at book site begin step) (range_with_len 0 (row_count begin end step))
-
--- the text of rows in a layout
-abbrev pub heights_text : Layout → List ℕ → Units → List Row → Zone → List ℕ
-heights_text Plain name units rows zone = plain_heights_of name units rows zone
-heights_text Csv name units rows zone = csv_heights_of name units rows zone
 
 -- the answer of `heights`
 unfoldable pub heights : Book → List Offsets → List ℕ → Asked → ℤ → Layout → Zone → Result Answer Refusal

@@ -14,7 +14,7 @@ use Rattle.event_list.specs.Events.{Followed, events_over}
 use Rattle.event_list.specs.Shifts.{widened_of}
 use Rattle.harmonics_book.specs.declared.book.Book.{Book}
 use Rattle.harmonics_book.specs.Books.{IsBook}
-use Rattle.question.specs.declared.question.Layout.TheVariants.{Plain}
+use Rattle.question.specs.declared.layout.Layout.TheVariants.{Plain}
 use Rattle.station_table.specs.declared.offsets.Offsets.{Offsets}
 use Rattle.station_table.specs.Offsets.{IsTable}
 use Rattle.zone_time.specs.declared.zone.Zone.{Zone}

@@ -4,8 +4,8 @@ use Rattle.decimal_text.specs.Expected.{◌>>=◌}
 use Rattle.harmonics_book.specs.declared.book.Book.{Book}
 use Rattle.question.specs.declared.command.Command.{Command}
 use Rattle.question.specs.declared.command.Command.TheVariants.{Predict, Certify}
-use Rattle.question.specs.declared.question.Layout.{Layout}
-use Rattle.question.specs.declared.question.Layout.TheVariants.{Plain, Csv}
+use Rattle.question.specs.declared.layout.Layout.{Layout}
+use Rattle.question.specs.declared.layout.Layout.TheVariants.{Plain}
 use Rattle.question.specs.declared.question.Question.{Question}
 use Rattle.station_table.specs.declared.basis.Basis.{Basis}
 use Rattle.station_table.specs.declared.offsets.Offsets.{Offsets}
@@ -32,7 +32,7 @@ can_stream _ = false
 -- the text layout
 abbrev pub is_plain_layout : Layout → Bool
 is_plain_layout Plain = true
-is_plain_layout Csv = false
+is_plain_layout _ = false
 
 -- a zone that is a file
 abbrev pub is_zone_file : Zone → Bool

@@ -2,16 +2,14 @@
 
 ghost use Rattle.std.specs.Prelude.{◌≡◌, ◌≤◌, ◌+ℤ◌, ◌*ℤ◌, ◌-ℤ◌, pos, negsuc, [], All, unsigned_abs, Ok, Err, IfOk, IfErr, OnOk};
 ghost use Rattle.decimal_text.specs.Expected.{ReturnsUnless};
-ghost use Rattle.tide_answer.specs.Answers.{heights, heights_text, row_at, row_count, row_limit, rows_in, rows_of};
+ghost use Rattle.tide_answer.specs.Answers.{heights, row_at, row_count, row_limit, rows_in, rows_of};
 ghost use Rattle.tide_fault.specs.Faults.{refusal_is_out_of_memory, IsPrintableRefusal};
 ghost use Rattle.tide_answer.specs.Workings.Rows.{IsStep};
 ghost use Rattle.station_span.specs.Workings.Finds.{AreLooked, IsLooked, site_of};
 ghost use Rattle.zone_time.specs.Zones.{InZoneYears};
 
 use crate::text::{Answer, text_alone};
-use decimal_text::{Bytes, Text};
-use harmonics_book::Units;
-use listing::{Row, Rows, csv_heights, plain_heights};
+use listing::{Row, Rows, heights_text};
 use question::Layout;
 use station_span::{
     FoundStation, Reach, StationData, StationRequest, check_level, find_station, level_at,
@@ -48,7 +46,14 @@ pub fn list_heights(
     check_level(&found)?;
     check_rows(&found, step)?;
     let rows = rows_of(alloc, &found, step)?;
-    let text = heights_text(alloc, layout, request.name(), found.units, &rows, zone)?;
+    let text = heights_text(
+        alloc,
+        layout,
+        request.name(),
+        found.units,
+        &rows,
+        zone.zone(),
+    )?;
     Ok(text_alone(text))
 }
 
@@ -132,24 +137,6 @@ fn minutes_to(step: i64, place: u64) -> i64
     ensures count_bound { unsigned_abs result ≤ 4464000000 }
 {
     step * place as i64
-}
-
-/// Returns the text of the rows in `layout`.
-fn heights_text(
-    alloc: Global,
-    layout: Layout,
-    name: &Text,
-    units: Units,
-    rows: &Rows,
-    zone: &ZoneClock<'_>,
-) -> Result<Bytes, AllocError>
-    requires listed { All (λ row. InZoneYears row.minute) rows.now }
-    ensures { IfOk result (λ text. text ≡ heights_text layout name.now units rows.now zone.now) }
-{
-    match layout {
-        Layout::Plain => plain_heights(alloc, name, units, rows, zone.zone()),
-        Layout::Csv => csv_heights(alloc, name, units, rows, zone.zone()),
-    }
 }
 
 /// The number of rows of some spans: the end has a row if the steps lead there.

@@ -14,7 +14,8 @@ use Rattle.station_span.specs.declared.reach.Reach.TheVariants.{Events}
 use Rattle.tide_answer.specs.declared.ready.Ready.{Ready}
 use Rattle.tide_fault.specs.declared.refusal.Refusal.{Refusal}
 use Rattle.tide_answer.specs.declared.text.Answer.{Answer}
-use Rattle.tide_answer.specs.Answers.{answered, asks_span, certified, events_text, named_by, predicted, text_alone, text_by, text_of_events}
+use Rattle.listing.specs.ByLayout.{events_text}
+use Rattle.tide_answer.specs.Answers.{answered, asks_span, certified, named_by, predicted, text_alone, text_by, text_of_events}
 use Rattle.tide_answer.specs.Asking.{asked_by_question}
 use Rattle.station_span.specs.Following.{events_of}
 use Rattle.station_span.specs.Sites.{site_in}

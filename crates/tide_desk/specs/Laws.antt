@@ -5,7 +5,7 @@ use Rattle.cert_text.specs.declared.certificate.Certificate.{Certificate}
 use Rattle.harmonics_book.specs.declared.book.Book.{Book}
 use Rattle.question.specs.declared.command.Command.{Command}
 use Rattle.question.specs.declared.command.Command.TheVariants.{Predict, Certify, Check}
-use Rattle.question.specs.declared.question.Layout.TheVariants.{Plain}
+use Rattle.question.specs.declared.layout.Layout.TheVariants.{Plain}
 use Rattle.question.specs.declared.question.Question.{Question}
 use Rattle.report_sheets.specs.Sheets.{SheetMeaning}
 use Rattle.station_table.specs.declared.offsets.Offsets.{Offsets}

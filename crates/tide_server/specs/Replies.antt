@@ -3,11 +3,11 @@
 use Rattle.std.specs.Prelude.{◌≡◌, ℕ, ℤ, Bool, List, [], codes, is_some, Result, Ok, Err}
 use Rattle.harmonics_book.specs.declared.book.Book.{Book}
 use Rattle.question.specs.declared.fault.AskFault.{AskFault}
-use Rattle.question.specs.declared.question.Layout.{Layout}
-use Rattle.question.specs.declared.question.Layout.TheVariants.{Plain, Csv}
+use Rattle.question.specs.declared.layout.Layout.{Layout}
 use Rattle.question.specs.declared.question.Question.{Question}
 use Rattle.question.specs.declared.question.ZoneWord.{ZoneWord}
 use Rattle.question.specs.declared.question.ZoneWord.TheVariants as words
+use Rattle.question.specs.Layouts.{media_type_of}
 use Rattle.question.specs.Questions.{question_of}
 use Rattle.station_table.specs.declared.offsets.Offsets.{Offsets}
 use Rattle.tide_fault.specs.declared.fault.Fault.{Fault}
@@ -40,18 +40,13 @@ zone_of (words.Named name) = Utc
 abbrev pub given_with : Question → Asking → ℤ → Given
 given_with question asking minute = record { zone = zone_of question.zone; certificate = asking.body; now = minute }
 
--- the content type of an answer
-abbrev pub type_of : Layout → List ℕ
-type_of Plain = codes "text/plain"
-type_of Csv = codes "text/csv"
-
 -- the reply with the line of a fault
 abbrev pub fault_reply : Code → List Offsets → Fault → Bool → List ℕ
 fault_reply code table fault bodiless = response code (codes "text/plain") [] (line_of table fault) bodiless
 
 -- the reply with an answer, which a rejected certificate has too, or with a refusal
 unfoldable pub answer_reply : List Offsets → Layout → Result Answer Refusal → Bool → List ℕ
-answer_reply table layout (Ok answer) bodiless = response code.Success (type_of layout) [] answer.text bodiless
+answer_reply table layout (Ok answer) bodiless = response code.Success (media_type_of layout) [] answer.text bodiless
 answer_reply table layout (Err refusal) bodiless = fault_reply code.Unprocessable table (Refused refusal) bodiless
 
 -- the reply to a query that is a request, or to one that isn't

@@ -8,7 +8,7 @@ ghost use Rattle.tide_fault.specs.Faults.{IsPrintable, refusal_is_out_of_memory}
 ghost use Rattle.tide_answer.specs.Givens.{IsGiven, given_seen};
 ghost use Rattle.tide_edge.specs.Clocks.{IsClockMinute};
 ghost use Rattle.question.specs.Questions.{is_out_of_memory};
-ghost use Rattle.tide_server.specs.Replies.{IsReply, answer_reply, asking_reply, fault_reply, given_with, names_file, type_of, zone_of};
+ghost use Rattle.tide_server.specs.Replies.{IsReply, answer_reply, asking_reply, fault_reply, given_with, names_file, zone_of};
 ghost use Rattle.http_rows.specs.Responses.{rejection_of};
 ghost use Rattle.http_rows.specs.declared.limits.TheConstants.{MOST_BODY};
 ghost use Rattle.http_rows.specs.Workings.Views.{IsAsking, asking_seen};
@@ -19,7 +19,7 @@ use arrayvec::ArrayString;
 use decimal_text::Bytes;
 use harmonics_book::Book;
 use http_rows::{Asking, Code, ReplyRow, RequestRejection, Response, row_for, write_rejection};
-use question::{AskFault, Layout, ValidQuestion, ZoneWord, read_question};
+use question::{AskFault, ValidQuestion, ZoneWord, read_question};
 use station_table::OffsetTable;
 use std::alloc::{AllocError, Global};
 use tide_answer::{Fault, GivenView, Refusal, StationData, answer_valid, fault_line};
@@ -149,7 +149,7 @@ fn answer_reply(
     drop(zone);
     match answered {
         Ok(answer) => {
-            let kind = type_of(question.get().layout);
+            let kind = question.get().layout.media_type();
             Ok(Response::new(Code::Success, kind, answer.text, asking.bodiless))
         }
         Err(refusal) => {
@@ -194,17 +194,6 @@ fn zone_of(word: &ZoneWord) -> Zone
         ZoneWord::Utc => Zone::Utc,
         ZoneWord::Fixed(minutes) => Zone::Fixed(*minutes),
         ZoneWord::Named(_) => unreachable!(),
-    }
-}
-
-/// Returns the content type of an answer in `layout`.
-fn type_of(layout: Layout) -> &'static str
-    ensures text { result.now ≡ type_of layout }
-    ensures length_bound { length result.now ≤ 10 }
-{
-    match layout {
-        Layout::Plain => "text/plain",
-        Layout::Csv => "text/csv",
     }
 }
 

@@ -7,7 +7,8 @@ use Rattle.event_text.specs.Lines.{text_of_unit}
 use Rattle.listing.specs.Abouts.{about_text_of}
 use Rattle.question.specs.declared.command.Command.TheVariants.{About}
 use Rattle.question.specs.declared.question.Question.{Question}
-use Rattle.question.specs.Forms.{some_text, number_of, mark_of, layout_of, clock_of, offset_of, zone_of, sheets_of}
+use Rattle.question.specs.Forms.{some_text, number_of, mark_of, clock_of, offset_of, zone_of, sheets_of}
+use Rattle.question.specs.Layouts.{layout_of}
 use Rattle.question.specs.Questions.{with_item, with_items, question_of}
 use Rattle.question.specs.Worked.{bare, is_space}
 use Rattle.report_sheets.specs.Pages.{missing_of}

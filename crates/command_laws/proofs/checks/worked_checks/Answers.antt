@@ -16,7 +16,8 @@ use Rattle.tide_desk.specs.Answers.{answer_of, answered_over_book, given_with, i
 use Rattle.report_sheets.specs.Pages.{missing_of, page_of, pages_of}
 use Rattle.zone_time.specs.Moments.{has_form, moment_of, moment_text}
 use Rattle.decimal_text.specs.Decimal.{after_point, made_of, decimal_of, scaled, scaled_or_bad, read_of}
-use Rattle.question.specs.Forms.{some_text, number_of, mark_of, layout_of, clock_of, offset_of, zone_of, sheets_of}
+use Rattle.question.specs.Forms.{some_text, number_of, mark_of, clock_of, offset_of, zone_of, sheets_of}
+use Rattle.question.specs.Layouts.{layout_of}
 use Rattle.question.specs.Questions.{with_item, with_items, question_of}
 use Rattle.jiff_core.specs.Calendar.{days_of_years, days_of_months, day_count, days_from_civil}
 use Rattle.tide_answer.specs.Answers.{predicted, certified, heights, rows_in, asks_span, listed, answered}

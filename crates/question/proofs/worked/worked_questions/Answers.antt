@@ -4,9 +4,10 @@ use Rattle.jiff_core.specs.Calendar.{days_from_civil}
 use Rattle.zone_time.specs.Moments.{has_form, moment_of}
 use Rattle.zone_time.proofs.ClosedLemmas.{days_from_civil-closed}
 use Rattle.question.specs.declared.command.Command.TheVariants as command
-use Rattle.question.specs.declared.question.Layout.TheVariants.{Csv}
+use Rattle.question.specs.declared.layout.Layout.TheVariants.{Csv}
 use Rattle.question.specs.declared.question.ZoneWord.TheVariants.{Fixed}
-use Rattle.question.specs.Forms.{some_text, number_of, mark_of, layout_of, clock_of, offset_of, zone_of}
+use Rattle.question.specs.Forms.{some_text, number_of, mark_of, clock_of, offset_of, zone_of}
+use Rattle.question.specs.Layouts.{layout_of}
 use Rattle.question.specs.Questions.{question_of, with_items, with_item}
 use Rattle.question.specs.Worked.{bare}
 use Rattle.question.proofs.worked.worked_questions.Goals as goal

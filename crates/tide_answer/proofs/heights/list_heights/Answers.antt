@@ -26,7 +26,7 @@ returns-clause-exact c =
     let is = c.in_ok-found.ensures.exact in
     let few = rw is.asked at (simp to_z-of_z at c.in_ok-check_rows.ensures.exact) in
     let rows = rw (is.book, is.asked) at (simp to_z-of_z at c.in_ok-rows.ensures.exact) in
-    rw (c.text_alone.ensures, c.in_ok-text.ensures, c.name.ensures, c.in_ok-found.found.unit)
+    rw (c.text_alone.ensures, c.in_ok-text.ensures, c.name.ensures, c.zone.ensures.exact, c.in_ok-found.found.unit)
     (whole_list c.args.stations.now.book c.args.stations.now.table c.args.request.now.name c.args.request.now.asked c.args.step
     c.args.layout c.args.zone.now (site_of c.in_ok-found.found) c.in_ok-rows.rows
     is.site (sym c.in_ok-check_level.ensures.exact) (sym few) rows)
