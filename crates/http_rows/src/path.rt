@@ -23,7 +23,7 @@ static PATHS: [Path; 7] = [
 ];
 
 impl Path {
-    ghost use Rattle.std.specs.Prelude.{◌≡◌, drop, IfSome};
+    ghost use Rattle.std.specs.Prelude.{◌≡◌, IfSome};
     ghost use Rattle.http_rows.specs.Paths.{is_posted, path_named, text_of};
 
     fn text(self) -> &'static str
@@ -49,13 +49,6 @@ impl Path {
             .iter()
             .copied()
             .find(|path| path.text().as_bytes() == text)
-    }
-
-    /// Returns the path's command: its text without the `/`.
-    pub fn command(self) -> &'static str
-        ensures { result.now ≡ drop 1 (text_of self) }
-    {
-        &self.text()[1..]
     }
 
     /// Returns true if the path is for POST, false if it is for GET and HEAD.

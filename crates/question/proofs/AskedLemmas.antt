@@ -1,4 +1,4 @@
--- The properties of the question of pairs without a fault.
+-- The properties of the question of items without a fault.
 use Rattle.std.proofs.Common.{◌≡◌, ℕ, ◌+◌, ◌≤◌, Bool, true, false, not, ◌&&◌, ◌||◌, List, [], ◌∷◌, Option, Some, None, pos, ◌≤ℤ◌, unsigned_abs, Result, Ok, Err, refl, sym, subst, arith, cond}
 use Rattle.std.specs.Prelude.{if◌then◌else◌, ℤ, unwrap_or, IsSome, is_some, option_and_then}
 use Rattle.std.specs.Option.{ok_or, ForSome}
@@ -18,14 +18,13 @@ use Rattle.question.specs.declared.key.Key.TheVariants as key
 use Rattle.question.specs.declared.origin.Origin.{Origin}
 use Rattle.question.specs.declared.origin.Origin.TheVariants.{Line, Query}
 use Rattle.question.specs.declared.pairs.Item.{Item}
-use Rattle.question.specs.declared.pairs.Pairs.{Pairs}
 use Rattle.question.specs.declared.question.Question.{Question}
 use Rattle.question.specs.declared.question.ZoneWord.TheVariants.{Utc}
 use Rattle.question.specs.contracts.key.Key.{the_type}
 use Rattle.question.specs.Asked.{IsZoneWord, HasSpan, HasNeeded, NamesFiles, IsAsked}
 use Rattle.question.specs.Forms.{mark_of, step_of, zone_of, port_of}
 use Rattle.question.specs.Keys.{all_keys, name_of, row_of, has_key, is_needed, key_named}
-use Rattle.question.specs.Questions.{Said, nothing_said, also, refuse_if, has_form, command_of, with_item, with_items, missing_key, complete, asked, question_of}
+use Rattle.question.specs.Questions.{Said, nothing_said, also, refuse_if, has_form, with_item, with_items, missing_key, complete, asked, question_with}
 use Rattle.question.proofs.FormLemmas.{moment_of-range, mark_of-range, step_of-range, zone_of-range, port_of-range}
 
 -- ---- keys of the table
@@ -259,34 +258,35 @@ was_asked origin command said read =
       port_last = port.1;
     }
 
--- ---- the question of pairs
+-- ---- the question of a command with items
 
-record WasAsked (pairs : Pairs) (question : Question) : Type 0 where
-  pub command : Command
+record WasAsked (origin : Origin) (command : Command) (question : Question) : Type 0 where
   pub said : Said
-  pub read : WasRead pairs.origin command said
-  pub is : asked pairs.origin command said ≡ question
+  pub read : WasRead origin command said
+  pub is : asked origin command said ≡ question
 
-was_read : (pairs : Pairs) (question : Question) → question_of pairs ≡ Ok question → WasAsked pairs question
-unfolding question_of
-was_read pairs question ok =
-    let command = then_ok (command_of pairs.origin pairs.command) _ question ok in
-    let said = then_ok (with_items pairs.origin command.0 1 pairs.items nothing_said) _ question command.2 in
-    let whole = then_ok (complete (missing_key pairs.origin command.0 said.0)) _ question said.2 in
+was_read : (origin : Origin) (command : Command) (items : List Item) (question : Question)
+    → question_with origin command items ≡ Ok question → WasAsked origin command question
+was_read origin command items question ok =
+    let said = then_ok (with_items origin command 1 items nothing_said) _ question ok in
+    let whole = then_ok (complete (missing_key origin command said.0)) _ question said.2 in
     record {
-      command = command.0;
       said = said.0;
       read = record {
-        fit = items_fit pairs.origin command.0 pairs.items 1 nothing_said said.0 (none_fit pairs.origin) said.1;
+        fit = items_fit origin command items 1 nothing_said said.0 (none_fit origin) said.1;
         whole = none_missing _ whole.0 whole.1;
       };
       is = (let last = whole.2 in cc);
     }
 
-pub question_of-asked : (pairs : Pairs) (question : Question) → question_of pairs ≡ Ok question → IsAsked question
-question_of-asked pairs question ok =
-    let well = was_read pairs question ok in subst IsAsked well.is (was_asked pairs.origin well.command well.said well.read)
+pub question_with-asked : (origin : Origin) (command : Command) (items : List Item) (question : Question)
+    → question_with origin command items ≡ Ok question → IsAsked question
+question_with-asked origin command items question ok =
+    let well = was_read origin command items question ok in
+    subst IsAsked well.is (was_asked origin command well.said well.read)
 
-pub question_of-named : (pairs : Pairs) (question : Question) → question_of pairs ≡ Ok question → NamesFiles pairs.origin question
-question_of-named pairs question ok =
-    let well = was_read pairs question ok in subst (NamesFiles pairs.origin) well.is (files_there pairs.origin well.command well.read)
+pub question_with-named : (origin : Origin) (command : Command) (items : List Item) (question : Question)
+    → question_with origin command items ≡ Ok question → NamesFiles origin question
+question_with-named origin command items question ok =
+    let well = was_read origin command items question ok in
+    subst (NamesFiles origin) well.is (files_there origin command well.read)

@@ -2,7 +2,6 @@ pub mod AskedLemmas
 pub mod CommandLemmas
 pub mod FormLemmas
 pub mod ItemLemmas
-pub mod QuestionLemmas
 pub mod SaidLemmas
 pub mod SheetLemmas
 pub mod TextLemmas

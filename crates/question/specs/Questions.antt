@@ -123,10 +123,13 @@ asked origin command said = record {
   sheets = field_of origin said key.Sheets;
 }
 
--- the question of pairs: the command is read first, then the items, then the required keys are checked
+-- the question of a command with items: the items are read first, then the required keys are checked
+abbrev pub question_with : Origin → Command → List Item → Result Question AskFault
+question_with origin command items = do
+  said ← with_items origin command 1 items nothing_said
+  whole ← complete (missing_key origin command said)
+  Ok (asked origin command said)
+
+-- the question of pairs: the command is read first
 unfoldable pub question_of : Pairs → Result Question AskFault
-question_of pairs = do
-  command ← command_of pairs.origin pairs.command
-  said ← with_items pairs.origin command 1 pairs.items nothing_said
-  whole ← complete (missing_key pairs.origin command said)
-  Ok (asked pairs.origin command said)
+question_of pairs = command_of pairs.origin pairs.command >>= λ command. question_with pairs.origin command pairs.items

@@ -30,7 +30,7 @@ pub use layout::Layout;
 pub use origin::Origin;
 pub use pairs::{Item, Items, Pairs};
 pub use question::{Question, ZoneWord};
-pub use reading::read_question;
+pub use reading::{read_items, read_question};
 pub use valid_question::ValidQuestion;
 pub use words::pairs_of_words;
 pub use worked::{

@@ -3,7 +3,7 @@
 ghost use Rattle.std.specs.Prelude.{◌≡◌, ◌+◌, ◌++◌, [], ◌∷◌, length, IfOk};
 ghost use Rattle.decimal_text.specs.Expected.{ReturnsUnless};
 ghost use Rattle.question.specs.Asked.{IsAsked, NamesFiles};
-ghost use Rattle.question.specs.Questions.{is_out_of_memory, nothing_said, command_of, with_item, with_items, question_of};
+ghost use Rattle.question.specs.Questions.{is_out_of_memory, nothing_said, command_of, with_item, with_items, question_of, question_with};
 ghost use Rattle.question.specs.Workings.Said.{said_by, ReturnsSaid};
 
 use crate::asked::asked;
@@ -11,7 +11,7 @@ use crate::command::{Command, command_named};
 use crate::fault::AskFault;
 use crate::key::{form_of, key_named};
 use crate::origin::Origin;
-use crate::pairs::{Item, Pairs};
+use crate::pairs::{Item, Items, Pairs};
 use crate::question::Question;
 use crate::said::{is_said, missing_key, text_of};
 use decimal_text::Text;
@@ -36,26 +36,48 @@ use std::alloc::Global;
 /// let fault = read_question(rt.alloc(), &pairs).err();
 /// assert_eq!(rt; fault, Some(AskFault::MissingKey(Key::Begin)));
 /// ```
+#[tactic(auto, unfolding(crate::specs::Questions::question_of))]
 pub fn read_question(alloc: Global, pairs: &Pairs) -> Result<Question, AskFault>
     ensures exact { ReturnsUnless is_out_of_memory (question_of pairs.now) result }
     ensures asked { IfOk result IsAsked }
     ensures named { IfOk result (NamesFiles pairs.now.origin) }
 {
-    let question = read_pairs(alloc, pairs)?;
+    let command = read_command(pairs.origin, &pairs.command)?;
+    read_items(alloc, pairs.origin, command, &pairs.items)
+}
+
+/// Returns the question of `command` with `items`.
+///
+/// # Errors
+/// Those of [`read_question`] from the items on.
+pub fn read_items(
+    alloc: Global,
+    origin: Origin,
+    command: Command,
+    items: &Items,
+) -> Result<Question, AskFault>
+    ensures exact { ReturnsUnless is_out_of_memory (question_with origin command items.now) result }
+    ensures asked { IfOk result IsAsked }
+    ensures named { IfOk result (NamesFiles origin) }
+{
+    let question = read_fields(alloc, origin, command, items)?;
     Ok(question)
 }
 
-#[tactic(auto, unfolding(crate::specs::Questions::question_of))]
-fn read_pairs(alloc: Global, pairs: &Pairs) -> Result<Question, AskFault>
-    ensures { ReturnsUnless is_out_of_memory (question_of pairs.now) result }
+fn read_fields(
+    alloc: Global,
+    origin: Origin,
+    command: Command,
+    items: &Items,
+) -> Result<Question, AskFault>
+    ensures { ReturnsUnless is_out_of_memory (question_with origin command items.now) result }
 {
-    let items = pairs.items.as_slice();
-    let command = read_command(pairs.origin, &pairs.command)?;
-    check_items(alloc, pairs.origin, command, items)?;
-    if let Some(key) = missing_key(pairs.origin, command, items) {
+    let items = items.as_slice();
+    check_items(alloc, origin, command, items)?;
+    if let Some(key) = missing_key(origin, command, items) {
         return Err(AskFault::MissingKey(key));
     }
-    Ok(asked(alloc, pairs.origin, command, items)?)
+    Ok(asked(alloc, origin, command, items)?)
 }
 
 fn read_command(origin: Origin, word: &Option<Text>) -> Result<Command, AskFault>

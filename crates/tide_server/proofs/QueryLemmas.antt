@@ -1,9 +1,9 @@
 -- The zone of a query is no file.
 use Rattle.std.proofs.Common.{◌≡◌, ℕ, ℤ, Bool, true, false, List, Option, Some, None, refl}
-use Rattle.std.specs.Prelude.{if◌then◌else◌, option_and_then, unwrap_or, codes, Result, Ok, Err}
+use Rattle.std.specs.Prelude.{if◌then◌else◌, option_and_then, unwrap_or, codes, drop, IfOk, Result, Ok, Err}
 use Rattle.std.specs.Option.{option_map, option_or}
 use Rattle.std.specs.Str.{bytes_eq}
-use Rattle.decimal_text.specs.Expected.{◌>>=◌}
+use Rattle.decimal_text.specs.Expected.{◌>>=◌, ReturnsUnless}
 use Rattle.question.specs.declared.command.Command.{Command}
 use Rattle.question.specs.declared.fault.AskFault.{AskFault}
 use Rattle.question.specs.declared.key.Key.TheVariants as key
@@ -12,8 +12,11 @@ use Rattle.question.specs.declared.pairs.Item.{Item}
 use Rattle.question.specs.declared.question.Question.{Question}
 use Rattle.question.specs.declared.question.ZoneWord.{ZoneWord}
 use Rattle.question.specs.declared.question.ZoneWord.TheVariants.{Utc, Fixed}
+use Rattle.question.specs.Commands.{command_named}
 use Rattle.question.specs.Forms.{after, file_zone, offset_of, zone_of}
-use Rattle.question.specs.Questions.{Said, asked, command_of, complete, missing_key, nothing_said, question_of, with_items}
+use Rattle.question.specs.Questions.{Said, is_out_of_memory, asked, command_of, complete, missing_key, nothing_said, question_of, question_with, with_items}
+use Rattle.http_rows.specs.Rows.{Asking}
+use Rattle.tide_server.specs.Queries.{items_of, pairs_of}
 use Rattle.tide_server.specs.Replies.{names_file}
 
 abbrev pub names : Option ZoneWord → Bool
@@ -58,14 +61,28 @@ of_said : (command : Command) (said : Result Said AskFault) (question : Question
 of_said command (Ok s) question is = of_whole command s (complete (missing_key Query command s)) question is
 of_said command (Err fault) question is = absurd (cc)
 
+items_name_no_file : (command : Command) (items : List Item) (question : Question)
+    → question_with Query command items ≡ Ok question → names_file question.zone ≡ false
+items_name_no_file command items question is = of_said command (with_items Query command 1 items nothing_said) question is
+
 of_command : (command : Result Command AskFault) (items : List Item) (question : Question)
-    → (command >>= λ c. with_items Query c 1 items nothing_said
-    >>= λ s. complete (missing_key Query c s) >>= λ w. Ok (asked Query c s)) ≡ Ok question
-    → names_file question.zone ≡ false
-of_command (Ok c) items question is = of_said c (with_items Query c 1 items nothing_said) question is
+    → (command >>= λ c. question_with Query c items) ≡ Ok question → names_file question.zone ≡ false
+of_command (Ok c) items question is = items_name_no_file c items question is
 of_command (Err fault) items question is = absurd (cc)
 
 pub query_names_no_file : (command : Option (List ℕ)) (items : List Item) (question : Question)
     → question_of record { origin = Query; command = command; items = items } ≡ Ok question → names_file question.zone ≡ false
 unfolding question_of
 query_names_no_file command items question is = of_command (command_of Query command) items question is
+
+pub read_names_no_file : (command : Command) (items : List Item) (result : Result Question AskFault)
+    → ReturnsUnless is_out_of_memory (question_with Query command items) result
+    → IfOk result (λ question. names_file question.zone ≡ false)
+read_names_no_file command items (Ok question) is = items_name_no_file command items question is
+read_names_no_file command items (Err fault) is = tt
+
+-- the question of a request's path and query
+pub question_at : (asking : Asking) (command : Command) → command_named Query (drop 1 asking.path) ≡ Some command
+    → question_of (pairs_of asking) ≡ question_with Query command (items_of asking.query)
+unfolding question_of
+question_at asking command named = rw named refl

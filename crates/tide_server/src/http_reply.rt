@@ -1,25 +1,27 @@
 //! The reply to a request.
 
 ghost use Rattle.std.specs.Prelude.{◌≡◌, ◌≤◌, false, length, IfOk};
+ghost use Rattle.decimal_text.specs.Expected.{ReturnsUnless};
 ghost use Rattle.harmonics_book.specs.Books.{IsBook};
-ghost use Rattle.question.specs.Asked.{IsZoneWord};
+ghost use Rattle.question.specs.Asked.{IsAsked, IsZoneWord};
 ghost use Rattle.tide_answer.specs.Answers.{answered};
 ghost use Rattle.tide_fault.specs.Faults.{IsPrintable, refusal_is_out_of_memory};
 ghost use Rattle.tide_answer.specs.Givens.{IsGiven, given_seen};
 ghost use Rattle.tide_edge.specs.Clocks.{IsClockMinute};
-ghost use Rattle.question.specs.Questions.{is_out_of_memory};
+ghost use Rattle.question.specs.Questions.{is_out_of_memory, question_of};
+ghost use Rattle.tide_server.specs.Queries.{pairs_of};
 ghost use Rattle.tide_server.specs.Replies.{IsReply, answer_reply, asking_reply, fault_reply, given_with, names_file, zone_of};
 ghost use Rattle.http_rows.specs.Responses.{rejection_of};
 ghost use Rattle.http_rows.specs.declared.limits.TheConstants.{MOST_BODY};
 ghost use Rattle.http_rows.specs.Workings.Views.{IsAsking, asking_seen};
 ghost use Rattle.zone_time.specs.Zones.{IsZone};
 
-use crate::query::pairs_of;
+use crate::query::{command_of, items_of};
 use arrayvec::ArrayString;
 use decimal_text::Bytes;
 use harmonics_book::Book;
 use http_rows::{Asking, Code, ReplyRow, RequestRejection, Response, row_for, write_rejection};
-use question::{AskFault, ValidQuestion, ZoneWord, read_question};
+use question::{AskFault, Origin, Question, ValidQuestion, ZoneWord, read_items};
 use station_table::OffsetTable;
 use std::alloc::{AllocError, Global};
 use tide_answer::{Fault, GivenView, Refusal, StationData, answer_valid, fault_line};
@@ -91,7 +93,7 @@ fn rejection_reply(
 ///
 /// # Errors
 /// [`AllocError`] if memory runs out.
-#[tactic(auto, using(crate::proofs::QueryLemmas::query_names_no_file), unfolding(crate::specs::Replies::asking_reply, crate::specs::Replies::question_reply))]
+#[tactic(auto, unfolding(crate::specs::Replies::asking_reply, crate::specs::Replies::question_reply))]
 pub(crate) fn asking_reply(
     alloc: Global,
     stations: &StationData<'_>,
@@ -102,10 +104,7 @@ pub(crate) fn asking_reply(
     requires now { IsClockMinute now }
     ensures { IfOk result (λ response. response ≡ asking_reply stations.now.book stations.now.table now (asking_seen asking.now)) }
 {
-    let pairs = pairs_of(alloc, asking)?;
-    let read = read_question(alloc, &pairs);
-    drop(pairs);
-    match read {
+    match read_question(alloc, asking) {
         Ok(question) => {
             let valid = ValidQuestion::new(&question);
             let replied = answer_reply(alloc, stations, &valid, asking, now);
@@ -125,6 +124,19 @@ pub(crate) fn asking_reply(
             )
         }
     }
+}
+
+/// Returns the question of a request.
+fn read_question(alloc: Global, asking: &Asking<'_>) -> Result<Question, AskFault>
+    ensures exact { ReturnsUnless is_out_of_memory (question_of (pairs_of (asking_seen asking.now))) result }
+    ensures asked { IfOk result IsAsked }
+    ensures no_file { IfOk result (λ question. names_file question.zone ≡ false) }
+{
+    let items = items_of(alloc, asking.query)?;
+    let command = command_of(asking.path);
+    let read = read_items(alloc, Origin::Query, command, &items);
+    drop(items);
+    read
 }
 
 /// Returns the reply to `question`.

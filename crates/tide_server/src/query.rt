@@ -1,35 +1,44 @@
-//! The command and the pairs of a path and a query.
+//! The command of a path and the pairs of a query.
 
-ghost use Rattle.std.specs.Prelude.{◌≡◌, IfOk};
-ghost use Rattle.tide_server.specs.Queries.{item_of, items_of, pairs_of, said_by};
-ghost use Rattle.http_rows.specs.Workings.Views.{asking_seen};
+ghost use Rattle.std.specs.Prelude.{◌≡◌, drop, IfOk, Some};
+ghost use Rattle.http_rows.specs.Paths.{text_of};
+ghost use Rattle.question.specs.Commands.{command_named};
+ghost use Rattle.question.specs.declared.origin.Origin.{Origin};
+ghost use Rattle.tide_server.specs.Queries.{item_of, items_of, said_by};
 
 use decimal_text::Text;
 use form_urlencoded::{decode, raw_pairs};
-use http_rows::Asking;
-use question::{Item, Items, Origin, Pairs};
+use http_rows::Path;
+use question::{Command, Item, Items};
 use std::alloc::{AllocError, Global};
 
-/// Returns the command and the pairs of keys and values of a request.
-pub(crate) fn pairs_of(alloc: Global, asking: &Asking<'_>) -> Result<Pairs, AllocError>
-    ensures { IfOk result (λ pairs. pairs ≡ pairs_of (asking_seen asking.now)) }
+/// Returns the command of `path`.
+pub(crate) fn command_of(path: Path) -> Command
+    ensures { command_named Origin.Query (drop 1 (text_of path)) ≡ Some result }
 {
-    Ok(Pairs {
-        origin: Origin::Query,
-        command: Some(Text::from_str(alloc, asking.path.command())?),
-        items: Items::from_vec(items_of(alloc, asking.query)?),
-    })
+    match path {
+        Path::Predict => Command::Predict,
+        Path::Certify => Command::Certify,
+        Path::Heights => Command::Heights,
+        Path::Calendar => Command::Calendar,
+        Path::Clock => Command::Clock,
+        Path::Stations => Command::Stations,
+        Path::Check => Command::Check,
+    }
 }
 
 /// Returns the pairs of `query`, decoded.
-fn items_of(alloc: Global, query: &[u8]) -> Result<Vec<Item>, AllocError>
-    ensures { IfOk result (λ items. items.items ≡ items_of query.now) }
+///
+/// # Errors
+/// [`AllocError`] if memory runs out.
+pub(crate) fn items_of(alloc: Global, query: &[u8]) -> Result<Items, AllocError>
+    ensures { IfOk result (λ items. items ≡ items_of query.now) }
 {
     let mut items = Vec::new(alloc);
     for (name, value) in raw_pairs(query) {
         items.push(item_of(alloc, name, value)?)?;
     }
-    Ok(items)
+    Ok(Items::from_vec(items))
 }
 
 /// Returns the pair of `name` and `value`, decoded.
