@@ -49,7 +49,7 @@ small_next i value digit nine h = rw (pow_more 10 i) (omega (arith, h))
 scaled : (n d p v q w : ℕ) → q ≡ p * 10 → w ≡ (0 * 10 + d) * p + v → (n * 10 + d) * p + v ≡ n * q + w
 scaled n d p v q w more rest = rw (more, rest) (omega arith)
 
-after_scaled : (n : ℕ) (ds : List ℕ) → digits_value_after 10 n ds ≡ n * 10 ^ length ds + digits_value 10 ds
+pub after_scaled : (n : ℕ) (ds : List ℕ) → digits_value_after 10 n ds ≡ n * 10 ^ length ds + digits_value 10 ds
 after_scaled n [] = omega arith
 after_scaled n (c ∷ cs) =
     let more : 10 ^ length (c ∷ cs) ≡ 10 ^ length cs * 10 = rw (← add-one (length cs)) (pow_more 10 (length cs)) in

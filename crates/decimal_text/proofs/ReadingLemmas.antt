@@ -15,6 +15,7 @@ use Rattle.decimal_text.specs.declared.fault.DecimalFault.TheVariants.{BadForm, 
 use Rattle.decimal_text.specs.declared.steps.Steps.{Steps}
 use Rattle.decimal_text.specs.Decimal.{Decimal, after_point, made_of, scaled, scaled_or_bad, signed, decimal_of, read_of, IsScaled, ReadsItsFraction, TooFineIsNoFraction}
 use Rattle.decimal_text.specs.Workings.Steps.{DigitsInvariant}
+use Rattle.decimal_text.proofs.DigitsLemmas.{after_scaled}
 use Rattle.decimal_text.proofs.StepsLemmas.{ten_up}
 
 -- the results of `after_point`
@@ -63,16 +64,20 @@ pub after_append : (n : ℕ) (xs ys : List ℕ) → digits_value_after 10 n (xs 
 after_append n [] ys = refl
 after_append n (c ∷ xs) ys = after_append (n * 10 + digit_value c) xs ys
 
--- the digits of a fraction in steps of 1 / 10 ^ places, exact or too fine
-pub exact_total : (places count n : ℕ) (s : Steps) → DigitsInvariant places count n s → s.exact ≡ true
-    → n * 10 ^ places ≡ (s.value * 10 ^ s.left) * 10 ^ count + 0
-exact_total places count n s h e =
+-- a whole number and the digits of a fraction in steps of 1 / 10 ^ places, exact or too fine
+joined : (whole unit n power steps : ℕ) → n * power ≡ steps * unit
+    → (whole * unit + n) * power ≡ (whole * power + steps) * unit + 0
+joined whole unit n power steps h = omega (arith, h)
+
+pub exact_total : (places count whole n : ℕ) (s : Steps) → DigitsInvariant places count n s → s.exact ≡ true
+    → (whole * 10 ^ count + n) * 10 ^ places ≡ (whole * 10 ^ places + s.value * 10 ^ s.left) * 10 ^ count + 0
+exact_total places count whole n s h e =
     let is = h.exact e in
     let up : 10 ^ count * 10 ^ s.left ≡ 10 ^ places * 10 ^ h.extra =
     sym (pow-add 10 count s.left) ∙ ap (λ k. 10 ^ k) h.counted ∙ pow-add 10 places h.extra in
     let times : s.value * (10 ^ count * 10 ^ s.left) ≡ s.value * (10 ^ places * 10 ^ h.extra) = ap (λ k. s.value * k) up in
     let scaled' : s.value * 10 ^ h.extra * 10 ^ places ≡ n * 10 ^ places = ap (λ k. k * 10 ^ places) is in
-    omega (arith, times, scaled')
+    joined whole (10 ^ count) n (10 ^ places) (s.value * 10 ^ s.left) (omega (arith, times, scaled'))
 
 not_between : (n value one : ℕ) → one ≡ 1 → value * one < n → n + 1 ≤ (value + 1) * one → ⊥
 not_between n value one e above below = omega (arith, rw e at above, rw e at below)
@@ -84,8 +89,16 @@ no_multiple m value unit above below =
     let is = ap (λ k. k % unit) e ∙ mod-mul-add value unit (m - value * unit) (omega arith) in
     omega (arith, is)
 
-pub fine_total : (places count n : ℕ) (s : Steps) → DigitsInvariant places count n s → s.exact ≡ false → 0 < n * 10 ^ places % 10 ^ count
-fine_total places count n s h e =
+between : (whole unit n power value : ℕ) → value * unit < n * power → n * power < value * unit + unit
+    → 0 < (whole * unit + n) * power % unit
+between whole unit n power value above below =
+    let is : (whole * unit + n) * power ≡ whole * power * unit + n * power = omega arith in
+    let more : (whole * power + value) * unit ≡ whole * power * unit + value * unit = omega arith in
+    no_multiple ((whole * unit + n) * power) (whole * power + value) unit (omega (arith, is, more, above)) (omega (arith, is, more, below))
+
+pub fine_total : (places count whole n : ℕ) (s : Steps) → DigitsInvariant places count n s → s.exact ≡ false
+    → 0 < (whole * 10 ^ count + n) * 10 ^ places % 10 ^ count
+fine_total places count whole n s h e =
     let above = h.fine e in
     let below = h.below in
     let no_extra : h.extra ≡ 0 → ⊥ = λ z. not_between n s.value (10 ^ h.extra) (ap (λ k. 10 ^ k) z) above below in
@@ -97,7 +110,7 @@ fine_total places count n s h e =
     let high : (n + 1) * 10 ^ places ≤ ((s.value + 1) * 10 ^ h.extra) * 10 ^ places =
     mul-le (n + 1) (10 ^ places) ((s.value + 1) * 10 ^ h.extra) (10 ^ places) below (omega arith) in
     let some = ten_up places in
-    no_multiple (n * 10 ^ places) s.value (10 ^ count) (omega (arith, value_up, low, some)) (omega (arith, value_up, up, high, some))
+    between whole (10 ^ count) n (10 ^ places) s.value (omega (arith, value_up, low, some)) (omega (arith, value_up, up, high, some))
 
 -- each result of `read_parts`
 pub reads_bad : (places : ℕ) (negative : Bool) (whole fraction : List ℕ) → list_all is_ascii_digit fraction ≡ false
@@ -121,34 +134,38 @@ pub scaled_long : (places : ℕ) (d : Decimal) → 18 < length d.whole → Err T
 unfolding scaled
 scaled_long places d h = simp (lt-ltb 18 (length d.whole) h)
 
+-- all digits of a decimal, from the number before the point
+numerator_is : (n : ℕ) (d : Decimal) → n ≡ digits_value 10 d.whole
+    → digits_value 10 (d.whole ++ d.fraction) ≡ n * 10 ^ length d.fraction + digits_value 10 d.fraction
+numerator_is n d k =
+    after_append 0 d.whole d.fraction ∙ ap (λ m. digits_value_after 10 m d.fraction) (sym k) ∙ after_scaled n d.fraction
+
 pub scaled_fine : (places n : ℕ) (d : Decimal) (s : Steps) → length d.whole ≤ 18 → n ≡ digits_value 10 d.whole
-    → DigitsInvariant places (length d.fraction) (digits_value_after 10 n d.fraction) s → s.exact ≡ false
+    → DigitsInvariant places (length d.fraction) (digits_value 10 d.fraction) s → s.exact ≡ false
     → Err TooFine ≡ scaled places d
 unfolding scaled
 scaled_fine places n d s h k digits_invariant e =
-    let number : digits_value 10 (d.whole ++ d.fraction) ≡ digits_value_after 10 n d.fraction =
-    after_append 0 d.whole d.fraction ∙ ap (λ m. digits_value_after 10 m d.fraction) (sym k) in
-    let some = fine_total places (length d.fraction) (digits_value_after 10 n d.fraction) s digits_invariant e in
+    let unit = 10 ^ length d.fraction in
+    let number = numerator_is n d k in
+    let some = fine_total places (length d.fraction) n (digits_value 10 d.fraction) s digits_invariant e in
     simp (
       le-ltb 18 (length d.whole) h,
       number,
-      ne_eqb (digits_value_after 10 n d.fraction * 10 ^ places % 10 ^ length d.fraction) 0 (λ z. omega (arith, z, some)),
+      ne_eqb ((n * unit + digits_value 10 d.fraction) * 10 ^ places % unit) 0 (λ z. omega (arith, z, some)),
     )
 
 pub scaled_exact : (places n : ℕ) (d : Decimal) (s : Steps) → length d.whole ≤ 18 → n ≡ digits_value 10 d.whole
-    → DigitsInvariant places (length d.fraction) (digits_value_after 10 n d.fraction) s → s.exact ≡ true
-    → Ok (signed d.negative (s.value * 10 ^ s.left)) ≡ scaled places d
+    → DigitsInvariant places (length d.fraction) (digits_value 10 d.fraction) s → s.exact ≡ true
+    → Ok (signed d.negative (n * 10 ^ places + s.value * 10 ^ s.left)) ≡ scaled places d
 unfolding scaled
 scaled_exact places n d s h k digits_invariant e =
-    let number : digits_value 10 (d.whole ++ d.fraction) ≡ digits_value_after 10 n d.fraction =
-    after_append 0 d.whole d.fraction ∙ ap (λ m. digits_value_after 10 m d.fraction) (sym k) in
     let unit = 10 ^ length d.fraction in
-    let total : digits_value_after 10 n d.fraction * 10 ^ places ≡ (s.value * 10 ^ s.left) * unit + 0 =
-    exact_total places (length d.fraction) (digits_value_after 10 n d.fraction) s digits_invariant e in
+    let steps = n * 10 ^ places + s.value * 10 ^ s.left in
+    let number = numerator_is n d k in
+    let total = exact_total places (length d.fraction) n (digits_value 10 d.fraction) s digits_invariant e in
     let some = ten_up (length d.fraction) in
-    let rest : ((s.value * 10 ^ s.left) * unit + 0) % unit ≡ 0 = mod-mul-add (s.value * 10 ^ s.left) unit 0 (omega arith) in
-    let quotient : ((s.value * 10 ^ s.left) * unit + 0) / unit ≡ s.value * 10 ^ s.left =
-    div-mul-add (s.value * 10 ^ s.left) unit 0 (omega arith) in
+    let rest : (steps * unit + 0) % unit ≡ 0 = mod-mul-add steps unit 0 (omega arith) in
+    let quotient : (steps * unit + 0) / unit ≡ steps = div-mul-add steps unit 0 (omega arith) in
     simp (le-ltb 18 (length d.whole) h, number, total, rest, quotient)
 
 -- a number with its sign, from its size

@@ -1,6 +1,7 @@
 -- One more digit of a fraction.
 use Rattle.std.proofs.Common.{◌≡◌, ℕ, ◌+◌, ◌*◌, ◌-◌, ◌^◌, ◌<◌, ◌≤◌, Bool, true, false, ◌⊎◌, inl, inr, refl, ap, ◌∙◌, arith, lit<}
 use Rattle.std.proofs.Math.Nat.{one-le-pow, pow-le-pow_right}
+use Rattle.std.proofs.lemmas.Bool.{cases_lt}
 use Rattle.std.proofs.lemmas.Nat.{mul-le}
 use Rattle.std.proofs.lemmas.Grind.{pow_more}
 use Rattle.decimal_text.specs.Workings.Steps.{DigitsInvariant}
@@ -9,10 +10,19 @@ use Rattle.decimal_text.specs.declared.steps.Steps.{Steps}
 pub ten_up : (k : ℕ) → 1 ≤ 10 ^ k
 ten_up k = one-le-pow k 10 (lit< tt)
 
-pub small_value : (value left : ℕ) → (value + 1) * 10 ^ left ≤ 10 ^ 27 → value < 10 ^ 27
+pub small_value : (value left : ℕ) → (value + 1) * 10 ^ left ≤ 10 ^ 9 → value < 10 ^ 9
 small_value value left h =
     let m : (value + 1) * 1 ≤ (value + 1) * 10 ^ left = mul-le (value + 1) 1 (value + 1) (10 ^ left) (omega arith) (ten_up left) in
     omega (arith, m, h)
+
+pub left_few : (value left : ℕ) → (value + 1) * 10 ^ left ≤ 10 ^ 9 → left ≤ 9
+left_few value left h = elim (cases_lt 9 left) [
+  | inl more ↦
+      let m : 1 * 10 ^ left ≤ (value + 1) * 10 ^ left = mul-le 1 (10 ^ left) (value + 1) (10 ^ left) (omega arith) (omega arith) in
+      let up : 10 ^ 10 ≤ 10 ^ left = pow-le-pow_right (lit< tt) more in
+      absurd (omega (arith, m, up, h))
+  | inr few ↦ few
+]
 
 -- a digit after the last place
 pub more_past : (places count n digit : ℕ) (s : Steps) (now : Bool) → s.left ≡ 0 → digit ≤ 9
@@ -32,7 +42,7 @@ more_past places count n digit s now none nine at_true at_false h = record {
 
 within : (places count n digit value left extra : ℕ) (exact : Bool) → 0 < left → extra ≡ 0 → digit ≤ 9
     → count + left ≡ places + extra → value * 10 ^ extra ≤ n → (exact ≡ false → value * 10 ^ extra < n)
-    → n + 1 ≤ (value + 1) * 10 ^ extra → (value + 1) * 10 ^ left ≤ 10 ^ 27 → DigitsInvariant places (count + 1)
+    → n + 1 ≤ (value + 1) * 10 ^ extra → (value + 1) * 10 ^ left ≤ 10 ^ 9 → DigitsInvariant places (count + 1)
     (n * 10 + digit) (record { value = value * 10 + digit; left = left - 1; exact = exact })
 within places count n digit value left extra exact some none nine counted above fine below small =
     let one : 10 ^ extra ≡ 1 = ap (λ k. 10 ^ k) none in
@@ -63,9 +73,8 @@ more_within places count n digit s some nine h =
     within places count n digit s.value s.left h.extra s.exact some none nine h.counted h.above h.fine h.below h.small
 
 -- the state before the first digit of the fraction
-pub none_yet : (places whole : ℕ) → places ≤ 9 → whole < 10 ^ 18
-    → DigitsInvariant places 0 whole (record { value = whole; left = places; exact = true })
-none_yet places whole few short = record {
+pub none_yet : (places : ℕ) → places ≤ 9 → DigitsInvariant places 0 0 (record { value = 0; left = places; exact = true })
+none_yet places few = record {
   extra = 0;
   counted = omega arith;
   one_side = inl refl;
@@ -73,5 +82,5 @@ none_yet places whole few short = record {
   exact = λ _. omega arith;
   fine = λ e. cc;
   below = omega arith;
-  small = mul-le (whole + 1) (10 ^ places) (10 ^ 18) (10 ^ 9) (omega arith) (pow-le-pow_right (lit< tt) few);
+  small = mul-le (0 + 1) (10 ^ places) 1 (10 ^ 9) (omega arith) (pow-le-pow_right (lit< tt) few);
 }

@@ -25,7 +25,7 @@ ghost use Rattle.decimal_text.specs.Decimal.{read_of, after_point, made_of, scal
 
 use crate::fault::DecimalFault;
 use crate::sign::split_sign;
-use crate::steps::Steps;
+use crate::steps::{Steps, power_of_ten};
 
 /// The most digits before the point.
 const MOST_WHOLE_DIGITS: usize = 18;
@@ -116,7 +116,7 @@ fn read_parts(
     ensures exact { result ≡ scaled_or_bad places (made_of negative whole.now fraction.now) }
     ensures small { IfOk result (λ n. unsigned_abs n < 10 ^ 27) }
 {
-    let Some(steps) = Steps::over(value, fraction, places) else {
+    let Some(steps) = Steps::over(fraction, places) else {
         return Err(DecimalFault::BadForm);
     };
     if !have_digit(whole, fraction) {
@@ -128,6 +128,17 @@ fn read_parts(
     if !steps.exact {
         return Err(DecimalFault::TooFine);
     }
-    let size = steps.total() as i128;
+    let size = total_steps(value, places, steps.total()) as i128;
     Ok(if negative { -size } else { size })
+}
+
+/// Returns the number of steps of the whole number `whole` and of a fraction of `part` steps.
+fn total_steps(whole: u64, places: u32, part: u64) -> u128
+    requires count_bound { places ≤ 9 }
+    requires small { whole < 10 ^ 18 }
+    requires part { part < 10 ^ 9 }
+    ensures exact { result ≡ whole * 10 ^ places + part }
+    ensures small { result < 10 ^ 27 }
+{
+    u128::from(whole) * u128::from(power_of_ten(places)) + u128::from(part)
 }

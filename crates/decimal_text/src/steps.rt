@@ -3,12 +3,30 @@
 ghost use Rattle.std.specs.Prelude.{◌≡◌, ℕ, ◌+◌, ◌*◌, ◌-◌, ◌^◌, ◌<◌, ◌≤◌, true, false, length, MatchOption};
 ghost use Rattle.std.specs.List.{list_all};
 ghost use Rattle.std.specs.Char.{is_ascii_digit};
-ghost use Rattle.std.specs.Str.Parse.{digits_value_after};
+ghost use Rattle.std.specs.Str.Parse.{digits_value};
 
-/// The digits of a decimal read so far, as one number.
+/// Returns 10 to the power of `exponent`, from a table: `pow` multiplies in a loop.
+pub fn power_of_ten(exponent: u32) -> u64
+    requires { exponent ≤ 9 }
+    ensures { result ≡ 10 ^ exponent }
+{
+    match exponent {
+        0 => 1,
+        1 => 10,
+        2 => 100,
+        3 => 1_000,
+        4 => 10_000,
+        5 => 100_000,
+        6 => 1_000_000,
+        7 => 10_000_000,
+        _ => 10u64.pow(exponent),
+    }
+}
+
+/// The digits of a fraction read so far, as one number.
 #[derive(Clone, Copy)]
 pub struct Steps {
-    pub value: u128,
+    pub value: u64,
     /// The number of decimal places still to be read.
     pub left: u32,
     /// True if no digit other than 0 came after the last place.
@@ -21,7 +39,7 @@ impl Steps {
     /// Returns the steps after one more digit of the fraction.
     fn after(self, digit: u8) -> Steps
         requires one { digit ≤ 9 }
-        requires room { (self.value + 1) * 10 ^ self.left ≤ 10 ^ 27 }
+        requires room { (self.value + 1) * 10 ^ self.left ≤ 10 ^ 9 }
         ensures { (places count n : ℕ) → DigitsInvariant places count n self → DigitsInvariant places (count + 1) (n * 10 + digit) result }
     {
         if self.left == 0 {
@@ -31,33 +49,31 @@ impl Steps {
             };
         }
         Steps {
-            value: self.value * 10 + u128::from(digit),
+            value: self.value * 10 + u64::from(digit),
             left: self.left - 1,
             ..self
         }
     }
 
     /// Returns the number of steps, if the fraction ends here: places not read count as 0.
-    pub fn total(self) -> u128
-        requires { (self.value + 1) * 10 ^ self.left ≤ 10 ^ 27 }
+    pub fn total(self) -> u64
+        requires { (self.value + 1) * 10 ^ self.left ≤ 10 ^ 9 }
         ensures value { result ≡ self.value * 10 ^ self.left }
-        ensures small { result < 10 ^ 27 }
+        ensures small { result < 10 ^ 9 }
     {
-        self.value * 10u128.pow(self.left)
+        self.value * power_of_ten(self.left)
     }
 
-    /// Returns the steps of the whole number `whole` and all digits of `fraction`, or `None` if
-    /// `fraction` has a byte that isn't a digit.
-    pub fn over(whole: u64, fraction: &[u8], places: u32) -> Option<Steps>
-        requires count_bound { places ≤ 9 }
-        requires whole_bound { whole < 10 ^ 18 }
+    /// Returns the steps of all digits of `fraction`, or `None` if it has a byte that isn't a digit.
+    pub fn over(fraction: &[u8], places: u32) -> Option<Steps>
+        requires { places ≤ 9 }
         ensures { MatchOption result
             (list_all is_ascii_digit fraction.now ≡ false)
             (λ s. (list_all is_ascii_digit fraction.now ≡ true)
-            × DigitsInvariant places (length fraction.now) (digits_value_after 10 whole fraction.now) s) }
+            × DigitsInvariant places (length fraction.now) (digits_value 10 fraction.now) s) }
     {
         let mut steps = Steps {
-            value: u128::from(whole),
+            value: 0,
             left: places,
             exact: true,
         };

@@ -1,12 +1,13 @@
 -- The end of the first token.
-use Rattle.std.proofs.Common.{◌≡◌, ℕ, suc, ◌+◌, ◌-◌, ◌<◌, ◌≤◌, Bool, true, false, cond, ltb, List, [], ◌∷◌, length, take, drop, Option, Some, None, refl, sym, ap, ◌∙◌, arith}
+use Rattle.std.proofs.Common.{◌≡◌, ℕ, suc, ◌+◌, ◌-◌, ◌<◌, ◌≤◌, Bool, true, false, cond, ltb, List, [], ◌∷◌, length, get_or, take, drop, Option, Some, None, refl, sym, ap, ◌∙◌, arith}
 use Rattle.std.specs.Prelude.{not, filter, position, unwrap_or}
 use Rattle.std.specs.List.{onto_first, slice_split, position_or_len}
-use Rattle.std.proofs.lemmas.Bool.{ltb-true, ltb-false, lt-ltb}
+use Rattle.std.proofs.lemmas.Bool.{ltb-true, ltb-false, lt-ltb, le-ltb}
 use Rattle.std.proofs.lemmas.List.{drop-drop}
+use Rattle.memchr.specs.Find.{IsFirstByte}
 use Rattle.decimal_text.specs.Digits.{digits_of}
 use Rattle.harmonics_text.specs.Rules.{is_colon, two_digits_of, minutes_of, clock_of}
-use Rattle.std.proofs.lemmas.List.Sums.{prefix_len-le-length}
+use Rattle.std.proofs.lemmas.List.Sums.{prefix_len-le-length, prefix_len_is}
 use Rattle.harmonics_text.specs.Lines.{is_blank, is_visible, is_filled, tokens, trimmed, without_blank_end}
 
 -- ---- the results of `position`
@@ -19,6 +20,10 @@ unchosen : (b : Bool) (n : ℕ) → cond b (Some n) None ≡ None → b ≡ fals
 unchosen true n e = absurd cc
 unchosen false n e = refl
 
+refused : (b : Bool) → (b ≡ true → ⊥) → not b ≡ true
+refused true h = absurd (h refl)
+refused false h = refl
+
 pub position_some : (p : ℕ → Bool) (xs : List ℕ) (k : ℕ) → position p xs ≡ Some k
     → (position_or_len p xs ≡ k) × (position_or_len p xs < length xs)
 position_some p xs k e =
@@ -27,6 +32,17 @@ position_some p xs k e =
 
 pub position_none : (p : ℕ → Bool) (xs : List ℕ) → position p xs ≡ None → length xs ≤ position_or_len p xs
 position_none p xs e = ltb-false _ _ (unchosen (ltb (position_or_len p xs) (length xs)) (position_or_len p xs) e)
+
+-- the first place that a search finds
+pub first_is_position : (p : ℕ → Bool) (xs : List ℕ) (r : Option ℕ) → IsFirstByte p xs r → r ≡ position p xs
+first_is_position p xs None h =
+    let all : position_or_len p xs ≡ length xs =
+    prefix_len_is (λ x. not (p x)) xs (length xs) 0 (omega arith) (λ k lt. refused (p (get_or xs k 0)) (h k (omega arith) lt)) (λ lt. absurd (omega arith)) in
+    sym (ap (λ b. cond b (Some (position_or_len p xs)) None) (le-ltb (position_or_len p xs) (length xs) (omega (arith, all))))
+first_is_position p xs (Some k) h =
+    let at : position_or_len p xs ≡ k =
+    prefix_len_is (λ x. not (p x)) xs k 0 (omega (arith, h.0.high)) (λ j lt. refused (p (get_or xs j 0)) (h.0.before j (omega arith) lt)) (λ lt. ap not h.1) in
+    rw (at, lt-ltb k (length xs) h.0.high) refl
 
 unwrapped : (b : Bool) (n m : ℕ) → (b ≡ false → m ≡ n) → unwrap_or (cond b (Some n) None) m ≡ n
 unwrapped true n m h = refl

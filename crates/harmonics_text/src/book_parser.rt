@@ -82,6 +82,16 @@ impl BookParser {
         if let BookParser::Stations(book, begun) = self {
             return add_station_line(alloc, book, begun, text);
         }
+        self.move_on(alloc, text)
+    }
+
+    /// Moves to the state after a line that is no comment. Apart from `add_text`, so that what is moved
+    /// needs no room there, which would be cleared for each line of a station.
+    #[inline(never)]
+    fn move_on(&mut self, alloc: Global, text: &[u8]) -> Result<(), LineFault>
+        requires { IsBookParser self.old }
+        ensures { Follows (λ _. self.new) result (after_text self.old text.now) }
+    {
         let next = mem::replace(self, BookParser::Count).after_text(alloc, text)?;
         drop(mem::replace(self, next));
         Ok(())

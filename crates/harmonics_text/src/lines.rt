@@ -18,10 +18,12 @@ ghost use Rattle.harmonics_text.specs.Lines.{
   without_blank_end,
 };
 
+use memchr::memchr;
+
 fn lf_at(bytes: &[u8]) -> Option<usize>
     ensures { result ≡ position is_lf bytes.now }
 {
-    bytes.iter().position(|b| *b == b'\n')
+    memchr(b'\n', bytes)
 }
 
 /// Returns the bytes before the first LF and those after it, or `None` if there is no LF.

@@ -1,6 +1,7 @@
 //! The record of a station.
 
-ghost use Rattle.std.specs.Prelude.{◌≡◌, pos, if◌then◌else◌};
+ghost use Rattle.std.specs.Prelude.{◌≡◌, codes, pos, if◌then◌else◌};
+ghost use Rattle.std.specs.Str.{bytes_eq};
 ghost use Rattle.harmonics_text.specs.Rules.{units_of, datum_of, pair_of};
 ghost use Rattle.harmonics_text.specs.Workings.BookParsing.{station_of};
 
@@ -92,6 +93,18 @@ pub fn datum(text: &[u8]) -> Result<(i64, Units), Why>
     Ok((datum, units))
 }
 
+/// Returns true if `text` is what XTide's tools write for an absent constituent, most lines of a file.
+fn is_absent_line(text: &[u8]) -> bool
+    ensures { result ≡ bytes_eq text.now (codes "x 0 0") }
+{
+    text.len() == 5
+        && text[0] == b'x'
+        && text[1] == b' '
+        && text[2] == b'0'
+        && text[3] == b' '
+        && text[4] == b'0'
+}
+
 fn pair(absent: bool, amplitude: i64, epoch: i64) -> (i64, i64)
     ensures { result ≡ (if absent then (pos 0, pos 0) else (amplitude, epoch)) }
 {
@@ -107,8 +120,7 @@ fn pair(absent: bool, amplitude: i64, epoch: i64) -> (i64, i64)
 pub fn amplitude_and_epoch(name: &Text, text: &[u8]) -> Result<(i64, i64), Why>
     ensures { result ≡ pair_of name.now text.now }
 {
-    // XTide's tools write an absent constituent like this.
-    if text == b"x 0 0".as_slice() {
+    if is_absent_line(text) {
         return Ok((0, 0));
     }
     let Some((first, rest)) = next_token(text) else {

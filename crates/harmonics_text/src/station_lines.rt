@@ -121,6 +121,18 @@ fn after_record(
     }
 }
 
+/// Moves to the record after a line of the station that `begun` has so far. Apart from
+/// `add_station_line`, so that what is moved needs no room there, which would be cleared for each pair.
+#[inline(never)]
+fn move_on(alloc: Global, book: &mut Book, begun: &mut Record, text: &[u8]) -> Result<(), LineFault>
+    requires { IsBookParser (Stations book.old begun.old) }
+    ensures { Follows (λ _. Stations book.new begun.new) result (after_record book.old begun.old text.now) }
+{
+    let next = after_record(alloc, book, mem::replace(begun, Record::Nothing), text)?;
+    drop(mem::replace(begun, next));
+    Ok(())
+}
+
 /// Reads a line of the station that `begun` has so far. A pair that isn't the station's last is added
 /// without moving the record.
 pub fn add_station_line(
@@ -137,7 +149,5 @@ pub fn add_station_line(
             return add_pair(book, station, text);
         }
     }
-    let next = after_record(alloc, book, mem::replace(begun, Record::Nothing), text)?;
-    drop(mem::replace(begun, next));
-    Ok(())
+    move_on(alloc, book, begun, text)
 }

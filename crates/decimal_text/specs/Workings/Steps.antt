@@ -2,8 +2,7 @@
 use Rattle.std.specs.Prelude.{◌≡◌, ℕ, ◌+◌, ◌*◌, ◌^◌, ◌<◌, ◌≤◌, true, false, ◌⊎◌}
 use Rattle.decimal_text.specs.declared.steps.Steps.{Steps}
 
--- the digits read so far are the number n; `count` of them are of the fraction, `extra` of these after
--- the last place
+-- the digits read so far, `count` of them, are the number n; `extra` of them come after the last place
 pub record DigitsInvariant (places count n : ℕ) (s : Steps) : Type 0 where
   pub extra : ℕ
   pub counted : count + s.left ≡ places + extra
@@ -12,4 +11,4 @@ pub record DigitsInvariant (places count n : ℕ) (s : Steps) : Type 0 where
   pub exact : s.exact ≡ true → s.value * 10 ^ extra ≡ n
   pub fine : s.exact ≡ false → s.value * 10 ^ extra < n
   pub below : n + 1 ≤ (s.value + 1) * 10 ^ extra
-  pub small : (s.value + 1) * 10 ^ s.left ≤ 10 ^ 27
+  pub small : (s.value + 1) * 10 ^ s.left ≤ 10 ^ 9

@@ -1,4 +1,4 @@
-use Rattle.std.proofs.Common.{◌≡◌, pos, neg_ℤ, ◌-ℤ◌, ◌*◌, ◌^◌, Ok, ap, sym, ◌∙◌, arith}
+use Rattle.std.proofs.Common.{◌≡◌, pos, neg_ℤ, ◌-ℤ◌, ◌+◌, ◌*◌, ◌^◌, Ok, ap, sym, ◌∙◌, arith}
 use mir.Syntax.{w128}
 use mir.Val.{to_z, of_z}
 use Rattle.std.proofs.lemmas.Int.{ints}
@@ -26,9 +26,9 @@ returns-then-not-steps-clause-exact c =
 
 pub returns-then-negative-clause-exact : goal.returns-then-negative-clause-exact
 returns-then-negative-clause-exact c =
-    let size = c.in-Some.steps.value * 10 ^ c.in-Some.steps.left in
-    let is : to_z w128 (of_z w128 (pos 0 -ℤ to_z w128 c.total-size.result)) ≡ neg_ℤ (pos size) =
-    omega (arith, ints, c.total-size.ensures.value, c.total-size.ensures.small) in
+    let size = c.args.value * 10 ^ c.args.places + c.in-Some.steps.value * 10 ^ c.in-Some.steps.left in
+    let is : to_z w128 (of_z w128 (pos 0 -ℤ to_z w128 c.total_steps-size.result)) ≡ neg_ℤ (pos size) =
+    omega (arith, ints, c.total_steps-size.ensures.exact, c.total_steps-size.ensures.small) in
     ap Ok (is ∙ sym (signed_true c.args.negative size c.if-negative.true))
     ∙ scaled_exact c.args.places c.args.value _ c.in-Some.steps c.if-whole-gt-MOST_WHOLE_DIGITS.false
     (c.requires.whole c.if-whole-gt-MOST_WHOLE_DIGITS.false) c.in-Some.ensures.1 c.if-not-steps.false
@@ -36,9 +36,9 @@ returns-then-negative-clause-exact c =
 
 pub returns-else-negative-clause-exact : goal.returns-else-negative-clause-exact
 returns-else-negative-clause-exact c =
-    let size = c.in-Some.steps.value * 10 ^ c.in-Some.steps.left in
-    let is : to_z w128 c.total-size.result ≡ pos size =
-    omega (arith, ints, c.total-size.ensures.value, c.total-size.ensures.small) in
+    let size = c.args.value * 10 ^ c.args.places + c.in-Some.steps.value * 10 ^ c.in-Some.steps.left in
+    let is : to_z w128 c.total_steps-size.result ≡ pos size =
+    omega (arith, ints, c.total_steps-size.ensures.exact, c.total_steps-size.ensures.small) in
     ap Ok (is ∙ sym (signed_false c.args.negative size c.if-negative.false))
     ∙ scaled_exact c.args.places c.args.value _ c.in-Some.steps c.if-whole-gt-MOST_WHOLE_DIGITS.false
     (c.requires.whole c.if-whole-gt-MOST_WHOLE_DIGITS.false) c.in-Some.ensures.1 c.if-not-steps.false

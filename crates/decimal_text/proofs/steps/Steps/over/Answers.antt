@@ -1,6 +1,6 @@
 use Rattle.std.proofs.Common.{◌≡◌, ◌+◌, ◌*◌, ◌-◌, true, get_or, take, refl, ap, ◌∙◌}
 use Rattle.std.specs.Char.{is_ascii_digit}
-use Rattle.std.specs.Str.Parse.{digits_value_after}
+use Rattle.std.specs.Str.Parse.{digits_value}
 use Rattle.std.proofs.lemmas.List.Folds.{list_all_more}
 use Rattle.decimal_text.proofs.DigitsLemmas.{after_more, digit_value_is}
 use Rattle.decimal_text.proofs.StepsLemmas.{none_yet}
@@ -11,7 +11,7 @@ loop-byte-init c =
     record {
       digits = refl;
       digits_invariant =
-          rw c.from.ensures (none_yet c.args.places c.args.whole c.requires.count_bound c.requires.whole_bound);
+          none_yet c.args.places c.requires;
     }
 
 pub loop-byte-preserved : goal.loop-byte-preserved
@@ -19,12 +19,12 @@ loop-byte-preserved c =
     let text = c.args.fraction.now in
     let i = c.loop-byte.byte-index in
     let is_digit : is_ascii_digit (get_or text i 0) ≡ true = cc in
-    let more : digits_value_after 10 c.args.whole (take (i + 1) text)
-    ≡ digits_value_after 10 c.args.whole (take i text) * 10 + (get_or text i 0 - 48) =
-    after_more c.args.whole text i c.loop-byte-test.true
-    ∙ ap (λ d. digits_value_after 10 c.args.whole (take i text) * 10 + d) (digit_value_is _ is_digit) in
+    let more : digits_value 10 (take (i + 1) text)
+    ≡ digits_value 10 (take i text) * 10 + (get_or text i 0 - 48) =
+    after_more 0 text i c.loop-byte-test.true
+    ∙ ap (λ d. digits_value 10 (take i text) * 10 + d) (digit_value_is _ is_digit) in
     let digits_invariant = c.after-steps.ensures c.args.places i
-    (digits_value_after 10 c.args.whole (take i text)) c.loop-byte.invariant.digits_invariant in
+    (digits_value 10 (take i text)) c.loop-byte.invariant.digits_invariant in
     record {
       digits = list_all_more is_ascii_digit text i 0 c.loop-byte-test.true ∙ simp (c.loop-byte.invariant.digits, is_digit);
       digits_invariant = rw more digits_invariant;
