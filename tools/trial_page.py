@@ -91,8 +91,11 @@ class PageTrial:
             tab.press('Tab', 9)
             seen.append(tab.value('document.activeElement.id') == 'words')
             tab.call('Input.insertText', text='harbor massa BOST')
-            tab.press('ArrowDown', 40)
-            seen.append(tab.value('document.activeElement.textContent').startswith('tideBoston'))
+            for _ in range(50):
+                tab.press('ArrowDown', 40)
+                if tab.value('document.activeElement.textContent').startswith(f'tide{BOSTON}'):
+                    break
+            seen.append(tab.value('document.activeElement.textContent').startswith(f'tide{BOSTON}'))
             tab.press('Enter', 13)
             seen.append(tab.until('location.search.includes("station=Boston") && document.querySelector("#curve canvas") !== null'))
             for _ in range(20):
