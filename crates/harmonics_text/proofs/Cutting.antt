@@ -1,14 +1,15 @@
 -- The end of the first token.
-use Rattle.std.proofs.Common.{◌≡◌, ℕ, suc, ◌+◌, ◌-◌, ◌<◌, ◌≤◌, Bool, true, false, cond, ltb, List, [], ◌∷◌, length, get_or, take, drop, Option, Some, None, refl, sym, ap, ◌∙◌, arith}
+use Rattle.std.proofs.Common.{◌≡◌, ℕ, suc, ◌+◌, ◌-◌, ◌<◌, ◌≤◌, Bool, true, false, cond, ltb, nat_eq, codes, List, [], ◌∷◌, ◌++◌, length, get_or, take, drop, Option, Some, None, refl, sym, ap, ◌∙◌, arith}
 use Rattle.std.specs.Prelude.{not, filter, position, unwrap_or}
-use Rattle.std.specs.List.{onto_first, slice_split, position_or_len}
-use Rattle.std.proofs.lemmas.Bool.{ltb-true, ltb-false, lt-ltb, le-ltb}
+use Rattle.std.specs.List.{onto_first, slice_split, position_or_len, starts_with}
+use Rattle.std.proofs.lemmas.Bool.{eqb-true, eq-eqb, ltb-true, ltb-false, lt-ltb, le-ltb}
+use Rattle.std.proofs.lemmas.Slice.Eq.{starts_is}
 use Rattle.std.proofs.lemmas.List.{drop-drop}
 use Rattle.memchr.specs.Find.{IsFirstByte}
 use Rattle.decimal_text.specs.Digits.{digits_of}
 use Rattle.harmonics_text.specs.Rules.{is_colon, two_digits_of, minutes_of, clock_of}
 use Rattle.std.proofs.lemmas.List.Sums.{prefix_len-le-length, prefix_len_is}
-use Rattle.harmonics_text.specs.Lines.{is_blank, is_visible, is_filled, tokens, trimmed, without_blank_end}
+use Rattle.harmonics_text.specs.Lines.{is_lf, is_blank, is_visible, is_filled, tokens, trimmed, without_blank_end}
 
 -- ---- the results of `position`
 
@@ -43,6 +44,13 @@ first_is_position p xs (Some k) h =
     let at : position_or_len p xs ≡ k =
     prefix_len_is (λ x. not (p x)) xs k 0 (omega (arith, h.0.high)) (λ j lt. refused (p (get_or xs j 0)) (h.0.before j (omega arith) lt)) (λ lt. ap not h.1) in
     rw (at, lt-ltb k (length xs) h.0.high) refl
+
+-- the line of an absent constituent ends before its sixth byte
+pub absent_at : (xs : List ℕ) (b : Bool) → b ≡ starts_with nat_eq xs (codes "x 0 0" ++ 10 ∷ []) → b ≡ true → Some 5 ≡ position is_lf xs
+absent_at xs b is e =
+    let rest = drop 6 xs in
+    let begins : xs ≡ (codes "x 0 0" ++ 10 ∷ []) ++ rest = (starts_is (λ a b. (eqb-true a b, eq-eqb a b)) xs (codes "x 0 0" ++ 10 ∷ []) b is).0 e in
+    rw (begins, lt-ltb 5 (length ((codes "x 0 0" ++ 10 ∷ []) ++ rest)) (omega arith)) refl
 
 unwrapped : (b : Bool) (n m : ℕ) → (b ≡ false → m ≡ n) → unwrap_or (cond b (Some n) None) m ≡ n
 unwrapped true n m h = refl

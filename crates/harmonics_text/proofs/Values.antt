@@ -1,8 +1,8 @@
 -- The values of a line, one token after the other, and the constants of a constituent.
-use Rattle.std.proofs.Common.{◌≡◌, ℕ, ℤ, pos, codes, zero, suc, ◌+◌, ◌-◌, ◌<◌, ◌≤◌, true, ltb, List, [], ◌∷◌, ◌++◌, length, get_or, Result, Ok, Err, refl, sym, ap, ◌∙◌, arith}
+use Rattle.std.proofs.Common.{◌≡◌, ℕ, ℤ, pos, codes, zero, suc, ◌+◌, ◌-◌, ◌<◌, ◌≤◌, true, ltb, List, [], ◌∷◌, ◌++◌, length, get_or, Result, Ok, Err, refl, sym, ap, ◌∙◌, inl, inr, arith}
 use Rattle.std.specs.Str.{bytes_eq}
 use Rattle.std.specs.Result.{IfOk, result_and}
-use Rattle.std.proofs.lemmas.Bool.{lt-ltb}
+use Rattle.std.proofs.lemmas.Bool.{cases_lt, cases_eq, lt-ltb, le-ltb, eq-eqb, ne_eqb}
 use Rattle.std.proofs.lemmas.Slice.Eq.{bytes_eq-Decides}
 use Rattle.std.proofs.lemmas.List.{get_or_default}
 use Rattle.harmonics_book.specs.declared.book.Book.{Book}
@@ -10,6 +10,7 @@ use Rattle.harmonics_text.specs.declared.fault.Why.{Why}
 use Rattle.harmonics_text.specs.declared.fault.Why.TheVariants.{BadNumber}
 use Rattle.harmonics_text.specs.declared.fault.LineFault.{LineFault}
 use Rattle.harmonics_text.specs.declared.fault.LineFault.TheVariants.{NoMemory, Bad}
+use Rattle.harmonics_text.specs.declared.scale.Scale.TheVariants.{Angle, Factor}
 use Rattle.harmonics_text.specs.declared.scale.Scale.{Scale}
 use Rattle.harmonics_text.specs.declared.heading.Heading.{Heading}
 use Rattle.harmonics_text.specs.declared.table.Table.{Table}
@@ -21,8 +22,9 @@ use Rattle.harmonics_text.specs.declared.book_parser.BookParser.TheVariants as p
 use Rattle.harmonics_text.specs.Lines.{tokens}
 use Rattle.decimal_text.specs.Decimal.{after_point, made_of, decimal_of, scaled, scaled_or_bad, read_of}
 use Rattle.decimal_text.specs.Expected.{◌>>=◌}
-use Rattle.harmonics_text.specs.Rules.{end_of, in_scale, number_of, values_from, pair_from, pair_of}
-use Rattle.harmonics_text.specs.Workings.BookParsing.{Fails, Follows, pushed, after_values, at_place, with_pair, after_pair, after_record, after_text, new_book}
+use Rattle.harmonics_text.specs.Rules.{end_of, in_scale, number_of, values_from, named, pair_from, pair_of}
+use Rattle.harmonics_text.specs.Workings.BookParsing.{Fails, Follows, pushed, after_values, after_name, after_table_line, after_angles, after_factors, at_place, with_pair, after_pair, after_record, after_text, new_book}
+use Rattle.harmonics_text.proofs.Ranges.{bind_ok, ok_is}
 use Rattle.harmonics_text.proofs.Steps.{unnamed}
 
 pub pushed_is : (s : Scale) (values : List ℤ) (token : List ℕ) (n : ℤ) (new : List ℤ) → number_of s token ≡ Ok n
@@ -160,3 +162,43 @@ unfolding after_text
 factors_end_read d h angles factors text read d_is is =
     rw d_is (follows_and (λ u. u) (λ _. parsing.Stations (new_book h angles factors) records.Nothing) _ read (end_of text)
     (λ _. refl) is)
+
+-- ---- a line of a table that is read in place
+
+place_at : (left place : ℕ) → at_place left place ≤ place + 1
+place_at left place = elim (cases_eq left 0) [ inl e ↦ rw (eq-eqb left 0 e) (omega arith) | inr other ↦ rw (ne_eqb left 0 other) (omega arith) ]
+
+-- a line takes a table to the next constituent at most
+place_grows : (s : Scale) (h : Heading) (t u : Table) (text : List ℕ) → after_table_line s h t text ≡ Ok u → u.place ≤ t.place + 1
+unfolding after_table_line after_values after_name
+place_grows s h t u text e =
+    elim (cases_lt 0 t.left) [
+      | inl some ↦
+          let b = bind_ok (values_from s t.left t.values (tokens text)) _ u (rw (lt-ltb 0 t.left some) at e) in
+          rw (← ok_is _ u b.2) (place_at b.0.0 t.place)
+      | inr none ↦
+          let b = bind_ok (named _ text) _ u (rw (le-ltb 0 t.left none) at e) in
+          rw (← ok_is _ u b.2) (omega arith)
+    ]
+
+pub angles_read : (d : BookParser) (h : Heading) (t new : Table) (text : List ℕ) (result : Result (Unit {0}) LineFault)
+    → d ≡ parsing.Angles h t → t.place + 1 < length h.constituents
+    → Follows (λ _. new) result (after_table_line Angle h t text)
+    → Follows (λ _. parsing.Angles h new) result (after_text d text)
+unfolding after_text after_angles
+angles_read d h t new text (Ok x) d_is lt is =
+    let more = lt-ltb new.place (length h.constituents) (omega (arith, place_grows Angle h t new text is)) in
+    rw (d_is, is, more) refl
+angles_read d h t new text (Err NoMemory) d_is lt is = tt
+angles_read d h t new text (Err (Bad why)) d_is lt is = rw (d_is, is) refl
+
+pub factors_read : (d : BookParser) (h : Heading) (angles : List ℤ) (t new : Table) (text : List ℕ) (result : Result (Unit {0}) LineFault)
+    → d ≡ parsing.Factors h angles t → t.place + 1 < length h.constituents
+    → Follows (λ _. new) result (after_table_line Factor h t text)
+    → Follows (λ _. parsing.Factors h angles new) result (after_text d text)
+unfolding after_text after_factors
+factors_read d h angles t new text (Ok x) d_is lt is =
+    let more = lt-ltb new.place (length h.constituents) (omega (arith, place_grows Factor h t new text is)) in
+    rw (d_is, is, more) refl
+factors_read d h angles t new text (Err NoMemory) d_is lt is = tt
+factors_read d h angles t new text (Err (Bad why)) d_is lt is = rw (d_is, is) refl

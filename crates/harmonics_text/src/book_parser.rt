@@ -1,6 +1,6 @@
 //! The parser state of a book that is read line by line.
 
-ghost use Rattle.std.specs.Prelude.{◌≡◌, ◌+◌, ◌<◌, ◌≤◌, length};
+ghost use Rattle.std.specs.Prelude.{◌≡◌, ◌+◌, ◌<◌, ◌≤◌, length, nat_lt};
 ghost use Rattle.std.specs.Bool.{then_some};
 ghost use Rattle.harmonics_text.specs.Rules.{end_of, same_count_of};
 ghost use Rattle.harmonics_text.specs.Workings.BookParsing.{
@@ -74,13 +74,24 @@ impl BookParser {
         self.add_text(alloc, text)
     }
 
-    /// Reads a line that is no comment. A line of a station is read without moving the book.
+    /// Reads a line that is no comment. A line of a station is read without moving the book, and a line
+    /// of a table without moving the table if it can't be the last one.
     fn add_text(&mut self, alloc: Global, text: &[u8]) -> Result<(), LineFault>
         requires { IsBookParser self.old }
         ensures { Follows (λ _. self.new) result (after_text self.old text.now) }
     {
         if let BookParser::Stations(book, begun) = self {
             return add_station_line(alloc, book, begun, text);
+        }
+        if let BookParser::Angles(heading, table) = self {
+            if has_more(heading, table) {
+                return add_table_line(table, heading, Scale::Angle, text);
+            }
+        }
+        if let BookParser::Factors(heading, _, table) = self {
+            if has_more(heading, table) {
+                return add_table_line(table, heading, Scale::Factor, text);
+            }
         }
         self.move_on(alloc, text)
     }
@@ -155,6 +166,15 @@ impl BookParser {
             }
         }
     }
+}
+
+/// Returns true if the values of a further constituent follow those that are next in `table`.
+fn has_more(heading: &Heading, table: &Table) -> bool
+    requires here { table.now.place < length heading.now.constituents }
+    requires count_bound { length heading.now.constituents ≤ 500 }
+    ensures { result ≡ nat_lt (table.now.place + 1) (length heading.now.constituents) }
+{
+    table.place + 1 < heading.constituents.as_slice().len()
 }
 
 /// Returns true if no station is incomplete.

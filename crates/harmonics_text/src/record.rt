@@ -116,13 +116,23 @@ fn pair(absent: bool, amplitude: i64, epoch: i64) -> (i64, i64)
 /// # Errors
 /// [`Why::WrongConstituent`] if the line begins with another name, else the fault of the first bad
 /// number.
-#[tactic(auto, using(crate::proofs::Values::absent_pair), unfolding(crate::specs::Rules::pair_of, crate::specs::Rules::pair_from))]
+#[inline]
+#[tactic(auto, using(crate::proofs::Values::absent_pair))]
 pub fn amplitude_and_epoch(name: &Text, text: &[u8]) -> Result<(i64, i64), Why>
     ensures { result ≡ pair_of name.now text.now }
 {
     if is_absent_line(text) {
         return Ok((0, 0));
     }
+    read_pair(name, text)
+}
+
+/// Reads the amplitude and the epoch of the constituent `name` in line `text`, token by token.
+#[inline(never)]
+#[tactic(auto, unfolding(crate::specs::Rules::pair_of, crate::specs::Rules::pair_from))]
+fn read_pair(name: &Text, text: &[u8]) -> Result<(i64, i64), Why>
+    ensures { result ≡ pair_of name.now text.now }
+{
     let Some((first, rest)) = next_token(text) else {
         return Err(Why::WrongConstituent);
     };

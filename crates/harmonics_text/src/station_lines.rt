@@ -67,6 +67,7 @@ fn after_local_time(
 }
 
 /// Appends the amplitude and the epoch of the next constituent to `station`.
+#[inline]
 #[tactic(auto, unfolding(crate::specs::Workings::BookParsing::after_pair))]
 fn add_pair(book: &Book, station: &mut Constants, text: &[u8]) -> Result<(), LineFault>
     requires { length station.old.amplitude < length book.now.constituents }
