@@ -33,8 +33,8 @@ use Rattle.tide_server.specs.Serving.{Answers, Exchange, IsEnough, has_byte}
 
 -- ---- One connection
 
--- The connection was read until its bytes determined the reply, its end was found, or a read failed, and no
--- further: the bytes before the last read didn't, and this read returned one piece at most.
+-- The connection was read until its bytes determined the reply, its end was found, or a read failed, and not
+-- much further: at a point at most one piece before the end, the bytes didn't determine it.
 pub record IsReadEnough (c : Connection) : Type 0 where
   pub before : ℕ
   pub waits : ¬ (IsEnough (take before c.came))
