@@ -44,4 +44,4 @@ pub use quiet::{MOST_MINUTES, is_quiet, most_change, unit_cell};
 pub use tracks::Tracks;
 pub use verdict::Verdict;
 pub use worked::worked_rows;
-pub use worked_cells::{worked_covers, worked_quiet_cells, worked_verdicts};
+pub use worked_cells::{worked_covers, worked_limits, worked_quiet_cells, worked_verdicts};

@@ -3,6 +3,7 @@
 ghost use Rattle.std.specs.Prelude.{◌≡◌, pos, negsuc, true, false, Some, [], ◌∷◌};
 ghost use Rattle.curve_law.specs.declared.cell.Cell.{Cell};
 ghost use Rattle.curve_law.specs.declared.kind.Kind.{Kind};
+ghost use Rattle.curve_law.specs.declared.quiet.TheConstants.{MOST_MINUTES};
 ghost use Rattle.curve_law.specs.declared.verdict.Verdict.{Verdict};
 ghost use Rattle.curve_law.specs.Meaning.{Meaning};
 ghost use Rattle.curve_law.specs.Cover.{is_quiet, cover};
@@ -73,4 +74,9 @@ pub fn worked_verdicts()
     ensures other_level { verdict (line (negsuc 1) false (pos 1)) (pos 0) 3
         (Cell.Quiet 2 ∷ Cell.Turn Kind.Low (pos 3) ∷ []) ≡ Verdict.WrongLevel 2 (pos 3) (pos 2) }
     ensures no_minute { verdict ripple (pos 0) 0 [] ≡ Verdict.Accepted }
+{}
+
+/// Proves the limit on the length of a quiet cell, which is also the length of a block.
+pub fn worked_limits()
+    ensures minutes { MOST_MINUTES ≡ 1024 }
 {}

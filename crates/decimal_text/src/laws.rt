@@ -6,6 +6,7 @@ ghost use Rattle.decimal_text.specs.Digits.{digits_of};
 ghost use Rattle.decimal_text.specs.Rounding.{rounded_of};
 ghost use Rattle.decimal_text.specs.Writing.{write_of};
 ghost use Rattle.decimal_text.specs.declared.fault.DecimalFault.TheVariants.{BadForm, TooLong, TooFine};
+ghost use Rattle.decimal_text.specs.declared.limits.TheConstants.{MOST_BYTES};
 
 /// Proves that a number read by [`crate::read`], over `10^places`, is the fraction that the text's digits
 /// write, and that a text that is too fine is no whole number of steps.
@@ -62,4 +63,9 @@ pub fn worked_roundings()
     ensures to_zero { rounded_of (negsuc 3) 10 ≡ pos 0 }
     ensures half_of_one { rounded_of (negsuc 4) 10 ≡ negsuc 0 }
     ensures odd_unit { rounded_of (pos 4) 3 ≡ pos 1 }
+{}
+
+/// Proves the limit on the length of a text.
+pub fn worked_limits()
+    ensures text { MOST_BYTES ≡ 400000000 }
 {}

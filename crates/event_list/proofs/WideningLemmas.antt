@@ -3,7 +3,7 @@ use Rattle.std.proofs.Common.{◌≡◌, ◌+◌, ◌^◌, ◌≤◌, ℤ, ◌-�
 use Rattle.std.specs.Int.{int_max, int_min}
 use Rattle.std.specs.Option.{ForSome}
 use Rattle.std.specs.Prelude.{unsigned_abs}
-use Rattle.std.proofs.lemmas.Int.{ints, clamps}
+use Rattle.std.proofs.lemmas.Int.{ints, clamps, to_z-of_z}
 use Rattle.station_table.specs.declared.basis.Basis.{Basis}
 use Rattle.station_table.specs.declared.offset.Slack.{Slack}
 use Rattle.station_table.specs.Offsets.{IsAdd, IsSlack}
@@ -78,15 +78,12 @@ pub record IsMovedBack (minute add read : ℤ) : Type 0 where
   pub fits : FitsSigned w64 (to_z w64 (of_z w64 minute) -ℤ to_z w64 (of_z w64 read))
   pub kept : to_z w64 (of_z w64 (to_z w64 (of_z w64 minute) -ℤ to_z w64 (of_z w64 read))) ≡ minute -ℤ add
 
-small-back : (minute add : ℤ) → unsigned_abs minute ≤ 10 ^ 12 → unsigned_abs add ≤ 1440 → IsMovedBack minute add add
-small-back minute add early small = record { fits = omega (arith, ints, early, small); kept = omega (arith, ints, early, small) }
-
-add-kept : (add : ℤ) → unsigned_abs add ≤ 1440 → to_z w32 (of_z w32 add) ≡ add
-add-kept add small = omega (arith, ints, small)
+small-back : (minute add : ℤ) → unsigned_abs minute ≤ 10 ^ 12 → FitsSigned w32 add → IsMovedBack minute add add
+small-back minute add early fits = record { fits = omega (arith, ints, early, fits); kept = omega (arith, ints, early, fits) }
 
 pub moved-back : (minute add read : ℤ) → read ≡ to_z w32 (of_z w32 add) → unsigned_abs minute ≤ 10 ^ 12
-    → unsigned_abs add ≤ 1440 → IsMovedBack minute add read
-moved-back minute add read is early small = rw (is, add-kept add small) (small-back minute add early small)
+    → FitsSigned w32 add → IsMovedBack minute add read
+moved-back minute add read is early fits = rw (is, to_z-of_z w32 add fits) (small-back minute add early fits)
 
 pub back-forward : (begin end most least high : ℤ) → begin ≤ℤ end → high ≤ℤ most → least ≤ℤ high
     → (begin -ℤ most) ≤ℤ (end -ℤ least)

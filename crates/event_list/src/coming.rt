@@ -1,6 +1,6 @@
 //! The events of one search, one at a time.
 
-ghost use Rattle.std.specs.Prelude.{◌≡◌, ◌+◌, ◌^◌, ◌<◌, drop, length, [], None, option_to_list};
+ghost use Rattle.std.specs.Prelude.{◌≡◌, ◌+◌, ◌^◌, ◌<◌, ◌≤◌, drop, length, [], None, option_to_list};
 ghost use Rattle.curve_law.specs.Cells.{event_in};
 ghost use Rattle.event_list.specs.Merging.{given, looked, waiting};
 ghost use Rattle.event_list.specs.Workings.Coming.{cells_ahead, searched_by, FindsNext, ReturnsEvent};
@@ -41,14 +41,15 @@ impl<C: Curve> Model for Coming<C> {
 impl<C: Curve> Coming<C> {
     ghost use Rattle.event_list.specs.Workings.Coming.{events_ahead, cells_ahead, first_of};
 
-    /// Returns the events of `search`, which has returned no cell yet.
+    /// Returns the events of `search` from the minute that it has reached on.
     pub fn new(search: Option<Search<C>>) -> Coming<C>
-        requires { cells_ahead search < 2 ^ 64 }
         ensures left { result.left ≡ events_ahead search }
         ensures waiting { result.waiting ≡ waiting None search }
         ensures cells { result.cells ≡ 0 }
         ensures all { result.all ≡ cells_ahead search }
+        ensures few { cells_ahead search ≤ 2 ^ 61 }
     {
+        cells_are_few(&search);
         Coming {
             search,
             event: None,
@@ -96,6 +97,15 @@ impl<C: Curve> Coming<C> {
         ensures { result ≡ self.now.cells }
     {
         self.given
+    }
+}
+
+/// Does nothing; its contract shows a proof that `search` has at most 2^61 cells left.
+fn cells_are_few<C: Curve>(search: &Option<Search<C>>)
+    ensures { cells_ahead search.now ≤ 2 ^ 61 }
+{
+    if let Some(search) = search {
+        search.cells_are_few();
     }
 }
 

@@ -1,6 +1,6 @@
 //! The events of a station's searches, one at a time.
 
-ghost use Rattle.std.specs.Prelude.{◌≡◌, ◌+◌, ◌^◌, ◌<◌, Some, None};
+ghost use Rattle.std.specs.Prelude.{◌≡◌, ◌+◌, Some, None};
 ghost use Rattle.std.specs.Option.{ForSome};
 ghost use Rattle.event_list.specs.Events.{merged_of, cells_in};
 ghost use Rattle.event_list.specs.Merging.{cells_to_come, stepped, tracks_left, waiting, ReturnsNext};
@@ -35,12 +35,11 @@ impl<A: Curve, B: Curve> Model for Merge<A, B> {
 }
 
 impl<A: Curve, B: Curve> Merge<A, B> {
-    /// Returns a merge of searches that begin at the same minute, have returned no cell yet, and have
-    /// fewer than 2^64 cells together. A track without a search has no events.
+    /// Returns a merge of searches that have reached the same minute. A track without a search has no
+    /// events.
     pub fn new(turn: Search<A>, slack: Option<Search<B>>, mark: Option<Search<B>>) -> Merge<A, B>
         requires slack_at { ForSome slack (λ search. search.at ≡ turn.at) }
         requires mark_at { ForSome mark (λ search. search.at ≡ turn.at) }
-        requires count_bound { cells_in (tracks_left turn slack mark) < 2 ^ 64 }
         ensures left { result.left ≡ merged_of turn.at (tracks_left turn slack mark) }
         ensures waiting { result.waiting
             ≡ record { turn = waiting None (Some turn); slack = waiting None slack; mark = waiting None mark } }

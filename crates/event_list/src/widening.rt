@@ -9,17 +9,17 @@ use station_table::Basis;
 
 /// Returns the span of the reference from which all events of the station's span come: `begin` less the
 /// most and `end` less the least minutes by which the basis moves an event. Both are from -10^12 to
-/// 10^12, and `begin` isn't later. It doesn't allocate.
+/// 10^12, and `begin` isn't later. It doesn't allocate. By offsets in the ranges of a table each end moves
+/// by at most 1,440 minutes.
 pub fn widened(basis: &Basis, begin: i64, end: i64) -> Span
     requires forward { begin ≤ℤ end }
     requires begin { unsigned_abs begin ≤ 10 ^ 12 }
     requires end { unsigned_abs end ≤ 10 ^ 12 }
-    requires offsets { HasOffsets basis.now }
     ensures exact { result ≡ widened_of basis.now begin end }
     ensures forward { result.begin ≤ℤ result.end }
-    ensures begin_in_range { unsigned_abs (result.begin -ℤ begin) ≤ 1440 }
-    ensures end_in_range { unsigned_abs (result.end -ℤ end) ≤ 1440 }
-    ensures count_bound { span_minutes result ≤ unsigned_abs (end -ℤ begin) + 2880 }
+    ensures begin_in_range { HasOffsets basis.now → unsigned_abs (result.begin -ℤ begin) ≤ 1440 }
+    ensures end_in_range { HasOffsets basis.now → unsigned_abs (result.end -ℤ end) ≤ 1440 }
+    ensures count_bound { HasOffsets basis.now → span_minutes result ≤ unsigned_abs (end -ℤ begin) + 2880 }
 {
     Span {
         begin: begin - i64::from(greatest_add(basis)),
@@ -28,10 +28,8 @@ pub fn widened(basis: &Basis, begin: i64, end: i64) -> Span
 }
 
 fn greatest_add(basis: &Basis) -> i32
-    requires { HasOffsets basis.now }
     ensures exact { result ≡ greatest_add basis.now }
     ensures high { basis.now.high.add ≤ℤ result }
-    ensures size { unsigned_abs result ≤ 1440 }
 {
     let most = basis.high.add.max(basis.low.add);
     match basis.slack {
@@ -41,10 +39,8 @@ fn greatest_add(basis: &Basis) -> i32
 }
 
 fn least_add(basis: &Basis) -> i32
-    requires { HasOffsets basis.now }
     ensures exact { result ≡ least_add basis.now }
     ensures high { result ≤ℤ basis.now.high.add }
-    ensures size { unsigned_abs result ≤ 1440 }
 {
     let least = basis.high.add.min(basis.low.add);
     match basis.slack {

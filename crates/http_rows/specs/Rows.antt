@@ -73,8 +73,8 @@ abbrev pub is_head : Head → Bool
 is_head head = bytes_eq head.method (codes "HEAD")
 
 -- the method is GET or HEAD
-abbrev pub is_read : Head → Bool
-is_read head = bytes_eq head.method (codes "GET") || is_head head
+abbrev pub is_get_or_head : Head → Bool
+is_get_or_head head = bytes_eq head.method (codes "GET") || is_head head
 
 -- the method is POST
 abbrev pub is_post : Head → Bool
@@ -112,7 +112,7 @@ field_rows head =
     (nat_lt 1 head.host.count || (head.minor == 1 && (head.host.count == 0)), BadRequest)
     ∷ (not (starts_with (λ a b. a == b) head.target (codes "/")), BadRequest)
     ∷ (is_none (path_in head), NotFound)
-    ∷ (requires_get head && not (is_read head), RequiresGet)
+    ∷ (requires_get head && not (is_get_or_head head), RequiresGet)
     ∷ (requires_post head && not (is_post head), RequiresPost)
     ∷ (is_post head && (head.content_length.count == 0), LengthRequired)
     ∷ (is_post head && is_none (length_in head), BadRequest)

@@ -3,7 +3,7 @@
 ghost use Rattle.std.specs.Prelude.{◌≡◌, ◌==◌, ◌≤◌, length, nat_lt, ◌&&◌, ◌||◌, ◌++◌, Some, None, IfOk, IfErr, codes};
 ghost use Rattle.std.specs.List.{starts_with};
 ghost use Rattle.http_rows.specs.Paths.{text_of};
-ghost use Rattle.http_rows.specs.Rows.{is_read, is_post, is_head, length_in, field_rows, body_rows, first_row, path_of, query_of, asking};
+ghost use Rattle.http_rows.specs.Rows.{is_get_or_head, is_post, is_head, length_in, field_rows, body_rows, first_row, path_of, query_of, asking};
 ghost use Rattle.http_rows.specs.Workings.Views.{IsAsking, head_seen, asking_seen};
 
 use crate::head::{Head, is_head};
@@ -23,8 +23,8 @@ pub struct Asking<'a> {
     pub bodiless: bool,
 }
 
-fn is_read(head: &Head<'_>) -> bool
-    ensures { result ≡ is_read (head_seen head.now) }
+fn is_get_or_head(head: &Head<'_>) -> bool
+    ensures { result ≡ is_get_or_head (head_seen head.now) }
 {
     head.method == b"GET".as_slice() || is_head(head)
 }
@@ -75,7 +75,7 @@ pub(crate) fn asked<'a>(head: &Head<'a>, rest: &'a [u8]) -> Result<Asking<'a>, R
     let Some(path) = Path::named(path_of(head.target)) else {
         return Err(RequestRejection::NotFound);
     };
-    if !path.is_posted() && !is_read(head) {
+    if !path.is_posted() && !is_get_or_head(head) {
         return Err(RequestRejection::RequiresGet);
     }
     if path.is_posted() && !is_post(head) {

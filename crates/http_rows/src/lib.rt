@@ -30,4 +30,4 @@ pub use reply_row::{ReplyRow, row_for};
 pub use request_rejection::RequestRejection;
 pub use response::Response;
 pub use responses::{write_rejection, write_unavailable};
-pub use worked::{worked_replies, worked_rows};
+pub use worked::{worked_limits, worked_replies, worked_rows};

@@ -5,6 +5,7 @@ ghost use Rattle.http_rows.specs.Heads.{head_length, head_of};
 ghost use Rattle.http_rows.specs.Paths.{path_named};
 ghost use Rattle.http_rows.specs.Responses.{rejection_of};
 ghost use Rattle.http_rows.specs.Rows.{path_of, query_of, length_in, field_rows, first_row};
+ghost use Rattle.http_rows.specs.declared.limits.TheConstants.{MOST_BODY, MOST_DIGITS, MOST_FIELDS, MOST_HEAD, MOST_LINES};
 
 use crate::path::Path;
 use crate::request_rejection::RequestRejection;
@@ -38,4 +39,13 @@ pub fn worked_replies()
         ((codes "HOST", codes "a") ∷ []))) ≡ None }
     ensures left_out { rejection_of RequestRejection.RequiresPost true
         ≡ codes "HTTP/1.1 405 Method Not Allowed\r\nContent-Type: text/plain; charset=utf-8\r\nContent-Length: 19\r\nAllow: POST\r\nConnection: close\r\n\r\n" }
+{}
+
+/// Proves the limits that the definitions of requests name by constants.
+pub fn worked_limits()
+    ensures head { MOST_HEAD ≡ 8192 }
+    ensures lines { MOST_LINES ≡ 66 }
+    ensures fields { MOST_FIELDS ≡ 64 }
+    ensures digits { MOST_DIGITS ≡ 18 }
+    ensures body { MOST_BODY ≡ 4194304 }
 {}

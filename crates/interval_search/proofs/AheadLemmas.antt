@@ -13,7 +13,7 @@ use Rattle.curve_law.proofs.CoverLemmas.{by_test}
 use Rattle.interval_search.specs.declared.piece.Piece.{Piece}
 use Rattle.interval_search.specs.Pieces.{interval, stays_whole, pieces_of_block, pieces_of}
 use Rattle.interval_search.specs.Workings.Ahead.{minutes_to, piece_between, interval_of, IsPiece, pieces_after, ArePieces, SearchInvariant}
-use Rattle.interval_search.proofs.PieceLemmas.{block-whole, block-halves, block-some, pieces-none, pieces-last, pieces-block}
+use Rattle.interval_search.proofs.PieceLemmas.{block-few, block-whole, block-halves, block-some, pieces-few, pieces-none, pieces-last, pieces-block}
 
 -- ---- beginning a block doesn't change the pieces
 
@@ -299,3 +299,15 @@ points-few test values end a (p ∷ ps) pieces =
     let one = block-some test a (minutes_to a p.minute) (omega (arith, ints)) in
     let rest = points-few test values end p.minute ps pieces.3 in
     omega (arith, length-append (pieces_of_block test a (minutes_to a p.minute)) (pieces_after test end p.minute ps))
+
+-- each piece has a minute
+pub ahead-few : (test : ℤ → ℕ → Bool) (values : ℤ → ℤ) (end a : ℤ) (ps : List Point) → ArePieces values end a ps
+    → length (pieces_after test end a ps) ≤ minutes_to a end
+unfolding pieces_after ArePieces
+ahead-few test values end a [] pieces = pieces-few test a (minutes_to a end)
+ahead-few test values end a (p ∷ ps) pieces =
+    let some = pieces.0 in
+    let last = pieces-end values end p.minute ps pieces.3 in
+    let first = block-few test a (minutes_to a p.minute) in
+    let rest = ahead-few test values end p.minute ps pieces.3 in
+    omega (arith, ints, length-append (pieces_of_block test a (minutes_to a p.minute)) (pieces_after test end p.minute ps))

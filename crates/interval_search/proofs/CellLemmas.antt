@@ -1,13 +1,14 @@
 -- The cells of a span are those of its pieces.
-use Rattle.std.proofs.Common.{◌≡◌, ℕ, zero, suc, ◌+◌, ◌-◌, ◌/◌, ◌≤◌, ℤ, pos, ◌+ℤ◌, true, false, nat_le, List, [], ◌∷◌, length, map, None, refl, sym, ap, ◌∙◌, arith}
+use Rattle.std.proofs.Common.{◌≡◌, ℕ, zero, suc, ◌+◌, ◌-◌, ◌/◌, ◌^◌, ◌≤◌, ℤ, pos, ◌+ℤ◌, true, false, nat_le, List, [], ◌∷◌, length, map, None, refl, sym, ap, ◌∙◌, arith}
 use Rattle.std.proofs.lemmas.Bool.Decides.{nat_tests}
+use Rattle.std.proofs.lemmas.Int.{ints}
 use Rattle.std.proofs.lemmas.List.{length-map, map-append}
 use Rattle.curve_law.specs.declared.cell.Cell.{Cell}
 use Rattle.curve_law.specs.declared.cell.Cell.TheVariants.{Quiet}
 use Rattle.curve_law.specs.declared.point.Point.{Point}
 use Rattle.curve_law.specs.declared.quiet.TheConstants.{MOST_MINUTES}
 use Rattle.curve_law.specs.Cells.{minutes_of}
-use Rattle.curve_law.specs.Meaning.{Meaning}
+use Rattle.curve_law.specs.Meaning.{Meaning, IsLawful}
 use Rattle.curve_law.specs.CurveStates.{CurveState}
 use Rattle.curve_law.specs.Track.{Track, has_event}
 use Rattle.curve_law.specs.Cover.{is_quiet, unit_cell, split_within, split, cover_within, cover}
@@ -16,9 +17,9 @@ use Rattle.curve_law.proofs.CoverLemmas.{by_test, split_within-step, cover_withi
 use Rattle.interval_search.specs.declared.front.Front.{Front}
 use Rattle.interval_search.specs.declared.piece.Piece.{Piece}
 use Rattle.interval_search.specs.Pieces.{Interval, interval, halves_within, pieces_of_block, blocks_within, pieces_of}
-use Rattle.interval_search.specs.Workings.Ahead.{minutes_to, interval_of, IsPiece, pieces_after, IsFront, StepsTo, IsNext}
+use Rattle.interval_search.specs.Workings.Ahead.{minutes_to, interval_of, IsPiece, pieces_after, pieces_ahead, IsFront, StepsTo, IsNext}
 use Rattle.interval_search.specs.Workings.Cells.{cell_of, cells_ahead}
-use Rattle.interval_search.proofs.AheadLemmas.{points-few}
+use Rattle.interval_search.proofs.AheadLemmas.{ahead-few, pieces-end, points-few}
 use Rattle.interval_search.proofs.PieceLemmas as Pieces
 use Rattle.interval_search.proofs.PieceLemmas.{halves_within-step, blocks_within-step}
 
@@ -121,6 +122,20 @@ pub waiting-cells : (c : Meaning) (values : ℤ → ℤ) (s : CurveState) (front
 unfolding cells_ahead
 waiting-cells c values s front search_invariant =
     simp length-map (points-few (is_quiet c) values front.end front.at.minute front.waiting search_invariant.pieces)
+
+-- a search over minutes of a lawful curve has at most 2^61 cells left
+pub cells-few : (c : Meaning) (values : ℤ → ℤ) (s : CurveState) (front : Front) → IsFront values s front
+    → IsLawful s.facts.meaning → length (cells_ahead c front) ≤ 2 ^ 61
+unfolding cells_ahead
+cells-few c values s front search_invariant lawful =
+    let few = ahead-few (is_quiet c) values front.end front.at.minute front.waiting search_invariant.pieces in
+    let forward = pieces-end values front.end front.at.minute front.waiting search_invariant.pieces in
+    let first = search_invariant.first in
+    let last = search_invariant.last in
+    let early = lawful.early in
+    let late = lawful.late in
+    let number = length-map (pieces_ahead (is_quiet c) front) (cell_of c) in
+    rw number (omega (arith, ints))
 
 -- at most as many evaluations so far as in the end
 pub asked-most : (c : Meaning) (values : ℤ → ℤ) (s : CurveState) (front : Front) (most all : ℕ) → IsFront values s front

@@ -119,3 +119,35 @@ block-some-within (suc d) n test a some few = by_test (stays_whole test a n)
 
 pub block-some : (test : ℤ → ℕ → Bool) (a : ℤ) (n : ℕ) → 1 ≤ n → 1 ≤ length (pieces_of_block test a n)
 block-some test a n some = block-some-within n n test a some (omega arith)
+
+-- a block has at most one piece for each minute
+block-few-within : (d n : ℕ) (test : ℤ → ℕ → Bool) (a : ℤ) → n ≤ d → length (pieces_of_block test a n) ≤ n
+block-few-within d zero test a few = rw (block-none test a) (omega arith)
+block-few-within zero (suc n) test a few = absurd (omega arith)
+block-few-within (suc d) (suc n) test a few = by_test (stays_whole test a (suc n))
+    (λ whole. rw (block-whole test a (suc n) (omega arith) whole) (omega arith))
+    (λ halve.
+    let two = halved-more test a (suc n) halve in
+    let first = block-few-within d (suc n / 2) test a (omega arith) in
+    let second = block-few-within d (suc n - suc n / 2) test (a +ℤ pos (suc n / 2)) (omega arith) in
+    rw (block-halves test a (suc n) halve)
+    (omega (arith, length-append (pieces_of_block test a (suc n / 2)) (pieces_of_block test (a +ℤ pos (suc n / 2)) (suc n - suc n / 2)))))
+
+pub block-few : (test : ℤ → ℕ → Bool) (a : ℤ) (n : ℕ) → length (pieces_of_block test a n) ≤ n
+block-few test a n = block-few-within n n test a (omega arith)
+
+-- and so has a span
+pieces-few-within : (d n : ℕ) (test : ℤ → ℕ → Bool) (a : ℤ) → n ≤ d → length (pieces_of test a n) ≤ n
+pieces-few-within zero n test a few =
+    let none : n ≡ 0 = omega arith in rw (none, pieces-none test a) (omega arith)
+pieces-few-within (suc d) n test a few = by_test (nat_le n MOST_MINUTES)
+    (λ last. rw (pieces-last test a n (grind (arith, nat_tests))) (block-few test a n))
+    (λ more.
+    let many : MOST_MINUTES < n = grind (arith, nat_tests) in
+    let first = block-few test a MOST_MINUTES in
+    let rest = pieces-few-within d (n - MOST_MINUTES) test (a +ℤ pos MOST_MINUTES) (omega arith) in
+    rw (pieces-block test a n many)
+    (omega (arith, length-append (pieces_of_block test a MOST_MINUTES) (pieces_of test (a +ℤ pos MOST_MINUTES) (n - MOST_MINUTES)))))
+
+pub pieces-few : (test : ℤ → ℕ → Bool) (a : ℤ) (n : ℕ) → length (pieces_of test a n) ≤ n
+pieces-few test a n = pieces-few-within n n test a (omega arith)

@@ -68,6 +68,13 @@ impl<C: Curve> Search<C> {
         next_found(&mut self.curve, &mut self.front)
     }
 
+    /// Does nothing; its contract shows a proof that at most 2^61 cells are left, one for each minute.
+    pub fn cells_are_few(&self)
+        ensures { length self.now.left ≤ 2 ^ 61 }
+    {
+        let _end = self.front.end;
+    }
+
     /// Returns the number of evaluations of the curve so far.
     ///
     /// The program doesn't call it.

@@ -21,7 +21,7 @@ use Rattle.station_span.specs.Workings.Curves.{AreMerged, HasMinutes, IsReady, f
 use Rattle.station_span.specs.Workings.Finds.{AreLooked, AreReferences, HasPeak, IsLooked, IsSiteList, site_of, tide_of_found}
 use Rattle.station_span.specs.Workings.Levels.{HasLevel, is_tide_rising, source_of, tide_level}
 use Rattle.station_span.specs.Workings.Spans.{IsFound}
-use Rattle.station_span.proofs.FollowLemmas.{asked_minute, counted_cells, few_cells, found_cells, found_events, merged_can_move, plain_is_whole, ready_minutes, ready_of_found, shifted_is_whole, tide_lines, tracks_alike}
+use Rattle.station_span.proofs.FollowLemmas.{asked_minute, counted_cells, found_cells, found_events, merged_can_move, plain_is_whole, ready_minutes, ready_of_found, shifted_is_whole, tide_lines, tracks_alike}
 use Rattle.station_span.proofs.LevelLemmas.{IsPredicted, in_tide, site_level, site_rising, tide_years, within_adds}
 use Rattle.station_span.proofs.PeakLemmas.{has_highest, peak_alike, tide_peak-is, verdict_alike}
 use Rattle.curve_law.specs.Meaning.{Meaning}
@@ -57,10 +57,6 @@ pub tracks_for : (f : FoundStation) → f.reach ≡ Events
 tracks_for f is =
     ap (λ s. covers_of (followed_tide Second (tide_of_found f) f.asked.mark) s) (span_for f Events is)
     ∙ tracks_alike f.origin.book f.asked (site_of f) (tide_of_found f) _ (found_for f Events is) refl
-
-pub few_for : (f : FoundStation) → f.reach ≡ Events → cells_in (tracks_of f.origin.book (site_of f) f.asked) < 2 ^ 64
-few_for f is =
-    rw (tracks_tide f is) (few_cells f.asked (tide_of_found f) (ready_for f is))
 
 pub cells_for : (f : FoundStation) → f.reach ≡ Events
     → cells_in (tracks_of f.origin.book (site_of f) f.asked) ≡ cells_of f.origin.book (site_of f) f.asked

@@ -7,11 +7,13 @@ ghost use Rattle.tide_edge.specs.Faults.{counted, Rose};
 ghost use Rattle.tide_edge.specs.FileStates.{no_openings};
 ghost use Rattle.tide_edge.specs.Memory.{folder_of, read_count, is_refused, write_count};
 ghost use Rattle.tide_edge.specs.Whole.{whole};
+ghost use Rattle.tide_edge.specs.declared.piece.TheConstants.{PIECE};
 
 use crate::read_all_fault::ReadAllFault;
 
 /// Proves examples of the definitions: whole files, counts, pieces, connections and clocks.
 pub fn worked_rows()
+    ensures piece { PIECE ≡ 65536 }
     ensures fits { whole 3 (Some (7 ∷ 8 ∷ 9 ∷ [])) ≡ Ok (7 ∷ 8 ∷ 9 ∷ []) }
     ensures too_long { whole 2 (Some (7 ∷ 8 ∷ 9 ∷ [])) ≡ Err ReadAllFault.TooLong }
     ensures absent { whole 2 None ≡ Err ReadAllFault.Failed }

@@ -34,4 +34,4 @@ pub use laws::{
 };
 pub use served_data::ServedData;
 pub use service::serve;
-pub use worked::{worked_answers, worked_limits, worked_queries};
+pub use worked::{worked_answers, worked_queries};

@@ -3,9 +3,6 @@
 ghost use Rattle.std.specs.Prelude.{◌≡◌, ℤ, true, false, List, [], ◌∷◌, Some, codes};
 ghost use Rattle.harmonics_book.specs.declared.book.Book.{Book};
 ghost use Rattle.station_table.specs.declared.offsets.Offsets.{Offsets};
-ghost use Rattle.decimal_text.specs.declared.limits.TheConstants.{MOST_BYTES};
-ghost use Rattle.http_rows.specs.declared.limits.TheConstants.{MOST_BODY, MOST_DIGITS, MOST_FIELDS, MOST_HEAD, MOST_LINES};
-ghost use Rattle.tide_edge.specs.declared.piece.TheConstants.{PIECE};
 ghost use Rattle.tide_server.specs.Queries.{items_of, said_by};
 ghost use Rattle.tide_server.specs.Replies.{reply_of};
 ghost use Rattle.http_rows.specs.Rows.{asks};
@@ -28,15 +25,4 @@ pub fn worked_answers()
     ensures head_alone { (book : Book) (table : List Offsets) (minute : ℤ)
         → reply_of book table minute (asks record { path = codes "/stations"; query = codes "offsets=o"; body = []; bodiless = true })
         ≡ codes "HTTP/1.1 400 Bad Request\r\nContent-Type: text/plain; charset=utf-8\r\nContent-Length: 33\r\nConnection: close\r\n\r\n" }
-{}
-
-/// The limits that the definitions of requests and of files name by constants.
-pub fn worked_limits()
-    ensures head { MOST_HEAD ≡ 8192 }
-    ensures lines { MOST_LINES ≡ 66 }
-    ensures fields { MOST_FIELDS ≡ 64 }
-    ensures digits { MOST_DIGITS ≡ 18 }
-    ensures body { MOST_BODY ≡ 4194304 }
-    ensures piece { PIECE ≡ 65536 }
-    ensures text { MOST_BYTES ≡ 400000000 }
 {}

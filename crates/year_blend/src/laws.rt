@@ -92,3 +92,8 @@ pub fn worked_rows()
     ensures middle_slope { weight_slope_of (pos 0) ≡ pos 64800000 }
     ensures last_slope { weight_slope_of (pos 60) ≡ pos 0 }
 {}
+
+/// Proves the limit on the length of a stretch.
+pub fn worked_limits()
+    ensures minutes { LONGEST_SPAN ≡ 1024 }
+{}

@@ -1,6 +1,6 @@
 use Rattle.std.proofs.Common.{w32, FitsSigned, rules}
 use Rattle.std.proofs.lemmas.Int.{to_z-of_z}
-use Rattle.event_list.proofs.WideningLemmas.{greatest-small, greatest-high}
+use Rattle.event_list.proofs.WideningLemmas.{greatest-high}
 use Rattle.event_list.proofs.widening.greatest_add.Goals as goal
 
 pub returns-in-Some-clause-exact : goal.returns-in-Some-clause-exact
@@ -20,9 +20,6 @@ returns-in-Some-clause-exact c =
 pub returns-in-Some-clause-high : goal.returns-in-Some-clause-high
 returns-in-Some-clause-high c = rw (returns-in-Some-clause-exact c) (greatest-high c.args.basis.now)
 
-pub returns-in-Some-clause-size : goal.returns-in-Some-clause-size
-returns-in-Some-clause-size c = rw (returns-in-Some-clause-exact c) (greatest-small c.args.basis.now c.requires)
-
 pub returns-in-None-clause-exact : goal.returns-in-None-clause-exact
 returns-in-None-clause-exact c =
     let high : FitsSigned w32 c.args.basis.now.high.add = search rules in
@@ -33,6 +30,3 @@ returns-in-None-clause-exact c =
 
 pub returns-in-None-clause-high : goal.returns-in-None-clause-high
 returns-in-None-clause-high c = rw (returns-in-None-clause-exact c) (greatest-high c.args.basis.now)
-
-pub returns-in-None-clause-size : goal.returns-in-None-clause-size
-returns-in-None-clause-size c = rw (returns-in-None-clause-exact c) (greatest-small c.args.basis.now c.requires)

@@ -1,11 +1,6 @@
 use Rattle.std.proofs.Common.{refl}
-use Rattle.station_span.proofs.HeldLemmas.{cells_for, few_for, plain_for, tracks_are}
+use Rattle.station_span.proofs.HeldLemmas.{cells_for, plain_for, tracks_are}
 use Rattle.station_span.proofs.following.merge_of.Goals as goal
-
-pub new-requires-clause-count_bound : goal.new-requires-clause-count_bound
-new-requires-clause-count_bound c =
-    let same = tracks_are c.args.found.now _ _ _ c.turn_search.ensures.left c.slack_search.ensures.left c.mark_search.ensures.left in
-    rw same (few_for c.args.found.now c.requires)
 
 pub returns-clause-left : goal.returns-clause-left
 returns-clause-left c =

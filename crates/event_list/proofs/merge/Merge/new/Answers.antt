@@ -3,18 +3,11 @@ use Rattle.std.specs.Prelude.{Some}
 use Rattle.event_list.proofs.ComingLemmas.{ahead-ascending, merged-ahead, cells-ahead}
 use Rattle.event_list.proofs.merge.Merge.new.Goals as goal
 
-pub new-requires : goal.new-requires
-new-requires g c = let cells = cells-ahead c.args.turn c.args.slack c.args.mark in omega arith
-
-pub new-requires-2 : goal.new-requires-2
-new-requires-2 g c = let cells = cells-ahead c.args.turn c.args.slack c.args.mark in omega arith
-
-pub new-requires-3 : goal.new-requires-3
-new-requires-3 g c = let cells = cells-ahead c.args.turn c.args.slack c.args.mark in omega arith
-
 pub invariant_of-result : goal.invariant_of-result
 invariant_of-result g c =
-    let cells = cells-ahead c.args.turn c.args.slack c.args.mark in
+    let turn = c.new.ensures.few in
+    let slack = c.new-2.ensures.few in
+    let mark = c.new-3.ensures.few in
     record {
       turn = rw c.new.ensures.left (ahead-ascending (Some c.args.turn));
       slack = rw c.new-2.ensures.left (ahead-ascending c.args.slack);
@@ -22,7 +15,7 @@ invariant_of-result g c =
       turn_counted = rw (c.new.ensures.waiting, c.new.ensures.cells, c.new.ensures.all) (omega arith);
       slack_counted = rw (c.new-2.ensures.waiting, c.new-2.ensures.cells, c.new-2.ensures.all) (omega arith);
       mark_counted = rw (c.new-3.ensures.waiting, c.new-3.ensures.cells, c.new-3.ensures.all) (omega arith);
-      few = omega arith;
+      few = rw (c.new.ensures.all, c.new-2.ensures.all, c.new-3.ensures.all) (omega arith);
     }
 
 pub returns-clause-left : goal.returns-clause-left
