@@ -26,7 +26,8 @@ pub use bytes::Bytes;
 pub use digit::push_digit;
 pub use fault::DecimalFault;
 pub use laws::{
-    reads_its_fraction, worked_digits, worked_limits, worked_readings, worked_roundings, worked_writings,
+    reads_its_fraction, worked_digits, worked_limits, worked_readings, worked_roundings,
+    worked_writings,
 };
 pub use limits::MOST_BYTES;
 pub use names::are_name_bytes;

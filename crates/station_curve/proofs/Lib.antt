@@ -23,5 +23,6 @@ pub mod CellSteps
 pub mod PlainSteps
 pub mod Ranges
 pub mod Present
+mod YearLimits
 mod OneMore
 mod WorkedStarts

@@ -1,3 +1,4 @@
 pub mod Inside
 pub mod NumberRanges
 pub mod Prepared
+pub mod YearLimits

@@ -40,10 +40,10 @@ use harmonics_book::{Station, ValidBook};
 use std::alloc::{AllocError, Global};
 
 /// The greatest sum of the amplitudes of a year, in millionths of the unit.
-const MOST_AMOUNT: u64 = 1_000_000_000;
+pub const MOST_AMOUNT: u64 = 1_000_000_000;
 
 /// The greatest sum of the amplitudes times the speeds of a year.
-const MOST_STEEPNESS: u128 = 100_000_000_000_000_000;
+pub const MOST_STEEPNESS: u128 = 100_000_000_000_000_000;
 
 /// Returns the indices of the constituents that have an amplitude at `station`.
 ///
@@ -222,7 +222,7 @@ fn place_in_table(book: &ValidBook<'_>, year: u32, k: usize) -> usize
 }
 
 /// Returns the speed of constituent `k`, in units of the circle a minute.
-fn speed(book: &ValidBook<'_>, k: usize) -> u64
+pub fn speed(book: &ValidBook<'_>, k: usize) -> u64
     requires place { k < length book.now.constituents }
     ensures value { pos result ≡ speed_of book.now k }
     ensures size { result ≤ 3600000000 }

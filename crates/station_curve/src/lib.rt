@@ -18,6 +18,7 @@ mod laws;
 mod minute_range;
 mod summing;
 mod wave;
+mod year_limits;
 mod year_sums;
 mod years;
 

@@ -1,6 +1,6 @@
 //! The waves of each year.
 
-ghost use Rattle.std.specs.Prelude.{◌≡◌, ◌^◌, ◌<◌, ◌≤◌, ◌↔◌, IsTrue, length, Some, MatchResult, ◌⊎◌, pos, ◌+ℤ◌, ◌-ℤ◌, ◌≤ℤ◌, unsigned_abs};
+ghost use Rattle.std.specs.Prelude.{◌≡◌, ◌^◌, ◌<◌, ◌≤◌, ◌↔◌, IsTrue, length, Some, None, MatchResult, ◌⊎◌, pos, ◌+ℤ◌, ◌-ℤ◌, ◌≤ℤ◌, unsigned_abs};
 ghost use Rattle.harmonics_book.specs.Books.{IsStation};
 ghost use Rattle.station_curve.specs.Curves.{year_fault, first_fault};
 ghost use Rattle.station_curve.specs.Workings.Prepared.{present_in, IsReadyYear, AreReady};
@@ -10,6 +10,7 @@ use crate::constants::{calendar_year, check_year, present_places, waves_if_asked
 use crate::fault::CurveFault;
 use crate::minute_range::MinuteRange;
 use crate::wave::Wave;
+use crate::year_limits::are_years_within;
 use crate::year_sums::{Sums, sums_of_waves};
 use harmonics_book::{Station, ValidBook};
 use std::alloc::Global;
@@ -74,9 +75,10 @@ pub fn years_of(
 {
     let places = present_places(alloc, book, station)?;
     let present = places.as_slice();
+    let is_within = are_years_within(book, station, present);
     let mut years = Vec::with_capacity(alloc, book.get().years as usize)?;
     for year in 0..book.get().years {
-        match year_of(alloc, book, station, present, year, minute_range) {
+        match year_of(alloc, book, station, present, year, minute_range, is_within) {
             Ok(prepared) => years.push(prepared)?,
             Err(fault) => return Err(fault),
         }
@@ -85,7 +87,7 @@ pub fn years_of(
 }
 
 /// Returns year `year`, counted from 0, with its waves, if it is within the limits; `present` are the
-/// indices of the constituents with an amplitude.
+/// indices of the constituents with an amplitude. If `is_within`, no year exceeds a limit.
 ///
 /// # Errors
 /// The limit that the year exceeds; [`CurveFault::NoMemory`] if memory runs out.
@@ -96,19 +98,21 @@ fn year_of(
     present: &[usize],
     year: u32,
     minute_range: MinuteRange,
+    is_within: bool,
 ) -> Result<Year, CurveFault>
     requires station { IsStation (length book.now.constituents) station.now }
     requires present { present.now ≡ present_in book.now station.now }
     requires count_bound { length present.now ≤ 500 }
     requires year { year < book.now.years }
     requires few { year < 500 }
+    requires within { IsTrue is_within → year_fault book.now station.now year ≡ None }
     requires first { unsigned_abs minute_range.first ≤ 10 ^ 12 }
     requires last { unsigned_abs minute_range.last ≤ 10 ^ 12 }
     ensures { MatchResult result
         (λ prepared. IsReadyYear book.now station.now minute_range.first minute_range.last year prepared)
         (λ fault. (fault ≡ NoMemory) ⊎ (year_fault book.now station.now year ≡ Some fault)) }
 {
-    if let Err(fault) = check_year(book, station, present, year) {
+    if let Err(fault) = check_unless(is_within, book, station, present, year) {
         return Err(fault);
     }
     let start = year_start(calendar_year(book, year));
@@ -122,4 +126,31 @@ fn year_of(
         waves,
         sums,
     })
+}
+
+/// Checks that year `year` is within the limits, unless `is_within` says so already.
+///
+/// # Errors
+/// As of [`check_year`].
+fn check_unless(
+    is_within: bool,
+    book: &ValidBook<'_>,
+    station: &Station,
+    present: &[usize],
+    year: u32,
+) -> Result<(), CurveFault>
+    requires station { IsStation (length book.now.constituents) station.now }
+    requires present { present.now ≡ present_in book.now station.now }
+    requires count_bound { length present.now ≤ 500 }
+    requires year { year < book.now.years }
+    requires within { IsTrue is_within → year_fault book.now station.now year ≡ None }
+    ensures { MatchResult result
+        (λ _. year_fault book.now station.now year ≡ None)
+        (λ fault. year_fault book.now station.now year ≡ Some fault) }
+{
+    if is_within {
+        Ok(())
+    } else {
+        check_year(book, station, present, year)
+    }
 }

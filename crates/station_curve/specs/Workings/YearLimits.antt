@@ -1,0 +1,7 @@
+-- The node factors of a constituent, one for each year.
+use Rattle.std.specs.Prelude.{ℕ, ◌*◌, List, ℤ, take, drop}
+use Rattle.harmonics_book.specs.declared.book.Book.{Book}
+
+-- the factors of constituent k
+abbrev pub factors_of : Book → ℕ → List ℤ
+factors_of b k = take b.years (drop (k * b.years) b.factors)
