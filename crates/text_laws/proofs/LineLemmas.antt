@@ -16,7 +16,7 @@ use Rattle.event_text.specs.Words.{word_of, word_text}
 use Rattle.harmonics_book.specs.declared.book.Units.{Units}
 use Rattle.harmonics_book.specs.declared.book.Units.TheVariants.{Feet, Meters, Knots, KnotsSquared}
 use Rattle.listing.specs.declared.row.Row.{Row}
-use Rattle.listing.specs.Listings.{row_line_in}
+use Rattle.listing.specs.Listings.{direction_of, highest_line_of, now_line_of, row_line_in}
 use Rattle.text_laws.specs.Lines.{IsLevel, IsLine}
 use Rattle.text_laws.specs.Pages.{line_of, CalendarLine}
 use Rattle.zone_time.specs.declared.local.Label.{Label}
@@ -204,6 +204,33 @@ row-line zone units row small = record {
   ends = refl;
   no_control = height-clean (local_in zone row.minute) row.level units small;
 }
+
+direction-clean : (rising : Bool) → Clean (direction_of rising)
+direction-clean true = tested (codes "Rising") refl
+direction-clean false = tested (codes "Falling") refl
+
+pub now-line : (zone : Zone) (units : Units) (now level : ℤ) (rising : Bool) → IsLevel level
+    → IsLine (now_line_of zone units now level rising)
+now-line zone units now level rising small =
+    let shown = height_line_of (local_in zone now) level units in
+    let a = both (codes "Now ") shown (tested (codes "Now ") refl) (height-clean (local_in zone now) level units small) in
+    record {
+      bytes = codes "Now " ++ shown ++ codes "  " ++ direction_of rising;
+      ends = refl;
+      no_control = both (codes "Now " ++ shown ++ codes "  ") (direction_of rising)
+          (both (codes "Now " ++ shown) (codes "  ") a spaces) (direction-clean rising);
+    }
+
+pub highest-line : (zone : Zone) (units : Units) (minute level : ℤ) → IsLevel level
+    → IsLine (highest_line_of zone units minute level)
+highest-line zone units minute level small =
+    let shown = height_line_of (local_in zone minute) level units in
+    record {
+      bytes = codes "Highest " ++ shown;
+      ends = refl;
+      no_control = both (codes "Highest ") shown (tested (codes "Highest ") refl)
+          (height-clean (local_in zone minute) level units small);
+    }
 
 entry-clean : (zone : Zone) (units : Units) (event : Event) → IsLevel event.level → Clean (entry_in zone units event)
 entry-clean zone units event small =

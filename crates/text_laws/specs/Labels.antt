@@ -22,3 +22,10 @@ pub record DifferInLabel (zone other : Zone) (line line_there : List ℕ) : Type
   pub rest : List ℕ
   pub here : line ≡ local_text (local_in zone minute) ++ rest
   pub there : line_there ≡ local_text (local_in other minute) ++ rest
+
+-- two lines of one minute by the clocks of two zones, which differ only in the local time after `words`
+pub record DifferInLabelAfter (words : List ℕ) (zone other : Zone) (line line_there : List ℕ) : Type 0 where
+  pub minute : ℤ
+  pub rest : List ℕ
+  pub here : line ≡ words ++ local_text (local_in zone minute) ++ rest
+  pub there : line_there ≡ words ++ local_text (local_in other minute) ++ rest

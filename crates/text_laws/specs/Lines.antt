@@ -1,5 +1,5 @@
 -- Lists of lines (this project).
-use Rattle.std.specs.Prelude.{◌≡◌, ◌≤◌, ◌^◌, ℕ, ℤ, unsigned_abs, List, ◌++◌, All, codes}
+use Rattle.std.specs.Prelude.{◌≡◌, ◌≤◌, ◌^◌, ℕ, ℤ, unsigned_abs, List, ◌∷◌, ◌++◌, All, codes}
 use Rattle.std.specs.List.{flat_map, AllZip}
 
 -- a line: no byte below 32, and then a LF
@@ -24,4 +24,18 @@ pub record AreListings (name : List ℕ) (Related : List ℕ → List ℕ → Ty
   pub other_is : other ≡ listing_of name others
   pub single : All IsLine lines
   pub single_there : All IsLine others
+  pub related : AllZip Related lines others
+
+-- two listings of one station, with equally many lines after a first line: the first lines are related in one way,
+-- and the later ones in another, pair by pair, in order
+pub record AreListingsAfter (name : List ℕ) (First Related : List ℕ → List ℕ → Type 0) (text other : List ℕ) : Type 0 where
+  pub first : List ℕ
+  pub first_there : List ℕ
+  pub lines : List (List ℕ)
+  pub others : List (List ℕ)
+  pub text_is : text ≡ listing_of name (first ∷ lines)
+  pub other_is : other ≡ listing_of name (first_there ∷ others)
+  pub single : All IsLine (first ∷ lines)
+  pub single_there : All IsLine (first_there ∷ others)
+  pub first_related : First first first_there
   pub related : AllZip Related lines others

@@ -1,13 +1,13 @@
 //! The law of zones.
 
-ghost use Rattle.std.specs.Prelude.{◌≡◌, ℕ, ℤ, pos, negsuc, All, List, slice_set};
+ghost use Rattle.std.specs.Prelude.{◌≡◌, ℕ, ℤ, pos, negsuc, Bool, All, List, codes, slice_set};
 ghost use Rattle.curve_law.specs.declared.event.Event.{Event};
 ghost use Rattle.harmonics_book.specs.declared.book.Units.{Units};
 ghost use Rattle.listing.specs.declared.row.Row.{Row};
-ghost use Rattle.listing.specs.Listings.{plain_events_of, plain_heights_of};
+ghost use Rattle.listing.specs.Listings.{clock_text_of, highest_text_of, plain_events_of, plain_heights_of};
 ghost use Rattle.listing.specs.Records.{event_fields, row_fields, time_in};
-ghost use Rattle.text_laws.specs.Labels.{minute_of, DifferInLabel};
-ghost use Rattle.text_laws.specs.Lines.{AreListings, IsLevel};
+ghost use Rattle.text_laws.specs.Labels.{minute_of, DifferInLabel, DifferInLabelAfter};
+ghost use Rattle.text_laws.specs.Lines.{AreListings, AreListingsAfter, IsLevel};
 ghost use Rattle.zone_time.specs.declared.local.Label.{Label};
 ghost use Rattle.zone_time.specs.declared.zone.Zone.{Zone};
 ghost use Rattle.zone_time.specs.Locals.{IsLocal};
@@ -15,15 +15,23 @@ ghost use Rattle.zone_time.specs.Zones.{local_in};
 
 use zone_time::{Label, Local};
 
-/// The clocks of two zones list the same minutes in the same order. The lines differ only in their
-/// local times, and the label of each local time determines the minute that it means. A record
-/// differs only in its third field.
+/// The clocks of two zones list the same minutes in the same order, in lists of events and of levels
+/// and in the texts of `clock` and `highest`. The lines differ only in their local times, and the
+/// label of each local time determines the minute that it means. A record differs only in its third
+/// field.
 pub fn zones_only_label()
     ensures minute { (zone : Zone) (minute : ℤ) → minute_of (local_in zone minute) ≡ minute }
     ensures events { (name : List ℕ) (units : Units) (events : List Event) (zone other : Zone) → All (λ event. IsLevel event.level) events →
         AreListings name (DifferInLabel zone other) (plain_events_of name units events zone) (plain_events_of name units events other) }
     ensures heights { (name : List ℕ) (units : Units) (rows : List Row) (zone other : Zone) → All (λ row. IsLevel row.level) rows →
         AreListings name (DifferInLabel zone other) (plain_heights_of name units rows zone) (plain_heights_of name units rows other) }
+    ensures clock { (name : List ℕ) (units : Units) (now level : ℤ) (rising : Bool) (events : List Event) (zone other : Zone) →
+        IsLevel level → All (λ event. IsLevel event.level) events →
+        AreListingsAfter name (DifferInLabelAfter (codes "Now ") zone other) (DifferInLabel zone other)
+        (clock_text_of name units now level rising events zone) (clock_text_of name units now level rising events other) }
+    ensures highest { (name : List ℕ) (units : Units) (minute level : ℤ) (zone other : Zone) → IsLevel level →
+        AreListings name (DifferInLabelAfter (codes "Highest ") zone other)
+        (highest_text_of name units minute level zone) (highest_text_of name units minute level other) }
     ensures event_record { (name : List ℕ) (units : Units) (event : Event) (zone other : Zone) →
         event_fields name units other event ≡ slice_set (event_fields name units zone event) 2 (time_in other event.minute) }
     ensures row_record { (name : List ℕ) (units : Units) (row : Row) (zone other : Zone) →
