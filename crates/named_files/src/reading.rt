@@ -53,6 +53,7 @@ pub fn read_files<F: Files>(
     alloc: Global,
     files: &mut F,
     question: &ValidQuestion<'_>,
+    requires zone { IsZoneWord question.now.zone }
     name: &Text,
 ) -> Result<Materials, NoAnswer>
     ensures own { IsTrue (F.state files.old).store.is_observable

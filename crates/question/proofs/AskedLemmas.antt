@@ -247,11 +247,13 @@ was_asked origin command said read =
     (in_range IsPort port_of (said key.Port) port_of-range) (omega arith, omega arith) in
     record {
       whole = needed_there origin command read;
-      begin = in_range IsMoment moment_of (said key.Begin) moment_of-range;
-      end = in_range IsMoment moment_of (said key.End) moment_of-range;
-      mark = in_range IsMark mark_of (said key.Mark) mark_of-range;
-      step_first = step.0;
-      step_last = step.1;
+      ranges = record {
+        begin = in_range IsMoment moment_of (said key.Begin) moment_of-range;
+        end = in_range IsMoment moment_of (said key.End) moment_of-range;
+        mark = in_range IsMark mark_of (said key.Mark) mark_of-range;
+        step_first = step.0;
+        step_last = step.1;
+      };
       zone = or_default IsZoneWord (option_and_then (zone_of origin) (said key.Zone)) Utc
           (in_range IsZoneWord (zone_of origin) (said key.Zone) (zone_of-range origin)) tt;
       port_first = port.0;

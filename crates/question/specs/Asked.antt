@@ -69,14 +69,18 @@ abbrev pub NamesFiles : Origin → Question → Type 0
 NamesFiles Line q = HasFiles q.command q
 NamesFiles Query q = Unit {0}
 
--- a question is complete, and all its values are in range
-pub record IsAsked (q : Question) : Type 0 where
-  pub whole : HasNeeded q.command q
+-- the span, the mark and the step of a question are in the ranges of their keys
+pub record AreInRange (q : Question) : Type 0 where
   pub begin : ForSome q.begin IsMoment
   pub end : ForSome q.end IsMoment
   pub mark : ForSome q.mark (λ millionths. unsigned_abs millionths ≤ 10000000000)
   pub step_first : pos 1 ≤ℤ q.step
   pub step_last : q.step ≤ℤ pos 44640
+
+-- a question is complete, and all its values are in range
+pub record IsAsked (q : Question) : Type 0 where
+  pub whole : HasNeeded q.command q
+  pub ranges : AreInRange q
   pub zone : IsZoneWord q.zone
   pub port_first : 1 ≤ q.port
   pub port_last : q.port ≤ 65535

@@ -2,8 +2,8 @@
 //!
 //! [`pairs_of_words`] splits arguments at their first `=`, and [`read_question`] makes a [`Question`] of
 //! such pairs or returns their first fault. The table of keys for both is in `specs/Keys.antt`, and the
-//! properties of each question that was read are in `specs/Asked.antt`. A [`ValidQuestion`] is one that
-//! is proved to have them.
+//! properties of each question that was read are in `specs/Asked.antt`. A [`ValidQuestion`] has values
+//! that are proved to be in range.
 #![tactic(auto)]
 
 mod asked;

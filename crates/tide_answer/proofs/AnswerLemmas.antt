@@ -7,7 +7,7 @@ use Rattle.harmonics_book.specs.declared.book.Book.{Book}
 use Rattle.listing.specs.Abouts.{about_text_of}
 use Rattle.question.specs.declared.layout.Layout.{Layout}
 use Rattle.question.specs.declared.question.Question.{Question}
-use Rattle.question.specs.Asked.{IsAsked}
+use Rattle.question.specs.Asked.{AreInRange}
 use Rattle.slope_agreement.specs.Agreements.{agreement_of, predicted_agreement}
 use Rattle.station_table.specs.declared.offsets.Offsets.{Offsets}
 use Rattle.zone_time.specs.declared.zone.Zone.{Zone}
@@ -121,7 +121,7 @@ moment_in_range m is =
     let last = is.last in
     omega (arith, ints)
 
-pub asked_in_range : (question : Question) (begin end : ℤ) → IsAsked question → question.begin ≡ Some begin
+pub asked_in_range : (question : Question) (begin end : ℤ) → AreInRange question → question.begin ≡ Some begin
     → question.end ≡ Some end → IsInRange (record { begin = begin; end = end; mark = question.mark })
 asked_in_range question begin end is begins ends = record {
   begin = moment_in_range begin (is.begin begin begins);

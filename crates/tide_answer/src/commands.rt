@@ -4,7 +4,7 @@ ghost use Rattle.std.specs.Prelude.{◌≡◌, IfErr, IfOk};
 ghost use Rattle.decimal_text.specs.Expected.{ReturnsUnless};
 ghost use Rattle.harmonics_book.specs.Books.{IsBook};
 ghost use Rattle.listing.specs.StationLists.{stations_text_of};
-ghost use Rattle.question.specs.Asked.{IsAsked};
+ghost use Rattle.question.specs.Asked.{AreInRange};
 ghost use Rattle.tide_answer.specs.Answers.{answered, asks_span, text_alone, text_over};
 ghost use Rattle.tide_fault.specs.Faults.{refusal_is_out_of_memory, IsPrintableRefusal};
 ghost use Rattle.tide_answer.specs.Givens.{IsGiven, given_seen};
@@ -71,7 +71,7 @@ pub fn answer(
     given: &Given,
 ) -> Result<Answer, Refusal>
     requires book { IsBook book.now }
-    requires asked { IsAsked question.now }
+    requires ranges { AreInRange question.now }
     requires given { IsGiven given.now }
     ensures exact { ReturnsUnless refusal_is_out_of_memory (answered book.now table.now question.now given.entry.now) result }
     ensures printable { IfErr result (IsPrintableRefusal table.now) }

@@ -5,7 +5,7 @@ ghost use Rattle.decimal_text.specs.Expected.{ReturnsUnless};
 ghost use Rattle.event_text.specs.Lines.{IsListed};
 ghost use Rattle.harmonics_book.specs.declared.book.Units.{Units};
 ghost use Rattle.harmonics_book.specs.Books.{IsBook};
-ghost use Rattle.question.specs.Asked.{IsAsked};
+ghost use Rattle.question.specs.Asked.{AreInRange};
 ghost use Rattle.tide_answer.specs.Answers.{listed};
 ghost use Rattle.tide_answer.specs.Givens.{IsGiven};
 ghost use Rattle.tide_fault.specs.Faults.{refusal_is_out_of_memory, IsPrintableRefusal};
@@ -53,7 +53,7 @@ pub fn station_events(
     given: &Given,
 ) -> Result<Listed, Refusal>
     requires book { IsBook book.now }
-    requires asked { IsAsked question.now }
+    requires ranges { AreInRange question.now }
     requires given { IsGiven given.now }
     ensures exact { ReturnsUnless refusal_is_out_of_memory (listed book.now table.now question.now) result }
     ensures printable { IfErr result (IsPrintableRefusal table.now) }

@@ -4,7 +4,7 @@ ghost use Rattle.std.specs.Prelude.{◌≡◌, if◌then◌else◌, Some, None, 
 ghost use Rattle.std.specs.Option.{ForSome};
 ghost use Rattle.decimal_text.specs.Expected.{ReturnsUnless};
 ghost use Rattle.harmonics_book.specs.Books.{IsBook};
-ghost use Rattle.question.specs.Asked.{IsAsked};
+ghost use Rattle.question.specs.Asked.{AreInRange};
 ghost use Rattle.tide_fault.specs.Faults.{refusal_is_out_of_memory, IsPrintableRefusal};
 ghost use Rattle.tide_answer.specs.Givens.{IsGiven};
 ghost use Rattle.tide_answer.specs.Streams.{can_stream, prepared, streams_by, Streams};
@@ -52,7 +52,7 @@ pub fn prepare(
     given: &Given,
 ) -> Result<Ready, Refusal>
     requires book { IsBook book.now }
-    requires asked { IsAsked question.now }
+    requires ranges { AreInRange question.now }
     requires given { IsGiven given.now }
     requires command { IsTrue (can_stream question.now.command) }
     ensures exact { ReturnsUnless refusal_is_out_of_memory (prepared book.now table.now question.now given.entry.now) result }

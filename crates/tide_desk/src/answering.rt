@@ -6,6 +6,7 @@ ghost use Rattle.named_files.specs.NoAnswers.{IsPrintable, reading_failed, refus
 ghost use Rattle.named_files.specs.Opened.{IsResultOf, failing_file, folders_shown, names_to};
 ghost use Rattle.named_files.specs.Readings.{files_allowed, files_in};
 ghost use Rattle.named_files.specs.Workings.Materials.{AreMaterials};
+ghost use Rattle.question.specs.Asked.{IsZoneWord};
 ghost use Rattle.tide_answer.specs.Answers.{answered_without_files};
 ghost use Rattle.tide_desk.specs.Answers.{
   ReadsClock,
@@ -117,6 +118,7 @@ fn answer_over<F: Files, K: Clock>(
 ) -> Result<Reply, NoAnswer>
     ensures own { IsTrue (F.state files.old).store.is_observable
         → (IsTrue (reads_clock question.now.command) → IsTrue (K.state clock.old).is_observable)
+    requires zone { IsZoneWord question.now.zone }
         → Meets source_of (IsFirm (IsTrue (reads_clock question.now.command))
         (sources (F.state files.old) (K.state clock.old)) (sources (F.state files.new) (K.state clock.new)))
         (answered_over_file (map meaning sheets.items) (λ slot. (F.state files.old).store.folder)

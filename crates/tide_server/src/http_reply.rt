@@ -150,7 +150,8 @@ fn answer_reply(
 ) -> Result<Response, AllocError>
     requires asking { IsAsking (asking_seen asking.now) }
     requires now { IsClockMinute now }
-    requires zone { names_file question.now.zone ≡ false }
+    requires zone { IsZoneWord question.now.zone }
+    requires no_file { names_file question.now.zone ≡ false }
     ensures { IfOk result (λ response. response ≡ answer_reply stations.now.table question.now.layout
         (answered stations.now.book stations.now.table question.now (given_with question.now (asking_seen asking.now) now))
         asking.now.bodiless) }
