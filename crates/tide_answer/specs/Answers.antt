@@ -272,9 +272,14 @@ station_about book table name = do
 
 -- ---- every request
 
+-- the refusal of a question without the station, the span or the seed that its command needs, which no question
+-- that was read lacks, and of a question whose command has no answer here
+abbrev pub refusal_of_incomplete : Refusal
+refusal_of_incomplete = NoStation
+
 -- a part of a request that a command needs
 abbrev pub named_by : {A : Type 0} → Option A → Result A Refusal
-named_by said = ok_or said NoStation
+named_by said = ok_or said refusal_of_incomplete
 
 -- the answer of a command that needs a station and a span
 unfoldable pub asks_span : Question → (List ℕ → Asked → Result Answer Refusal) → Result Answer Refusal
@@ -301,7 +306,7 @@ listed book table question = do
 abbrev pub text_from : Command → Option ℕ → Result Answer Refusal
 text_from Sample (Some seed) = Ok (text_alone (sample_of seed))
 text_from Trial (Some seed) = trial_of seed >>= λ text. Ok (text_alone text)
-text_from _ _ = Err NoStation
+text_from _ _ = Err refusal_of_incomplete
 
 -- the answer to a request that names no file, or the first refusal
 unfoldable pub answered_without_files : Question → Result Answer Refusal
@@ -315,7 +320,7 @@ text_over Heights book table question zone name asked = heights book table name 
 text_over Calendar book table question zone name asked = on_calendar book table name asked zone
 text_over Highest book table question zone name asked = highest book table name asked zone
 text_over Peak book table question zone name asked = peak_certified book table name asked
-text_over _ book table question zone name asked = Err NoStation
+text_over _ book table question zone name asked = Err refusal_of_incomplete
 
 -- the answer of a command
 abbrev pub text_by : Command → Book → List Offsets → Question → Given → Result Answer Refusal
@@ -327,8 +332,8 @@ text_by About book table question given = asks_name question (λ name. station_a
 text_by Stations book table question given = Ok (text_alone (stations_text_of book table))
 text_by Sample book table question given = answered_without_files question
 text_by Trial book table question given = answered_without_files question
-text_by Report book table question given = Err NoStation
-text_by Serve book table question given = Err NoStation
+text_by Report book table question given = Err refusal_of_incomplete
+text_by Serve book table question given = Err refusal_of_incomplete
 text_by command book table question given =
     asks_span question (text_over command book table question given.zone)
 

@@ -6,6 +6,7 @@ ghost use Rattle.question.specs.declared.command.Command.{Command};
 ghost use Rattle.tide_answer.specs.Answers.{answered_without_files, text_from};
 ghost use Rattle.tide_fault.specs.Faults.{refusal_is_out_of_memory, IsPrintableRefusal};
 
+use crate::requests::refusal_of_incomplete;
 use crate::sample::sample_answer;
 use crate::text::{Answer, text_alone};
 use crate::trial::try_sample;
@@ -27,7 +28,7 @@ pub fn answer_alone(alloc: Global, question: &ValidQuestion<'_>) -> Result<Answe
     match (question.command, question.seed) {
         (Command::Sample, Some(seed)) => Ok(sample_answer(alloc, seed)?),
         (Command::Trial, Some(seed)) => trial_answer(alloc, seed),
-        _ => Err(Refusal::NoStation),
+        _ => Err(refusal_of_incomplete()),
     }
 }
 

@@ -21,7 +21,7 @@ use crate::heights::list_heights;
 use crate::highest::{certify_peak, highest_answer};
 use crate::peak_check::check_peak_text;
 use crate::predict::predict;
-use crate::requests::{station_named, station_request};
+use crate::requests::{refusal_of_incomplete, station_named, station_request};
 use crate::text::{Answer, text_alone};
 use harmonics_book::Book;
 use listing::stations_text;
@@ -34,8 +34,8 @@ use zone_time::ZoneClock;
 
 /// Returns the answer to `question` over the harmonic constants `book` and the offsets `table`,
 /// with the zone, the certificate and the present minute of `given`. A request to report, whose
-/// events [`station_events`](crate::station_events) returns, or to serve is answered as one without
-/// a station.
+/// events [`station_events`](crate::station_events) returns, or to serve is refused as one without a
+/// station.
 ///
 /// # Errors
 /// The first [`Refusal`] in this order, as `specs/Answers.antt` defines it: a certificate's form,
@@ -112,7 +112,7 @@ pub fn answer_valid(
         Command::PeakCheck => check_peak_text(alloc, stations, given.certificate),
         Command::Stations => answer_stations(alloc, stations),
         Command::Sample | Command::Trial => answer_alone(alloc, question),
-        Command::Report | Command::Serve => Err(Refusal::NoStation),
+        Command::Report | Command::Serve => Err(refusal_of_incomplete()),
     }
 }
 
@@ -153,7 +153,7 @@ fn answer_request(
         Command::Calendar => list_days(alloc, stations, request, zone),
         Command::Highest => highest_answer(alloc, stations, request, zone),
         Command::Peak => certify_peak(alloc, stations, request),
-        _ => Err(Refusal::NoStation),
+        _ => Err(refusal_of_incomplete()),
     }
 }
 

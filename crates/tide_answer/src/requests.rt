@@ -3,7 +3,7 @@
 ghost use Rattle.std.specs.Prelude.{◌≡◌, [], Ok, Err, IfErr, IfOk};
 ghost use Rattle.cert_text.specs.Certificates.{IsCertificate};
 ghost use Rattle.peak_text.specs.PeakTexts.{IsPeakCertificate};
-ghost use Rattle.tide_answer.specs.Answers.{named_by};
+ghost use Rattle.tide_answer.specs.Answers.{named_by, refusal_of_incomplete};
 ghost use Rattle.tide_answer.specs.Asking.{asked_by_question, asked_by_certificate, asked_by_peak_certificate};
 ghost use Rattle.tide_answer.specs.Workings.Requests.{named_span};
 ghost use Rattle.tide_fault.specs.Faults.{IsPrintableRefusal};
@@ -16,11 +16,18 @@ use question::ValidQuestion;
 use station_span::{Asked, StationRequest};
 use tide_fault::Refusal;
 
+/// Returns the refusal of a question that lacks a value that its command needs.
+pub fn refusal_of_incomplete() -> Refusal
+    ensures { result ≡ refusal_of_incomplete }
+{
+    Refusal::NoStation
+}
+
 /// Returns the station's name, the span and the mark of `question`. A command that needs them has
 /// them.
 ///
 /// # Errors
-/// [`Refusal::NoStation`] if it lacks the station or the span.
+/// [`refusal_of_incomplete`] if it lacks the station or the span.
 #[tactic(auto, unfolding(crate::specs::Workings::Requests::named_span))]
 pub fn station_request<'a>(question: &ValidQuestion<'a>) -> Result<StationRequest<'a>, Refusal>
     ensures exact { result ≡ named_span question.now }
@@ -40,7 +47,7 @@ pub fn station_named<'a>(question: &ValidQuestion<'a>) -> Result<&'a Text, Refus
 {
     match &question.get().station {
         Some(name) => Ok(name),
-        None => Err(Refusal::NoStation),
+        None => Err(refusal_of_incomplete()),
     }
 }
 
@@ -59,7 +66,7 @@ fn span_named(question: &ValidQuestion<'_>) -> Result<Asked, Refusal>
             end,
             mark: question.mark,
         }),
-        _ => Err(Refusal::NoStation),
+        _ => Err(refusal_of_incomplete()),
     }
 }
 
