@@ -12,6 +12,10 @@ use Rattle.tide_fault.specs.declared.slot.Slot.{Slot}
 use Rattle.tide_fault.specs.declared.slot.Slot.TheVariants.{File, Offsets, Zone, Certificate}
 use Rattle.tide_fault.specs.Faults.{is_out_of_memory as fault_is_out_of_memory, refusal_is_out_of_memory}
 use Rattle.book_loading.specs.Loading.{loaded, bytes_from as load_bytes_from, book_from as load_book_from, source_of as source_of_loading}
+use Rattle.station_table.specs.declared.fault.OffsetFault.{OffsetFault}
+use Rattle.station_table.specs.declared.fault.OffsetFault.TheVariants as table
+use Rattle.station_table.specs.declared.offsets.Offsets.{Offsets as TableRow}
+use Rattle.station_table.specs.Reasons.{is_out_of_memory as table_is_out_of_memory}
 use Rattle.tide_edge.specs.declared.read_all_fault.ReadAllFault.{ReadAllFault}
 use Rattle.tide_edge.specs.declared.read_all_fault.ReadAllFault.TheVariants as reading
 use Rattle.decimal_text.specs.Expected.{Source, memory, outside, given, Excuses, Meets}
@@ -22,10 +26,14 @@ use Rattle.std.specs.Result.{IfErr}
 use Rattle.tide_edge.specs.FileStates.{FilesState}
 use Rattle.tide_edge.specs.Whole.{ReadWithin, both, one_file, whole, source_of as source_of_reading}
 use Rattle.tide_edge.proofs.ReadingLemmas.{read_more, read_then}
+use Rattle.zone_time.specs.declared.zone.Zone.{Zone as TheZone}
+use Rattle.zone_time.specs.declared.zone_fault.ZoneFault.{ZoneFault}
+use Rattle.zone_time.specs.declared.zone_fault.ZoneFault.TheVariants as zones
+use Rattle.zone_time.specs.Zones.{is_out_of_memory as zone_is_out_of_memory}
 use Rattle.named_files.specs.declared.no_answer.NoAnswer.{NoAnswer}
 use Rattle.named_files.specs.declared.no_answer.NoAnswer.TheVariants.{Unread, Faulty, Refused}
 use Rattle.named_files.specs.NoAnswers.{IsOf, file_of, is_unread, reading_failed, source_of, faulty, is_out_of_memory}
-use Rattle.named_files.specs.Readings.{allowed_for, allowed_to, files_allowed, zone_file, book_from, book_named, bytes_from, bytes_of, fault_of_loading, fault_of_reading, limit_of}
+use Rattle.named_files.specs.Readings.{allowed_for, allowed_to, files_allowed, zone_file, book_from, book_named, bytes_from, bytes_of, fault_of_loading, fault_of_reading, limit_of, table_from, zone_from}
 
 -- ---- Steps, one after the other
 
@@ -76,6 +84,19 @@ pub meets_inside : {A : Type 0} (firm : Type 0) (expected result : Result A NoAn
     → ReturnsUnless is_out_of_memory expected result → Meets source_of firm expected result
 meets_inside firm expected (Ok value) returned = returned
 meets_inside firm expected (Err none) returned = returned_excuses firm expected none returned
+
+-- a table and a zone that were read, with the reasons of a run
+pub table_inside : (expected read : Result (List TableRow) OffsetFault) → ReturnsUnless table_is_out_of_memory expected read
+    → ReturnsUnless is_out_of_memory (table_from expected) (table_from read)
+table_inside expected (Ok rows) returned = rw returned refl
+table_inside expected (Err table.NoMemory) returned = tt
+table_inside expected (Err (table.At row why)) returned = rw returned refl
+
+pub zone_inside : (expected read : Result TheZone ZoneFault) → ReturnsUnless zone_is_out_of_memory expected read
+    → ReturnsUnless is_out_of_memory (zone_from expected) (zone_from read)
+zone_inside expected (Ok zone) returned = rw returned refl
+zone_inside expected (Err zones.NoMemory) returned = tt
+zone_inside expected (Err zones.BadZone) returned = rw returned refl
 
 faulty_inside : {A : Type 0} (firm : Type 0) (out_of_memory : Bool) (step : Result A Fault) (fault : Fault)
     → Excused out_of_memory step fault → Excuses (cond out_of_memory memory given) firm (faulty step) (Faulty fault)

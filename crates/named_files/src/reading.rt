@@ -1,13 +1,11 @@
 //! The files of a request, read.
 
 ghost use Rattle.std.specs.Prelude.{◌≡◌, ◌≤◌, false, IsTrue, [], length, Some, None, Ok, IfOk, IfErr};
-ghost use Rattle.decimal_text.specs.Expected.{ReturnsUnless};
 ghost use Rattle.harmonics_book.specs.Books.{IsBook};
 ghost use Rattle.question.specs.Asked.{IsZoneWord};
-ghost use Rattle.station_table.specs.Table.{table_of};
-ghost use Rattle.zone_time.specs.Zones.{IsZone, zone_of};
+ghost use Rattle.zone_time.specs.Zones.{IsZone};
 ghost use Rattle.tide_edge.specs.Whole.{ReadWithin, one_file};
-ghost use Rattle.named_files.specs.NoAnswers.{IsOf, IsPrintable, file_of, is_unread, reading_failed, source_of, is_out_of_memory};
+ghost use Rattle.named_files.specs.NoAnswers.{IsOf, IsPrintable, file_of, is_unread, reading_failed, source_of};
 ghost use Rattle.named_files.specs.Opened.{AreOpened, Opened};
 ghost use Rattle.named_files.specs.Readings.{
   allowed_for,
@@ -35,7 +33,7 @@ use book_loading::{LoadFault, load_book};
 use decimal_text::{Bytes, MOST_BYTES, Text};
 use harmonics_book::Book;
 use question::{ValidQuestion, ZoneWord};
-use station_table::{OffsetTable, read_offsets};
+use station_table::{OffsetFault, OffsetTable, read_offsets};
 use std::alloc::Global;
 use tide_edge::{Files, ReadAllFault, read_all};
 use tide_fault::{Fault, Refusal, Slot};
@@ -53,9 +51,9 @@ pub fn read_files<F: Files>(
     alloc: Global,
     files: &mut F,
     question: &ValidQuestion<'_>,
-    requires zone { IsZoneWord question.now.zone }
     name: &Text,
 ) -> Result<Materials, NoAnswer>
+    requires zone { IsZoneWord question.now.zone }
     ensures own { IsTrue (F.state files.old).store.is_observable
         → Meets source_of (IsTrue (F.state files.old).store.is_steady)
         (files_in (λ slot. (F.state files.old).store.folder) question.now name.now) result }
@@ -121,21 +119,20 @@ pub fn read_table<F: Files>(
     match name {
         Some(name) => {
             let bytes = read_file(alloc, files, name, Slot::Offsets)?;
-            table_in(alloc, &bytes)
+            table_from(read_offsets(alloc, bytes.as_slice()))
         }
         None => Ok(OffsetTable::new(alloc)),
     }
 }
 
-/// Reads the table whose text is `bytes`.
-fn table_in(alloc: Global, bytes: &Bytes) -> Result<OffsetTable, NoAnswer>
-    requires { length bytes.now ≤ MOST_BYTES }
-    ensures exact { ReturnsUnless is_out_of_memory (table_from (table_of bytes.now)) result }
+/// Returns the table that was read, or the reason for which there is none. Doesn't allocate.
+fn table_from(read: Result<OffsetTable, OffsetFault>) -> Result<OffsetTable, NoAnswer>
+    ensures exact { result ≡ table_from read }
     ensures printable { IfErr result IsPrintable }
     ensures read { reading_failed result ≡ false }
     ensures fault { IfErr result (IsOf Slot.Offsets) }
 {
-    match read_offsets(alloc, bytes.as_slice()) {
+    match read {
         Ok(table) => Ok(table),
         Err(fault) => Err(NoAnswer::Faulty(Fault::Offsets(fault))),
     }
@@ -163,20 +160,21 @@ fn read_zone_named<F: Files>(
         ZoneWord::Fixed(minutes) => Ok(Zone::Fixed(*minutes)),
         ZoneWord::Named(name) => {
             let bytes = read_file(alloc, files, name, Slot::Zone)?;
-            zone_in(alloc, &bytes)
+            zone_from(read_zone(alloc, bytes.as_slice()))
         }
     }
 }
 
-/// Reads the zone file whose contents are `bytes`.
-fn zone_in(alloc: Global, bytes: &Bytes) -> Result<Zone, NoAnswer>
-    ensures exact { ReturnsUnless is_out_of_memory (zone_from (zone_of bytes.now)) result }
+/// Returns the zone that was read, or the reason for which there is none. Doesn't allocate.
+fn zone_from(read: Result<Zone, ZoneFault>) -> Result<Zone, NoAnswer>
+    requires { IfOk read IsZone }
+    ensures exact { result ≡ zone_from read }
     ensures valid { IfOk result IsZone }
     ensures printable { IfErr result IsPrintable }
     ensures read { reading_failed result ≡ false }
     ensures fault { IfErr result (IsOf Slot.Zone) }
 {
-    match read_zone(alloc, bytes.as_slice()) {
+    match read {
         Ok(zone) => Ok(zone),
         Err(ZoneFault::BadZone) => Err(NoAnswer::Faulty(Fault::BadZone)),
         Err(ZoneFault::NoMemory) => Err(NoAnswer::Faulty(Fault::Refused(Refusal::NoMemory))),

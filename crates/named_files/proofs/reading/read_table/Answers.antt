@@ -3,7 +3,7 @@ use Rattle.named_files.proofs.OpenedLemmas.{always_whole, never_whole, opened_as
 use Rattle.std.specs.Bool.{IsTrue}
 use Rattle.tide_fault.specs.declared.slot.Slot.TheVariants.{Offsets}
 use Rattle.named_files.specs.Readings.{bytes_of, table_named}
-use Rattle.named_files.proofs.ReadingLemmas.{meets_at, meets_inside}
+use Rattle.named_files.proofs.ReadingLemmas.{meets_at, meets_inside, table_inside}
 use Rattle.named_files.proofs.reading.read_table.Goals as goal
 
 pub returns-in_err-bytes-in-Some-clause-own : goal.returns-in_err-bytes-in-Some-clause-own
@@ -34,7 +34,8 @@ returns-in_err-bytes-in-Some-clause-opened g c =
 pub returns-in_ok-bytes-in-Some-clause-own : goal.returns-in_ok-bytes-in-Some-clause-own
 unfolding table_named
 returns-in_ok-bytes-in-Some-clause-own g c =
-    λ t. rw (c.in-Some.is, c.in_ok-bytes-in-Some.ensures.own t) (meets_inside _ _ c.table_in.result c.table_in.ensures.exact)
+    λ t. rw (c.in-Some.is, c.in_ok-bytes-in-Some.ensures.own t, c.table_from.ensures.exact)
+    (meets_inside _ _ _ (table_inside _ c.read_offsets.result (rw c.as_slice.ensures at c.read_offsets.ensures)))
 
 pub returns-in_ok-bytes-in-Some-clause-opened : goal.returns-in_ok-bytes-in-Some-clause-opened
 unfolding table_named
@@ -48,9 +49,10 @@ returns-in_ok-bytes-in-Some-clause-opened g c =
     (g.F.Files.state c.args.files.now).openings
     _
     (Ok c.in_ok-bytes-in-Some.bytes)
-    c.table_in.result
-    (λ file meets. rw meets (meets_inside _ _ c.table_in.result c.table_in.ensures.exact))
-    (λ left whole. always_whole _ c.table_in.result whole)
+    c.table_from.result
+    (λ file meets. rw (meets, c.table_from.ensures.exact)
+    (meets_inside _ _ _ (table_inside _ c.read_offsets.result (rw c.as_slice.ensures at c.read_offsets.ensures))))
+    (λ left whole. always_whole _ c.table_from.result whole)
     c.in_ok-bytes-in-Some.ensures.opened)
 
 pub returns-in-None-clause-own : goal.returns-in-None-clause-own

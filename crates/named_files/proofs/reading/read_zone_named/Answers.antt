@@ -4,7 +4,7 @@ use Rattle.named_files.proofs.OpenedLemmas.{always_whole, never_whole, opened_as
 use Rattle.std.specs.Bool.{IsTrue}
 use Rattle.tide_fault.specs.declared.slot.Slot.TheVariants.{Zone}
 use Rattle.named_files.specs.Readings.{bytes_of, zone_named}
-use Rattle.named_files.proofs.ReadingLemmas.{meets_at, meets_inside}
+use Rattle.named_files.proofs.ReadingLemmas.{meets_at, meets_inside, zone_inside}
 use Rattle.named_files.proofs.reading.read_zone_named.Goals as goal
 
 pub returns-in_err-bytes-in-Named-clause-own : goal.returns-in_err-bytes-in-Named-clause-own
@@ -35,7 +35,8 @@ returns-in_err-bytes-in-Named-clause-opened g c =
 pub returns-in_ok-bytes-in-Named-clause-own : goal.returns-in_ok-bytes-in-Named-clause-own
 unfolding zone_named
 returns-in_ok-bytes-in-Named-clause-own g c =
-    λ t. rw (c.in-Named.is, c.in_ok-bytes-in-Named.ensures.own t) (meets_inside _ _ c.zone_in.result c.zone_in.ensures.exact)
+    λ t. rw (c.in-Named.is, c.in_ok-bytes-in-Named.ensures.own t, c.zone_from.ensures.exact)
+    (meets_inside _ _ _ (zone_inside _ c.read_zone.result (rw c.as_slice.ensures at c.read_zone.ensures.exact)))
 
 pub returns-in_ok-bytes-in-Named-clause-opened : goal.returns-in_ok-bytes-in-Named-clause-opened
 unfolding zone_named
@@ -49,9 +50,10 @@ returns-in_ok-bytes-in-Named-clause-opened g c =
     (g.F.Files.state c.args.files.now).openings
     _
     (Ok c.in_ok-bytes-in-Named.bytes)
-    c.zone_in.result
-    (λ file meets. rw meets (meets_inside _ _ c.zone_in.result c.zone_in.ensures.exact))
-    (λ left whole. always_whole _ c.zone_in.result whole)
+    c.zone_from.result
+    (λ file meets. rw (meets, c.zone_from.ensures.exact)
+    (meets_inside _ _ _ (zone_inside _ c.read_zone.result (rw c.as_slice.ensures at c.read_zone.ensures.exact))))
+    (λ left whole. always_whole _ c.zone_from.result whole)
     c.in_ok-bytes-in-Named.ensures.opened)
 
 pub returns-in-Utc-clause-own : goal.returns-in-Utc-clause-own
