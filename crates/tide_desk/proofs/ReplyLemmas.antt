@@ -5,7 +5,7 @@ use Rattle.std.specs.Option.{IsSomeAnd, option_map_or}
 use Rattle.decimal_text.specs.Expected.{◌>>=◌, Excused}
 use Rattle.harmonics_book.specs.declared.book.Book.{Book}
 use Rattle.question.specs.declared.command.Command.{Command}
-use Rattle.question.specs.declared.command.Command.TheVariants.{Predict, Certify}
+use Rattle.question.specs.declared.command.Command.TheVariants.{Predict, Certify, Report}
 use Rattle.question.specs.declared.question.Question.{Question}
 use Rattle.station_table.specs.declared.offsets.Offsets.{Offsets}
 use Rattle.station_span.specs.declared.asked.Asked.{Asked}
@@ -20,6 +20,7 @@ use Rattle.tide_answer.specs.Asking.{asked_by_question}
 use Rattle.station_span.specs.Following.{events_of}
 use Rattle.station_span.specs.Sites.{site_in}
 use Rattle.tide_answer.specs.Streams.{can_stream, prepared, streams_by}
+use Rattle.tide_desk.specs.Answers.{is_report}
 
 -- ---- The prepared source and the answer
 
@@ -96,3 +97,9 @@ pub there : (stream : Option Answer) → IsSomeAnd stream (λ text. text.rejecte
     → stream ≡ Some (option_map_or (λ text. text) stream (text_alone []))
 there (Some text) quiet = refl
 there None quiet = absurd (quiet)
+
+-- ---- A report is made in memory
+
+pub report_is_made : (command : Command) → is_report command ≡ true → can_stream command ≡ false
+report_is_made Report is = refl
+report_is_made _ is = absurd (let no = is in cc)

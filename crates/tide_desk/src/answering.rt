@@ -25,14 +25,16 @@ ghost use Rattle.tide_desk.specs.Answers.{
 };
 ghost use Rattle.tide_desk.specs.Outcomes.{IsFirm, WentOn, sources};
 ghost use Rattle.tide_desk.specs.Shown.{answer_by, given_between, minute_read, names_wanted, shown_over};
+ghost use Rattle.tide_desk.specs.Workings.Replies.{IsReply, answer_by as answer_from};
 ghost use Rattle.tide_desk.specs.Workings.Settled.{IsSettled, reading_of};
 ghost use Rattle.tide_edge.specs.Clocks.{IsClockMinute, clock_after, next_minute};
 ghost use Rattle.decimal_text.specs.Expected.{Meets};
 ghost use Rattle.tide_fault.specs.Faults.{IsPrintableRefusal};
 
 use crate::asking::read_words;
+use crate::body::Body;
 use crate::reply::Reply;
-use crate::replying::reply_with;
+use crate::replying::body_with;
 use decimal_text::{Text, Words};
 use named_files::{Materials, NoAnswer, read_files};
 use question::{Command, ValidQuestion};
@@ -116,9 +118,9 @@ fn answer_over<F: Files, K: Clock>(
     clock: &mut K,
     sheets: Vec<Box<dyn Sheet>>,
 ) -> Result<Reply, NoAnswer>
+    requires zone { IsZoneWord question.now.zone }
     ensures own { IsTrue (F.state files.old).store.is_observable
         → (IsTrue (reads_clock question.now.command) → IsTrue (K.state clock.old).is_observable)
-    requires zone { IsZoneWord question.now.zone }
         → Meets source_of (IsFirm (IsTrue (reads_clock question.now.command))
         (sources (F.state files.old) (K.state clock.old)) (sources (F.state files.new) (K.state clock.new)))
         (answered_over_file (map meaning sheets.items) (λ slot. (F.state files.old).store.folder)
@@ -204,22 +206,23 @@ fn answer_with(
         now,
     };
     let stations = StationData::new(&book, &table);
-    let replied = reply_with(alloc, &stations, question, &given, sheets);
+    let replied = body_with(alloc, &stations, question, &given, sheets);
     drop(given);
     drop(book);
     refused_over(replied, table)
 }
 
-// Returns `replied` for a command line whose table is `table`.
-fn refused_over(replied: Result<Reply, Refusal>, table: OffsetTable) -> Result<Reply, NoAnswer>
-    requires { IfErr replied (IsPrintableRefusal table) }
-    ensures exact { result ≡ refused_over table replied }
+// Returns the answer from `replied` for a command line whose table is `table`.
+fn refused_over(replied: Result<Body, Refusal>, table: OffsetTable) -> Result<Reply, NoAnswer>
+    requires valid { IfOk replied IsReply }
+    requires printable { IfErr replied (IsPrintableRefusal table) }
+    ensures exact { result ≡ refused_over table (answer_from replied) }
     ensures printable { IfErr result IsPrintable }
     ensures read { reading_failed result ≡ false }
     ensures of_no_file { failing_file result ≡ None }
 {
     match replied {
-        Ok(reply) => Ok(reply),
+        Ok(body) => Ok(Reply::of(body)),
         Err(refusal) => Err(NoAnswer::Refused(refusal, table)),
     }
 }

@@ -1,4 +1,4 @@
-//! The answer to a request over files that were read.
+//! The source of the answer to a request over files that were read.
 
 ghost use Rattle.std.specs.Prelude.{◌≡◌, ◌&&◌, IfOk, IfErr, map};
 ghost use Rattle.decimal_text.specs.Expected.{ReturnsUnless};
@@ -10,7 +10,6 @@ ghost use Rattle.tide_desk.specs.Answers.{answered_over_book, is_report};
 ghost use Rattle.tide_desk.specs.Workings.Replies.{IsReply, answer_by, is_stream, is_streaming, may_stream};
 
 use crate::body::Body;
-use crate::reply::Reply;
 use crate::reporting::report;
 use question::{Command, Layout, Question, ValidQuestion};
 use report_sheets::Sheet;
@@ -19,28 +18,33 @@ use tide_answer::{Given, StationData, answer, can_stream, prepare};
 use tide_fault::Refusal;
 use zone_time::Zone;
 
-/// Returns the answer to `question` over `stations`: a report of the sheets that it requests, or
-/// otherwise as [`answer`](tide_answer::answer).
+/// Returns the source of the answer to `question` over `stations`: of a report of the sheets that it
+/// requests, or otherwise of the text of [`answer`](tide_answer::answer). The answer is streamed
+/// exactly if the request allows it and the prepared source does; its text is made only otherwise.
 ///
 /// # Errors
 /// The first [`Refusal`] in the order of [`answer`](tide_answer::answer).
-pub fn reply_with(
+pub fn body_with(
     alloc: Global,
     stations: &StationData<'_>,
     question: &ValidQuestion<'_>,
     given: &Given,
     sheets: Vec<Box<dyn Sheet>>,
-) -> Result<Reply, Refusal>
+) -> Result<Body, Refusal>
     requires given { IsGiven given.now }
     ensures exact { ReturnsUnless refusal_is_out_of_memory (answered_over_book (is_report question.now.command)
-        (map meaning sheets.items) stations.now.book stations.now.table question.now given.entry.now) result }
+        (map meaning sheets.items) stations.now.book stations.now.table question.now given.entry.now) (answer_by result) }
+    ensures valid { IfOk result IsReply }
+    ensures streams { IfOk result (λ body. is_stream body
+        ≡ (may_stream question.now given.entry.now.zone
+        && is_streaming (prepared stations.now.book stations.now.table question.now given.entry.now))) }
     ensures printable { IfErr result (IsPrintableRefusal stations.now.table) }
 {
     if is_report(question.get().command) {
         let answer = report(alloc, stations, question, given, sheets)?;
-        return Ok(Reply::made(answer));
+        return Ok(Body::Text(answer));
     }
-    reply_to(alloc, stations, question, given)
+    body_for(alloc, stations, question, given)
 }
 
 /// Returns true if `command` is `report`.
@@ -50,26 +54,7 @@ fn is_report(command: Command) -> bool
     matches!(command, Command::Report)
 }
 
-// Returns the answer to a request that isn't for a report.
-fn reply_to(
-    alloc: Global,
-    stations: &StationData<'_>,
-    question: &ValidQuestion<'_>,
-    given: &Given,
-) -> Result<Reply, Refusal>
-    requires given { IsGiven given.now }
-    ensures exact { ReturnsUnless refusal_is_out_of_memory
-        (answered stations.now.book stations.now.table question.now given.entry.now) result }
-    ensures printable { IfErr result (IsPrintableRefusal stations.now.table) }
-{
-    match body_for(alloc, stations, question, given) {
-        Ok(body) => Ok(Reply::of(body)),
-        Err(refusal) => Err(refusal),
-    }
-}
-
-// Returns the source of the answer. The answer is streamed exactly if the request allows it and the
-// prepared source does; its text is made only otherwise.
+// Returns the source of the answer to a request that isn't for a report.
 fn body_for(
     alloc: Global,
     stations: &StationData<'_>,
