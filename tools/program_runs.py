@@ -224,16 +224,20 @@ def too_long(place):
     return '; '.join(filter(None, seen))
 
 
+def little_memory(place):
+    """The limit of the shell's within which the program just starts."""
+    for megabytes in FEW_MEGABYTES:
+        limit = f'ulimit -v {megabytes * 1024}'
+        if place.run('--version', limit=limit).returncode == 0:
+            return limit
+    raise Skipped(f'the program does not start within {FEW_MEGABYTES[-1]} MB')
+
+
 def no_memory(place):
     """A table for which there is no memory, since a table is read whole; the file of constants is short."""
     with open(place.folder / 'large', 'wb') as file:
         file.truncate(MOST_FILE)
-    for megabytes in FEW_MEGABYTES:
-        limit = f'ulimit -v {megabytes * 1024}'
-        if place.run('--version', limit=limit).returncode == 0:
-            break
-    else:
-        raise Skipped(f'the program does not start within {FEW_MEGABYTES[-1]} MB')
+    limit = little_memory(place)
     seen = difference(place.run(*WORDS, 'offsets=large', limit=limit), 8, b'', b'no memory\n')
     return seen or difference(place.run(*WORDS, limit=limit), 0, PIER, b'')
 

@@ -2,7 +2,7 @@
 import hashlib
 
 from program_checks import TOP, Server, difference, request, response, texted
-from program_runs import MOST_FILE, now, without_stamps
+from program_runs import MOST_FILE, little_memory, now, without_stamps
 
 SUMS = TOP / 'tools' / 'expected' / 'sums.txt'
 # A current that turns twice an hour, the fastest that a file may have.
@@ -15,11 +15,11 @@ TRACKS = {'turn': {30: 't low -27000000', 59: 't high 26852091'}, 'slack': {14: 
 STATIONS, CONSTITUENTS = 20_000, 40
 
 
-def minute_by_minute():
-    """A certificate of two years at that current with a cell for each minute, 7.6 MB."""
-    lines = ['tide certificate 2', 'station Swift', 'begin 2000-01-01T00:00Z', 'end 2002-01-01T00:00Z', 'mark -20000000']
+def minute_by_minute(end, days):
+    """A certificate of some days at that current with a cell for each minute, 10.4 kB a day."""
+    lines = ['tide certificate 2', 'station Swift', 'begin 2000-01-01T00:00Z', f'end {end}T00:00Z', 'mark -20000000']
     for name, events in TRACKS.items():
-        lines += [f'track {name}', *[events.get(minute, 's') for minute in range(60)] * (731 * 24)]
+        lines += [f'track {name}', *[events.get(minute, 's') for minute in range(60)] * (days * 24)]
     return '\n'.join([*lines, 'done', ''])
 
 
@@ -51,10 +51,10 @@ def digest(data):
     return f'{hashlib.sha256(data).hexdigest()} {len(data)}'
 
 
-def as_summed(place, name, *words, status=0):
+def as_summed(place, name, *words, status=0, limit=''):
     """Whether standard output has the recorded length and SHA-256, and standard error is empty."""
     begun = now()
-    ended = place.run(*words)
+    ended = place.run(*words, limit=limit)
     seen = difference(ended, status, ended.stdout, b'')
     wanted = {it.partition(' ')[0]: it.partition(' ')[2] for it in SUMS.read_text(encoding='ascii').splitlines()}[name]
     came = digest(without_stamps(ended.stdout, begun))
@@ -76,7 +76,7 @@ def large_certificate(place):
 
 
 def long_certificate(place):
-    (place.folder / 'minutes.cert').write_text(minute_by_minute(), encoding='ascii')
+    (place.folder / 'minutes.cert').write_text(minute_by_minute('2002-01-01', 731), encoding='ascii')
     return as_summed(place, 'long-check', 'check', 'file=swift.txt', 'certificate=minutes.cert')
 
 
@@ -86,6 +86,13 @@ def long_list(place):
 
 def long_certify(place):
     return as_summed(place, 'long-certify', 'certify', *TEN_YEARS)
+
+
+def streamed(place):
+    """A list and a certificate are written as they are found, so they take no more memory than a short run."""
+    limit = little_memory(place)
+    return (as_summed(place, 'long-predict', 'predict', *TEN_YEARS, limit=limit)
+            or as_summed(place, 'long-certify', 'certify', *TEN_YEARS, limit=limit))
 
 
 def long_report(place):
@@ -105,6 +112,15 @@ def long_reply(place):
     return '' if reply == wanted else f'{len(reply)} bytes in place of {len(wanted)}: {texted(reply)}'
 
 
+def long_request(place):
+    """The server's answer to a certificate of a year, of almost as many bytes as a request may have, is that of the command."""
+    (place.folder / 'year.cert').write_text(minute_by_minute('2001-01-01', 366), encoding='ascii')
+    with Server(place, file='swift.txt') as server:
+        reply = server.reply(request('/check', 'POST', (place.folder / 'year.cert').read_bytes()))
+    wanted = response(place.run('check', 'file=swift.txt', 'certificate=year.cert').stdout)
+    return '' if reply == wanted else f'{len(reply)} bytes in place of {len(wanted)}: {texted(reply)}'
+
+
 CHECKS = {
     'sizes: a made-up file': sample,
     'sizes: a file of constants of 67,108,864 bytes': large_book,
@@ -112,8 +128,10 @@ CHECKS = {
     'sizes: a certificate of 3,157,920 cells': long_certificate,
     'sizes: a list of 526,000 events': long_list,
     'sizes: a certificate of ten years': long_certify,
+    'sizes: a list and a certificate in little memory': streamed,
     'sizes: a report of four sheets, each to its limit': long_report,
     'sizes: a long reply': long_reply,
+    'sizes: a long request': long_request,
 }
 
 
