@@ -45,13 +45,6 @@ first_is_position p xs (Some k) h =
     prefix_len_is (λ x. not (p x)) xs k 0 (omega (arith, h.0.high)) (λ j lt. refused (p (get_or xs j 0)) (h.0.before j (omega arith) lt)) (λ lt. ap not h.1) in
     rw (at, lt-ltb k (length xs) h.0.high) refl
 
--- the line of an absent constituent ends before its sixth byte
-pub absent_at : (xs : List ℕ) (b : Bool) → b ≡ starts_with nat_eq xs (codes "x 0 0" ++ 10 ∷ []) → b ≡ true → Some 5 ≡ position is_lf xs
-absent_at xs b is e =
-    let rest = drop 6 xs in
-    let begins : xs ≡ (codes "x 0 0" ++ 10 ∷ []) ++ rest = (starts_is (λ a b. (eqb-true a b, eq-eqb a b)) xs (codes "x 0 0" ++ 10 ∷ []) b is).0 e in
-    rw (begins, lt-ltb 5 (length ((codes "x 0 0" ++ 10 ∷ []) ++ rest)) (omega arith)) refl
-
 unwrapped : (b : Bool) (n m : ℕ) → (b ≡ false → m ≡ n) → unwrap_or (cond b (Some n) None) m ≡ n
 unwrapped true n m h = refl
 unwrapped false n m h = h refl

@@ -236,22 +236,20 @@ progress_pending xs d n p e =
 
 -- ---- the steps of the code
 
-line_is : (d : BookParser) (n : ℕ) (line rest : List ℕ) (r : Result BookParser Why) → has_lf line ≡ false
+pub line_is : (d : BookParser) (n : ℕ) (line rest : List ℕ) (r : Result BookParser Why) → has_lf line ≡ false
     → after_line d line ≡ r → with_bytes d n (line ++ 10 ∷ rest)
     ≡ ((on_line n r >>= λ (e : BookParser). at (record { parser = e; number = n + 1; pending = [] })) >>= then_bytes rest)
 unfolding with_line
 line_is d n line rest r one is = with_first d n line rest one ∙ rw is refl
 
-pub line_on : (d e : BookParser) (n : ℕ) (line rest next after : List ℕ) (total : Total) → has_lf line ≡ false
-    → (rest ≡ next ++ 10 ∷ after) × (has_lf next ≡ false) → after_line d line ≡ Ok e
-    → with_bytes d n (line ++ 10 ∷ rest) ≡ total → with_bytes e (n + 1) (next ++ 10 ∷ after) ≡ total
-line_on d e n line rest next after total one cut_is is so_far =
-    ap (with_bytes e (n + 1)) (sym cut_is.0) ∙ sym (line_is d n line rest (Ok e) one is) ∙ so_far
+pub line_on : (d : BookParser) (n : ℕ) (rest next after : List ℕ) (total : Total)
+    → (rest ≡ next ++ 10 ∷ after) × (has_lf next ≡ false) → with_bytes d n rest ≡ total
+    → with_bytes d n (next ++ 10 ∷ after) ≡ total
+line_on d n rest next after total cut_is so_far = ap (with_bytes d n) (sym cut_is.0) ∙ so_far
 
-pub line_ends : (d e : BookParser) (n : ℕ) (line rest : List ℕ) (total : Total) → has_lf line ≡ false
-    → has_lf rest ≡ false → after_line d line ≡ Ok e → with_bytes d n (line ++ 10 ∷ rest) ≡ total
-    → total ≡ with_pending e (n + 1) rest
-line_ends d e n line rest total one last is so_far = sym so_far ∙ line_is d n line rest (Ok e) one is ∙ with_last e (n + 1) rest last
+pub line_ends : (d : BookParser) (n : ℕ) (rest : List ℕ) (total : Total) → has_lf rest ≡ false
+    → with_bytes d n rest ≡ total → total ≡ with_pending d n rest
+line_ends d n rest total last so_far = sym so_far ∙ with_last d n rest last
 
 pub line_fails : (d : BookParser) (n : ℕ) (line rest : List ℕ) (total : Total) (fault : LineFault) → has_lf line ≡ false
     → Fails fault (after_line d line) → with_bytes d n (line ++ 10 ∷ rest) ≡ total → FailsAt (placed n fault) total

@@ -8,5 +8,6 @@ pub mod Values
 pub mod Ranges
 pub mod Valid
 pub mod Keeping
+pub mod Runs
 pub mod Readers
 pub mod Worked

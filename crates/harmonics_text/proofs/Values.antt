@@ -119,10 +119,6 @@ pair_within b r c new text (Ok x) r_is lt one is =
     rw r_is (is ∙ rw more refl)
 pair_within b r c new text (Err e) r_is lt one is = rw r_is is
 
-pub absent_pair : (name text : List ℕ) → bytes_eq text (codes "x 0 0") ≡ true → pair_of name text ≡ Ok (pos 0, pos 0)
-unfolding pair_of pair_from tokens number_of in_scale read_of decimal_of after_point made_of scaled scaled_or_bad
-absent_pair name text e = rw ((bytes_eq-Decides text (codes "x 0 0")).0 e) refl
-
 -- an element of a borrowed list
 pub element_is : {A : Type 0} (xs ys : List A) (i j : ℕ) (x d : A) → xs ≡ ys → i ≡ j → j < length ys → get_or xs i x ≡ get_or ys j d
 element_is xs ys i j x d xs_is i_is lt = rw (xs_is, i_is) (get_or_default ys j x d lt)

@@ -1,2 +1,3 @@
+pub mod Absent
 pub mod BookParsing
 pub mod Readers

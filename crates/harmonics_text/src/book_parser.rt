@@ -1,9 +1,12 @@
 //! The parser state of a book that is read line by line.
 
-ghost use Rattle.std.specs.Prelude.{◌≡◌, ◌+◌, ◌<◌, ◌≤◌, length, nat_lt};
+ghost use Rattle.std.specs.Prelude.{◌≡◌, ◌+◌, ◌<◌, ◌≤◌, ◌^◌, ◌++◌, ◌∷◌, length, false, nat_lt, IfOk, MatchResult};
+ghost use Rattle.harmonics_text.specs.Workings.Readers.{has_lf};
+ghost use Rattle.harmonics_text.specs.Workings.Absent.{HasRead};
 ghost use Rattle.std.specs.Bool.{then_some};
 ghost use Rattle.harmonics_text.specs.Rules.{end_of, same_count_of};
 ghost use Rattle.harmonics_text.specs.Workings.BookParsing.{
+  Fails,
   Follows,
   IsBookParser,
   with_constituents,
@@ -27,11 +30,11 @@ use crate::lines::{is_all_blank, is_comment, is_too_long, only_token, without_cr
 use crate::numbers::{count, first_year};
 use crate::record::Record;
 use crate::scale::Scale;
-use crate::station_lines::add_station_line;
+use crate::station_lines::{add_absent, add_station_line};
 use crate::table::{Table, add_table_line, start_table};
 use decimal_text::Numbers;
 use harmonics_book::{Book, Constituents, Stations};
-use std::alloc::Global;
+use std::alloc::{AllocError, Global};
 use std::mem;
 
 /// The parser state: the parts of the book read so far, and so the form that the next line must have.
@@ -57,7 +60,7 @@ impl BookParser {
     /// [`LineFault::Bad`] with the first rule that the line breaks; [`LineFault::NoMemory`] if memory
     /// runs out.
     #[tactic(auto, unfolding(crate::specs::Workings::BookParsing::after_line))]
-    pub fn add_line(&mut self, alloc: Global, line: &[u8]) -> Result<(), LineFault>
+    fn add_line(&mut self, alloc: Global, line: &[u8]) -> Result<(), LineFault>
         requires { IsBookParser self.old }
         ensures { Follows (λ _. self.new) result (after_line self.old line.now) }
     {
@@ -72,6 +75,44 @@ impl BookParser {
             return Ok(());
         }
         self.add_text(alloc, text)
+    }
+
+    /// Reads `line` and the lines of absent constituents that `rest` begins with. Returns the number of
+    /// lines read after `line`, and the bytes after them.
+    ///
+    /// # Errors
+    /// [`LineFault::Bad`] with the first rule that `line` breaks; [`LineFault::NoMemory`] if memory runs
+    /// out.
+    pub fn add_lines<'a>(
+        &mut self,
+        alloc: Global,
+        line: &[u8],
+        rest: &'a [u8],
+    ) -> Result<(u32, &'a [u8]), LineFault>
+        requires valid { IsBookParser self.old }
+        requires one { has_lf line.now ≡ false }
+        requires count_bound { length rest.now < 2 ^ 32 }
+        ensures read { MatchResult result
+            (λ r. HasRead self.old self.new (1 + r.0) (line.now ++ 10 ∷ rest.now) r.1.now)
+            (λ e. Fails e (after_line self.old line.now)) }
+        ensures shorter { IfOk result (λ r. r.0 + length r.1.now ≤ length rest.now) }
+    {
+        self.add_line(alloc, line)?;
+        let (absent, after) = self.add_absent(rest)?;
+        Ok((absent as u32, after))
+    }
+
+    /// Reads the lines of absent constituents that `bytes` begins with, or none of them. Returns their
+    /// count and the bytes after them.
+    fn add_absent<'a>(&mut self, bytes: &'a [u8]) -> Result<(usize, &'a [u8]), AllocError>
+        requires { IsBookParser self.old }
+        ensures read { IfOk result (λ r. HasRead self.old self.new r.0 bytes.now r.1.now) }
+        ensures shorter { IfOk result (λ r. r.0 + length r.1.now ≤ length bytes.now) }
+    {
+        if let BookParser::Stations(book, begun) = self {
+            return add_absent(book, begun, bytes);
+        }
+        Ok((0, bytes))
     }
 
     /// Reads a line that is no comment. A line of a station is read without moving the book, and a line

@@ -1,6 +1,6 @@
 //! A list of numbers that grows while a file is read.
 
-ghost use Rattle.std.specs.Prelude.{◌≡◌, [], ◌∷◌, ◌++◌, length, IfOk, OnOk};
+ghost use Rattle.std.specs.Prelude.{◌≡◌, [], ◌∷◌, ◌++◌, length, pos, replicate, IfOk, OnOk};
 
 use decimal_text::Numbers;
 use std::alloc::{AllocError, Global};
@@ -57,6 +57,19 @@ impl Column {
         ensures { OnOk result (self.new ≡ self.old ++ value ∷ []) }
     {
         self.items.push(value)?;
+        Ok(())
+    }
+
+    /// Appends `count` zeros.
+    ///
+    /// # Errors
+    /// [`AllocError`] if memory runs out.
+    pub fn push_zeros(&mut self, count: usize) -> Result<(), AllocError>
+        ensures { OnOk result (self.new ≡ self.old ++ replicate count (pos 0)) }
+    {
+        for _i in 0..count {
+            self.push(0)?;
+        }
         Ok(())
     }
 

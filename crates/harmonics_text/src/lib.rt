@@ -5,6 +5,7 @@
 //! `harmonics_book`.
 #![tactic(auto)]
 
+mod absent;
 mod book_parser;
 mod book_reader;
 mod column;

@@ -1,7 +1,7 @@
 //! The lines of a file and the tokens of a line.
 
-ghost use Rattle.std.specs.Prelude.{◌≡◌, ◌<◌, ◌∷◌, ◌++◌, [], codes, length, false, nat_eq, MatchOption, IfSome, position, option_map};
-ghost use Rattle.std.specs.List.{list_all, starts_with};
+ghost use Rattle.std.specs.Prelude.{◌≡◌, ◌<◌, ◌∷◌, ◌++◌, [], length, false, MatchOption, IfSome, position, option_map};
+ghost use Rattle.std.specs.List.{list_all};
 ghost use Rattle.std.specs.Option.{option_copied};
 ghost use Rattle.harmonics_text.specs.Workings.Readers.{has_lf};
 ghost use Rattle.harmonics_text.specs.Lines.{
@@ -20,26 +20,9 @@ ghost use Rattle.harmonics_text.specs.Lines.{
 
 use memchr::memchr;
 
-/// Returns true if the first line of `bytes` is what XTide's tools write for an absent constituent.
-fn begins_absent(bytes: &[u8]) -> bool
-    ensures { result ≡ starts_with nat_eq bytes.now (codes "x 0 0" ++ 10 ∷ []) }
-{
-    bytes.len() > 5
-        && bytes[0] == b'x'
-        && bytes[1] == b' '
-        && bytes[2] == b'0'
-        && bytes[3] == b' '
-        && bytes[4] == b'0'
-        && bytes[5] == b'\n'
-}
-
 fn lf_at(bytes: &[u8]) -> Option<usize>
     ensures { result ≡ position is_lf bytes.now }
 {
-    // Three of four lines of XTide's file end here.
-    if begins_absent(bytes) {
-        return Some(5);
-    }
     memchr(b'\n', bytes)
 }
 

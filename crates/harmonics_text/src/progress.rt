@@ -152,10 +152,13 @@ fn add_lines<'a>(
     let mut line = first;
     let mut rest = bytes;
     'lines: loop {
-        if let Err(fault) = parser.add_line(alloc, line) {
-            return Err(at_line(number, fault));
+        match parser.add_lines(alloc, line, rest) {
+            Ok((absent, left)) => {
+                number += 1 + absent;
+                rest = left;
+            }
+            Err(fault) => return Err(at_line(number, fault)),
         }
-        number += 1;
         match next_line(rest) {
             Some((next, after)) => {
                 line = next;

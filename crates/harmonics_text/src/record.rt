@@ -1,7 +1,6 @@
 //! The record of a station.
 
-ghost use Rattle.std.specs.Prelude.{◌≡◌, codes, pos, if◌then◌else◌};
-ghost use Rattle.std.specs.Str.{bytes_eq};
+ghost use Rattle.std.specs.Prelude.{◌≡◌, pos, if◌then◌else◌};
 ghost use Rattle.harmonics_text.specs.Rules.{units_of, datum_of, pair_of};
 ghost use Rattle.harmonics_text.specs.Workings.BookParsing.{station_of};
 
@@ -93,18 +92,6 @@ pub fn datum(text: &[u8]) -> Result<(i64, Units), Why>
     Ok((datum, units))
 }
 
-/// Returns true if `text` is what XTide's tools write for an absent constituent, most lines of a file.
-fn is_absent_line(text: &[u8]) -> bool
-    ensures { result ≡ bytes_eq text.now (codes "x 0 0") }
-{
-    text.len() == 5
-        && text[0] == b'x'
-        && text[1] == b' '
-        && text[2] == b'0'
-        && text[3] == b' '
-        && text[4] == b'0'
-}
-
 fn pair(absent: bool, amplitude: i64, epoch: i64) -> (i64, i64)
     ensures { result ≡ (if absent then (pos 0, pos 0) else (amplitude, epoch)) }
 {
@@ -116,21 +103,8 @@ fn pair(absent: bool, amplitude: i64, epoch: i64) -> (i64, i64)
 /// # Errors
 /// [`Why::WrongConstituent`] if the line begins with another name, else the fault of the first bad
 /// number.
-#[inline]
-#[tactic(auto, using(crate::proofs::Values::absent_pair))]
-pub fn amplitude_and_epoch(name: &Text, text: &[u8]) -> Result<(i64, i64), Why>
-    ensures { result ≡ pair_of name.now text.now }
-{
-    if is_absent_line(text) {
-        return Ok((0, 0));
-    }
-    read_pair(name, text)
-}
-
-/// Reads the amplitude and the epoch of the constituent `name` in line `text`, token by token.
-#[inline(never)]
 #[tactic(auto, unfolding(crate::specs::Rules::pair_of, crate::specs::Rules::pair_from))]
-fn read_pair(name: &Text, text: &[u8]) -> Result<(i64, i64), Why>
+pub fn amplitude_and_epoch(name: &Text, text: &[u8]) -> Result<(i64, i64), Why>
     ensures { result ≡ pair_of name.now text.now }
 {
     let Some((first, rest)) = next_token(text) else {

@@ -1,6 +1,6 @@
 //! The lines of a station: its name, its local time, its datum and its constants.
 
-ghost use Rattle.std.specs.Prelude.{◌≡◌, ◌+◌, ◌<◌, length, IfOk};
+ghost use Rattle.std.specs.Prelude.{◌≡◌, ◌+◌, ◌<◌, ◌≤◌, length, IfOk, OnOk};
 ghost use Rattle.harmonics_text.specs.declared.book_parser.BookParser.TheVariants.{Stations};
 ghost use Rattle.harmonics_text.specs.Workings.BookParsing.{
   Follows,
@@ -10,7 +10,9 @@ ghost use Rattle.harmonics_text.specs.Workings.BookParsing.{
   after_pair,
   after_record,
 };
+ghost use Rattle.harmonics_text.specs.Workings.Absent.{HasRead, with_absent};
 
+use crate::absent::absent_lines;
 use crate::column::Column;
 use crate::fault::{LineFault, Why};
 use crate::lines::trimmed;
@@ -151,4 +153,36 @@ pub fn add_station_line(
         }
     }
     move_on(alloc, book, begun, text)
+}
+
+/// Appends `count` absent constituents to `station`.
+fn push_absent(station: &mut Constants, count: usize) -> Result<(), AllocError>
+    ensures { OnOk result (station.new ≡ with_absent count station.old) }
+{
+    station.amplitude.push_zeros(count)?;
+    station.epoch.push_zeros(count)?;
+    Ok(())
+}
+
+/// Reads the lines of absent constituents that `bytes` begins with, but for the station's last line.
+/// Returns their count and the bytes after them.
+///
+/// # Errors
+/// [`AllocError`] if memory runs out.
+pub fn add_absent<'a>(
+    book: &Book,
+    begun: &mut Record,
+    bytes: &'a [u8],
+) -> Result<(usize, &'a [u8]), AllocError>
+    requires { IsBookParser (Stations book.now begun.old) }
+    ensures read { IfOk result (λ r. HasRead (Stations book.now begun.old) (Stations book.now begun.new) r.0 bytes.now r.1.now) }
+    ensures shorter { IfOk result (λ r. r.0 + length r.1.now ≤ length bytes.now) }
+{
+    let Record::Constants(station) = begun else {
+        return Ok((0, bytes));
+    };
+    let left = book.constituents.as_slice().len() - station.amplitude.len();
+    let (count, rest) = absent_lines(bytes, left - 1);
+    push_absent(station, count)?;
+    Ok((count, rest))
 }

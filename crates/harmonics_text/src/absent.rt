@@ -1,0 +1,32 @@
+//! The lines of absent constituents, most lines of a file.
+
+ghost use Rattle.std.specs.Prelude.{◌≡◌, ◌≤◌, ◌∷◌, ◌++◌, [], codes, nat_eq};
+ghost use Rattle.std.specs.List.{starts_with};
+ghost use Rattle.harmonics_text.specs.Workings.Absent.{absent_lines};
+
+/// Returns true if the first line of `bytes` is what XTide's tools write for an absent constituent.
+fn begins_absent(bytes: &[u8]) -> bool
+    ensures { result ≡ starts_with nat_eq bytes.now (codes "x 0 0" ++ 10 ∷ []) }
+{
+    bytes.len() > 5
+        && bytes[0] == b'x'
+        && bytes[1] == b' '
+        && bytes[2] == b'0'
+        && bytes[3] == b' '
+        && bytes[4] == b'0'
+        && bytes[5] == b'\n'
+}
+
+/// Returns the number of such lines that `bytes` begins with, at most `most`, and the bytes after them.
+pub fn absent_lines(bytes: &[u8], most: usize) -> (usize, &[u8])
+    ensures count_bound { result.0 ≤ most }
+    ensures exact { bytes.now ≡ absent_lines result.0 ++ result.1.now }
+{
+    let mut count = 0;
+    let mut rest = bytes;
+    while count < most && begins_absent(rest) {
+        rest = rest.split_at(6).1;
+        count += 1;
+    }
+    (count, rest)
+}
