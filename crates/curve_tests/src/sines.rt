@@ -120,28 +120,27 @@ fn sines_and_cosines_of_binary_angles(rt: HostRuntime) {
     }
 }
 
-// The chord sines are the table's sines at whole degrees, and half way the mean of two of them, rounded
-// down.
-const CHORD_SINES: &[Sines] = &[
-    (0, 0, 1_000_000_000),
-    (300_000_000, 8_726_203, 999_923_847),
-    (8_700_000_000, 250_370_470, 968_110_776),
-    (18_000_000_000, 500_000_000, 866_025_404),
-    (54_000_000_000, 1_000_000_000, 0),
-    (107_700_000_000, 8_726_203, -999_923_848),
-    (108_300_000_000, -8_726_203, -999_923_848),
-    (162_000_000_000, -1_000_000_000, 0),
-    (215_700_000_000, -8_726_203, 999_923_847),
+// The approximate sines are the sines in the middle of each of 8,192 parts of the circle, in 2^15 billionths.
+const APPROXIMATE_SINES: &[Sines] = &[
+    (0, 12, 30_518),
+    (300_000_000, 269, 30_516),
+    (8_700_000_000, 7_631, 29_548),
+    (18_000_000_000, 15_255, 26_431),
+    (54_000_000_000, 30_518, -12),
+    (107_700_000_000, 269, -30_516),
+    (108_300_000_000, -269, -30_516),
+    (162_000_000_000, -30_518, 12),
+    (215_700_000_000, -269, 30_516),
 ];
 
-fn has_chord_sines(place: i64, sine: i64, cosine: i64) -> bool {
+fn has_approximate_sines(place: i64, sine: i64, cosine: i64) -> bool {
     let (angle, ahead) = binary_angles(place);
-    is_on_circle(place) && chord_sine(angle) == sine && chord_sine(ahead) == cosine
+    is_on_circle(place) && approximate_sine(angle) == sine && approximate_sine(ahead) == cosine
 }
 
 #[test]
-fn sines_and_cosines_by_chords(rt: HostRuntime) {
-    for &(place, sine, cosine) in CHORD_SINES {
-        assert_holds(&rt, has_chord_sines(place, sine, cosine), place);
+fn approximate_sines_and_cosines(rt: HostRuntime) {
+    for &(place, sine, cosine) in APPROXIMATE_SINES {
+        assert_holds(&rt, has_approximate_sines(place, sine, cosine), place);
     }
 }

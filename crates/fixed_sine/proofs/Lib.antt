@@ -5,4 +5,4 @@ pub mod CircleLemmas
 pub mod RateLemmas
 pub mod RowLemmas
 pub mod DegreeLemmas
-pub mod ChordLemmas
+pub mod PartLemmas

@@ -3,5 +3,5 @@ pub mod Table
 pub mod Sine
 pub mod Rate
 pub mod BinaryAngle
-pub mod Chords
+pub mod Approximate
 pub mod Workings

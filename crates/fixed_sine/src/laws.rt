@@ -7,7 +7,7 @@ ghost use Rattle.fixed_sine.specs.Table.{sine_at, rise, correction};
 ghost use Rattle.fixed_sine.specs.Sine.{isin_of, icos_of};
 ghost use Rattle.fixed_sine.specs.Rate.{step_of, RateLaw};
 ghost use Rattle.fixed_sine.specs.BinaryAngle.{units_of};
-ghost use Rattle.fixed_sine.specs.Chords.{chord_error, chord_sine_of};
+ghost use Rattle.fixed_sine.specs.Approximate.{approximate_error, approximate_sine_of};
 
 /// Proves two checks of the whole table: the rise of a degree plus a quarter of its correction is at most
 /// 17,454,000, and the squares of the sines of `k` and `90 - k` degrees sum to 10^18 within 2*10^9.
@@ -30,10 +30,10 @@ pub fn sine_rates()
     ensures { (w : ℕ) → RateLaw w }
 {}
 
-/// Proves that [`crate::chord_sine`] is within 38,100 billionths of the sine.
-pub fn chords_are_approximate()
+/// Proves that 2^15 times [`crate::approximate_sine`] is within 400,000 billionths of the sine.
+pub fn sines_are_approximate()
     ensures { (binary_angle : ℕ) → binary_angle < 2 ^ 64
-        → unsigned_abs (chord_sine_of binary_angle -ℤ isin_of (units_of binary_angle)) ≤ chord_error }
+        → unsigned_abs ((pos (2 ^ 15) *ℤ approximate_sine_of binary_angle) -ℤ isin_of (units_of binary_angle)) ≤ approximate_error }
 {}
 
 /// Proves values of sine, cosine, step and fractions of a turn that were computed elsewhere.
@@ -66,15 +66,15 @@ pub fn worked_rows()
     ensures least_number { int_rem_euclid (negsuc (2 ^ 127 - 1)) (pos circle) ≡ pos 148115894272 }
 {}
 
-/// Proves sines by chords at some fractions of a turn, one of them with nearly the greatest error.
-#[tactic(auto, unfolding(crate::specs::Table::sines, crate::specs::Table::sine_at, crate::specs::Chords::degree_sine, crate::specs::Chords::degree_rise, crate::specs::Chords::chord_sine_of))]
-pub fn worked_chords()
-    ensures at_zero { chord_sine_of 0 ≡ pos 0 }
-    ensures forty_five_and_a_half { chord_sine_of 2331463487093846108 ≡ pos 713223290 }
-    ensures part_before_ninety { chord_sine_of (2 ^ 62 - 1) ≡ pos 999999999 }
-    ensures ninety { chord_sine_of (2 ^ 62) ≡ pos 1000000000 }
-    ensures ninety_and_a_half { chord_sine_of 4637306496307540060 ≡ pos 999923847 }
-    ensures two_hundred_and_a_quarter { chord_sine_of 10261001391000938087 ≡ negsuc 346107094 }
-    ensures two_hundred_seventy { chord_sine_of (3 * 2 ^ 62) ≡ negsuc 999999999 }
-    ensures last_part { chord_sine_of (2 ^ 64 - 1) ≡ negsuc 0 }
+/// Proves approximate sines at some fractions of a turn.
+#[tactic(auto, unfolding(crate::specs::Table::sines, crate::specs::Table::sine_at, crate::specs::Table::correction, crate::specs::Sine::scaled_between, crate::specs::Sine::quarter_of, crate::specs::Sine::half_of, crate::specs::Sine::isin_of, crate::specs::Approximate::part_sine_of))]
+pub fn worked_parts()
+    ensures at_zero { approximate_sine_of 0 ≡ pos 12 }
+    ensures forty_five_and_a_half { approximate_sine_of 2331463487093846108 ≡ pos 21769 }
+    ensures before_ninety { approximate_sine_of (2 ^ 62 - 1) ≡ pos 30518 }
+    ensures ninety { approximate_sine_of (2 ^ 62) ≡ pos 30518 }
+    ensures ninety_and_a_half { approximate_sine_of 4637306496307540060 ≡ pos 30516 }
+    ensures two_hundred_and_a_quarter { approximate_sine_of 10261001391000938087 ≡ negsuc 10555 }
+    ensures two_hundred_seventy { approximate_sine_of (3 * 2 ^ 62) ≡ negsuc 30517 }
+    ensures last_part { approximate_sine_of (2 ^ 64 - 1) ≡ negsuc 11 }
 {}

@@ -3,7 +3,7 @@
 //! A [`TurnCurve`] is a station's slope, whose changes of sign are high and low waters, and a
 //! [`MarkCurve`] is its level less a mark. Each is a [`Curve`](curve_law::Curve) over the station's
 //! minutes: it has a rate for a cell outside new-year blends, and in the second [`Version`] across a new
-//! year too. Its approximate values are those by the chords of the sine.
+//! year too. Its approximate values are the station's.
 #![tactic(auto)]
 
 mod laws;

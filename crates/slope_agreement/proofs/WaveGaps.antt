@@ -8,18 +8,12 @@ use Rattle.fixed_sine.specs.Circle.{circle}
 use Rattle.fixed_sine.specs.Sine.{isin_of, icos_of}
 use Rattle.station_curve.specs.Waves.{Harmonic, phase_at, height_at, fall_at, heights_of, falls_of, amount_of, steepness_of}
 use Rattle.station_curve.specs.Sums.{fall_rate_of, far_of}
+use Rattle.station_curve.proofs.Gaps.{times_sum, times_product}
 use Rattle.station_curve.proofs.Products.{abs_times, abs_plus}
 use Rattle.slope_agreement.specs.UnitGaps.{unit_gap_of}
 use Rattle.slope_agreement.proofs.SlopeLaws.{slope_law, slope_law_before}
 
--- products with a sum, with a multiple of a difference, and with another product
-sum_is : (x y : ℤ) → up (x +ℤ y) + down x + down y ≡ down (x +ℤ y) + up x + up y
-sum_is x y = omega (arith, ints)
-
-times_sum : (a x y : ℤ) → a *ℤ (x +ℤ y) ≡ (a *ℤ x) +ℤ (a *ℤ y)
-times_sum a x y =
-    omega (arith, ints, ap (λ n. up a * n) (sum_is x y), ap (λ n. down a * n) (sum_is x y))
-
+-- a product with a multiple of a difference
 rise_is : (x y : ℤ) → up (pos 34377467708 *ℤ (x -ℤ y)) + 34377467708 * (down x + up y)
     ≡ down (pos 34377467708 *ℤ (x -ℤ y)) + 34377467708 * (up x + down y)
 rise_is x y = omega (arith, ints)
@@ -27,23 +21,6 @@ rise_is x y = omega (arith, ints)
 times_rise : (a x y : ℤ) → a *ℤ (pos 34377467708 *ℤ (x -ℤ y)) ≡ pos 34377467708 *ℤ ((a *ℤ x) -ℤ (a *ℤ y))
 times_rise a x y =
     omega (arith, ints, ap (λ n. up a * n) (rise_is x y), ap (λ n. down a * n) (rise_is x y))
-
-product_is : (w : ℕ) (s : ℤ) → up (pos w *ℤ s) + w * down s ≡ down (pos w *ℤ s) + w * up s
-product_is w s = omega (arith, ints)
-
-steepness_is : (a : ℤ) (w : ℕ) → up (a *ℤ pos w) + w * down a ≡ down (a *ℤ pos w) + w * up a
-steepness_is a w = omega (arith, ints)
-
-times_product : (a : ℤ) (w : ℕ) (s : ℤ) → a *ℤ (pos w *ℤ s) ≡ (a *ℤ pos w) *ℤ s
-times_product a w s =
-    omega (
-      arith,
-      ints,
-      ap (λ n. up a * n) (product_is w s),
-      ap (λ n. down a * n) (product_is w s),
-      ap (λ n. n * up s) (steepness_is a w),
-      ap (λ n. n * down s) (steepness_is a w),
-    )
 
 -- one wave: its amplitude times the gap of its cosine
 wave_slope : (a x y s : ℤ) (w m : ℕ) → unsigned_abs ((pos 34377467708 *ℤ (x -ℤ y)) +ℤ (pos w *ℤ s)) ≤ m

@@ -1,13 +1,17 @@
--- The errors of levels and slopes by chords.
-use Rattle.std.proofs.Common.{◌≡◌, ℕ, ◌*◌, ◌<◌, ◌≤◌, List, [], ◌∷◌, length, ◌+◌, sym, ap, ◌^◌, ℤ, pos, ◌+ℤ◌, ◌-ℤ◌, ◌*ℤ◌, arith, refl, lit<}
-use Rattle.std.specs.Prelude.{unsigned_abs, fold}
-use Rattle.std.proofs.lemmas.Int.{ints, unsigned_abs-mul}
+-- The errors of approximate levels and slopes.
+use Rattle.std.proofs.Common.{◌≡◌, ℕ, ◌*◌, ◌/◌, ◌<◌, ◌≤◌, List, [], ◌∷◌, length, ◌+◌, sym, ap, ◌∙◌, ◌^◌, ℤ, pos, ◌+ℤ◌, ◌-ℤ◌, ◌*ℤ◌, arith, refl, lit<}
+use Rattle.std.specs.Prelude.{unsigned_abs, fold, sum_by}
+use Rattle.std.proofs.lemmas.Int.{ints}
+use Rattle.std.proofs.lemmas.Nat.{mod_below}
 use mir.Syntax.{w128}
 use mir.Val.{to_z, of_z}
+use borrow.Author.Differences.{up, down}
 use Rattle.fixed_sine.specs.Sine.{isin_of, icos_of}
 use Rattle.fixed_sine.specs.BinaryAngle.{units_of}
-use Rattle.fixed_sine.specs.Chords.{chord_error, chord_sine_of}
-use Rattle.fixed_sine.proofs.ChordLemmas.{chord-approximate}
+use Rattle.fixed_sine.specs.Circle.{circle}
+use Rattle.fixed_sine.specs.Approximate.{approximate_error, approximate_sine_of}
+use Rattle.fixed_sine.proofs.CircleLemmas.{isin_of_size}
+use Rattle.fixed_sine.proofs.PartLemmas.{sine-approximate}
 use Rattle.year_blend.specs.declared.parts.Place.{Place}
 use Rattle.year_blend.specs.declared.parts.Place.TheVariants.{Plain, Blend}
 use Rattle.year_blend.specs.Places.{start_of}
@@ -15,63 +19,113 @@ use Rattle.year_blend.specs.Weights.{total_weight}
 use Rattle.station_curve.specs.Waves.{Harmonic, Tide, phase_at, height_at, fall_at, heights_of, falls_of, amount_of, steepness_of}
 use Rattle.station_curve.specs.Levels.{minutes_into, waves_in, place_in_tide, year_level, year_slope, level_of, slope_of}
 use Rattle.station_curve.specs.Approximate.{binary_angle_after, binary_angle_ahead, approximate_height_at, approximate_fall_at, approximate_heights_of, approximate_falls_of, approximate_year_level, approximate_year_slope, approximate_or_exact, approximate_level_of, approximate_slope_of}
-use Rattle.station_curve.specs.Errors.{greatest_of, level_error_of, slope_error_of}
+use Rattle.station_curve.specs.Errors.{speed_error, level_error_of, slope_error_of}
 use Rattle.station_curve.specs.Workings.NumberRanges.{IsWithinHourOfYear, IsPlaceInRange}
 use Rattle.station_curve.proofs.Blending.{level_plain, slope_plain}
-use Rattle.station_curve.proofs.Gaps.{scaled_gap, turned_gap, regrouped}
+use Rattle.station_curve.proofs.Gaps.{scaled_gap, turned_gap, regrouped, times_sum, product_is}
 use Rattle.station_curve.proofs.GreatestYear.{greatest-each}
 use Rattle.station_curve.proofs.Products.{cast_small, abs_below, abs_plus, abs_times}
+use Rattle.station_curve.proofs.Steps.{product_gap}
 use Rattle.station_curve.proofs.Turning.{sine_after, cosine_ahead, binary_angle_after-below, binary_angle_ahead-below}
 use Rattle.station_curve.proofs.YearChanges.{same_mean}
 
--- the error of sums over waves by chords
-sums_approximate : (most : ℕ) (f g : Harmonic → ℤ) (size : Harmonic → ℕ)
-    → ((h : Harmonic) → unsigned_abs (f h -ℤ g h) ≤ size h * most) → (hs : List Harmonic) (a b : ℤ) (c : ℕ)
-    → unsigned_abs (a -ℤ b) ≤ most * c
-    → unsigned_abs (fold (λ sum h. sum +ℤ f h) a hs -ℤ fold (λ sum h. sum +ℤ g h) b hs) ≤ most * fold (λ sum h. sum + size h) c hs
-sums_approximate most f g size each [] a b c approximate = approximate
-sums_approximate most f g size each (h ∷ hs) a b c approximate =
-    let all : most * c + size h * most ≡ most * (c + size h) = omega arith in
-    sums_approximate most f g size each hs (a +ℤ f h) (b +ℤ g h) (c + size h)
-    (rw (regrouped a (f h) b (g h)) (rw all at (abs_plus (a -ℤ b) (f h -ℤ g h) (most * c) (size h * most) approximate (each h))))
+-- the error of approximate sums over waves, whose parts are in units of k: each part's error is `most` times one
+-- size and `more` times another
+sums_approximate : (k : ℤ) (most more : ℕ) (f g : Harmonic → ℤ) (size other : Harmonic → ℕ)
+    → ((h : Harmonic) → unsigned_abs ((k *ℤ f h) -ℤ g h) ≤ size h * most + other h * more)
+    → (hs : List Harmonic) (a b : ℤ) (c d : ℕ) → unsigned_abs ((k *ℤ a) -ℤ b) ≤ most * c + more * d
+    → unsigned_abs ((k *ℤ fold (λ sum h. sum +ℤ f h) a hs) -ℤ fold (λ sum h. sum +ℤ g h) b hs)
+    ≤ most * fold (λ sum h. sum + size h) c hs + more * fold (λ sum h. sum + other h) d hs
+sums_approximate k most more f g size other each [] a b c d approximate = approximate
+sums_approximate k most more f g size other each (h ∷ hs) a b c d approximate =
+    let all : (most * c + more * d) + (size h * most + other h * more) ≡ most * (c + size h) + more * (d + other h) = omega arith in
+    let parts : (k *ℤ (a +ℤ f h)) -ℤ (b +ℤ g h) ≡ ((k *ℤ a) -ℤ b) +ℤ ((k *ℤ f h) -ℤ g h) =
+    ap (λ z. z -ℤ (b +ℤ g h)) (times_sum k a (f h)) ∙ regrouped (k *ℤ a) (k *ℤ f h) b (g h) in
+    sums_approximate k most more f g size other each hs (a +ℤ f h) (b +ℤ g h) (c + size h) (d + other h)
+    (rw parts (rw all at (abs_plus ((k *ℤ a) -ℤ b) ((k *ℤ f h) -ℤ g h) (most * c + more * d) (size h * most + other h * more)
+    approximate (each h))))
 
-chord_gap : (binary_angle : ℕ) (factor sine : ℤ) → binary_angle < 18446744073709551616 → isin_of (units_of binary_angle) ≡ sine
-    → unsigned_abs ((factor *ℤ chord_sine_of binary_angle) -ℤ (factor *ℤ sine)) ≤ unsigned_abs factor * chord_error
-chord_gap binary_angle factor sine below_circle is =
-    scaled_gap factor (chord_sine_of binary_angle) sine chord_error (rw (← is) (chord-approximate binary_angle below_circle))
+in_units : (factor sine : ℤ) → factor *ℤ (pos 32768 *ℤ sine) ≡ pos 32768 *ℤ (factor *ℤ sine)
+in_units factor sine =
+    omega (arith, ints, ap (λ n. up factor * n) (product_is 32768 sine), ap (λ n. down factor * n) (product_is 32768 sine))
+
+sine_gap : (binary_angle : ℕ) (sine : ℤ) → binary_angle < 18446744073709551616 → isin_of (units_of binary_angle) ≡ sine
+    → unsigned_abs ((pos 32768 *ℤ approximate_sine_of binary_angle) -ℤ sine) ≤ approximate_error
+sine_gap binary_angle sine below_circle is = rw (← is) (sine-approximate binary_angle below_circle)
 
 approximate_height_gap : (t : ℕ) → t ≤ 600000 → (h : Harmonic)
-    → unsigned_abs (approximate_height_at t h -ℤ height_at t h) ≤ unsigned_abs h.amplitude * chord_error
-approximate_height_gap t few h = chord_gap (binary_angle_ahead h t) h.amplitude (icos_of (phase_at h t))
-    (binary_angle_ahead-below h t) (cosine_ahead h t few)
+    → unsigned_abs ((pos 32768 *ℤ approximate_height_at t h) -ℤ height_at t h) ≤ unsigned_abs h.amplitude * approximate_error + 0 * 0
+approximate_height_gap t few h =
+    let angle = binary_angle_ahead h t in
+    let cosine = icos_of (phase_at h t) in
+    let gap = scaled_gap h.amplitude (pos 32768 *ℤ approximate_sine_of angle) cosine approximate_error
+    (sine_gap angle cosine (binary_angle_ahead-below h t) (cosine_ahead h t few)) in
+    rw (← in_units h.amplitude (approximate_sine_of angle)) (omega (arith, gap))
+
+-- a fall with the speed in whole 2^9 units: by the rest of the speed, less than 2^9
+coarse_gap : (a : ℤ) (w : ℕ) (s sine : ℤ) → unsigned_abs ((pos 32768 *ℤ s) -ℤ sine) ≤ approximate_error → unsigned_abs sine ≤ 10 ^ 9
+    → unsigned_abs (((a *ℤ pos (512 * (w / 512))) *ℤ (pos 32768 *ℤ s)) -ℤ ((a *ℤ pos w) *ℤ sine))
+    ≤ unsigned_abs a * w * approximate_error + unsigned_abs a * speed_error
+coarse_gap a w s sine close small =
+    let coarse = a *ℤ pos (512 * (w / 512)) in
+    let large = abs_times a (pos (512 * (w / 512))) (unsigned_abs a) w (omega arith) (omega arith) in
+    let rest = scaled_gap a (pos (512 * (w / 512))) (pos w) 512 (omega (arith, ints)) in
+    let gap = product_gap (a *ℤ pos w) coarse sine (pos 32768 *ℤ s) (unsigned_abs a * w) approximate_error (unsigned_abs a * 512) (10 ^ 9)
+    large close rest small in
+    omega (arith, gap)
+
+coarse_parts : (a : ℤ) (n : ℕ) (s : ℤ) → (a *ℤ pos (512 * n)) *ℤ (pos 32768 *ℤ s) ≡ pos 16777216 *ℤ ((a *ℤ pos n) *ℤ s)
+coarse_parts a n s =
+    let factor = a *ℤ pos n in
+    in_units (a *ℤ pos (512 * n)) s ∙ ap (λ z. pos 32768 *ℤ (z *ℤ s)) (whole a n) ∙ ap (λ z. pos 32768 *ℤ z) (outside factor s)
+    ∙ both (factor *ℤ s)
+  where
+    whole : (a : ℤ) (n : ℕ) → a *ℤ pos (512 * n) ≡ pos 512 *ℤ (a *ℤ pos n)
+    whole a n = omega (arith, ints)
+
+    outside : (z s : ℤ) → (pos 512 *ℤ z) *ℤ s ≡ pos 512 *ℤ (z *ℤ s)
+    outside z s = omega (arith, ints, ap (λ n. n * up s) (product_is 512 z), ap (λ n. n * down s) (product_is 512 z))
+
+    both : (z : ℤ) → pos 32768 *ℤ (pos 512 *ℤ z) ≡ pos 16777216 *ℤ z
+    both z = omega (arith, ints)
 
 approximate_fall_gap : (t : ℕ) → t ≤ 600000 → (h : Harmonic)
-    → unsigned_abs (approximate_fall_at t h -ℤ fall_at t h) ≤ unsigned_abs h.amplitude * h.speed * chord_error
+    → unsigned_abs ((pos 16777216 *ℤ approximate_fall_at t h) -ℤ fall_at t h)
+    ≤ unsigned_abs h.amplitude * h.speed * approximate_error + unsigned_abs h.amplitude * speed_error
 approximate_fall_gap t few h =
-    rw (unsigned_abs-mul h.amplitude (pos h.speed)) at (chord_gap (binary_angle_after h t) (h.amplitude *ℤ pos h.speed)
-    (isin_of (phase_at h t)) (binary_angle_after-below h t) (sine_after h t few))
+    let angle = binary_angle_after h t in
+    let sine = isin_of (phase_at h t) in
+    rw (← coarse_parts h.amplitude (h.speed / 512) (approximate_sine_of angle))
+    (coarse_gap h.amplitude h.speed (approximate_sine_of angle) sine
+    (sine_gap angle sine (binary_angle_after-below h t) (sine_after h t few))
+    (isin_of_size (phase_at h t) (mod_below (h.phase + h.speed * t) circle (lit< tt))))
 
 few_minutes : (tide : Tide) (m : ℤ) (year : ℕ) → IsWithinHourOfYear tide.first_year year m → minutes_into tide.first_year year m ≤ 600000
 few_minutes tide m year approximate = abs_below ((m -ℤ start_of tide.first_year year) +ℤ pos 60) 600000 approximate.least approximate.most
 
 year_level_approximate : (tide : Tide) (m : ℤ) (year : ℕ) → IsWithinHourOfYear tide.first_year year m
-    → unsigned_abs (approximate_year_level tide m year -ℤ year_level tide m year) ≤ chord_error * amount_of (waves_in tide year)
+    → unsigned_abs (approximate_year_level tide m year -ℤ year_level tide m year) ≤ approximate_error * amount_of (waves_in tide year)
 unfolding approximate_year_level year_level
 year_level_approximate tide m year approximate =
     let t = minutes_into tide.first_year year m in
-    rw (same_mean (pos (10 ^ 9) *ℤ tide.datum) (approximate_heights_of t (waves_in tide year)) (heights_of t (waves_in tide year)))
-    (sums_approximate chord_error (approximate_height_at t) (height_at t) (λ h. unsigned_abs h.amplitude)
-    (approximate_height_gap t (few_minutes tide m year approximate)) (waves_in tide year) (pos 0) (pos 0) 0 (omega arith))
+    let hs = waves_in tide year in
+    let sums : unsigned_abs ((pos 32768 *ℤ approximate_heights_of t hs) -ℤ heights_of t hs)
+    ≤ approximate_error * amount_of hs + 0 * sum_by (λ h. 0) hs =
+    sums_approximate (pos 32768) approximate_error 0 (approximate_height_at t) (height_at t) (λ h. unsigned_abs h.amplitude) (λ h. 0)
+    (approximate_height_gap t (few_minutes tide m year approximate)) hs (pos 0) (pos 0) 0 0 (omega arith) in
+    rw (same_mean (pos (10 ^ 9) *ℤ tide.datum) (pos 32768 *ℤ approximate_heights_of t hs) (heights_of t hs)) (omega (arith, sums))
 
 year_slope_approximate : (tide : Tide) (m : ℤ) (year : ℕ) → IsWithinHourOfYear tide.first_year year m
-    → unsigned_abs (approximate_year_slope tide m year -ℤ year_slope tide m year) ≤ chord_error * steepness_of (waves_in tide year)
+    → unsigned_abs (approximate_year_slope tide m year -ℤ year_slope tide m year)
+    ≤ approximate_error * steepness_of (waves_in tide year) + speed_error * amount_of (waves_in tide year)
 unfolding approximate_year_slope year_slope
 year_slope_approximate tide m year approximate =
     let t = minutes_into tide.first_year year m in
     let hs = waves_in tide year in
-    turned_gap (approximate_falls_of t hs) (falls_of t hs) (chord_error * steepness_of hs)
-    (sums_approximate chord_error (approximate_fall_at t) (fall_at t) (λ h. unsigned_abs h.amplitude * h.speed)
-    (approximate_fall_gap t (few_minutes tide m year approximate)) hs (pos 0) (pos 0) 0 (omega arith))
+    turned_gap (pos 16777216 *ℤ approximate_falls_of t hs) (falls_of t hs) (approximate_error * steepness_of hs + speed_error * amount_of hs)
+    (sums_approximate (pos 16777216) approximate_error speed_error (approximate_fall_at t) (fall_at t)
+    (λ h. unsigned_abs h.amplitude * h.speed) (λ h. unsigned_abs h.amplitude)
+    (approximate_fall_gap t (few_minutes tide m year approximate)) hs (pos 0) (pos 0) 0 0 (omega arith))
 
 -- approximate level and slope by the position of a minute
 pub approximate_level_of-plain : (tide : Tide) (m : ℤ) (year : ℕ) → Plain year ≡ place_in_tide tide m
@@ -95,10 +149,10 @@ unfolding approximate_slope_of
 approximate_slope_of-blend tide m year x at = ap (approximate_or_exact (approximate_year_slope tide m) (slope_of tide m)) (sym at)
 
 -- an error of a year is at most the greatest one, times the total weight
-in_error : (approximate exact : ℤ) (size most : ℕ) → unsigned_abs (approximate -ℤ exact) ≤ chord_error * size → size ≤ most
-    → unsigned_abs ((pos total_weight *ℤ approximate) -ℤ (pos total_weight *ℤ exact)) ≤ total_weight * (chord_error * most)
-in_error approximate exact size most close small =
-    let gap = scaled_gap (pos total_weight) approximate exact (chord_error * size) close in
+in_error : (approximate exact : ℤ) (error most : ℕ) → unsigned_abs (approximate -ℤ exact) ≤ error → error ≤ most
+    → unsigned_abs ((pos total_weight *ℤ approximate) -ℤ (pos total_weight *ℤ exact)) ≤ total_weight * most
+in_error approximate exact error most close small =
+    let gap = scaled_gap (pos total_weight) approximate exact error close in
     omega (arith, gap, small)
 
 -- the exact value is within any error of itself
@@ -114,9 +168,8 @@ level_approximate tide m (Plain year) at approximate =
       approximate_level_of-plain tide m year at,
       ← level_plain tide m year (year_level tide m year) (pos total_weight *ℤ year_level tide m year) at refl refl,
     )
-    (in_error (approximate_year_level tide m year) (year_level tide m year) (amount_of (waves_in tide year))
-    (greatest_of amount_of tide.years) (year_level_approximate tide m year approximate.1)
-    (greatest-each amount_of tide.years year [] approximate.0))
+    (in_error (approximate_year_level tide m year) (year_level tide m year) _ _ (year_level_approximate tide m year approximate.1)
+    (omega (arith, greatest-each amount_of tide.years year [] approximate.0)))
 level_approximate tide m (Blend year x) at approximate =
     no_gap (approximate_level_of tide m) (level_of tide m) _ (approximate_level_of-blend tide m year x at)
 
@@ -129,9 +182,12 @@ slope_approximate tide m (Plain year) at approximate =
       approximate_slope_of-plain tide m year at,
       ← slope_plain tide m year (year_slope tide m year) (pos total_weight *ℤ year_slope tide m year) at refl refl,
     )
-    (in_error (approximate_year_slope tide m year) (year_slope tide m year) (steepness_of (waves_in tide year))
-    (greatest_of steepness_of tide.years) (year_slope_approximate tide m year approximate.1)
-    (greatest-each steepness_of tide.years year [] approximate.0))
+    (in_error (approximate_year_slope tide m year) (year_slope tide m year) _ _ (year_slope_approximate tide m year approximate.1)
+    (omega (
+      arith,
+      greatest-each steepness_of tide.years year [] approximate.0,
+      greatest-each amount_of tide.years year [] approximate.0,
+    )))
 slope_approximate tide m (Blend year x) at approximate =
     no_gap (approximate_slope_of tide m) (slope_of tide m) _ (approximate_slope_of-blend tide m year x at)
 

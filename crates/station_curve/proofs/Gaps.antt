@@ -1,8 +1,9 @@
 -- The difference of products and sums of signed numbers.
-use Rattle.std.proofs.Common.{◌≡◌, ℕ, suc, ◌+◌, ◌*◌, ◌≤◌, List, [], ◌∷◌, ℤ, pos, negsuc, neg_ℤ, ◌+ℤ◌, ◌-ℤ◌, ◌*ℤ◌, arith}
+use Rattle.std.proofs.Common.{◌≡◌, ℕ, suc, ◌+◌, ◌*◌, ◌≤◌, List, [], ◌∷◌, ℤ, pos, negsuc, neg_ℤ, ◌+ℤ◌, ◌-ℤ◌, ◌*ℤ◌, ap, arith}
 use Rattle.std.specs.Prelude.{unsigned_abs, fold}
 use Rattle.std.proofs.lemmas.Int.{ints}
 use Rattle.std.proofs.lemmas.Nat.{mul-le}
+use borrow.Author.Differences.{up, down}
 use Rattle.station_curve.specs.Waves.{Harmonic}
 use Rattle.station_curve.proofs.Products.{abs_plus}
 
@@ -34,6 +35,31 @@ pub scaled_gap : (a b c : ℤ) (m : ℕ) → unsigned_abs (b -ℤ c) ≤ m → u
 scaled_gap (pos x) b c m approximate = gap_times x b c m approximate
 scaled_gap (negsuc x) b c m approximate =
     rw (turned x b, turned x c) (turned_gap (pos (suc x) *ℤ b) (pos (suc x) *ℤ c) (suc x * m) (gap_times (suc x) b c m approximate))
+
+-- products with a sum, and with another product
+sum_is : (x y : ℤ) → up (x +ℤ y) + down x + down y ≡ down (x +ℤ y) + up x + up y
+sum_is x y = omega (arith, ints)
+
+pub times_sum : (a x y : ℤ) → a *ℤ (x +ℤ y) ≡ (a *ℤ x) +ℤ (a *ℤ y)
+times_sum a x y =
+    omega (arith, ints, ap (λ n. up a * n) (sum_is x y), ap (λ n. down a * n) (sum_is x y))
+
+pub product_is : (w : ℕ) (s : ℤ) → up (pos w *ℤ s) + w * down s ≡ down (pos w *ℤ s) + w * up s
+product_is w s = omega (arith, ints)
+
+steepness_is : (a : ℤ) (w : ℕ) → up (a *ℤ pos w) + w * down a ≡ down (a *ℤ pos w) + w * up a
+steepness_is a w = omega (arith, ints)
+
+pub times_product : (a : ℤ) (w : ℕ) (s : ℤ) → a *ℤ (pos w *ℤ s) ≡ (a *ℤ pos w) *ℤ s
+times_product a w s =
+    omega (
+      arith,
+      ints,
+      ap (λ n. up a * n) (product_is w s),
+      ap (λ n. down a * n) (product_is w s),
+      ap (λ n. n * up s) (steepness_is a w),
+      ap (λ n. n * down s) (steepness_is a w),
+    )
 
 -- the difference of two sums whose parts differ by little
 pub regrouped : (a x b y : ℤ) → (a +ℤ x) -ℤ (b +ℤ y) ≡ (a -ℤ b) +ℤ (x -ℤ y)

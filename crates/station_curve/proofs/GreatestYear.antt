@@ -7,7 +7,6 @@ use Rattle.std.proofs.lemmas.List.Folds.{fold-map}
 use Rattle.std.proofs.lemmas.List.Sums.{fold_more}
 use mir.Syntax.{w128}
 use mir.Val.{to_z, of_z}
-use Rattle.fixed_sine.specs.Chords.{chord_error}
 use Rattle.year_blend.specs.Weights.{total_weight}
 use Rattle.station_curve.specs.declared.years.Year.{Year}
 use Rattle.station_curve.specs.Waves.{Harmonic, Tide}
@@ -73,22 +72,19 @@ greatest-kept_size value years greatest most all few is =
     let size : unsigned_abs greatest ≤ 10 ^ 17 = rw is (omega (arith, small, few)) in
     rw (cast_small w128 greatest (10 ^ 17) size (lit< tt), is) small
 
-whole_error : (n : ℕ) → pos (total_weight * chord_error) *ℤ pos n ≡ pos (total_weight * (chord_error * n))
-whole_error n = omega (arith, ints)
+whole_error : (k n : ℕ) → pos (total_weight * k) *ℤ pos n ≡ pos (total_weight * (k * n))
+whole_error k n = ap pos (omega arith)
 
-pub error_by_greatest : (value : List Harmonic → ℕ) (inside tide : Tide) (greatest error : ℤ) (most : ℕ) → inside ≡ tide
+pub error_by_greatest : (k : ℕ) (value : List Harmonic → ℕ) (inside tide : Tide) (greatest error : ℤ) (most : ℕ) → inside ≡ tide
     → All (λ hs. value hs ≤ most) inside.years
     → most ≤ 10 ^ 17 → greatest ≡ pos (greatest_of value inside.years)
-    → error ≡ pos (total_weight * chord_error) *ℤ to_z w128 (of_z w128 greatest)
-    → (to_z w128 (of_z w128 error) ≡ pos (total_weight * (chord_error * greatest_of value tide.years)))
-    × (total_weight * (chord_error * greatest_of value tide.years) ≤ total_weight * (chord_error * most))
-error_by_greatest value inside tide greatest error most same all few is is_error =
+    → error ≡ pos (total_weight * k) *ℤ to_z w128 (of_z w128 greatest)
+    → (error ≡ pos (total_weight * (k * greatest_of value tide.years))) × (greatest_of value tide.years ≤ most)
+error_by_greatest k value inside tide greatest error most same all few is is_error =
     let n = greatest_of value inside.years in
     let small : n ≤ most = greatest-most value inside.years most all in
     let size : unsigned_abs greatest ≤ 10 ^ 17 = rw is (omega (arith, small, few)) in
-    let stated : error ≡ pos (total_weight * (chord_error * n)) =
-    rw (cast_small w128 greatest (10 ^ 17) size (lit< tt), is) at is_error ∙ whole_error n in
+    let stated : error ≡ pos (total_weight * (k * n)) =
+    rw (cast_small w128 greatest (10 ^ 17) size (lit< tt), is) at is_error ∙ whole_error k n in
     let years : n ≡ greatest_of value tide.years = ap (λ (t : Tide). greatest_of value t.years) same in
-    let kept = cast_small w128 (pos (total_weight * (chord_error * n))) (total_weight * (chord_error * 10 ^ 17))
-    (omega (arith, small, few)) (lit< tt) in
-    (rw (stated, kept) (ap (λ k. pos (total_weight * (chord_error * k))) years), omega (arith, small, years))
+    (stated ∙ ap (λ n. pos (total_weight * (k * n))) years, omega (arith, small, years))

@@ -1,8 +1,8 @@
--- Approximate level and slope of a tide: by chords of the sine outside blends, and exact in a blend (this
+-- Approximate level and slope of a tide: by the approximate sine outside blends, and exact in a blend (this
 -- project).
-use Rattle.std.specs.Prelude.{ℕ, ◌+◌, ◌*◌, ◌%◌, ◌^◌, List, ℤ, pos, neg_ℤ, ◌+ℤ◌, ◌*ℤ◌, fold}
+use Rattle.std.specs.Prelude.{ℕ, ◌+◌, ◌*◌, ◌/◌, ◌%◌, ◌^◌, List, ℤ, pos, neg_ℤ, ◌+ℤ◌, ◌*ℤ◌, fold}
 use Rattle.fixed_sine.specs.BinaryAngle.{binary_angle_of}
-use Rattle.fixed_sine.specs.Chords.{chord_sine_of}
+use Rattle.fixed_sine.specs.Approximate.{approximate_sine_of}
 use Rattle.year_blend.specs.declared.parts.Place.{Place}
 use Rattle.year_blend.specs.declared.parts.Place.TheVariants.{Plain, Blend}
 use Rattle.year_blend.specs.Weights.{total_weight}
@@ -17,13 +17,14 @@ binary_angle_after h t = (binary_angle_of h.phase + binary_angle_of h.speed * t)
 abbrev pub binary_angle_ahead : Harmonic → ℕ → ℕ
 binary_angle_ahead h t = (binary_angle_after h t + 2 ^ 62) % 2 ^ 64
 
--- the wave's part of the level, by a chord
+-- the wave's approximate part of the level, in 2^15 billionths of a millionth
 abbrev pub approximate_height_at : ℕ → Harmonic → ℤ
-approximate_height_at t h = h.amplitude *ℤ chord_sine_of (binary_angle_ahead h t)
+approximate_height_at t h = h.amplitude *ℤ approximate_sine_of (binary_angle_ahead h t)
 
--- the wave's part of the slope with the other sign, by a chord
+-- the wave's approximate part of the slope with the other sign, in 2^24 of the slope's unit: its speed is in
+-- whole 2^9 units, so that a year's sum fits 64 bits
 abbrev pub approximate_fall_at : ℕ → Harmonic → ℤ
-approximate_fall_at t h = (h.amplitude *ℤ pos h.speed) *ℤ chord_sine_of (binary_angle_after h t)
+approximate_fall_at t h = (h.amplitude *ℤ pos (h.speed / 2 ^ 9)) *ℤ approximate_sine_of (binary_angle_after h t)
 
 -- the sum of the approximate heights
 abbrev pub approximate_heights_of : ℕ → List Harmonic → ℤ
@@ -36,11 +37,13 @@ approximate_falls_of t hs = fold (λ sum h. sum +ℤ approximate_fall_at t h) (p
 -- the approximate level by the constants of one year, in the unit of year_level
 unfoldable pub approximate_year_level : Tide → ℤ → ℕ → ℤ
 approximate_year_level tide m year =
-    (pos (10 ^ 9) *ℤ tide.datum) +ℤ approximate_heights_of (minutes_into tide.first_year year m) (waves_in tide year)
+    (pos (10 ^ 9) *ℤ tide.datum)
+    +ℤ (pos (2 ^ 15) *ℤ approximate_heights_of (minutes_into tide.first_year year m) (waves_in tide year))
 
 -- the approximate slope by the constants of one year, in the unit of year_slope
 unfoldable pub approximate_year_slope : Tide → ℤ → ℕ → ℤ
-approximate_year_slope tide m year = neg_ℤ (approximate_falls_of (minutes_into tide.first_year year m) (waves_in tide year))
+approximate_year_slope tide m year =
+    neg_ℤ (pos (2 ^ 24) *ℤ approximate_falls_of (minutes_into tide.first_year year m) (waves_in tide year))
 
 -- an approximate value outside blends, and the exact one in a blend
 abbrev pub approximate_or_exact : (ℕ → ℤ) → ℤ → Place → ℤ

@@ -1,6 +1,6 @@
--- Bounds on the errors of the level and the slope by chords of the sine (this project).
-use Rattle.std.specs.Prelude.{ℕ, ◌*◌, List, fold, max}
-use Rattle.fixed_sine.specs.Chords.{chord_error}
+-- Bounds on the errors of the approximate level and slope (this project).
+use Rattle.std.specs.Prelude.{ℕ, ◌+◌, ◌*◌, ◌^◌, List, fold, max}
+use Rattle.fixed_sine.specs.Approximate.{approximate_error}
 use Rattle.year_blend.specs.Weights.{total_weight}
 use Rattle.station_curve.specs.Waves.{Harmonic, Tide, amount_of, steepness_of}
 
@@ -10,8 +10,15 @@ greatest_of value years = fold (λ most hs. max most (value hs)) 0 years
 
 -- the most that an approximate level differs from the level, in the level's unit
 unfoldable pub level_error_of : Tide → ℕ
-level_error_of tide = total_weight * (chord_error * greatest_of amount_of tide.years)
+level_error_of tide = total_weight * (approximate_error * greatest_of amount_of tide.years)
+
+-- the error of a slope for each millionth of an amplitude whose speed is in whole 2^9 units: the units that are
+-- left, less than 2^9, times the greatest sine
+abbrev pub speed_error : ℕ
+speed_error = 2 ^ 9 * 10 ^ 9
 
 -- the most that an approximate slope differs from the slope, in the slope's unit
 unfoldable pub slope_error_of : Tide → ℕ
-slope_error_of tide = total_weight * (chord_error * greatest_of steepness_of tide.years)
+slope_error_of tide =
+    total_weight
+    * (approximate_error * greatest_of steepness_of tide.years + speed_error * greatest_of amount_of tide.years)

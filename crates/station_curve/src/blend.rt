@@ -2,11 +2,15 @@
 
 ghost use Rattle.std.specs.Prelude.{◌≡◌, ◌*◌, ◌^◌, ◌≤◌, pos, ◌+ℤ◌, ◌-ℤ◌, ◌*ℤ◌, ◌≤ℤ◌, unsigned_abs};
 ghost use Rattle.fixed_sine.specs.Circle.{radian};
-ghost use Rattle.fixed_sine.specs.Chords.{chord_error};
+ghost use Rattle.fixed_sine.specs.Approximate.{approximate_error};
 ghost use Rattle.year_blend.specs.Weights.{total_weight, weight_slope_of, IsWithinHourOfNewYear};
+ghost use Rattle.station_curve.specs.Errors.{speed_error};
 
-use fixed_sine::{CHORD_ERROR, RADIAN};
+use fixed_sine::{APPROXIMATE_ERROR, RADIAN};
 use year_blend::{TOTAL_WEIGHT, weight_slope};
+
+/// The error of a slope for each millionth of an amplitude whose speed is in whole 2^9 units.
+const SPEED_ERROR: i128 = 512_000_000_000;
 
 /// Returns `weight * value`.
 pub fn weighted(weight: i64, value: i128) -> i128
@@ -59,11 +63,20 @@ pub fn by_full_weight(value: i128) -> i128
     i128::from(TOTAL_WEIGHT) * value
 }
 
-/// Returns the most that a sum of chord sines differs from the sum of sines, in the unit of a blend;
-/// `size` is the sum of the sizes of their factors.
+/// Returns the most that a sum of approximate sines differs from the sum of sines, in the unit of a blend;
+/// `size` is the sum of the absolute values of their factors.
 pub fn error_of(size: i128) -> i128
     requires { unsigned_abs size ≤ 10 ^ 17 }
-    ensures { result ≡ pos (total_weight * chord_error) *ℤ size }
+    ensures { result ≡ pos (total_weight * approximate_error) *ℤ size }
 {
-    i128::from(TOTAL_WEIGHT) * i128::from(CHORD_ERROR) * size
+    i128::from(TOTAL_WEIGHT) * i128::from(APPROXIMATE_ERROR) * size
+}
+
+/// Returns the most that a slope changes if each speed is in whole 2^9 units, in the unit of a blend; `amount`
+/// is the sum of the absolute values of the amplitudes.
+pub fn speed_error_of(amount: i128) -> i128
+    requires { unsigned_abs amount ≤ 10 ^ 9 }
+    ensures { result ≡ pos (total_weight * speed_error) *ℤ amount }
+{
+    i128::from(TOTAL_WEIGHT) * SPEED_ERROR * amount
 }

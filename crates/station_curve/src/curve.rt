@@ -29,7 +29,7 @@ ghost use Rattle.year_blend.specs.Weights.{total_weight};
 
 mod year_values;
 
-use crate::blend::{by_full_weight, drift, error_of, mixed, weighted};
+use crate::blend::{by_full_weight, drift, error_of, mixed, speed_error_of, weighted};
 use crate::calendar::calendar_year_of;
 use crate::fault::{CurveFault, is_hydraulic};
 use crate::greatest::{Greatest, greatest_of_years};
@@ -267,7 +267,7 @@ impl StationCurve {
     }
 
     /// Returns an approximation of [`level`](StationCurve::level) at minute `m`, within
-    /// [`level_error`](StationCurve::level_error) of it. It is faster than the level: by chords of the
+    /// [`level_error`](StationCurve::level_error) of it. It is faster than the level: by the approximate
     /// sine outside blends, and exact in a blend.
     pub fn approximate_level(&self, m: i64) -> i128
         requires { InDomain self.now.first_year (length self.now.years) m }
@@ -282,7 +282,7 @@ impl StationCurve {
     }
 
     /// Returns an approximation of [`slope`](StationCurve::slope) at minute `m`, within
-    /// [`slope_error`](StationCurve::slope_error) of it. It is faster than the slope: by chords of the
+    /// [`slope_error`](StationCurve::slope_error) of it. It is faster than the slope: by the approximate
     /// sine outside blends, and exact in a blend.
     pub fn approximate_slope(&self, m: i64) -> i128
         requires { InDomain self.now.first_year (length self.now.years) m }
@@ -299,7 +299,7 @@ impl StationCurve {
     /// Returns the most that an approximate level differs from the level, in the level's unit.
     pub fn level_error(&self) -> i128
         ensures value { result ≡ pos (level_error_of self.now) }
-        ensures size { unsigned_abs result ≤ 10 ^ 24 }
+        ensures size { unsigned_abs result ≤ 2 * 10 ^ 24 }
     {
         error_of(self.greatest.amount)
     }
@@ -307,9 +307,9 @@ impl StationCurve {
     /// Returns the most that an approximate slope differs from the slope, in the slope's unit.
     pub fn slope_error(&self) -> i128
         ensures value { result ≡ pos (slope_error_of self.now) }
-        ensures size { unsigned_abs result ≤ 10 ^ 32 }
+        ensures size { unsigned_abs result ≤ 2 * 10 ^ 32 }
     {
-        error_of(self.greatest.steepness)
+        error_of(self.greatest.steepness) + speed_error_of(self.greatest.amount)
     }
 
     /// Returns the level at minute `m` in whole millionths of the station's unit, a half rounded away

@@ -95,29 +95,29 @@ pub fn worked_sums()
 /// Proves approximate levels: a minute before noon and at noon, one in a blend, which is exact, and
 /// levels of two waves, below and above the exact ones.
 pub fn worked_approximate_levels()
-    ensures before_noon { approximate_level_of (tide_of pier_book pier) (pos 15791759) ≡ pos 4146884178278400000000000 }
-    ensures noon { approximate_level_of (tide_of pier_book pier) (pos 15791760) ≡ pos 4147200000000000000000000 }
+    ensures before_noon { approximate_level_of (tide_of pier_book pier) (pos 15791759) ≡ pos 4146985539993600000000000 }
+    ensures noon { approximate_level_of (tide_of pier_book pier) (pos 15791760) ≡ pos 4147257330892800000000000 }
     ensures first_blended { approximate_level_of (tide_of shifted_book pier) (pos 15778021) ≡ pos 3609538927329170264000000 }
-    ensures harbour_2000 { approximate_level_of (tide_of harbour_book harbour) (pos 15778380) ≡ pos 12459527526861020160000000 }
-    ensures harbour_2001 { approximate_level_of (tide_of harbour_book harbour) (pos 16390080) ≡ pos 5407345547725158604800000 }
+    ensures harbour_2000 { approximate_level_of (tide_of harbour_book harbour) (pos 15778380) ≡ pos 12457719256080973824000000 }
+    ensures harbour_2001 { approximate_level_of (tide_of harbour_book harbour) (pos 16390080) ≡ pos 5407510534932765081600000 }
 {}
 
 /// Proves approximate slopes: a minute before noon and at noon, one in a blend, which is exact, and
 /// slopes of two waves.
 pub fn worked_approximate_slopes()
-    ensures before_noon { approximate_slope_of (tide_of pier_book pier) (pos 15791759) ≡ pos 10856792724480000000000000000000 }
-    ensures noon { approximate_slope_of (tide_of pier_book pier) (pos 15791760) ≡ pos 0 }
+    ensures before_noon { approximate_slope_of (tide_of pier_book pier) (pos 15791759) ≡ pos 10966753424415758745600000000000 }
+    ensures noon { approximate_slope_of (tide_of pier_book pier) (pos 15791760) ≡ negsuc 489223201089178828799999999999 }
     ensures harbour_new_year { approximate_slope_of (tide_of harbour_book harbour) (pos 16305140)
         ≡ negsuc 3274988533158132834799953510399999 }
-    ensures harbour_2000 { approximate_slope_of (tide_of harbour_book harbour) (pos 15778380) ≡ negsuc 1845451738900420719211339775999999 }
-    ensures harbour_2001 { approximate_slope_of (tide_of harbour_book harbour) (pos 16390080) ≡ pos 802806795183784473007950643200000 }
+    ensures harbour_2000 { approximate_slope_of (tide_of harbour_book harbour) (pos 15778380) ≡ negsuc 1845654590730777639392378879999999 }
+    ensures harbour_2001 { approximate_slope_of (tide_of harbour_book harbour) (pos 16390080) ≡ pos 802807544580466355289980928000000 }
 {}
 
 /// Proves the errors of approximate levels and slopes: for one wave, and for two waves by the year with
 /// the larger ones.
 pub fn worked_errors()
-    ensures pier_level { level_error_of (tide_of pier_book pier) ≡ 158008320000000000000 }
-    ensures pier_slope { slope_error_of (tide_of pier_book pier) ≡ 47402496000000000000000000000 }
-    ensures harbour_level { level_error_of (tide_of harbour_book harbour) ≡ 255260860876800000000 }
-    ensures harbour_slope { slope_error_of (tide_of harbour_book harbour) ≡ 74627153852960969625600000000 }
+    ensures pier_level { level_error_of (tide_of pier_book pier) ≡ 1658880000000000000000 }
+    ensures pier_slope { slope_error_of (tide_of pier_book pier) ≡ 499787366400000000000000000000 }
+    ensures harbour_level { level_error_of (tide_of harbour_book harbour) ≡ 2679904051200000000000 }
+    ensures harbour_slope { slope_error_of (tide_of harbour_book harbour) ≡ 786917456744181350400000000000 }
 {}

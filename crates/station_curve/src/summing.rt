@@ -9,6 +9,12 @@ use crate::wave::Wave;
 /// The ratio of a millionth to a billionth of a millionth.
 const BILLION: i128 = 1_000_000_000;
 
+/// The unit of an approximate height, in billionths of a millionth.
+const HEIGHT_UNIT: i128 = 1 << 15;
+
+/// The unit of an approximate fall, in a fall's unit.
+const FALL_UNIT: i128 = 1 << 24;
+
 /// Returns the sum of the waves' heights, `minutes` after an hour before the year.
 pub fn heights(waves: &[Wave], minutes: u64) -> i64
     requires time { minutes ≤ 600000 }
@@ -37,12 +43,13 @@ pub fn falls(waves: &[Wave], minutes: u64) -> i128
     sum
 }
 
-/// Returns the sum of the waves' approximate heights, by chords, `minutes` after an hour before the year.
+/// Returns the sum of the waves' approximate heights, `minutes` after an hour before the year, in 2^15
+/// billionths of a millionth.
 pub fn approximate_heights(waves: &[Wave], minutes: u64) -> i64
     requires time { minutes ≤ 600000 }
     requires amount { amount_of waves.now ≤ 10 ^ 9 }
     ensures value { result ≡ approximate_heights_of minutes waves.now }
-    ensures size { unsigned_abs result ≤ 2 * 10 ^ 18 }
+    ensures size { unsigned_abs result ≤ 30518 * 10 ^ 9 }
 {
     let mut sum = 0;
     for wave in waves {
@@ -51,18 +58,37 @@ pub fn approximate_heights(waves: &[Wave], minutes: u64) -> i64
     sum
 }
 
-/// Returns the sum of the waves' approximate falls, by chords, `minutes` after an hour before the year.
-pub fn approximate_falls(waves: &[Wave], minutes: u64) -> i128
+/// Returns the sum of the waves' approximate falls, `minutes` after an hour before the year, in 2^24 of a
+/// fall's unit.
+pub fn approximate_falls(waves: &[Wave], minutes: u64) -> i64
     requires time { minutes ≤ 600000 }
     requires steepness { steepness_of waves.now ≤ 10 ^ 17 }
     ensures value { result ≡ approximate_falls_of minutes waves.now }
-    ensures size { unsigned_abs result ≤ 2 * 10 ^ 26 }
+    ensures size { unsigned_abs result ≤ 6 * 10 ^ 18 }
 {
     let mut sum = 0;
     for wave in waves {
         sum += wave.approximate_fall(minutes);
     }
     sum
+}
+
+/// Returns `heights`, a sum of approximate heights, in billionths of a millionth.
+pub fn in_billionths(heights: i64) -> i128
+    requires { unsigned_abs heights ≤ 30518 * 10 ^ 9 }
+    ensures value { result ≡ pos (2 ^ 15) *ℤ heights }
+    ensures size { unsigned_abs result ≤ 2 * 10 ^ 18 }
+{
+    HEIGHT_UNIT * i128::from(heights)
+}
+
+/// Returns `falls`, a sum of approximate falls, in the unit of a fall.
+pub fn in_fall_units(falls: i64) -> i128
+    requires { unsigned_abs falls ≤ 6 * 10 ^ 18 }
+    ensures value { result ≡ pos (2 ^ 24) *ℤ falls }
+    ensures size { unsigned_abs result ≤ 2 * 10 ^ 26 }
+{
+    FALL_UNIT * i128::from(falls)
 }
 
 /// Returns the mean level `datum`, in millionths, in billionths of a millionth.

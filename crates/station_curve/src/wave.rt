@@ -1,14 +1,17 @@
 //! A constituent in one year at one station.
 
-ghost use Rattle.std.specs.Prelude.{◌≡◌, ℕ, ◌*◌, ◌^◌, ◌<◌, ◌≤◌, pos, ◌*ℤ◌, unsigned_abs};
+ghost use Rattle.std.specs.Prelude.{◌≡◌, ℕ, ◌*◌, ◌/◌, ◌^◌, ◌<◌, ◌≤◌, pos, ◌*ℤ◌, unsigned_abs};
 ghost use Rattle.fixed_sine.specs.Circle.{circle};
 ghost use Rattle.station_curve.specs.Waves.{Harmonic, height_at, fall_at};
 ghost use Rattle.station_curve.specs.Approximate.{binary_angle_after, binary_angle_ahead, approximate_height_at, approximate_fall_at};
 ghost use Rattle.station_curve.specs.Sums.{height_rate_of, fall_rate_of};
 
 use crate::year_sums::Sums;
-use fixed_sine::{QUARTER_CIRCLE, binary_angle_of, binary_angle_sine, chord_sine, step};
+use fixed_sine::{QUARTER_CIRCLE, approximate_sine, binary_angle_of, binary_angle_sine, step};
 use std::marker::Model;
+
+/// The unit of a speed in approximate falls, so that their sum fits 64 bits.
+const COARSE_UNIT: u64 = 512;
 
 /// A constituent in one year at one station: a wave.
 #[derive(Debug, Drop)]
@@ -19,6 +22,8 @@ pub struct Wave {
     speed: u64,
     /// The amplitude times the speed.
     steepness: i64,
+    /// The amplitude times the speed in whole 2^9 units of the circle a minute.
+    factor: i64,
     /// The speed as a fraction of a turn a minute.
     pace: u64,
     /// The phase an hour before the year begins, as a fraction of a turn.
@@ -36,7 +41,7 @@ impl Model for Wave {
 
     ghost view = { λ w. record { amplitude = w.amplitude; speed = w.speed; phase = units_of w.start } };
 
-    ghost invariant = { λ w. IsWave w.amplitude w.speed w.steepness w.pace w.start w.ahead };
+    ghost invariant = { λ w. IsWave w.amplitude w.speed w.steepness w.factor w.pace w.start w.ahead };
 }
 
 impl Wave {
@@ -53,6 +58,7 @@ impl Wave {
             amplitude,
             speed,
             steepness: amplitude * speed as i64,
+            factor: amplitude * (speed / COARSE_UNIT) as i64,
             pace: binary_angle_of(speed),
             start,
             ahead: start.wrapping_add(QUARTER_CIRCLE),
@@ -80,23 +86,22 @@ impl Wave {
         self.by_steepness(binary_angle_sine(self.binary_angle_after(minutes)))
     }
 
-    /// Returns the approximate height of the wave by a chord of the sine.
+    /// Returns the approximate height of the wave, in 2^15 billionths of a millionth.
     pub fn approximate_height(&self, minutes: u64) -> i64
         requires { minutes ≤ 600000 }
         ensures value { result ≡ approximate_height_at minutes self.now }
-        ensures size { unsigned_abs result ≤ 1000038100 * unsigned_abs self.now.amplitude }
+        ensures size { unsigned_abs result ≤ 30518 * unsigned_abs self.now.amplitude }
     {
-        self.by_amplitude(chord_sine(self.binary_angle_ahead(minutes)))
+        self.by_amplitude(approximate_sine(self.binary_angle_ahead(minutes)))
     }
 
-    /// Returns the approximate fall of the wave by a chord of the sine.
-    pub fn approximate_fall(&self, minutes: u64) -> i128
+    /// Returns the approximate fall of the wave, in 2^24 of a fall's unit.
+    pub fn approximate_fall(&self, minutes: u64) -> i64
         requires { minutes ≤ 600000 }
         ensures value { result ≡ approximate_fall_at minutes self.now }
-        ensures size { unsigned_abs result
-            ≤ 1000038100 * (unsigned_abs self.now.amplitude * self.now.speed) }
+        ensures size { unsigned_abs result ≤ 60 * (unsigned_abs self.now.amplitude * self.now.speed) }
     {
-        self.by_steepness(chord_sine(self.binary_angle_after(minutes)))
+        self.factor * approximate_sine(self.binary_angle_after(minutes))
     }
 
     /// Returns the wave's part of each sum of its year.
@@ -122,7 +127,7 @@ impl Wave {
 
     /// Returns the amplitude times `sine`.
     fn by_amplitude(&self, sine: i64) -> i64
-        requires { unsigned_abs sine ≤ 1000038100 }
+        requires { unsigned_abs sine ≤ 10 ^ 9 }
         ensures value { result ≡ self.now.amplitude *ℤ sine }
         ensures size { (most : ℕ) → unsigned_abs sine ≤ most
             → unsigned_abs result ≤ most * unsigned_abs self.now.amplitude }
@@ -132,7 +137,7 @@ impl Wave {
 
     /// Returns the amplitude times the speed times `sine`.
     fn by_steepness(&self, sine: i64) -> i128
-        requires { unsigned_abs sine ≤ 1000038100 }
+        requires { unsigned_abs sine ≤ 10 ^ 9 }
         ensures value { result ≡ (self.now.amplitude *ℤ pos self.now.speed) *ℤ sine }
         ensures size { (most : ℕ) → unsigned_abs sine ≤ most
             → unsigned_abs result ≤ most * (unsigned_abs self.now.amplitude * self.now.speed) }

@@ -25,8 +25,9 @@ use Rattle.rate_bound.specs.Workings.MarkLaw.{same_mark}
 pub slope_narrow : (tide : Tide) → IsWithinLimits tide → slope_error_of tide ≤ 10 ^ 36
 unfolding slope_error_of
 slope_narrow tide within_limits =
-    let most = greatest-most steepness_of tide.years (10 ^ 17) within_limits.steepnesses in
-    omega (arith, most)
+    let steep = greatest-most steepness_of tide.years (10 ^ 17) within_limits.steepnesses in
+    let most = greatest-most amount_of tide.years (10 ^ 9) within_limits.amounts in
+    omega (arith, steep, most)
 
 -- the error of a scaled level is small enough
 pub level_narrow : (tide : Tide) (times plus mark : ℤ) → IsWithinLimits tide → IsScale times plus mark
@@ -37,8 +38,8 @@ level_narrow tide times plus mark within_limits scale =
     let least = scale.times_least in
     let greatest = scale.times_most in
     let few : unsigned_abs times ≤ 10 ^ 8 = omega (arith, ints) in
-    let error : level_error_of tide ≤ 10 ^ 24 = omega (arith, most) in
-    let product = mul-le (unsigned_abs times) (level_error_of tide) (10 ^ 8) (10 ^ 24) few error in
+    let error : level_error_of tide ≤ 2 * 10 ^ 24 = omega (arith, most) in
+    let product = mul-le (unsigned_abs times) (level_error_of tide) (10 ^ 8) (2 * 10 ^ 24) few error in
     omega (arith, product)
 
 place_in_range : (tide : Tide) (m : ℤ) → IsWithinLimits tide → InDomain tide.first_year (length tide.years) m

@@ -1,5 +1,5 @@
 -- Bounds that keep all numbers of a curve within their types.
-use Rattle.std.specs.Prelude.{◌≡◌, ℕ, suc, ◌+◌, ◌-◌, ◌%◌, ◌^◌, ◌<◌, ◌≤◌, Option, Some, None, ℤ, pos, ◌+ℤ◌, ◌-ℤ◌, ◌*ℤ◌, ◌≤ℤ◌, unsigned_abs}
+use Rattle.std.specs.Prelude.{◌≡◌, ℕ, suc, ◌+◌, ◌-◌, ◌/◌, ◌%◌, ◌^◌, ◌<◌, ◌≤◌, Option, Some, None, ℤ, pos, ◌+ℤ◌, ◌-ℤ◌, ◌*ℤ◌, ◌≤ℤ◌, unsigned_abs}
 use Rattle.fixed_sine.specs.BinaryAngle.{units_of, binary_angle_of}
 use Rattle.year_blend.specs.declared.parts.Place.{Place}
 use Rattle.year_blend.specs.declared.parts.Place.TheVariants.{Plain, Blend}
@@ -7,12 +7,13 @@ use Rattle.year_blend.specs.Places.{start_of, place_of}
 use Rattle.year_blend.specs.Weights.{IsWithinHourOfNewYear}
 use Rattle.station_curve.specs.Limits.{most_amount, most_steepness}
 
--- the fields of a wave: the product of its amplitude and its speed, its speed and its phase as fractions
--- of a turn, and its phase plus a quarter of a circle
-pub record IsWave (amplitude : ℤ) (speed : ℕ) (steepness : ℤ) (pace : ℕ) (start : ℕ) (ahead : ℕ) : Type 0 where
+-- the fields of a wave: the product of its amplitude and its speed, and that by its speed in whole 2^9 units,
+-- its speed and its phase as fractions of a turn, and its phase plus a quarter of a circle
+pub record IsWave (amplitude : ℤ) (speed : ℕ) (steepness factor : ℤ) (pace : ℕ) (start : ℕ) (ahead : ℕ) : Type 0 where
   pub amount : unsigned_abs amplitude ≤ most_amount
   pub steep : unsigned_abs steepness ≤ most_steepness
   pub product : steepness ≡ amplitude *ℤ pos speed
+  pub coarse : factor ≡ amplitude *ℤ pos (speed / 2 ^ 9)
   pub quick : speed ≤ 3600000000
   pub paced : pace ≡ binary_angle_of speed
   pub started : start ≡ binary_angle_of (units_of start)

@@ -3,7 +3,10 @@
 ghost use Rattle.std.specs.Prelude.{◌≡◌, ◌*◌, ◌^◌, ◌<◌, ◌≤◌, length, unsigned_abs};
 
 use super::StationCurve;
-use crate::summing::{approximate_falls, approximate_heights, falls, heights, mean_level};
+use crate::summing::{
+    approximate_falls, approximate_heights, falls, heights, in_billionths, in_fall_units,
+    mean_level,
+};
 
 impl StationCurve {
     ghost use Rattle.station_curve.specs.Approximate.{approximate_year_level, approximate_year_slope};
@@ -21,7 +24,7 @@ impl StationCurve {
         mean_level(self.datum) + i128::from(self.year_heights(year, m))
     }
 
-    /// Returns the approximate level by the constants of year `year`, by chords.
+    /// Returns the approximate level by the constants of year `year`.
     pub(super) fn approximate_year_level(&self, year: u32, m: i64) -> i128
         requires year { year < length self.now.years }
         requires in_range { IsWithinHourOfYear self.now.first_year year m }
@@ -30,10 +33,10 @@ impl StationCurve {
     {
         let year = &self.years[year as usize];
         mean_level(self.datum)
-            + i128::from(approximate_heights(year.waves.as_slice(), year.minutes_to(m)))
+            + in_billionths(approximate_heights(year.waves.as_slice(), year.minutes_to(m)))
     }
 
-    /// Returns the approximate slope by the constants of year `year`, by chords.
+    /// Returns the approximate slope by the constants of year `year`.
     pub(super) fn approximate_year_slope(&self, year: u32, m: i64) -> i128
         requires year { year < length self.now.years }
         requires in_range { IsWithinHourOfYear self.now.first_year year m }
@@ -41,7 +44,7 @@ impl StationCurve {
         ensures size { unsigned_abs result ≤ 2 * 10 ^ 26 }
     {
         let year = &self.years[year as usize];
-        -approximate_falls(year.waves.as_slice(), year.minutes_to(m))
+        -in_fall_units(approximate_falls(year.waves.as_slice(), year.minutes_to(m)))
     }
 
     /// Returns the slope by the constants of year `year`.

@@ -1,6 +1,6 @@
 use Rattle.std.proofs.Common.{◌^◌, ap, ◌∙◌, arith, lit<}
 use Rattle.std.proofs.lemmas.List.{take_all}
-use mir.Syntax.{w128}
+use mir.Syntax.{w64}
 use mir.Val.{to_z}
 use Rattle.station_curve.specs.Approximate.{approximate_fall_at, approximate_falls_of}
 use Rattle.station_curve.proofs.OneMore.{steepness_size, IsMore, one_more, all_within}
@@ -8,11 +8,11 @@ use Rattle.station_curve.proofs.summing.approximate_falls.Goals as goal
 use Rattle.station_curve.proofs.summing.approximate_falls.Goals.{After-approximate_fall-sum}
 
 more : (c : After-approximate_fall-sum)
-    → IsMore w128 (approximate_fall_at c.args.minutes) steepness_size 1000038100 c.args.waves.now c.loop-wave.wave-index
-    (to_z w128 c.loop-wave.sum-bits) c.approximate_fall-sum.result
+    → IsMore w64 (approximate_fall_at c.args.minutes) steepness_size 60 c.args.waves.now c.loop-wave.wave-index
+    (to_z w64 c.loop-wave.sum-bits) c.approximate_fall-sum.result
 more c =
-    one_more w128 (approximate_fall_at c.args.minutes) steepness_size 1000038100 (10 ^ 17) c.args.waves.now c.loop-wave.wave-index
-    c.wave-item.result (to_z w128 c.loop-wave.sum-bits) c.approximate_fall-sum.result c.loop-wave-test.true c.wave-item.is
+    one_more w64 (approximate_fall_at c.args.minutes) steepness_size 60 (10 ^ 17) c.args.waves.now c.loop-wave.wave-index
+    c.wave-item.result (to_z w64 c.loop-wave.sum-bits) c.approximate_fall-sum.result c.loop-wave-test.true c.wave-item.is
     c.requires.steepness (lit< tt) c.loop-wave.invariant.value c.loop-wave.invariant.size
     c.approximate_fall-sum.ensures.value c.approximate_fall-sum.ensures.size
 
@@ -30,6 +30,6 @@ pub returns-clause-size : goal.returns-clause-size
 returns-clause-size c =
     omega (
       arith,
-      all_within steepness_size 1000038100 (10 ^ 17) c.args.waves.now c.loop-wave.wave-index (to_z w128 c.loop-wave.sum-bits)
+      all_within steepness_size 60 (10 ^ 17) c.args.waves.now c.loop-wave.wave-index (to_z w64 c.loop-wave.sum-bits)
           c.loop-wave.invariant.size c.requires.steepness,
     )

@@ -7,4 +7,4 @@ use Rattle.station_curve.proofs.summing.approximate_falls.Given as goal
 abbrev pub invariant-loop-wave : goal.invariant-loop-wave
 invariant-loop-wave l =
     let read = take l.wave-index l.waves in
-    record { value : l.sum ≡ approximate_falls_of l.minutes read; size : unsigned_abs l.sum ≤ 1000038100 * steepness_of read }
+    record { value : l.sum ≡ approximate_falls_of l.minutes read; size : unsigned_abs l.sum ≤ 60 * steepness_of read }

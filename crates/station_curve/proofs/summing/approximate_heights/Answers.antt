@@ -8,10 +8,10 @@ use Rattle.station_curve.proofs.summing.approximate_heights.Goals as goal
 use Rattle.station_curve.proofs.summing.approximate_heights.Goals.{After-approximate_height-sum}
 
 more : (c : After-approximate_height-sum)
-    → IsMore w64 (approximate_height_at c.args.minutes) amplitude_size 1000038100 c.args.waves.now c.loop-wave.wave-index
+    → IsMore w64 (approximate_height_at c.args.minutes) amplitude_size 30518 c.args.waves.now c.loop-wave.wave-index
     (to_z w64 c.loop-wave.sum-bits) c.approximate_height-sum.result
 more c =
-    one_more w64 (approximate_height_at c.args.minutes) amplitude_size 1000038100 (10 ^ 9) c.args.waves.now c.loop-wave.wave-index
+    one_more w64 (approximate_height_at c.args.minutes) amplitude_size 30518 (10 ^ 9) c.args.waves.now c.loop-wave.wave-index
     c.wave-item.result (to_z w64 c.loop-wave.sum-bits) c.approximate_height-sum.result c.loop-wave-test.true c.wave-item.is
     c.requires.amount (lit< tt) c.loop-wave.invariant.value c.loop-wave.invariant.size
     c.approximate_height-sum.ensures.value c.approximate_height-sum.ensures.size
@@ -30,6 +30,6 @@ pub returns-clause-size : goal.returns-clause-size
 returns-clause-size c =
     omega (
       arith,
-      all_within amplitude_size 1000038100 (10 ^ 9) c.args.waves.now c.loop-wave.wave-index (to_z w64 c.loop-wave.sum-bits)
+      all_within amplitude_size 30518 (10 ^ 9) c.args.waves.now c.loop-wave.wave-index (to_z w64 c.loop-wave.sum-bits)
           c.loop-wave.invariant.size c.requires.amount,
     )

@@ -7,4 +7,4 @@ use Rattle.station_curve.proofs.summing.approximate_heights.Given as goal
 abbrev pub invariant-loop-wave : goal.invariant-loop-wave
 invariant-loop-wave l =
     let read = take l.wave-index l.waves in
-    record { value : l.sum ≡ approximate_heights_of l.minutes read; size : unsigned_abs l.sum ≤ 1000038100 * amount_of read }
+    record { value : l.sum ≡ approximate_heights_of l.minutes read; size : unsigned_abs l.sum ≤ 30518 * amount_of read }

@@ -1,5 +1,4 @@
-use Rattle.std.proofs.Common.{◌≡◌, ◌*◌, ◌^◌, pos, ◌+ℤ◌, ◌*ℤ◌, ◌≤◌, ap, ◌∙◌, lit<}
-use Rattle.std.specs.Prelude.{unsigned_abs}
+use Rattle.std.proofs.Common.{◌≡◌, ◌*◌, ◌^◌, pos, ◌+ℤ◌, ◌*ℤ◌, ap, ◌∙◌, lit<}
 use Rattle.std.proofs.lemmas.Int.{to_z-of_z}
 use mir.Syntax.{w64, w128}
 use mir.Val.{to_z, of_z}
@@ -8,7 +7,6 @@ use Rattle.station_curve.specs.Approximate.{approximate_heights_of, approximate_
 use Rattle.station_curve.proofs.Products.{cast_small, kept_small, abs_plus, plus, plus_fits}
 use Rattle.station_curve.proofs.Ready.{stored, year_of}
 use Rattle.station_curve.proofs.curve.StationCurve.approximate_year_level.Goals as goal
-use Rattle.station_curve.proofs.curve.StationCurve.approximate_year_level.Goals.{After-from}
 
 pub index-year-requires : goal.index-year-requires
 index-year-requires c = rw (stored c.self.inside c.args.self.now c.self.view_is) c.requires.year
@@ -35,20 +33,14 @@ approximate_heights-requires-clause-amount c =
     c.requires.year c.index-year.ensures in
     rw c.as_slice.ensures.value y.amount
 
-heights : (c : After-from) → c.from.result ≡ c.approximate_heights.result
-heights c = c.from.ensures ∙ cast_small w64 c.approximate_heights.result (2 * 10 ^ 18) c.approximate_heights.ensures.size (lit< tt)
-
-heights_size : (c : After-from) → unsigned_abs c.from.result ≤ 2 * 10 ^ 18
-heights_size c = rw (heights c) c.approximate_heights.ensures.size
-
 pub overflow_add-result : goal.overflow_add-result
 overflow_add-result c =
-    plus_fits w128 c.mean_level.result c.from.result (10 ^ 19) (2 * 10 ^ 18) c.mean_level.ensures.size (heights_size c) (lit< tt)
+    plus_fits w128 c.mean_level.result c.in_billionths.result (10 ^ 19) (2 * 10 ^ 18) c.mean_level.ensures.size c.in_billionths.ensures.size (lit< tt)
 
 pub returns-clause-size : goal.returns-clause-size
 returns-clause-size c =
-    rw (plus w128 c.mean_level.result c.from.result (10 ^ 19) (2 * 10 ^ 18) c.mean_level.ensures.size (heights_size c) (lit< tt))
-    (abs_plus c.mean_level.result c.from.result (10 ^ 19) (2 * 10 ^ 18) c.mean_level.ensures.size (heights_size c))
+    rw (plus w128 c.mean_level.result c.in_billionths.result (10 ^ 19) (2 * 10 ^ 18) c.mean_level.ensures.size c.in_billionths.ensures.size (lit< tt))
+    (abs_plus c.mean_level.result c.in_billionths.result (10 ^ 19) (2 * 10 ^ 18) c.mean_level.ensures.size c.in_billionths.ensures.size)
 
 pub returns-clause-value : goal.returns-clause-value
 unfolding approximate_year_level
@@ -62,8 +54,11 @@ returns-clause-value c =
     let waves : c.as_slice.result.now ≡ waves_in tide c.args.year = c.as_slice.ensures.value ∙ y.waves in
     let datum : to_z w64 (of_z w64 c.self.inside.datum) ≡ tide.datum =
     cast_small w64 c.self.inside.datum (10 ^ 10) c.self.invariant.within_limits.datum (lit< tt) ∙ ap (λ t. t.datum) c.self.view_is in
-    plus w128 c.mean_level.result c.from.result (10 ^ 19) (2 * 10 ^ 18) c.mean_level.ensures.size (heights_size c) (lit< tt)
-    ∙ ap (λ x. x +ℤ c.from.result) (c.mean_level.ensures.value ∙ ap (λ d. pos (10 ^ 9) *ℤ d) datum)
+    plus w128 c.mean_level.result c.in_billionths.result (10 ^ 19) (2 * 10 ^ 18) c.mean_level.ensures.size c.in_billionths.ensures.size (lit< tt)
+    ∙ ap (λ x. x +ℤ c.in_billionths.result) (c.mean_level.ensures.value ∙ ap (λ d. pos (10 ^ 9) *ℤ d) datum)
     ∙ ap (λ y. (pos (10 ^ 9) *ℤ tide.datum) +ℤ y)
-    (heights c ∙ c.approximate_heights.ensures.value ∙ ap (λ t. approximate_heights_of t c.as_slice.result.now) minutes
-    ∙ ap (approximate_heights_of (minutes_into tide.first_year c.args.year c.args.m)) waves)
+    (rw (cast_small w64 c.approximate_heights.result (30518 * 10 ^ 9) c.approximate_heights.ensures.size (lit< tt))
+    at c.in_billionths.ensures.value
+    ∙ ap (λ z. pos (2 ^ 15) *ℤ z) (c.approximate_heights.ensures.value
+    ∙ ap (λ t. approximate_heights_of t c.as_slice.result.now) minutes
+    ∙ ap (approximate_heights_of (minutes_into tide.first_year c.args.year c.args.m)) waves))

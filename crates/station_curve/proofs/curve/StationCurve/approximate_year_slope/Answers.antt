@@ -1,9 +1,9 @@
-use Rattle.std.proofs.Common.{◌≡◌, pos, neg_ℤ, ◌*◌, ◌^◌, ap, ◌∙◌, lit<, lit≤}
+use Rattle.std.proofs.Common.{◌≡◌, pos, neg_ℤ, ◌*◌, ◌*ℤ◌, ◌^◌, ap, ◌∙◌, lit<, lit≤}
 use Rattle.std.proofs.lemmas.Int.{to_z-of_z}
 use mir.Syntax.{w64, w128}
 use Rattle.station_curve.specs.Levels.{minutes_into, waves_in}
 use Rattle.station_curve.specs.Approximate.{approximate_falls_of, approximate_year_slope}
-use Rattle.station_curve.proofs.Products.{abs_minus, minus, minus_fits, zero_minus}
+use Rattle.station_curve.proofs.Products.{cast_small, abs_minus, minus, minus_fits, zero_minus}
 use Rattle.station_curve.proofs.Ready.{stored, year_of}
 use Rattle.station_curve.proofs.curve.StationCurve.approximate_year_slope.Goals as goal
 
@@ -24,12 +24,12 @@ minutes_to-requires-clause-most c =
 
 pub overflow_sub-result : goal.overflow_sub-result
 overflow_sub-result c =
-    minus_fits w128 (pos 0) c.approximate_falls.result 0 (2 * 10 ^ 26) (lit≤ tt) c.approximate_falls.ensures.size (lit< tt)
+    minus_fits w128 (pos 0) c.in_fall_units.result 0 (2 * 10 ^ 26) (lit≤ tt) c.in_fall_units.ensures.size (lit< tt)
 
 pub returns-clause-size : goal.returns-clause-size
 returns-clause-size c =
-    rw (minus w128 (pos 0) c.approximate_falls.result 0 (2 * 10 ^ 26) (lit≤ tt) c.approximate_falls.ensures.size (lit< tt))
-    (abs_minus (pos 0) c.approximate_falls.result 0 (2 * 10 ^ 26) (lit≤ tt) c.approximate_falls.ensures.size)
+    rw (minus w128 (pos 0) c.in_fall_units.result 0 (2 * 10 ^ 26) (lit≤ tt) c.in_fall_units.ensures.size (lit< tt))
+    (abs_minus (pos 0) c.in_fall_units.result 0 (2 * 10 ^ 26) (lit≤ tt) c.in_fall_units.ensures.size)
 
 pub approximate_falls-requires-clause-steepness : goal.approximate_falls-requires-clause-steepness
 approximate_falls-requires-clause-steepness c =
@@ -47,7 +47,10 @@ returns-clause-value c =
     let minutes : c.minutes_to.result ≡ minutes_into tide.first_year c.args.year c.args.m =
     rw (same, y.start) at c.minutes_to.ensures.value in
     let waves : c.as_slice.result.now ≡ waves_in tide c.args.year = c.as_slice.ensures.value ∙ y.waves in
-    minus w128 (pos 0) c.approximate_falls.result 0 (2 * 10 ^ 26) (lit≤ tt) c.approximate_falls.ensures.size (lit< tt)
-    ∙ zero_minus c.approximate_falls.result
-    ∙ ap neg_ℤ (c.approximate_falls.ensures.value ∙ ap (λ t. approximate_falls_of t c.as_slice.result.now) minutes
-    ∙ ap (approximate_falls_of (minutes_into tide.first_year c.args.year c.args.m)) waves)
+    minus w128 (pos 0) c.in_fall_units.result 0 (2 * 10 ^ 26) (lit≤ tt) c.in_fall_units.ensures.size (lit< tt)
+    ∙ zero_minus c.in_fall_units.result
+    ∙ ap neg_ℤ (rw (cast_small w64 c.approximate_falls.result (6 * 10 ^ 18) c.approximate_falls.ensures.size (lit< tt))
+    at c.in_fall_units.ensures.value
+    ∙ ap (λ z. pos (2 ^ 24) *ℤ z) (c.approximate_falls.ensures.value
+    ∙ ap (λ t. approximate_falls_of t c.as_slice.result.now) minutes
+    ∙ ap (approximate_falls_of (minutes_into tide.first_year c.args.year c.args.m)) waves))

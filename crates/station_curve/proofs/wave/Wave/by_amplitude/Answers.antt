@@ -6,11 +6,11 @@ use Rattle.station_curve.proofs.wave.Wave.by_amplitude.Goals as goal
 
 pub overflow_mul-result : goal.overflow_mul-result
 overflow_mul-result c =
-    times_fits w64 c.self.inside.amplitude c.args.sine (10 ^ 9) 1000038100 c.self.invariant.amount c.requires (lit< tt) (lit< tt) (lit< tt)
+    times_fits w64 c.self.inside.amplitude c.args.sine (10 ^ 9) (10 ^ 9) c.self.invariant.amount c.requires (lit< tt) (lit< tt) (lit< tt)
 
 pub returns-clause-value : goal.returns-clause-value
 returns-clause-value c =
-    times w64 c.self.inside.amplitude c.args.sine (10 ^ 9) 1000038100 c.self.invariant.amount c.requires (lit< tt) (lit< tt) (lit< tt)
+    times w64 c.self.inside.amplitude c.args.sine (10 ^ 9) (10 ^ 9) c.self.invariant.amount c.requires (lit< tt) (lit< tt) (lit< tt)
     ∙ ap (λ h. h.amplitude *ℤ c.args.sine) c.self.view_is
 
 pub returns-clause-size : goal.returns-clause-size

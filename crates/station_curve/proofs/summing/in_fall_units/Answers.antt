@@ -1,0 +1,18 @@
+use Rattle.std.proofs.Common.{◌*◌, ◌^◌, pos, ◌∙◌, lit<, lit≤, arith}
+use mir.Syntax.{w64, w128}
+use Rattle.station_curve.proofs.Products.{cast_small, times, abs_times}
+use Rattle.station_curve.proofs.summing.in_fall_units.Goals as goal
+
+pub returns-clause-value : goal.returns-clause-value
+returns-clause-value c =
+    rw (c.from.ensures ∙ cast_small w64 c.args.falls (6 * 10 ^ 18) c.requires (lit< tt))
+    (times w128 (pos (2 ^ 24)) c.args.falls (2 ^ 24) (6 * 10 ^ 18) (lit≤ tt) c.requires (lit< tt) (lit< tt) (lit< tt))
+
+pub returns-clause-size : goal.returns-clause-size
+returns-clause-size c =
+    let size = abs_times (pos (2 ^ 24)) c.args.falls (2 ^ 24) (6 * 10 ^ 18) (lit≤ tt) c.requires in
+    rw (
+      c.from.ensures ∙ cast_small w64 c.args.falls (6 * 10 ^ 18) c.requires (lit< tt),
+      times w128 (pos (2 ^ 24)) c.args.falls (2 ^ 24) (6 * 10 ^ 18) (lit≤ tt) c.requires (lit< tt) (lit< tt) (lit< tt),
+    )
+    (omega (arith, size))
