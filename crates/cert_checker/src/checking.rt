@@ -10,7 +10,7 @@ ghost use Rattle.curve_law.specs.Verdicts.{cells_verdict, verdict};
 
 use crate::covering::{covered_by, minutes_of};
 use crate::finding::finding_on;
-use curve_law::{Cell, Cells, Curve, Point, Verdict, point_at};
+use curve_law::{Cell, Cells, Curve, Point, Verdict, approximate_point_at};
 
 /// Checks `cells`, which claim to be those of the minutes from `begin` on and before `end`, all of them
 /// minutes of `curve`: first their number of minutes, then each cell. Accepted cells have exactly the
@@ -59,7 +59,7 @@ fn first_finding<C: Curve>(curve: &mut C, cells: &[Cell], begin: i64) -> Verdict
     ensures count { (C.state curve.new).count ≤ (C.state curve.old).count + length cells.now + 1 }
     ensures unchanged { (C.state curve.new).facts ≡ (C.state curve.old).facts }
 {
-    let mut at = point_at(curve, begin);
+    let mut at = approximate_point_at(curve, begin);
     let mut number: u32 = 0;
     for cell in cells {
         let end = end_of(curve, at.minute, *cell);
@@ -77,8 +77,8 @@ fn end_of<C: Curve>(curve: &mut C, begin: i64, cell: Cell) -> Point
     requires span { IsSpan (C.state curve.old).facts.meaning begin (minutes_of cell) }
     requires count_bound { (C.state curve.old).count < 2 ^ 63 }
     ensures minute { result.minute ≡ begin +ℤ pos (minutes_of cell) }
-    ensures value { result.value ≡ (C.state curve.old).facts.meaning.track.value result.minute }
+    ensures value { result.value ≡ (C.state curve.old).facts.approximate result.minute }
     ensures after { C.state curve.new ≡ evaluated_once (C.state curve.old) }
 {
-    point_at(curve, begin + i64::from(minutes_of(cell)))
+    approximate_point_at(curve, begin + i64::from(minutes_of(cell)))
 }

@@ -3,12 +3,17 @@
 ghost use Rattle.std.specs.Prelude.{◌≡◌, pos, ◌+ℤ◌};
 ghost use Rattle.curve_law.specs.Meaning.{IsSpan};
 ghost use Rattle.curve_law.specs.Cells.{minutes_of};
+ghost use Rattle.curve_law.specs.Cover.{is_quiet};
 ghost use Rattle.curve_law.specs.Verdicts.{cell_verdict};
 ghost use Rattle.cert_checker.specs.Workings.Findings.{quiet_finding, level_finding, unit_finding};
 
-use curve_law::{Cell, Curve, Point, Verdict, is_quiet, unit_cell};
+use curve_law::{
+    Cell, Curve, MOST_MINUTES, Point, Verdict, is_quiet_from_approximate,
+    unit_cell_from_approximate,
+};
 
-/// Returns the verdict on `cell`, the one with this `number`, by the points at its begin and its end.
+/// Returns the verdict on `cell`, the one with this `number`, by the approximate values at its begin and its
+/// end.
 #[tactic(auto, using(crate::proofs::FindingLemmas::findings))]
 pub fn finding_on<C: Curve>(
     curve: &C,
@@ -18,21 +23,31 @@ pub fn finding_on<C: Curve>(
     end_value: i128,
 ) -> Verdict
     requires span { IsSpan (C.state curve.now).facts.meaning at.minute (minutes_of cell) }
-    requires value { at.value ≡ (C.state curve.now).facts.meaning.track.value at.minute }
-    requires end_value { end_value ≡ (C.state curve.now).facts.meaning.track.value (at.minute +ℤ pos (minutes_of cell)) }
+    requires value { at.value ≡ (C.state curve.now).facts.approximate at.minute }
+    requires end_value { end_value ≡ (C.state curve.now).facts.approximate (at.minute +ℤ pos (minutes_of cell)) }
     ensures { result ≡ cell_verdict (C.state curve.now).facts.meaning at.minute number cell }
 {
     match cell {
-        Cell::Quiet(minutes) => quiet_finding(
-            number,
-            is_quiet(curve, at.minute, minutes, at.value, end_value),
-        ),
+        Cell::Quiet(minutes) => quiet_finding(number, is_quiet_cell(curve, minutes, at, end_value)),
         Cell::Still | Cell::Turn(..) => unit_finding(
             number,
             cell,
-            unit_cell(curve, at.minute, at.value, end_value),
+            unit_cell_from_approximate(curve, at.minute, at.value, end_value),
         ),
     }
+}
+
+/// Returns true if the `minutes` minutes from `at` on are a quiet cell.
+fn is_quiet_cell<C: Curve>(curve: &C, minutes: u32, at: Point, end_value: i128) -> bool
+    requires span { IsSpan (C.state curve.now).facts.meaning at.minute minutes }
+    requires value { at.value ≡ (C.state curve.now).facts.approximate at.minute }
+    requires end_value { end_value ≡ (C.state curve.now).facts.approximate (at.minute +ℤ pos minutes) }
+    ensures { result ≡ is_quiet (C.state curve.now).facts.meaning at.minute minutes }
+{
+    if minutes > MOST_MINUTES {
+        return false;
+    }
+    is_quiet_from_approximate(curve, at.minute, minutes, at.value, end_value)
 }
 
 fn quiet_finding(number: u32, is_quiet: bool) -> Verdict

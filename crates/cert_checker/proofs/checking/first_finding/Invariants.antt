@@ -12,7 +12,7 @@ invariant-loop-cell g l =
       unchanged : (g.C.Curve.state l.curve).facts ≡ (g.C.Curve.state l.fn.curve).facts;
       numbered : l.number ≡ l.cell-index;
       counted : (g.C.Curve.state l.curve).count ≡ (g.C.Curve.state l.fn.curve).count + l.cell-index + 1;
-      value : l.at.value ≡ meaning.track.value l.at.minute;
+      value : l.at.value ≡ (g.C.Curve.state l.fn.curve).facts.approximate l.at.minute;
       span : IsSpan meaning l.at.minute (all_minutes (drop l.cell-index l.cells));
       left : cells_verdict meaning l.begin 1 l.cells ≡ cells_verdict meaning l.at.minute (l.number + 1) (drop l.cell-index l.cells);
     }
