@@ -14,7 +14,7 @@ use Rattle.question.specs.declared.pairs.Pairs.{Pairs}
 use Rattle.question.specs.declared.question.Question.{Question}
 use Rattle.question.specs.Forms.{step_of}
 use Rattle.question.specs.Questions.{Said, nothing_said, command_of, with_items, missing_key, complete, asked, question_of}
-use Rattle.question.specs.Words.{pairs_of}
+use Rattle.question.specs.Words.{asks_to_serve, pairs_of}
 use Rattle.question.proofs.FormLemmas.{step_of-range}
 use Rattle.report_sheets.specs.Pages.{missing_of}
 use Rattle.report_sheets.specs.Sheets.{SheetMeaning}
@@ -29,7 +29,7 @@ use Rattle.station_table.specs.declared.offsets.Offsets.{Offsets}
 use Rattle.station_table.specs.Bases.{basis_of}
 use Rattle.tide_answer.specs.Answers.{named_by}
 use Rattle.tide_answer.specs.Asking.{asked_by_question}
-use Rattle.tide_desk.specs.Answers.{question_of_words, ask_from, asks_to_serve, found_in, question_in, wanted_by}
+use Rattle.tide_desk.specs.Answers.{question_of_words, ask_from, found_in, question_in, wanted_by}
 use Rattle.tide_desk.proofs.AskedLemmas.{NamesSpan}
 use Rattle.tide_fault.specs.declared.refusal.Refusal.TheVariants.{NoStation}
 
@@ -75,12 +75,12 @@ pub words_ask : (sheets : List SheetMeaning) (words : List (List ℕ)) (question
     → question_of_words sheets words ≡ Ok question → WasAsked sheets (pairs_of words) question
 unfolding question_of_words
 words_ask sheets words question ok =
-    let said = then_ok (ask_from (question_in (pairs_of words))) _ question ok in
+    let said = then_ok (ask_from (question_in words)) _ question ok in
     let known = then_ok (found_in (wanted_by said.0) (missing_of sheets (wanted_by said.0))) _ question said.2 in
     let same : said.0 ≡ question = (let last = known.2 in cc) in
     pairs_ask sheets (pairs_of words) question
-    (unserved (asks_to_serve (pairs_of words)) (question_of (pairs_of words)) question
-    (ask_ok (question_in (pairs_of words)) question (said.1 ∙ ap (λ (q : Question). Ok q) same)))
+    (unserved (asks_to_serve words) (question_of (pairs_of words)) question
+    (ask_ok (question_in words) question (said.1 ∙ ap (λ (q : Question). Ok q) same)))
     (subst (λ (q : Question). found_in (wanted_by q) (missing_of sheets (wanted_by q)) ≡ Ok tt) same known.1)
 
 -- ---- the step

@@ -1,9 +1,12 @@
 -- The arguments of a command line as pairs (this project).
-use Rattle.std.specs.Prelude.{ℕ, ◌==◌, Bool, if◌then◌else◌, List, drop, map, slice_get, Some, None}
+use Rattle.std.specs.Prelude.{ℕ, ◌==◌, Bool, false, if◌then◌else◌, List, [], ◌∷◌, drop, map, slice_get, Some, None}
 use Rattle.std.specs.List.{before_first, after_first, list_any}
+use Rattle.std.specs.Str.{bytes_eq}
+use Rattle.question.specs.declared.command.Command.TheVariants.{Serve}
 use Rattle.question.specs.declared.origin.Origin.TheVariants.{Line}
 use Rattle.question.specs.declared.pairs.Item.{Item}
 use Rattle.question.specs.declared.pairs.Pairs.{Pairs}
+use Rattle.question.specs.Commands.{word_of}
 
 abbrev pub is_equals_sign : ℕ → Bool
 is_equals_sign byte = byte == 61
@@ -18,3 +21,8 @@ item_of word =
 -- the first argument is the command
 abbrev pub pairs_of : List (List ℕ) → Pairs
 pairs_of words = record { origin = Line; command = slice_get words 0; items = map item_of (drop 1 words) }
+
+-- the first argument is the command of the web server
+abbrev pub asks_to_serve : List (List ℕ) → Bool
+asks_to_serve [] = false
+asks_to_serve (word ∷ words) = bytes_eq word (word_of Serve)

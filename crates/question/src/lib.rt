@@ -32,7 +32,7 @@ pub use pairs::{Item, Items, Pairs};
 pub use question::{Question, ZoneWord};
 pub use reading::{read_items, read_question};
 pub use valid_question::ValidQuestion;
-pub use words::pairs_of_words;
+pub use words::{asks_to_serve, pairs_of_words};
 pub use worked::{
     worked_faults, worked_query_faults, worked_questions, worked_values, worked_words,
 };

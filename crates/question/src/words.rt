@@ -1,8 +1,9 @@
 //! The arguments of a command line as pairs.
 
 ghost use Rattle.std.specs.Prelude.{◌≡◌, IfOk, Some, map};
-ghost use Rattle.question.specs.Words.{item_of, pairs_of};
+ghost use Rattle.question.specs.Words.{asks_to_serve, item_of, pairs_of};
 
+use crate::command::Command;
 use crate::origin::Origin;
 use crate::pairs::{Item, Items, Pairs};
 use decimal_text::{Text, Words};
@@ -28,6 +29,16 @@ pub fn pairs_of_words(alloc: Global, words: &Words) -> Result<Pairs, AllocError>
         command: Some(command.copy()?),
         items: Items::from_vec(items(alloc, rest)?),
     })
+}
+
+/// Returns true if the first argument is the command of the web server. Doesn't allocate.
+pub fn asks_to_serve(words: &Words) -> bool
+    ensures { result ≡ asks_to_serve words.now }
+{
+    match words.as_slice().first() {
+        Some(word) => word.as_str() == Command::Serve.text(),
+        None => false,
+    }
 }
 
 fn items(alloc: Global, words: &[Text]) -> Result<Vec<Item>, AllocError>

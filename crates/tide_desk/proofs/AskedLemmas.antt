@@ -20,7 +20,7 @@ use Rattle.question.specs.declared.question.ZoneWord.TheVariants.{Utc}
 use Rattle.question.specs.Forms.{mark_of, some_text, zone_of}
 use Rattle.question.specs.Keys.{all_keys, has_key, key_named, name_of}
 use Rattle.question.specs.Questions.{Said, nothing_said, also, refuse_if, has_form, command_of, with_item, with_items, missing_key, complete, asked, question_of}
-use Rattle.question.specs.Words.{pairs_of}
+use Rattle.question.specs.Words.{asks_to_serve, pairs_of}
 use Rattle.question.proofs.FormLemmas.{moment_of-range, mark_of-range}
 use Rattle.report_sheets.specs.Pages.{missing_of}
 use Rattle.report_sheets.specs.Sheets.{SheetMeaning}
@@ -32,7 +32,7 @@ use Rattle.tide_answer.specs.Answers.{asks_span, named_by}
 use Rattle.tide_answer.specs.Asking.{asked_by_question}
 use Rattle.tide_answer.specs.Laws.{IsAskable}
 use Rattle.station_span.proofs.SiteLemmas.{then_ok}
-use Rattle.tide_desk.specs.Answers.{question_of_words, ask_from, asks_to_serve, found_in, question_in, wanted_by}
+use Rattle.tide_desk.specs.Answers.{question_of_words, ask_from, found_in, question_in, wanted_by}
 
 -- ---- the request of pairs
 
@@ -64,12 +64,12 @@ words_ask : (sheets : List SheetMeaning) (words : List (List ℕ)) (question : Q
     → question_of_words sheets words ≡ Ok question → WasAsked (pairs_of words) question
 unfolding question_of_words
 words_ask sheets words question ok =
-    let asked = then_ok (ask_from (question_in (pairs_of words))) _ question ok in
+    let asked = then_ok (ask_from (question_in words)) _ question ok in
     let known = then_ok (found_in (wanted_by asked.0) (missing_of sheets (wanted_by asked.0))) _ question asked.2 in
     let same : asked.0 ≡ question = (let last = known.2 in cc) in
     pairs_ask (pairs_of words) question
-    (unserved (asks_to_serve (pairs_of words)) (question_of (pairs_of words)) question
-    (ask_ok (question_in (pairs_of words)) question (asked.1 ∙ ap (λ (q : Question). Ok q) same)))
+    (unserved (asks_to_serve words) (question_of (pairs_of words)) question
+    (ask_ok (question_in words) question (asked.1 ∙ ap (λ (q : Question). Ok q) same)))
 
 -- ---- the values of its keys are in their ranges
 

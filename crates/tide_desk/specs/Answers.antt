@@ -10,7 +10,6 @@ use Rattle.std.specs.Prelude.{
   if◌then◌else◌,
   List,
   [],
-  codes,
   Option,
   Some,
   None,
@@ -24,17 +23,15 @@ use Rattle.std.specs.Prelude.{
 }
 use Rattle.std.specs.Option.{option_map_or, IsSomeAnd}
 use Rattle.std.specs.Result.{IsOkAnd}
-use Rattle.std.specs.Str.{bytes_eq}
 use Rattle.decimal_text.specs.Expected.{◌>>=◌}
 use Rattle.harmonics_book.specs.declared.book.Book.{Book}
 use Rattle.question.specs.declared.command.Command.{Command}
 use Rattle.question.specs.declared.command.Command.TheVariants.{Clock, Report}
 use Rattle.question.specs.declared.fault.AskFault.{AskFault}
 use Rattle.question.specs.declared.fault.AskFault.TheVariants.{UnknownCommand}
-use Rattle.question.specs.declared.pairs.Pairs.{Pairs}
 use Rattle.question.specs.declared.question.Question.{Question}
 use Rattle.question.specs.Questions.{question_of}
-use Rattle.question.specs.Words.{pairs_of}
+use Rattle.question.specs.Words.{asks_to_serve, pairs_of}
 use Rattle.report_sheets.specs.declared.head.Head.{Head}
 use Rattle.report_sheets.specs.Pages.{missing_of, pages_of}
 use Rattle.report_sheets.specs.Sheets.{SheetMeaning}
@@ -65,13 +62,9 @@ abbrev pub refused_from : {A : Type 0} → Result A Refusal → Result A Fault
 refused_from (Ok value) = Ok value
 refused_from (Err refusal) = Err (Refused refusal)
 
--- the command is `serve`, which no run answers
-abbrev pub asks_to_serve : Pairs → Bool
-asks_to_serve pairs = option_map_or (λ word. bytes_eq word (codes "serve")) pairs.command false
-
--- the request of a command line
-abbrev pub question_in : Pairs → Result Question AskFault
-question_in pairs = if asks_to_serve pairs then Err UnknownCommand else question_of pairs
+-- the request of a command line; no run answers `serve`
+abbrev pub question_in : List (List ℕ) → Result Question AskFault
+question_in words = if asks_to_serve words then Err UnknownCommand else question_of (pairs_of words)
 
 -- the words of the sheets that a request names; none if it isn't for a report
 abbrev pub wanted_by : Question → List (List ℕ)
@@ -89,7 +82,7 @@ found_in wanted (Some place) = Err (NoSheet (word_at wanted place))
 -- the request of a command line, if a report can have these sheets
 unfoldable pub question_of_words : List SheetMeaning → List (List ℕ) → Result Question Fault
 question_of_words sheets words = do
-  question ← ask_from (question_in (pairs_of words))
+  question ← ask_from (question_in words)
   known ← found_in (wanted_by question) (missing_of sheets (wanted_by question))
   Ok question
 

@@ -4,13 +4,12 @@ ghost use Rattle.std.specs.Prelude.{◌≡◌, ◌<◌, [], Some, length, map, u
 ghost use Rattle.decimal_text.specs.Expected.{Excused, ReturnsUnless};
 ghost use Rattle.question.specs.Asked.{IsAsked};
 ghost use Rattle.question.specs.Questions.{is_out_of_memory as ask_is_out_of_memory};
-ghost use Rattle.question.specs.Words.{pairs_of};
 ghost use Rattle.report_sheets.specs.Pages.{missing_of};
 ghost use Rattle.tide_fault.specs.Faults.{is_out_of_memory, IsPrintable};
-ghost use Rattle.tide_desk.specs.Answers.{question_of_words, asks_to_serve, found_in, question_in};
+ghost use Rattle.tide_desk.specs.Answers.{question_of_words, found_in, question_in};
 
 use decimal_text::Words;
-use question::{AskFault, Pairs, Question, pairs_of_words, read_question};
+use question::{AskFault, Question, asks_to_serve, pairs_of_words, read_question};
 use report_sheets::{Sheet, missing};
 use std::alloc::Global;
 use tide_fault::{Fault, Refusal};
@@ -36,24 +35,14 @@ pub fn read_words(
 
 /// Returns the request of the arguments `words`, whose command isn't `serve`.
 fn question_in_words(alloc: Global, words: &Words) -> Result<Question, AskFault>
-    ensures exact { ReturnsUnless ask_is_out_of_memory (question_in (pairs_of words.now)) result }
+    ensures exact { ReturnsUnless ask_is_out_of_memory (question_in words.now) result }
     ensures asked { IfOk result IsAsked }
 {
-    let pairs = pairs_of_words(alloc, words)?;
-    if asks_to_serve(&pairs) {
+    if asks_to_serve(words) {
         return Err(AskFault::UnknownCommand);
     }
+    let pairs = pairs_of_words(alloc, words)?;
     read_question(alloc, &pairs)
-}
-
-/// Returns true if the command is `serve`.
-fn asks_to_serve(pairs: &Pairs) -> bool
-    ensures { result ≡ asks_to_serve pairs.now }
-{
-    match &pairs.command {
-        Some(word) => word.as_str() == "serve",
-        None => false,
-    }
 }
 
 // Returns `Ok` if each word in `wanted` is that of one of `sheets`.

@@ -5,7 +5,6 @@ use Rattle.std.specs.Prelude.{codes}
 use Rattle.question.specs.declared.fault.AskFault.TheVariants.{MissingKey, UnknownCommand}
 use Rattle.question.specs.declared.key.Key.TheVariants as keys
 use Rattle.question.specs.declared.question.Question.{Question}
-use Rattle.question.specs.Words.{pairs_of}
 use Rattle.tide_fault.specs.declared.fault.Fault.{Fault}
 use Rattle.tide_fault.specs.declared.fault.Fault.TheVariants.{Ask, Refused}
 use Rattle.tide_fault.specs.declared.refusal.Refusal.TheVariants as refusals
@@ -165,7 +164,7 @@ refused_full firm expected status before after failed full door clock wrote = re
 -- ---- Another command
 
 -- the arguments are no request to serve then
-pub another_asked : (words : List (List ℕ)) → IsTrue (asks_another (pairs_of words)) → service_of words ≡ Err (Ask UnknownCommand)
+pub another_asked : (words : List (List ℕ)) → IsTrue (asks_another words) → service_of words ≡ Err (Ask UnknownCommand)
 unfolding service_of
 another_asked words is = rw is refl
 
@@ -177,7 +176,7 @@ another_data folders words is = rw is refl
 -- no connection was served, since the arguments have another command
 pub refused_another : (firm : Type 0) (folders : Folders) (words : List (List ℕ)) (status : Status)
     (before after : ServerStates) (failed : Bool)
-    → IsTrue (asks_another (pairs_of words)) → status ≡ Words → after.door ≡ before.door → after.clock ≡ before.clock
+    → IsTrue (asks_another words) → status ≡ Words → after.door ≡ before.door → after.clock ≡ before.clock
     → Wrote before.err after.err failed (codes "words: unknown command\n")
     → IsRefused firm (served_data_from folders words) status before after
 unfolding ask_line fault_line_of

@@ -23,16 +23,13 @@ use Rattle.std.specs.Prelude.{
   Ok,
   Err,
 }
-use Rattle.std.specs.Option.{option_map_or}
-use Rattle.std.specs.Str.{bytes_eq}
 use Rattle.decimal_text.specs.Expected.{◌>>=◌}
 use Rattle.question.specs.declared.fault.AskFault.{AskFault}
 use Rattle.question.specs.declared.fault.AskFault.TheVariants.{UnknownCommand, MissingKey}
 use Rattle.question.specs.declared.key.Key.TheVariants as keys
-use Rattle.question.specs.declared.pairs.Pairs.{Pairs}
 use Rattle.question.specs.declared.question.Question.{Question}
 use Rattle.question.specs.Questions.{question_of}
-use Rattle.question.specs.Words.{pairs_of}
+use Rattle.question.specs.Words.{asks_to_serve, pairs_of}
 use Rattle.tide_fault.specs.declared.fault.Fault.{Fault}
 use Rattle.tide_fault.specs.declared.fault.Fault.TheVariants.{Ask}
 use Rattle.tide_fault.specs.declared.slot.Slot.TheVariants as slots
@@ -56,12 +53,13 @@ use Rattle.tide_server.specs.Serving.{Served, exchange}
 -- ---- The arguments
 
 -- the command isn't `serve`
-abbrev pub asks_another : Pairs → Bool
-asks_another pairs = option_map_or (λ word. not (bytes_eq word (codes "serve"))) pairs.command false
+abbrev pub asks_another : List (List ℕ) → Bool
+asks_another [] = false
+asks_another (word ∷ words) = not (asks_to_serve (word ∷ words))
 
 -- the request to serve of a command line
-abbrev pub service_in : Pairs → Result Question AskFault
-service_in pairs = if asks_another pairs then Err UnknownCommand else question_of pairs
+abbrev pub service_in : List (List ℕ) → Result Question AskFault
+service_in words = if asks_another words then Err UnknownCommand else question_of (pairs_of words)
 
 -- a result with a fault of the arguments as one with a fault of the server
 abbrev pub service_from : Result Question AskFault → Result Question Fault
@@ -70,7 +68,7 @@ service_from (Err fault) = Err (Ask fault)
 
 -- the request to serve of the arguments
 unfoldable pub service_of : List (List ℕ) → Result Question Fault
-service_of words = service_from (service_in (pairs_of words))
+service_of words = service_from (service_in words)
 
 -- ---- The files; the harmonics file has the name
 

@@ -1,6 +1,5 @@
 -- The promise of a server, over objects of any kind (this project).
 use Rattle.std.specs.Prelude.{◌≡◌, ℕ, Bool, false, List, IsTrue, IsOk, None}
-use Rattle.question.specs.Words.{pairs_of}
 use Rattle.named_files.specs.NoAnswers.{is_read_fault}
 use Rattle.tide_edge.specs.Clocks.{ClockState}
 use Rattle.tide_edge.specs.Doors.{DoorState}
@@ -66,7 +65,7 @@ pub record ServesAs {F D E K : Type 0} (s : ServiceStates F D E K) (words : List
   pub own_files : IsTrue (s.files before.files).store.is_observable
       → EndsAs (IsTrue (s.files before.files).store.is_steady) (served_data_of (s.files before.files).store.folder words) status
       (server_states_of s before) (server_states_of s after)
-  pub another : IsTrue (asks_another (pairs_of words)) → RefusesCommand status (s.err before.err) (s.err after.err)
+  pub another : IsTrue (asks_another words) → RefusesCommand status (s.err before.err) (s.err after.err)
   pub done : status ≡ Done → IsOver (s.door after.door).doorway
   pub fault : EndedBy (is_read_fault status) (server_states_of s before) (server_states_of s after)
   pub reads : (failed : Bool) × ReadWithin (files_asked (service_of words)) failed (s.files before.files) (s.files after.files)

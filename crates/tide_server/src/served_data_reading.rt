@@ -3,7 +3,6 @@
 ghost use Rattle.std.specs.Prelude.{◌≡◌, false, [], IsOk, IsTrue, IfErr};
 ghost use Rattle.decimal_text.specs.Expected.{ReturnsUnless};
 ghost use Rattle.question.specs.Questions.{is_out_of_memory as ask_is_out_of_memory};
-ghost use Rattle.question.specs.Words.{pairs_of};
 ghost use Rattle.tide_fault.specs.Faults.{is_out_of_memory, IsPrintable as IsPrintableFault};
 ghost use Rattle.decimal_text.specs.Expected.{Meets};
 ghost use Rattle.tide_edge.specs.Whole.{ReadWithin, both, one_file};
@@ -17,7 +16,7 @@ ghost use Rattle.tide_server.specs.Shown.{names_served, served_data_by_openings,
 use crate::served_data::{ServedData, ValidServedData};
 use decimal_text::{Text, Words};
 use named_files::{NoAnswer, read_book, read_table};
-use question::{AskFault, Key, Question, pairs_of_words, read_question};
+use question::{AskFault, Key, Question, asks_to_serve, pairs_of_words, read_question};
 use std::alloc::Global;
 use tide_edge::Files;
 use tide_fault::Fault;
@@ -32,7 +31,7 @@ pub(crate) fn read_served_data<F: Files>(
     words: &Words,
     files: &mut F,
 ) -> Result<ValidServedData, NoAnswer>
-    requires { asks_another (pairs_of words.now) ≡ false }
+    requires { asks_another words.now ≡ false }
     ensures own { IsTrue (F.state files.old).store.is_observable → Meets source_of (IsTrue (F.state files.old).store.is_steady)
         (served_data_of (F.state files.old).store.folder words.now) result }
     ensures shown { IsResultOf (names_served (service_of words.now)) (served_data_by_openings words.now)
@@ -89,7 +88,7 @@ fn read_named<F: Files>(
 // Returns the request to serve in the arguments `words`.
 #[tactic(auto, unfolding(crate::specs::Openings::service_of))]
 fn read_service(alloc: Global, words: &Words) -> Result<Question, Fault>
-    requires { asks_another (pairs_of words.now) ≡ false }
+    requires { asks_another words.now ≡ false }
     ensures exact { ReturnsUnless is_out_of_memory (service_of words.now) result }
     ensures printable { IfErr result (IsPrintableFault []) }
 {
@@ -99,8 +98,8 @@ fn read_service(alloc: Global, words: &Words) -> Result<Question, Fault>
 
 /// Returns the request to serve in the arguments `words`, or the fault of the arguments.
 fn service_in_words(alloc: Global, words: &Words) -> Result<Question, AskFault>
-    requires { asks_another (pairs_of words.now) ≡ false }
-    ensures { ReturnsUnless ask_is_out_of_memory (service_in (pairs_of words.now)) result }
+    requires { asks_another words.now ≡ false }
+    ensures { ReturnsUnless ask_is_out_of_memory (service_in words.now) result }
 {
     let pairs = pairs_of_words(alloc, words)?;
     read_question(alloc, &pairs)
@@ -108,10 +107,10 @@ fn service_in_words(alloc: Global, words: &Words) -> Result<Question, AskFault>
 
 /// Returns true if the command of `words` isn't `serve`. Doesn't allocate.
 pub(crate) fn names_another(words: &Words) -> bool
-    ensures { result ≡ asks_another (pairs_of words.now) }
+    ensures { result ≡ asks_another words.now }
 {
     match words.as_slice().first() {
-        Some(word) => word.as_str() != "serve",
+        Some(_) => !asks_to_serve(words),
         None => false,
     }
 }

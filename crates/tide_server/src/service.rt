@@ -20,7 +20,6 @@ ghost use Rattle.tide_server.specs.Openings.{
   served_data_of,
 };
 ghost use Rattle.tide_server.specs.Promises.{ServesAs, service_states, services};
-ghost use Rattle.question.specs.Words.{pairs_of};
 ghost use Rattle.tide_server.specs.Serving.{IsOver};
 ghost use Rattle.tide_server.specs.Shown.{EndsAsShown};
 ghost use Rattle.tide_server.specs.Workings.Ends.{Ended, unread};
@@ -89,7 +88,7 @@ fn serve_words<F: Files, D: Door, E: Sink, K: Clock>(
     ensures shown { EndsAsShown words.now result
         (server_states (F.state files.old) (D.state door.old) (E.state err.old) (K.state clock.old))
         (server_states (F.state files.new) (D.state door.new) (E.state err.new) (K.state clock.new)) }
-    ensures another { IsTrue (asks_another (pairs_of words.now)) → RefusesCommand result (E.state err.old) (E.state err.new) }
+    ensures another { IsTrue (asks_another words.now) → RefusesCommand result (E.state err.old) (E.state err.new) }
     ensures done { result ≡ Status.Done → IsOver (D.state door.new).doorway }
     ensures read_fault { EndedBy (is_read_fault result)
         (server_states (F.state files.old) (D.state door.old) (E.state err.old) (K.state clock.old))
