@@ -15,5 +15,5 @@ mod worked;
 pub use materials::Materials;
 pub use no_answer::NoAnswer;
 pub use reading::{read_book, read_files, read_table};
-pub use reporting::{refuse, report};
+pub use reporting::{print_line, refuse, report};
 pub use worked::{worked_faults, worked_files};

@@ -47,8 +47,13 @@ pub fn refuse<E: Sink>(err: &mut E, status: Status, line: &[u8]) -> Status
     ensures same { result ≡ status }
     ensures line { (failed : Bool) × Wrote (E.state err.old) (E.state err.new) failed line.now }
 {
-    match write_all(err, line) {
-        Ok(()) => status,
-        Err(_) => status,
-    }
+    print_line(err, line);
+    status
+}
+
+/// Writes `line` to `err`. A write that fails changes nothing, and isn't tried again.
+pub fn print_line<E: Sink>(err: &mut E, line: &[u8])
+    ensures { (failed : Bool) × Wrote (E.state err.old) (E.state err.new) failed line.now }
+{
+    let _ = write_all(err, line);
 }

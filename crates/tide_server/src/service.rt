@@ -31,7 +31,7 @@ use crate::served_data_reading::{names_another, read_served_data};
 use arrayvec::ArrayString;
 use decimal_text::Words;
 use itoa::Buffer;
-use named_files::{refuse, report};
+use named_files::{print_line, refuse, report};
 use std::alloc::Global;
 use tide_edge::{Clock, Door, Files, Sink};
 use tide_fault::Status;
@@ -169,7 +169,7 @@ fn report_port<E: Sink>(port: u16, err: &mut E)
 {
     let mut line = ArrayString::new();
     write_notice(port, &mut line);
-    refuse(err, Status::Done, line.as_str().as_bytes());
+    print_line(err, line.as_str().as_bytes());
 }
 
 /// Appends the line of the port to `line`.
