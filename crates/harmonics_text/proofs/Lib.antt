@@ -9,5 +9,6 @@ pub mod Ranges
 pub mod Valid
 pub mod Keeping
 pub mod Runs
+pub mod Usual
 pub mod Readers
 pub mod Worked

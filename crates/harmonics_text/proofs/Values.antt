@@ -1,16 +1,15 @@
 -- The values of a line, one token after the other, and the constants of a constituent.
-use Rattle.std.proofs.Common.{◌≡◌, ℕ, ℤ, pos, codes, zero, suc, ◌+◌, ◌-◌, ◌<◌, ◌≤◌, true, ltb, List, [], ◌∷◌, ◌++◌, length, get_or, Result, Ok, Err, refl, sym, ap, ◌∙◌, inl, inr, arith}
-use Rattle.std.specs.Str.{bytes_eq}
+use Rattle.std.proofs.Common.{◌≡◌, ℕ, ℤ, pos, cond, zero, suc, ◌+◌, ◌-◌, ◌<◌, ◌≤◌, true, ltb, List, [], ◌∷◌, ◌++◌, length, get_or, Result, Ok, Err, refl, sym, ap, subst, ◌∙◌, inl, inr, arith}
+use Rattle.std.specs.Prelude.{◌||◌}
 use Rattle.std.specs.Result.{IfOk, result_and}
 use Rattle.std.proofs.lemmas.Bool.{cases_lt, cases_eq, lt-ltb, le-ltb, eq-eqb, ne_eqb}
-use Rattle.std.proofs.lemmas.Slice.Eq.{bytes_eq-Decides}
 use Rattle.std.proofs.lemmas.List.{get_or_default}
 use Rattle.harmonics_book.specs.declared.book.Book.{Book}
 use Rattle.harmonics_text.specs.declared.fault.Why.{Why}
 use Rattle.harmonics_text.specs.declared.fault.Why.TheVariants.{BadNumber}
 use Rattle.harmonics_text.specs.declared.fault.LineFault.{LineFault}
 use Rattle.harmonics_text.specs.declared.fault.LineFault.TheVariants.{NoMemory, Bad}
-use Rattle.harmonics_text.specs.declared.scale.Scale.TheVariants.{Angle, Factor}
+use Rattle.harmonics_text.specs.declared.scale.Scale.TheVariants.{Angle, Factor, Height}
 use Rattle.harmonics_text.specs.declared.scale.Scale.{Scale}
 use Rattle.harmonics_text.specs.declared.heading.Heading.{Heading}
 use Rattle.harmonics_text.specs.declared.table.Table.{Table}
@@ -20,9 +19,9 @@ use Rattle.harmonics_text.specs.declared.record.Record.TheVariants as records
 use Rattle.harmonics_text.specs.declared.book_parser.BookParser.{BookParser}
 use Rattle.harmonics_text.specs.declared.book_parser.BookParser.TheVariants as parsing
 use Rattle.harmonics_text.specs.Lines.{tokens}
-use Rattle.decimal_text.specs.Decimal.{after_point, made_of, decimal_of, scaled, scaled_or_bad, read_of}
 use Rattle.decimal_text.specs.Expected.{◌>>=◌}
-use Rattle.harmonics_text.specs.Rules.{end_of, in_scale, number_of, values_from, named, pair_from, pair_of}
+use Rattle.harmonics_text.specs.Rules.{end_of, number_of, values_from, named, is_absent, is_name, pair_from, pair_of}
+use Rattle.harmonics_text.specs.Workings.Plain.{IsFirstNumber}
 use Rattle.harmonics_text.specs.Workings.BookParsing.{Fails, Follows, pushed, after_values, after_name, after_table_line, after_angles, after_factors, at_place, with_pair, after_pair, after_record, after_text, new_book}
 use Rattle.harmonics_text.proofs.Ranges.{bind_ok, ok_is}
 use Rattle.harmonics_text.proofs.Steps.{unnamed}
@@ -95,6 +94,16 @@ pub values_goes_on : (s : Scale) (t : Table) (text : List ℕ) (left : ℕ) (val
 values_goes_on s t text left values new rest token after so_far next some h =
     sym (values_step s left values token (tokens after) new some h) ∙ sym (ap (values_from s left values) next) ∙ so_far
 
+-- the same values after some of the tokens
+pub values_moved : (s : Scale) (t u new : Table) (text rest : List ℕ) (result : Result (Unit {0}) LineFault)
+    → u.place ≡ t.place
+    → values_from s u.left u.values (tokens rest) ≡ values_from s t.left t.values (tokens text)
+    → Follows (λ _. new) result (after_values s u rest) → Follows (λ _. new) result (after_values s t text)
+unfolding after_values
+values_moved s t u new text rest result place values h =
+    let same : after_values s u rest ≡ after_values s t text = rw (values, place) refl in
+    subst (Follows (λ _. new) result) same h
+
 -- ---- a constituent's constants
 
 abbrev with_lists : Constants → List ℤ → List ℤ → Constants
@@ -118,6 +127,15 @@ pair_within b r c new text (Ok x) r_is lt one is =
     let more : ltb (length new.amplitude) (length b.constituents) ≡ true = lt-ltb _ _ (omega (arith, one)) in
     rw r_is (is ∙ rw more refl)
 pair_within b r c new text (Err e) r_is lt one is = rw r_is is
+
+-- a line of a name and two numbers
+pub pair_is : (name text first rest second third : List ℕ) (a e : ℤ) → tokens text ≡ first ∷ tokens rest
+    → (is_absent first || is_name first name) ≡ true → IsFirstNumber Height rest a second
+    → IsFirstNumber Angle second e third → tokens third ≡ []
+    → pair_of name text ≡ Ok (cond (is_absent first) (pos 0, pos 0) (a, e))
+unfolding pair_of pair_from
+pair_is name text first rest second third a e t known h k none =
+    rw (t, known, h.first, k.first, none, h.read, k.read) refl
 
 -- an element of a borrowed list
 pub element_is : {A : Type 0} (xs ys : List A) (i j : ℕ) (x d : A) → xs ≡ ys → i ≡ j → j < length ys → get_or xs i x ≡ get_or ys j d

@@ -1,3 +1,4 @@
 pub mod Absent
 pub mod BookParsing
+pub mod Plain
 pub mod Readers

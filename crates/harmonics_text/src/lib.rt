@@ -18,6 +18,7 @@ mod local_time;
 mod names;
 mod numbers;
 mod pending;
+mod plain;
 mod progress;
 mod reading;
 mod record;

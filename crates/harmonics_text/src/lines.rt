@@ -62,7 +62,8 @@ pub fn without_cr(line: &[u8]) -> &[u8]
     }
 }
 
-fn is_blank(b: u8) -> bool
+/// Returns true if `b` is a space or a tab.
+pub fn is_blank(b: u8) -> bool
     ensures { result ≡ is_blank b }
 {
     b == b' ' || b == b'\t'
@@ -75,7 +76,8 @@ pub fn is_all_blank(text: &[u8]) -> bool
     text.iter().all(|b| is_blank(*b))
 }
 
-fn visible_at(text: &[u8]) -> Option<usize>
+/// Returns the index of the first byte of `text` that isn't white space.
+pub fn visible_at(text: &[u8]) -> Option<usize>
     ensures { result ≡ position is_visible text.now }
 {
     text.iter().position(|b| !is_blank(*b))

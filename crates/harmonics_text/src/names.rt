@@ -53,7 +53,7 @@ pub fn name_of(alloc: Global, latin: &[u8], most: usize) -> Result<Text, LineFau
 }
 
 /// Returns the bytes after the first if that is `b`.
-fn without_byte(text: &[u8], b: u8) -> Option<&[u8]>
+pub fn without_byte(text: &[u8], b: u8) -> Option<&[u8]>
     ensures { option_copied result ≡ without_byte b text.now }
 {
     let (first, rest) = text.split_first()?;

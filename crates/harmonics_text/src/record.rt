@@ -1,7 +1,7 @@
 //! The record of a station.
 
-ghost use Rattle.std.specs.Prelude.{◌≡◌, pos, if◌then◌else◌};
-ghost use Rattle.harmonics_text.specs.Rules.{units_of, datum_of, pair_of};
+ghost use Rattle.std.specs.Prelude.{◌≡◌, ◌||◌, Ok, pos, if◌then◌else◌, IfSome};
+ghost use Rattle.harmonics_text.specs.Rules.{is_absent, is_name, units_of, datum_of, pair_of};
 ghost use Rattle.harmonics_text.specs.Workings.BookParsing.{station_of};
 
 use crate::column::Column;
@@ -11,6 +11,7 @@ use crate::lines::{next_token, only_two_tokens};
 use crate::local_time::LocalTime;
 use crate::names::is_name;
 use crate::numbers::number;
+use crate::plain::plain_number;
 use crate::scale::Scale;
 use decimal_text::Text;
 use harmonics_book::{Station, Units};
@@ -98,13 +99,48 @@ fn pair(absent: bool, amplitude: i64, epoch: i64) -> (i64, i64)
     if absent { (0, 0) } else { (amplitude, epoch) }
 }
 
+/// Returns true if `token` is the name of the constituent `name`, or if this constituent is absent.
+fn is_for(token: &[u8], name: &Text) -> bool
+    ensures { result ≡ (is_absent token.now || is_name token.now name.now) }
+{
+    is_absent(token) || is_name(token, name)
+}
+
+/// Returns the amplitude and the epoch of the constituent `name` in line `text`, if the line has its
+/// usual form.
+fn plain_pair(name: &Text, text: &[u8]) -> Option<(i64, i64)>
+    ensures { IfSome result (λ p. pair_of name.now text.now ≡ Ok p) }
+{
+    let (first, rest) = next_token(text)?;
+    if !is_for(first, name) {
+        return None;
+    }
+    let (amplitude, second) = plain_number(rest, Scale::Height)?;
+    let (epoch, third) = plain_number(second, Scale::Angle)?;
+    match next_token(third) {
+        Some(_) => None,
+        None => Some(pair(is_absent(first), amplitude, epoch)),
+    }
+}
+
 /// Returns the amplitude and the epoch of the constituent `name` in line `text`.
 ///
 /// # Errors
 /// [`Why::WrongConstituent`] if the line begins with another name, else the fault of the first bad
 /// number.
-#[tactic(auto, unfolding(crate::specs::Rules::pair_of, crate::specs::Rules::pair_from))]
 pub fn amplitude_and_epoch(name: &Text, text: &[u8]) -> Result<(i64, i64), Why>
+    ensures { result ≡ pair_of name.now text.now }
+{
+    match plain_pair(name, text) {
+        Some(pair) => Ok(pair),
+        None => any_pair(name, text),
+    }
+}
+
+/// Returns the amplitude and the epoch of the constituent `name` in line `text` of any form.
+#[inline(never)]
+#[tactic(auto, unfolding(crate::specs::Rules::pair_of, crate::specs::Rules::pair_from))]
+fn any_pair(name: &Text, text: &[u8]) -> Result<(i64, i64), Why>
     ensures { result ≡ pair_of name.now text.now }
 {
     let Some((first, rest)) = next_token(text) else {

@@ -1,7 +1,8 @@
 //! The tables of equilibrium arguments and node factors.
 
-ghost use Rattle.std.specs.Prelude.{◌≡◌, ◌<◌, ◌≤◌, length};
-ghost use Rattle.harmonics_text.specs.Rules.{named};
+ghost use Rattle.std.specs.Prelude.{◌≡◌, ◌<◌, ◌≤◌, length, IfOk};
+ghost use Rattle.harmonics_text.specs.Lines.{tokens};
+ghost use Rattle.harmonics_text.specs.Rules.{named, values_from};
 ghost use Rattle.harmonics_text.specs.Workings.BookParsing.{
   Follows,
   at_place,
@@ -18,9 +19,10 @@ use crate::heading::Heading;
 use crate::lines::{next_token, only_token};
 use crate::names::is_name;
 use crate::numbers::number;
+use crate::plain::plain_number;
 use crate::scale::Scale;
 use decimal_text::Text;
-use std::alloc::Global;
+use std::alloc::{AllocError, Global};
 
 /// A table that is read in part.
 #[derive(Drop)]
@@ -60,9 +62,34 @@ fn next_place(left: u32, place: usize) -> usize
     if left == 0 { place + 1 } else { place }
 }
 
-/// Appends the values of line `text` to `table`.
+/// Appends the values that `text` begins with to `table`, up to the first that hasn't the usual form.
+/// Returns the bytes after them.
+fn add_plain_values<'a>(
+    table: &mut Table,
+    scale: Scale,
+    text: &'a [u8],
+) -> Result<&'a [u8], AllocError>
+    ensures { IfOk result (λ rest. (table.new.place ≡ table.old.place)
+        × (values_from scale table.new.left table.new.values (tokens rest.now)
+        ≡ values_from scale table.old.left table.old.values (tokens text.now))) }
+{
+    let mut rest = text;
+    'plain: while table.left > 0 {
+        match plain_number(rest, scale) {
+            Some((number, after)) => {
+                table.values.push(number)?;
+                table.left -= 1;
+                rest = after;
+            }
+            None => return Ok(rest),
+        }
+    }
+    Ok(rest)
+}
+
+/// Appends the values of line `text`, in any form, to `table`.
 #[tactic(auto, unfolding(crate::specs::Workings::BookParsing::after_values))]
-fn add_values(table: &mut Table, scale: Scale, text: &[u8]) -> Result<(), LineFault>
+fn add_other_values(table: &mut Table, scale: Scale, text: &[u8]) -> Result<(), LineFault>
     requires { table.old.place < 500 }
     ensures { Follows (λ _. table.new) result (after_values scale table.old text.now) }
 {
@@ -77,6 +104,15 @@ fn add_values(table: &mut Table, scale: Scale, text: &[u8]) -> Result<(), LineFa
     }
     table.place = next_place(table.left, table.place);
     Ok(())
+}
+
+/// Appends the values of line `text` to `table`.
+fn add_values(table: &mut Table, scale: Scale, text: &[u8]) -> Result<(), LineFault>
+    requires { table.old.place < 500 }
+    ensures { Follows (λ _. table.new) result (after_values scale table.old text.now) }
+{
+    let rest = add_plain_values(table, scale, text)?;
+    add_other_values(table, scale, rest)
 }
 
 /// Checks that line `text` is the name of the constituent of the next values.

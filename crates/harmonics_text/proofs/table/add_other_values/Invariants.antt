@@ -1,7 +1,7 @@
 use Rattle.std.proofs.Common.{◌≡◌, length}
 use Rattle.harmonics_text.specs.Lines.{tokens}
 use Rattle.harmonics_text.specs.Rules.{values_from}
-use Rattle.harmonics_text.proofs.table.add_values.Given as goal
+use Rattle.harmonics_text.proofs.table.add_other_values.Given as goal
 
 abbrev pub invariant-loop-token : goal.invariant-loop-token
 invariant-loop-token l = record {
