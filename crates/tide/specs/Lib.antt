@@ -1,3 +1,4 @@
 pub mod ArgumentErrors
+pub mod PageTexts
 pub mod Pages
 pub mod Promises

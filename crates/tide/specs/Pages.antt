@@ -7,11 +7,12 @@ use Rattle.named_files.specs.declared.no_answer.NoAnswer.{NoAnswer}
 use Rattle.tide.specs.declared.help.TheConstants.{HELP, VERSION}
 use Rattle.tide.specs.declared.help.InfoPage.{InfoPage}
 use Rattle.tide.specs.declared.help.InfoPage.TheVariants.{Help, Version}
+use Rattle.tide.specs.PageTexts.{help_text, version_text}
 
 -- the text of a page
 abbrev pub page_text : InfoPage → List ℕ
-page_text Help = HELP.now
-page_text Version = VERSION.now
+page_text Help = help_text
+page_text Version = version_text
 
 -- an argument is an option, in its short or its long form
 abbrev pub is_option : List ℕ → List ℕ → List ℕ → Bool
