@@ -2,9 +2,9 @@
 use Rattle.std.specs.Prelude.{◌≡◌, ℕ, Bool, true, false, ◌||◌, if◌then◌else◌, List, [], ◌∷◌, codes, Option, Some, None, Result, Ok}
 use Rattle.std.specs.List.{list_any}
 use Rattle.std.specs.Str.{bytes_eq}
+use Rattle.question.specs.Words.{asks_to_serve}
 use Rattle.tide_answer.specs.declared.text.Answer.{Answer}
 use Rattle.named_files.specs.declared.no_answer.NoAnswer.{NoAnswer}
-use Rattle.tide.specs.declared.help.TheConstants.{HELP, VERSION}
 use Rattle.tide.specs.declared.help.InfoPage.{InfoPage}
 use Rattle.tide.specs.declared.help.InfoPage.TheVariants.{Help, Version}
 use Rattle.tide.specs.PageTexts.{help_text, version_text}
@@ -37,11 +37,6 @@ page_of words =
     if list_any asks_for_help words then Some Help
     else if first_asks_for_version words then Some Version
     else None
-
--- the first argument is `serve`
-abbrev pub asks_to_serve : List (List ℕ) → Bool
-asks_to_serve [] = false
-asks_to_serve (word ∷ words) = bytes_eq word (codes "serve")
 
 -- ---- The three kinds of arguments
 

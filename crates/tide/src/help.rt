@@ -2,7 +2,7 @@
 
 ghost use Rattle.std.specs.Prelude.{◌≡◌};
 ghost use Rattle.std.specs.List.{list_any};
-ghost use Rattle.tide.specs.Pages.{asks_for_help, asks_for_version, asks_to_serve, first_asks_for_version, page_of, page_text};
+ghost use Rattle.tide.specs.Pages.{asks_for_help, asks_for_version, first_asks_for_version, page_of, page_text};
 
 use decimal_text::{Text, Words};
 
@@ -125,14 +125,4 @@ fn asks_for_version(word: &Text) -> bool
     ensures { result ≡ asks_for_version word.now }
 {
     matches!(word.as_str(), "-V" | "--version")
-}
-
-/// Returns true if the first of `words` is `serve`.
-pub fn asks_to_serve(words: &Words) -> bool
-    ensures { result ≡ asks_to_serve words.now }
-{
-    match words.as_slice().first() {
-        Some(word) => word.as_str() == "serve",
-        None => false,
-    }
 }

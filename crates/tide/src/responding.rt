@@ -6,9 +6,10 @@ ghost use Rattle.tide_fault.specs.declared.status.Status.{Status};
 ghost use Rattle.tide.specs.Pages.{page_answer};
 ghost use Rattle.tide.specs.Promises.{RespondsAs, world, world_states};
 
-use crate::help::{InfoPage, asks_to_serve, page_asked};
+use crate::help::{InfoPage, page_asked};
 use decimal_text::Words;
 use named_files::refuse;
+use question::asks_to_serve;
 use report_sheets::Sheet;
 use std::alloc::Global;
 use tide_desk::run;
