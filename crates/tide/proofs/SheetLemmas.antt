@@ -1,5 +1,5 @@
 -- A fact of some sheets holds of equal ones, and four sheets that were pushed are these.
-use Rattle.std.proofs.Common.{◌≡◌, ◌∙◌, ap, List, [], ◌∷◌, ◌++◌, map, refl, subst}
+use Rattle.std.proofs.Common.{◌≡◌, List, [], ◌∷◌, ◌++◌, map, refl, subst}
 use Rattle.report_sheets.specs.Sheets.{SheetMeaning}
 
 pub over_sheets : (P : List SheetMeaning → Type 0) (sheets others : List SheetMeaning) → P sheets → sheets ≡ others → P others
