@@ -1,5 +1,5 @@
 -- The lines of absent constituents, read together.
-use Rattle.std.proofs.Common.{◌≡◌, ℕ, ℤ, pos, codes, zero, suc, ◌+◌, ◌*◌, ◌-◌, ◌<◌, ◌≤◌, Bool, true, false, ltb, nat_eq, List, [], ◌∷◌, ◌++◌, length, length-append, drop, Result, Ok, Err, refl, sym, ap, subst, ◌∙◌, append_assoc, add-zero, add-one, arith}
+use Rattle.std.proofs.Common.{◌≡◌, ℕ, pos, codes, zero, suc, ◌+◌, ◌*◌, ◌<◌, ◌≤◌, Bool, true, false, ltb, nat_eq, List, [], ◌∷◌, ◌++◌, length, length-append, drop, Ok, refl, sym, ap, subst, ◌∙◌, append_assoc, add-zero, add-one, arith}
 use Rattle.std.specs.Prelude.{replicate}
 use Rattle.std.specs.List.{starts_with}
 use Rattle.std.proofs.lemmas.Bool.{eqb-true, eq-eqb, lt-ltb}

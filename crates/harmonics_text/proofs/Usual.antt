@@ -1,23 +1,21 @@
 -- The first number of a text, in its usual form.
-use Rattle.std.proofs.Common.{◌≡◌, ℕ, ℤ, zero, suc, ◌+◌, ◌*◌, ◌-◌, ◌/◌, ◌%◌, ◌^◌, ◌<◌, ◌≤◌, Bool, true, false, cond, eqb, ltb, List, [], ◌∷◌, ◌++◌, length, get_or, take, drop, Option, Some, None, Ok, Err, Result, All, refl, sym, ap, subst, ◌∙◌, append_assoc, add-zero, take-append-drop, length-append, arith, lit<}
-use Rattle.std.specs.Prelude.{not, ◌&&◌, filter, position, option_and_then}
-use Rattle.std.specs.List.{slice_split, list_all, prefix_len, take_while, position_or_len}
+use Rattle.std.proofs.Common.{◌≡◌, ℕ, ℤ, suc, ◌+◌, ◌*◌, ◌-◌, ◌/◌, ◌%◌, ◌^◌, ◌<◌, ◌≤◌, Bool, true, false, cond, eqb, List, [], ◌∷◌, ◌++◌, length, get_or, take, drop, Some, Ok, All, refl, sym, ap, subst, ◌∙◌, append_assoc, add-zero, take-append-drop, length-append, arith, lit<}
+use Rattle.std.specs.Prelude.{filter, position, option_and_then}
+use Rattle.std.specs.List.{slice_split, list_all, prefix_len, take_while}
 use Rattle.std.specs.Char.{digit_value, is_ascii_digit}
 use Rattle.std.specs.Str.Parse.{digits_value, digits_value_after, starts_with_minus, without_leading_sign}
-use Rattle.std.proofs.lemmas.Bool.{and_parts, not-true, eqb-true, ne_eqb, lt-ltb, le-ltb}
-use Rattle.std.proofs.lemmas.Bool.Decides.{nat_tests, eqb_tells}
+use Rattle.std.proofs.lemmas.Bool.{and_parts, not-true, ne_eqb, lt-ltb, le-ltb}
+use Rattle.std.proofs.lemmas.Bool.Decides.{nat_tests}
 use Rattle.std.proofs.lemmas.Grind.{pow_more}
 use Rattle.std.proofs.lemmas.List.{append-nil, take_at, drop_at}
 use Rattle.std.proofs.lemmas.List.Folds.{length-prefix_len, list_all-append}
 use Rattle.std.proofs.lemmas.List.Splits.{slice_split_none, slice_split_at}
-use Rattle.std.proofs.lemmas.List.Sums.{AllPass-from_list_all, fold_more, prefix_len_is, prefix_len-le-length}
+use Rattle.std.proofs.lemmas.List.Sums.{AllPass-from_list_all, fold_more, prefix_len_is}
 use Rattle.std.proofs.lemmas.Nat.{pow-add, div-mul-add, mod-mul-add}
 use Rattle.std.proofs.Math.Nat.{one-le-pow, pow-le-pow_right}
 use Rattle.std.specs.List.{fold}
-use Rattle.decimal_text.specs.declared.fault.DecimalFault.{DecimalFault}
 use Rattle.decimal_text.specs.Decimal.{Decimal, after_point, made_of, decimal_of, scaled, scaled_or_bad, read_of, signed}
 use Rattle.harmonics_text.specs.declared.scale.Scale.{Scale}
-use Rattle.harmonics_text.specs.Latin.{without_byte}
 use Rattle.harmonics_text.specs.Lines.{is_blank, is_visible, is_filled, tokens}
 use Rattle.harmonics_text.specs.Rules.{in_scale, number_of, places_of}
 use Rattle.harmonics_text.specs.Workings.Plain.{IsFirstNumber, ends_token}

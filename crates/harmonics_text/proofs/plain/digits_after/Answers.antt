@@ -1,4 +1,4 @@
-use Rattle.std.proofs.Common.{◌≡◌, ◌%◌, ◌^◌, true, length, get_or, sym, ap, ◌∙◌, take, below_more, arith}
+use Rattle.std.proofs.Common.{◌≡◌, ◌%◌, ◌^◌, true, length, get_or, ap, ◌∙◌, take, below_more, arith}
 use Rattle.std.specs.Char.{is_ascii_digit}
 use Rattle.std.specs.Str.Parse.{digits_value_after}
 use Rattle.harmonics_text.proofs.Usual.{more_is, count_is}
