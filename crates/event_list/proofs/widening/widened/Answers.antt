@@ -1,4 +1,4 @@
-use Rattle.std.proofs.Common.{w32, ℤ, FitsSigned, rules}
+use Rattle.std.proofs.Common.{w32, FitsSigned, rules}
 use Rattle.std.specs.Prelude.{◌≤◌, unsigned_abs}
 use Rattle.event_list.specs.Shifts.{HasOffsets}
 use Rattle.event_list.proofs.WideningLemmas.{IsMovedBack, moved-back, back-forward, back-near, back-few, greatest-small, least-small}

@@ -1,4 +1,4 @@
-use Rattle.std.proofs.Common.{w64, ◌≡◌, ◌^◌, ◌<◌, get_or, pos, lit<}
+use Rattle.std.proofs.Common.{w64, ◌≡◌, ◌^◌, get_or, pos, lit<}
 use Rattle.std.specs.Prelude.{unsigned_abs}
 use Rattle.station_curve.proofs.BookValues.{station_amplitude}
 use Rattle.station_curve.proofs.Products.{cast_small}
