@@ -26,7 +26,7 @@ use Rattle.question.specs.Questions.{Said, nothing_said, also, asked, command_of
 use Rattle.question.specs.Words.{pairs_of}
 use Rattle.report_sheets.specs.Pages.{missing_of}
 use Rattle.report_sheets.specs.Sheets.{SheetMeaning}
-use Rattle.station_span.proofs.SiteLemmas.{then_ok}
+use Rattle.decimal_text.proofs.ExpectedLemmas.{then_ok}
 use Rattle.tide_desk.specs.Answers.{question_of_words, found_in, wanted_by}
 use Rattle.command_laws.specs.Checks.{TakesItsArguments}
 use Rattle.command_laws.proofs.RequestLemmas.{got_ok, words_ask}

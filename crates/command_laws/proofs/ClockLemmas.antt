@@ -18,7 +18,7 @@ use Rattle.station_span.specs.Levels.{is_rising_at, level_at, level_in}
 use Rattle.station_span.specs.Sites.{Site, has_minute, lacks_minute, length_in, site_in, span_in}
 use Rattle.station_span.proofs.FoundLemmas.{found_by, found_whole}
 use Rattle.station_span.proofs.LevelLemmas.{level_equal}
-use Rattle.station_span.proofs.SiteLemmas.{then_ok}
+use Rattle.decimal_text.proofs.ExpectedLemmas.{then_ok}
 use Rattle.station_table.specs.declared.basis.Basis.{Basis}
 use Rattle.station_table.specs.declared.offsets.Offsets.{Offsets}
 use Rattle.station_table.specs.Bases.{is_equal}

@@ -8,7 +8,7 @@ use Rattle.station_span.specs.declared.asked.Asked.{Asked}
 use Rattle.station_span.specs.declared.reach.Reach.TheVariants.{Levels}
 use Rattle.station_span.specs.Levels.{level_at, level_in}
 use Rattle.station_span.specs.Sites.{Site, site_in}
-use Rattle.station_span.proofs.SiteLemmas.{then_ok}
+use Rattle.decimal_text.proofs.ExpectedLemmas.{then_ok}
 use Rattle.station_table.specs.declared.offsets.Offsets.{Offsets}
 use Rattle.text_laws.specs.Heights.{row_until, rows_over}
 use Rattle.tide_answer.specs.declared.text.Answer.{Answer}

@@ -16,7 +16,7 @@ use Rattle.station_span.specs.Following.{events_of}
 use Rattle.station_span.specs.Levels.{level_at, level_in}
 use Rattle.station_span.specs.Sites.{Site, site_in}
 use Rattle.station_span.proofs.PeakLemmas.{highest_parts}
-use Rattle.station_span.proofs.SiteLemmas.{then_ok}
+use Rattle.decimal_text.proofs.ExpectedLemmas.{then_ok}
 use Rattle.station_table.specs.declared.offsets.Offsets.{Offsets}
 use Rattle.station_table.specs.Bases.{is_equal}
 use Rattle.tide_answer.specs.declared.given.Given.{Given}

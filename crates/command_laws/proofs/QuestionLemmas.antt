@@ -5,7 +5,7 @@ use Rattle.station_span.specs.declared.asked.Asked.{Asked}
 use Rattle.station_span.specs.declared.reach.Reach.TheVariants.{Events}
 use Rattle.station_span.specs.Following.{events_of}
 use Rattle.station_span.specs.Sites.{Site, site_in}
-use Rattle.station_span.proofs.SiteLemmas.{then_ok}
+use Rattle.decimal_text.proofs.ExpectedLemmas.{then_ok}
 use Rattle.zone_time.specs.declared.zone.Zone.{Zone}
 use Rattle.question.specs.declared.layout.Layout.{Layout}
 use Rattle.tide_answer.specs.declared.text.Answer.{Answer}

@@ -14,7 +14,7 @@ use Rattle.station_span.specs.declared.reach.Reach.{Reach}
 use Rattle.station_span.specs.declared.reach.Reach.TheVariants.{Events}
 use Rattle.station_span.specs.Sites.{Site, basis_from, has_minute, has_span, lacks_minute, level_unit, length_in, mark_in, site_at, site_in, span_in, tide_from}
 use Rattle.station_span.proofs.FoundLemmas.{HasCurve}
-use Rattle.station_span.proofs.SiteLemmas.{then_ok}
+use Rattle.decimal_text.proofs.ExpectedLemmas.{then_ok}
 use Rattle.station_table.specs.declared.basis.Basis.{Basis}
 use Rattle.station_table.specs.declared.finding.FindFault.{FindFault}
 use Rattle.station_table.specs.declared.offsets.Offsets.{Offsets}

@@ -14,7 +14,8 @@ use Rattle.station_span.specs.declared.reach.Reach.TheVariants.{Events}
 use Rattle.station_span.specs.Following.{events_of}
 use Rattle.station_span.specs.Sites.{Site, has_span, length_in, mark_in, site_in, span_in, span_limit}
 use Rattle.station_span.proofs.FoundLemmas.{found_by, found_whole}
-use Rattle.station_span.proofs.SiteLemmas.{site_basis, then_ok}
+use Rattle.decimal_text.proofs.ExpectedLemmas.{then_ok}
+use Rattle.station_span.proofs.SiteLemmas.{site_basis}
 use Rattle.station_table.specs.declared.basis.Basis.{Basis}
 use Rattle.station_table.specs.declared.finding.FindFault.TheVariants.{NoReference, NoStation}
 use Rattle.station_table.specs.declared.offsets.Offsets.{Offsets}

@@ -1,4 +1,5 @@
 mod DigitsLemmas
+pub mod ExpectedLemmas
 mod ReadingLemmas
 mod RoundTrip
 mod RoundingLemmas

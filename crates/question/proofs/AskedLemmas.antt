@@ -7,7 +7,7 @@ use Rattle.std.specs.Str.{bytes_eq}
 use Rattle.std.proofs.lemmas.Bool.{and_parts}
 use Rattle.std.proofs.lemmas.Int.{ints}
 use denote.Enum.Bare.{sameb, same_true, true_same}
-use Rattle.decimal_text.specs.Expected.{◌>>=◌}
+use Rattle.decimal_text.proofs.ExpectedLemmas.{then_ok}
 use Rattle.zone_time.specs.Moments.{IsMoment, moment_of}
 use Rattle.question.specs.declared.command.Command.{Command}
 use Rattle.question.specs.declared.command.Command.TheVariants.{Predict, Certify, Check, Heights, Calendar, Clock, Stations, Sample, Trial, Serve, Report, Highest, Peak, PeakCheck, About}
@@ -84,11 +84,6 @@ same_named j k first second same =
     same_true the_type tt j k (rw same at tested)
 
 -- ---- the steps of a question
-
-then_ok : {A B E : Type 0} (step : Result A E) (next : A → Result B E) (b : B) → (step >>= next) ≡ Ok b
-    → (a : A) × (step ≡ Ok a) × (next a ≡ Ok b)
-then_ok (Ok a) next b ok = (a, refl, ok)
-then_ok (Err fault) next b ok = absurd cc
 
 ok_some : {A E : Type 0} (o : Option A) (fault : E) (x : A) → ok_or o fault ≡ Ok x → o ≡ Some x
 ok_some (Some y) fault x ok = cc

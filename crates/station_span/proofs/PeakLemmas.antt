@@ -38,7 +38,8 @@ use Rattle.station_span.specs.Workings.Spans.{AreMoments, IsFound}
 use Rattle.station_span.proofs.FollowLemmas.{usual_scale}
 use Rattle.station_span.proofs.FoundLemmas.{excused_by, excused_then}
 use Rattle.station_span.proofs.LevelLemmas.{between, found_levels, in_book, level_equal, minute_in_range, predicts_sources}
-use Rattle.station_span.proofs.SiteLemmas.{found_at, site_minutes, site_unmarked, then_ok}
+use Rattle.decimal_text.proofs.ExpectedLemmas.{then_ok}
+use Rattle.station_span.proofs.SiteLemmas.{found_at, site_minutes, site_unmarked}
 use Rattle.station_span.proofs.SpanLemmas.{moment}
 
 -- ---- its levels

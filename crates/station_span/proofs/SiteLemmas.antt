@@ -8,7 +8,7 @@ use Rattle.std.proofs.lemmas.Bool.Decides.{nat_tests}
 use Rattle.std.proofs.lemmas.Int.{ints, clamps}
 use Rattle.std.proofs.lemmas.List.Elements.{All-head, All-tail}
 use Rattle.curve_law.proofs.CoverLemmas.{by_test}
-use Rattle.decimal_text.specs.Expected.{◌>>=◌}
+use Rattle.decimal_text.proofs.ExpectedLemmas.{then_ok}
 use Rattle.event_list.specs.Shifts.{HasOffsets, slack_adds, greatest_add, least_add}
 use Rattle.harmonics_book.specs.declared.book.Book.{Book}
 use Rattle.harmonics_book.specs.declared.book.Station.{Station}
@@ -37,11 +37,6 @@ use Rattle.station_span.proofs.FoundLemmas.{HasCurve, found_by, found_whole}
 use Rattle.station_span.proofs.SpanLemmas.{book_years, has_offsets, reached_span}
 
 -- ---- the results of a station's steps
-
-pub then_ok : {A B E : Type 0} (step : Result A E) (next : A → Result B E) (b : B) → (step >>= next) ≡ Ok b
-    → (a : A) × (step ≡ Ok a) × (next a ≡ Ok b)
-then_ok (Ok a) next b ok = (a, refl, ok)
-then_ok (Err fault) next b ok = absurd cc
 
 record WentThrough (reach : Reach) (book : Book) (site : Site) (asked : Asked) : Type 0 where
   pub units : Units

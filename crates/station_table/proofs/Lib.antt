@@ -2,3 +2,4 @@ pub mod FieldLemmas
 pub mod OnLiterals
 pub mod RecordLemmas
 pub mod TableLemmas
+pub mod ValidTableLemmas

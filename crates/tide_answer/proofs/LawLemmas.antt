@@ -47,7 +47,8 @@ use Rattle.tide_answer.proofs.CertificateLemmas.{accepted_few, accepted_usual, c
 use Rattle.tide_answer.proofs.CheckLemmas.{checked_by, judged_by, read_in_range, site_rejection, tide_accepted, tide_rejection}
 use Rattle.station_span.proofs.FollowLemmas.{found_alike, ready_valid_over, ready_of_found, tracks_alike}
 use Rattle.station_span.proofs.NameLemmas.{site_name}
-use Rattle.station_span.proofs.SiteLemmas.{found_at, found_of_site, then_ok}
+use Rattle.decimal_text.proofs.ExpectedLemmas.{then_ok}
+use Rattle.station_span.proofs.SiteLemmas.{found_at, found_of_site}
 
 -- ---- accepted tracks have exactly the events
 

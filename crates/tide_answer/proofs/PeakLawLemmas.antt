@@ -28,7 +28,8 @@ use Rattle.station_span.specs.Workings.Peaks.{HasHighest}
 use Rattle.station_span.proofs.LevelLemmas.{level_order}
 use Rattle.station_span.proofs.NameLemmas.{site_name}
 use Rattle.station_span.proofs.PeakLemmas.{IsHighestAt, accepted_certificate, accepted_highest, has_highest, highest_found, highest_minutes, highest_of_accepted, highest_parts, highest_unmarked, verdict_alike}
-use Rattle.station_span.proofs.SiteLemmas.{found_at, found_of_site, site_basis, then_ok}
+use Rattle.decimal_text.proofs.ExpectedLemmas.{then_ok}
+use Rattle.station_span.proofs.SiteLemmas.{found_at, found_of_site, site_basis}
 use Rattle.tide_answer.specs.declared.text.Answer.{Answer}
 use Rattle.tide_answer.specs.Answers.{text_alone, highest, highest_text_at, peak_certificate_by, peak_certified, peak_checked, peak_from, peak_judged, text_accepted}
 use Rattle.tide_answer.specs.Asking.{asked_by_peak_certificate}

@@ -31,7 +31,7 @@ use Rattle.tide_answer.specs.declared.text.Answer.{Answer}
 use Rattle.tide_answer.specs.Answers.{asks_span, named_by}
 use Rattle.tide_answer.specs.Asking.{asked_by_question}
 use Rattle.tide_answer.specs.Laws.{IsAskable}
-use Rattle.station_span.proofs.SiteLemmas.{then_ok}
+use Rattle.decimal_text.proofs.ExpectedLemmas.{then_ok}
 use Rattle.tide_desk.specs.Answers.{question_of_words, ask_from, found_in, question_in, wanted_by}
 
 -- ---- the request of pairs

@@ -18,7 +18,7 @@ use Rattle.tide_fault.specs.declared.slot.Slot.{Slot}
 use Rattle.tide_fault.specs.declared.slot.Slot.TheVariants as slots
 use Rattle.tide_answer.specs.declared.text.Answer.{Answer}
 use Rattle.tide_answer.specs.Answers.{answered, answered_without_files, text_by, text_from}
-use Rattle.station_span.proofs.SiteLemmas.{then_ok}
+use Rattle.decimal_text.proofs.ExpectedLemmas.{then_ok}
 use Rattle.tide_edge.specs.declared.read_all_fault.ReadAllFault.TheVariants as reading
 use Rattle.named_files.specs.declared.materials.Materials.{Materials}
 use Rattle.tide_desk.specs.Answers.{answer_from, answer_of, answered_over_optional_file, answered_over_file, answered_over_book, question_of_words, given_with, is_report, minute_for}
@@ -26,7 +26,7 @@ use Rattle.named_files.specs.NoAnswers.{refused_over}
 use Rattle.tide_desk.specs.Laws.{Holds}
 use Rattle.named_files.specs.Readings.{limit_of, bytes_from, bytes_of, book_from, book_named, table_from, table_named, zone_named, certificate_named, files_in}
 use Rattle.tide_edge.specs.FileStates.{Folder}
-use Rattle.tide_desk.proofs.TableLemmas.{table_valid}
+use Rattle.station_table.proofs.ValidTableLemmas.{table_valid}
 use Rattle.decimal_text.specs.declared.limits.TheConstants.{MOST_BYTES}
 
 -- ---- the bytes under a name

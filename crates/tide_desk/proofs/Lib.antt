@@ -11,5 +11,4 @@ pub mod PeakCertificateLemmas
 pub mod ReplyLemmas
 pub mod SettledLemmas
 pub mod SheetLemmas
-pub mod TableLemmas
 mod ShownLemmas

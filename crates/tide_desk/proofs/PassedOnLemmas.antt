@@ -10,7 +10,7 @@ use Rattle.question.specs.declared.command.Command.TheVariants.{Certify, Check, 
 use Rattle.question.specs.declared.question.Question.{Question}
 use Rattle.report_sheets.specs.Sheets.{SheetMeaning}
 use Rattle.station_span.specs.declared.asked.Asked.{Asked}
-use Rattle.station_span.proofs.SiteLemmas.{then_ok}
+use Rattle.decimal_text.proofs.ExpectedLemmas.{then_ok}
 use Rattle.tide_answer.specs.declared.text.Answer.{Answer}
 use Rattle.tide_answer.specs.Answers.{answered, certified, checked, peak_certified, peak_checked, text_by}
 use Rattle.tide_answer.specs.Laws as books

@@ -28,7 +28,7 @@ use Rattle.station_table.specs.Offsets.{IsAdd, IsSlack, IsTableName, IsOffsets, 
 use Rattle.station_table.specs.Table.{field_of, both_or_none, slack_of, counted, offsets_of, at_row, header_of, rows_from, table_in, table_of}
 use Rattle.station_table.proofs.RecordLemmas.{shorter}
 use Rattle.station_table.proofs.TableLemmas.{row_went_well, rows_count}
-use Rattle.station_span.proofs.SiteLemmas.{then_ok}
+use Rattle.decimal_text.proofs.ExpectedLemmas.{then_ok}
 use Rattle.decimal_text.specs.Names.{is_name_byte}
 use Rattle.decimal_text.specs.declared.limits.TheConstants.{MOST_BYTES}
 
