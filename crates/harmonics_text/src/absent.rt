@@ -8,13 +8,7 @@ ghost use Rattle.harmonics_text.specs.Workings.Absent.{absent_lines};
 fn begins_absent(bytes: &[u8]) -> bool
     ensures { result ≡ starts_with nat_eq bytes.now (codes "x 0 0" ++ 10 ∷ []) }
 {
-    bytes.len() > 5
-        && bytes[0] == b'x'
-        && bytes[1] == b' '
-        && bytes[2] == b'0'
-        && bytes[3] == b' '
-        && bytes[4] == b'0'
-        && bytes[5] == b'\n'
+    bytes.starts_with(b"x 0 0\n".as_slice())
 }
 
 /// Returns the number of such lines that `bytes` begins with, at most `most`, and the bytes after them.

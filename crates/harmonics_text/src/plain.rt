@@ -110,7 +110,7 @@ fn within(value: i64, scale: Scale) -> Option<i64>
 
 /// Returns the first number of `text`, in the unit of `scale`, and the bytes after it, or `None` if the
 /// number has another form or is out of range.
-#[inline]
+#[inline(always)]
 pub fn plain_number(text: &[u8], scale: Scale) -> Option<(i64, &[u8])>
     ensures { IfSome result (λ r. IsFirstNumber scale text.now r.0 r.1.now) }
 {
