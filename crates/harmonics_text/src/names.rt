@@ -18,7 +18,7 @@ use std::alloc::{AllocError, Global};
 pub fn utf8_of(alloc: Global, latin: &[u8]) -> Result<Text, AllocError>
     ensures { IfOk result (λ t. t ≡ encode_utf8_all latin.now) }
 {
-    let mut text = String::new(alloc);
+    let mut text = String::with_capacity(alloc, latin.len())?;
     for b in latin {
         text.push(char::from(*b))?;
     }
