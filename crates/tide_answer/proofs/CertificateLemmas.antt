@@ -30,6 +30,8 @@ use Rattle.zone_time.specs.Moments.{IsMoment}
 use Rattle.station_span.specs.declared.asked.Asked.{Asked}
 use Rattle.station_span.specs.declared.reach.Reach.TheVariants.{Events}
 use Rattle.station_span.specs.Workings.Tides.{SiteTide}
+use Rattle.station_span.specs.declared.found_station.FoundStation.{FoundStation}
+use Rattle.station_span.specs.Workings.Finds.{site_of, tide_of_found}
 use Rattle.tide_answer.specs.Answers.{certified}
 use Rattle.station_span.specs.Following.{if_asked, tracks_of, cells_of}
 use Rattle.station_span.specs.Sites.{Site, site_in}
@@ -37,6 +39,7 @@ use Rattle.tide_answer.specs.Workings.Certifying.{certificate_in}
 use Rattle.station_span.specs.Workings.Curves.{followed_tide, IsReady}
 use Rattle.station_cells.proofs.CellLemmas.{IsOf, accepted_track, few_track, usual_track}
 use Rattle.station_span.proofs.FollowLemmas.{ready_valid_over, few_cells}
+use Rattle.station_span.proofs.HeldLemmas.{ready_for, tracks_tide}
 use Rattle.station_span.proofs.MovableLemmas.{millionths_small}
 
 -- ---- the number of cells
@@ -45,6 +48,9 @@ pub tracks_few : (asked : Asked) (found : SiteTide) (tracks : Tracks) → IsRead
     → tracks ≡ covers_of (followed_tide Second found asked.mark) (widened_of found.basis asked.begin asked.end)
     → cells_in tracks < 2 ^ 64
 tracks_few asked found tracks ready same = rw same (few_cells asked found ready)
+
+pub few_for : (f : FoundStation) → f.reach ≡ Events → cells_in (tracks_of f.origin.book (site_of f) f.asked) < 2 ^ 64
+few_for f is = tracks_few f.asked (tide_of_found f) _ (ready_for f is) (tracks_tide f is)
 
 -- ---- the parts are within their ranges
 

@@ -1,7 +1,7 @@
 use Rattle.station_span.specs.Workings.Finds.{site_of, tide_of_found}
-use Rattle.station_span.proofs.HeldLemmas.{few_for, ready_for, tracks_tide}
+use Rattle.station_span.proofs.HeldLemmas.{ready_for, tracks_tide}
 use Rattle.std.proofs.Common.{◌∙◌}
-use Rattle.tide_answer.proofs.CertificateLemmas.{certificate_valid, certified_whole}
+use Rattle.tide_answer.proofs.CertificateLemmas.{certificate_valid, certified_whole, few_for}
 use Rattle.tide_answer.proofs.certify.certify.Goals as goal
 
 pub cell_count-cells-requires : goal.cell_count-cells-requires

@@ -3,7 +3,8 @@ use Rattle.station_span.specs.declared.asked.Asked.{Asked}
 use Rattle.station_span.specs.declared.reach.Reach.TheVariants.{Events}
 use Rattle.event_list.specs.Shifts.{widened_of}
 use Rattle.station_span.specs.Workings.Finds.{site_of}
-use Rattle.station_span.proofs.HeldLemmas.{few_for, span_for}
+use Rattle.station_span.proofs.HeldLemmas.{span_for}
+use Rattle.tide_answer.proofs.CertificateLemmas.{few_for}
 use Rattle.tide_answer.proofs.TrialLemmas.{station_whole, tracks_few}
 use Rattle.tide_answer.proofs.trial.tally_station.Goals as goal
 
