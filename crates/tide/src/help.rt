@@ -13,48 +13,48 @@ Predicts tides and tidal currents at a station, from harmonic constants.
 Usage: tide COMMAND file=F [KEY=VALUE..]
        tide --help | --version
 
-  predict   high and low waters, slacks and passings of a mark in a span
-  certify   a certificate that the events of a span are complete
-  check     whether a certificate holds, whoever wrote it
-  heights   levels at even steps
+  predict   high and low waters, slacks, and when the level passes a mark
+  certify   a certificate that this list of events is complete
+  check     checks such a certificate, whoever wrote it
+  heights   levels at equal steps
   calendar  the events day by day
-  clock     the level now, and the events of the day to come
+  clock     the level now, and the events of the next 24 hours
   stations  the stations of a file
   report    sheets of one list: a tally, the range, the first lines, a calendar
   highest   the highest water of a span
-  peak      a certificate of it
-  peakcheck whether such a certificate holds, whoever wrote it
-  about     what is known of a station
-  sample    a file of made-up constants by a seed; it needs no file
-  trial     the counts of a trial of the program on such a file
-  serve     a web server of these answers, at 127.0.0.1; it ends by a signal
+  peak      a certificate of the highest water
+  peakcheck checks such a certificate, whoever wrote it
+  about     a station's reference, unit, and how exact its turns are
+  sample    a made-up file of constants, from a seed; it needs no file
+  trial     predicts, certifies and checks with such a file, and prints counts
+  serve     a web server at 127.0.0.1, which answers until it is stopped
 
-  file         harmonic constants, after XTide's text files
+  file         harmonic constants, in the form of XTide's text files
   offsets      a table of subordinate stations (CSV)
-  station      the name of a station as it stands there
-  begin, end   the first minute asked, in UTC, as 2025-06-01T00:00Z, and the
-               minute before which the list ends
-  mark         a level whose passing is listed, in the station's unit
+  station      the name of a station, as `stations` lists it
+  begin, end   the first minute, in UTC, as 2025-06-01T00:00Z, and the minute
+               before which the list ends
+  mark         also list when the level passes this one, in the station's unit
   zone         UTC, an offset as -05:00, or @F for a time zone's file
   layout       plain or csv
-  sheets       those of a report, as tally,range,first,ical
-  step         minutes between heights, 60 if not given
+  sheets       the sheets of a report, as tally,range,first,ical
+  step         minutes between heights; 60 if left out
   certificate  the file to check
   seed         a whole number
-  port         where the server listens, 8080 if not given
+  port         the server's port; 8080 if left out
 
-The pairs may stand in any order. An event is listed at the last minute before it,
-with the level at that minute. Of XTide's 3,387 subordinate stations 37 have one
-offset for highs and lows: they alone take mark, heights, clock, highest and peak.
+The pairs can have any order. An event has the time of the last whole minute
+before it, and the level of that minute. At a subordinate station mark, heights,
+clock, highest, peak need one offset for highs and lows (37 of XTide's 3,387).
 
-Example:
-  ./tide predict file=examples/harbours.txt \\
+Example, with the package's constants (the sources have them in examples/):
+  tide predict file=/usr/share/tide/harbours.txt \\
     station='Boston, Boston Harbor, Massachusetts' \\
     begin=2025-06-01T04:00Z end=2025-06-08T04:00Z zone=-04:00
 
-Status: 0 done, 1 certificate rejected, 2 words refused, 3 file refused,
-4 question refused, 5 a limit, 6 read fault, 7 write fault, 8 no memory.
-One line on standard error says why.
+Status: 0 done, 1 certificate rejected, 2 bad arguments, 3 bad file,
+4 no answer, 5 beyond a limit, 6 can't read, 7 can't write, 8 no memory.
+For 2 to 8 a line on standard error says why; the manual explains each line.
 
 NOT FOR NAVIGATION.
 ";
