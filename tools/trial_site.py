@@ -2,6 +2,7 @@
 
 import base64
 import collections
+import hashlib
 import http.client
 import json
 import os
@@ -51,6 +52,18 @@ def free_ports(count):
     return ports
 
 
+def wait_for_port(port, process, seconds=30):
+    """Whether a process listens at a port in time."""
+    end = time.monotonic() + seconds
+    while process.poll() is None and time.monotonic() < end:
+        try:
+            socket.create_connection(('127.0.0.1', port), 1).close()
+            return True
+        except OSError:
+            time.sleep(0.05)
+    return False
+
+
 def curve_columns(sheet):
     """The first and the last column of a sheet's first page with a point of the curve's blue, and how many there are."""
     page = subprocess.run(['pdftoppm', '-r', '72', '-f', '1', '-l', '1', sheet], capture_output=True, check=True).stdout
@@ -84,9 +97,8 @@ class Site:
         self.predictors[port] = subprocess.Popen(words, stderr=subprocess.PIPE, text=True)
 
     def wait_for_predictor(self, port):
-        notice = self.predictors[port].stderr.readline()
-        if 'http://' not in notice:
-            raise SystemExit(f'try_site: a predictor does not serve: {notice.strip()}')
+        if not wait_for_port(port, self.predictors[port]):
+            raise SystemExit(f'try_site: a predictor does not serve: {self.predictors[port].stderr.read().strip()}')
 
     def start_predictors(self):
         for port in self.ports:
@@ -101,18 +113,28 @@ class Site:
             process.wait()
             process.stderr.close()
 
+    def write_files(self):
+        """Writes what is served beside the page: the constants and the list of stations, their checksums, and the notes."""
+        files = {key: self.words[key] for key in ('file', 'offsets') if key in self.words}
+        run = subprocess.run([self.words['program'], 'stations', *(f'{key}={value}' for key, value in files.items())], capture_output=True, check=True)
+        served = self.folder / 'html'
+        (served / 'stations.txt').write_bytes(run.stdout)
+        shutil.copy(files['file'], served / 'constants.txt')
+        if 'offsets' in files:
+            shutil.copy(files['offsets'], served / 'offsets.csv')
+        lines = [f'{hashlib.sha256(pathlib.Path(path).read_bytes()).hexdigest()}  {path}\n' for path in files.values()]
+        (served / 'constants.sha256').write_text(''.join(lines))
+        if 'notes' in self.words:
+            shutil.copy(self.words['notes'], served / 'stations.json')
+
     def start(self):
+        self.write_files()
         self.start_predictors()
         path = f'{os.environ.get("PATH", "")}:/usr/sbin'
         command = [shutil.which('nginx', path=path), '-p', self.folder, '-c', 'nginx.conf', '-e', 'error.log', '-g', 'daemon off;']
         self.nginx = subprocess.Popen(command, stderr=subprocess.DEVNULL)
-        for _ in range(100):
-            try:
-                socket.create_connection(('127.0.0.1', self.port), 1).close()
-                return
-            except OSError:
-                time.sleep(0.1)
-        raise SystemExit(f'try_site: nginx does not listen: {(self.folder / "error.log").read_text()}')
+        if not wait_for_port(self.port, self.nginx):
+            raise SystemExit(f'try_site: nginx does not listen: {(self.folder / "error.log").read_text()}')
 
     def stop(self):
         for port in self.ports:
@@ -156,7 +178,7 @@ class Tab:
     """A tab of a browser as wide as a telephone, with keys to press. For a `with`."""
 
     def __init__(self, site, width=360, height=740):
-        self.asked, self.requests, self.complaints = 0, [], []
+        self.asked, self.requests, self.complaints, self.bytes = 0, [], [], 0
         self.origin = f'http://127.0.0.1:{site.port}/'
         (its_end, self.to), (self.back, other_end) = os.pipe(), os.pipe()
         command = [*BROWSER, '--remote-debugging-pipe', f'--user-data-dir={site.folder / "tab"}']
@@ -201,6 +223,8 @@ class Tab:
         """Keeps the requests of the page, and the browser's complaints."""
         if event == 'Network.requestWillBeSent':
             self.requests.append(values['request']['url'])
+        if event == 'Network.loadingFinished':
+            self.bytes += values['encodedDataLength']
         if event == 'Log.entryAdded' and values['entry']['level'] in ('warning', 'error'):
             self.complaints.append(values['entry']['text'])
         if event == 'Runtime.exceptionThrown':
@@ -214,7 +238,12 @@ class Tab:
         return self.value('document.documentElement.outerHTML')
 
     def value(self, expression):
-        return self.call('Runtime.evaluate', expression=expression, returnByValue=True)['result'].get('value')
+        """The value of an expression, or what its promise yields; None if the tab opens another page meanwhile."""
+        return self.call('Runtime.evaluate', expression=expression, returnByValue=True, awaitPromise=True).get('result', {}).get('value')
+
+    def called(self, module, name, *values):
+        """The result of a function of one of the page's modules."""
+        return self.value(f'import("{self.origin}{module}").then(it => it.{name}(...{json.dumps(values)}))')
 
     def until(self, expression, seconds=30):
         """Whether an expression comes true in time."""

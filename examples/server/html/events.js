@@ -45,6 +45,28 @@ export function timesAbove(events, begin, end, isAboveAtBegin) {
   return times;
 }
 
+/**
+ * The times within a limit, from the first whole minute to the last, of the minutes from `begin` up to `end`: -limit < level <= limit,
+ * by the marks of the limit and of minus the limit. `level` is the level at `begin`.
+ */
+export function timesWithin({ marks, lowMarks }, limit, begin, end, level) {
+  const isAbove = { high: level > limit, low: level > -limit };
+  const passes = [...lowMarks.map(mark => ({ ...mark, side: 'low' })), ...marks.map(mark => ({ ...mark, side: 'high' }))]
+    .sort((one, other) => one.moment - other.moment);
+  const times = [];
+  let from = isAbove.low && !isAbove.high ? { from: begin, openFrom: true } : null;
+  for (const { moment, event, side } of passes) {
+    isAbove[side] = event === 'Mark Rising';
+    const isWithin = isAbove.low && !isAbove.high;
+    if (isWithin && !from) from = { from: moment + MINUTE, openFrom: false };
+    if (isWithin || !from) continue;
+    if (from.from <= moment) times.push({ ...from, to: moment, openTo: false });
+    from = null;
+  }
+  if (from && from.from < end) times.push({ ...from, to: end - MINUTE, openTo: true });
+  return times;
+}
+
 export function hoursText({ from, to }) {
   const minutes = (to - from) / MINUTE + 1;
   return `${Math.floor(minutes / 60)} h ${String(minutes % 60).padStart(2, '0')} min`;

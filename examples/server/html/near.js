@@ -39,3 +39,21 @@ export function nearestTo(station, stations, count) {
     .map(other => ({ station: other, distance: distanceOf(station.notes, other.notes), bearing: bearingOf(station.notes, other.notes) }))
     .sort((one, other) => one.distance - other.distance).slice(0, count);
 }
+
+const MINUTES = "(?:\\s*(\\d{1,2}(?:\\.\\d+)?)\\s*['′’])?";
+const ANGLE = `([+-]?\\d{1,3}(?:\\.\\d+)?)\\s*°?${MINUTES}\\s*`;
+const PLACE = new RegExp(`^\\s*${ANGLE}([ns])?[\\s,;]+${ANGLE}([ew])?\\s*$`, 'i');
+
+/** The place that a text names by its latitude and longitude, as `42.35 -71.05` or `42° 21.2′ N, 71° 3′ W`, or null. */
+export function placeOf(text) {
+  const found = PLACE.exec(text);
+  if (!found) return null;
+  const [, north, northMinutes, side, east, eastMinutes, otherSide] = found;
+  const degrees = (whole, minutes, letter) => {
+    const size = Math.abs(Number(whole)) + Number(minutes ?? 0) / 60;
+    return whole.startsWith('-') !== /[sw]/i.test(letter ?? '') ? -size : size;
+  };
+  const latitude = degrees(north, northMinutes, side), longitude = degrees(east, eastMinutes, otherSide);
+  const isRight = Math.abs(latitude) <= 90 && Math.abs(longitude) <= 180 && Math.max(northMinutes ?? 0, eastMinutes ?? 0) < 60;
+  return isRight ? { latitude, longitude } : null;
+}

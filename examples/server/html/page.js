@@ -1,54 +1,47 @@
+import { aboutLine, clocksText, stationText, turnsOnlyText, whenText } from './about.js';
 import { answerTo } from './answer.js';
 import { drawChart, followPaper } from './chart.js';
-import { distanceText, hasPlace, nearestTo, placeText } from './near.js';
-import { ask, NoAnswer, readNotes } from './replies.js';
+import { listenToFinder, showFound, showNear, suggest, takeStations } from './finder.js';
+import { askNow, nowText } from './now.js';
+import { addressOf, decimalText, faultsOf, questionOf } from './question.js';
+import { noteSeen } from './recent.js';
+import { NoAnswer, readList, readNotes } from './replies.js';
 import { element, monthSheet, thresholdText, weekSheet } from './sheets.js';
-import { findStations, readStations, withNotes } from './stations.js';
-import { browserZone, clockAt, dateText, daysLater, differenceText, isDate, isZone, monthsLater, zoneNames } from './zones.js';
+import { explainSill, listenToSills } from './sills.js';
+import { readStations, withNotes } from './stations.js';
+import { showTaking } from './take.js';
+import { sillIn } from './units.js';
+import { browserZone, dateText, daysLater, isZone, monthsLater, zoneNames } from './zones.js';
 
-const MOST_SHOWN = 100, MOST_NEAR = 10;
+const MINUTE = 60_000, FIRST_WAIT = 5_000, LONGEST_WAIT = 60_000;
 const place = id => document.getElementById(id);
 const controls = place('question').elements;
+let notes = {};
 let stations = [];
 let shows = 0;
 let graph = null;
 let drawn = null;
+let retry = { timer: 0, wait: FIRST_WAIT };
+let present = { key: '', line: [] };
 
-const stationOf = name => stations.find(station => station.name === name);
-
-/** The station's own zone, or the browser's if it isn't known. */
-function usualZone(name) {
-  const zone = stationOf(name)?.notes.zone;
-  return isZone(zone) ? zone : browserZone();
+/** A station of the list; before the list is there, what the notes have about it. */
+function stationOf(name) {
+  const noted = Object.hasOwn(notes, name) ? { name, reference: null, notes: notes[name] } : undefined;
+  return stations.find(station => station.name === name) ?? noted;
 }
 
-/** A number as the program reads it, or null for none. */
-const decimalText = text => text?.trim().replace(',', '.') || null;
+const usualZone = name => stationOf(name)?.notes.zone;
 
-/** The question in the address bar. */
 function question() {
-  const query = new URLSearchParams(location.search);
-  const station = query.get('station');
-  const zone = isZone(query.get('zone')) ? query.get('zone') : usualZone(station);
-  const date = isDate(query.get('date')) ? query.get('date') : clockAt(Date.now(), zone).date;
-  return {
-    station, zone, date, view: query.get('view') === 'month' ? 'month' : 'week',
-    sill: decimalText(query.get('sill')),
-  };
+  const station = new URLSearchParams(location.search).get('station');
+  return questionOf(location.search, usualZone(station));
 }
 
-function addressOf(changes) {
-  const query = new URLSearchParams(location.search);
-  for (const [key, value] of Object.entries(changes)) {
-    if (value) query.set(key, value); else query.delete(key);
-  }
-  return `?${query}`;
-}
-
-const isHere = changes => addressOf(changes) === addressOf({});
+const addressWith = changes => addressOf(location.search, changes);
+const isHere = changes => addressWith(changes) === addressWith({});
 
 function goTo(changes) {
-  if (!isHere(changes)) history.pushState(null, '', addressOf(changes));
+  if (!isHere(changes)) history.pushState(null, '', addressWith(changes));
   show();
 }
 
@@ -57,93 +50,47 @@ function noteOf(error) {
   return element('div', { className: 'note' }, error.message, ...(error.line ? [' ', element('code', {}, error.line)] : []));
 }
 
-/** A line of a list of stations: a link with the station's kind and name, and a quiet text. */
-function stationLine({ name, isCurrent }, quiet) {
-  const kind = isCurrent ? 'current' : 'tide';
-  return element('li', {}, element('a', { href: addressOf({ station: name, sill: null, zone: null }) },
-    element('span', { className: `kind ${kind}` }, kind), element('span', {}, name, ' ', element('span', { className: 'quiet' }, quiet))));
+/** Tries again to show the question, later each time, until the server answers. */
+function tryLater() {
+  clearTimeout(retry.timer);
+  retry = { timer: setTimeout(show, retry.wait), wait: Math.min(2 * retry.wait, LONGEST_WAIT) };
+  const button = element('button', { type: 'button' }, 'Try now');
+  button.addEventListener('click', show);
+  place('trouble').append(element('p', {}, 'The page tries again by itself. ', button));
 }
 
-function foundLine(station) {
-  const { units, reference, notes: { country, identifier } } = station;
-  const noted = [country, identifier].filter(Boolean).join(' · ');
-  return stationLine(station, noted || (reference === null ? units : `by differences from ${reference}`));
-}
-
-function showFound() {
-  const words = place('words').value.trim();
-  const hasStation = Boolean(question().station), isShown = words !== '' || !hasStation;
-  const found = isShown ? findStations(stations, words) : [];
-  const first = found.length > MOST_SHOWN ? `, the first ${MOST_SHOWN} by name` : '';
-  const count = stations.length > 0 ? `${found.length} of ${stations.length} stations${first}` : 'The list of stations is empty.';
-  place('found').replaceChildren(...found.slice(0, MOST_SHOWN).map(foundLine));
-  place('found').className = hasStation ? 'short' : '';
-  place('count').textContent = isShown ? count : '';
-}
-
-function moveAmongFound(press) {
-  const step = { ArrowDown: 1, ArrowUp: -1 }[press.key];
-  if (!step) return;
-  const stops = [place('words'), ...place('found').querySelectorAll('a')];
-  stops[stops.indexOf(document.activeElement) + step]?.focus();
-  press.preventDefault();
-}
-
-/** The datum of a tide's levels, if the notes name it; a subordinate station's levels are above its reference's. */
-function datumText({ isCurrent, known }) {
-  const datum = known?.notes.datum ?? stationOf(known?.reference)?.notes.datum;
-  return isCurrent || !datum ? '' : ` above ${datum}`;
-}
-
-function aboutLine(answer) {
-  const { units, known, zone, offsets, sill, view, date, isCurrent } = answer;
-  const owner = zone === known?.notes.zone ? ", the station's own" : '';
-  const parts = [`${isCurrent ? 'Current' : 'Tide'} in ${units}${datumText(answer)}`, `clock of ${zone} (${offsets.join(', ')})${owner}`];
-  if (known?.reference) parts.push(`by differences from ${known.reference}`);
-  if (sill !== null) parts.push(thresholdText(answer));
-  const when = view === 'month' ? dateText(date, { month: 'long', year: 'numeric' })
-    : `Week from ${dateText(date, { weekday: 'long', day: 'numeric', month: 'long', year: 'numeric' })}`;
-  return [element('strong', {}, when), `. ${parts.join(' · ')}`];
-}
-
-/** How the browser's clock differs from the station's, or the station's from one that was chosen. */
-function clocksLine({ zone, known, begin, end }) {
-  const own = known?.notes.zone;
-  if (!isZone(own)) return [];
-  const [whose, other] = zone === own ? ["This browser's clock", browserZone()] : ["The station's own clock", own];
-  const difference = differenceText(other, zone, [begin, end - 60_000]);
-  if (difference === '') return [];
-  const link = element('a', { href: addressOf({ zone: other === own ? null : other }) }, 'Show that clock');
-  return [`${whose}, of ${other}, is ${difference}. `, link];
-}
-
-function stationText({ notes }) {
-  const { country, identifier, source } = notes;
-  return [hasPlace(notes) ? placeText(notes) : '', country, identifier, source && `constants from ${source}`].filter(Boolean).join(' · ');
-}
-
-function showNear(station) {
-  const near = nearestTo(station, stations, MOST_NEAR);
-  place('near').hidden = near.length === 0;
-  place('near').querySelector('ol').replaceChildren(...near.map(({ station: other, distance, bearing }) =>
-    stationLine(other, distanceText(distance, bearing))));
+/** Shows what belongs to the station and not to the answer's times; once more when the list of stations is there. */
+function showStation(answer) {
+  const { known, station } = answer, reference = stationOf(known?.reference), clocks = clocksText(answer);
+  place('title').textContent = station;
+  place('about').replaceChildren(...aboutLine(answer, reference));
+  place('clocks').replaceChildren(...(clocks ? [clocks.text, element('a', { href: addressWith({ zone: clocks.zone }) }, 'Show that clock')] : []));
+  place('station').textContent = known ? stationText(known) : '';
+  place('notes').textContent = [turnsOnlyText(answer), answer.events.length === 0 ? 'There are no events in this time.' : ''].filter(Boolean).join(' ');
+  place('threshold').textContent = answer.isCurrent ? 'limit of' : 'sill at';
+  place('sill-word').textContent = answer.isCurrent ? 'limit' : 'sill';
+  place('units').textContent = answer.units;
+  place('choose-units').hidden = answer.isCurrent;
+  controls.units.options[0].textContent = `${answer.ownUnits} (the station's)`;
+  explainSill({ ...answer, datum: known?.notes.datum ?? reference?.notes.datum });
+  showNear(known);
 }
 
 function showCurve(answer, isPaper = false) {
   graph?.destroy();
   graph = null;
   drawn = answer;
-  place('picture').hidden = answer.view === 'month' || answer.levels.length === 0 || !window.Dygraph;
+  place('picture').hidden = answer.view === 'month' || answer.levels.length + answer.events.length === 0 || !window.Dygraph;
   place('reading').textContent = '';
   if (place('picture').hidden) return;
-  const points = new Map([...answer.levels, ...answer.events].map(point => [point.moment, point]));
+  const points = new Map([...answer.levels, ...answer.marks, ...answer.lowMarks, ...answer.events].map(point => [point.moment, point]));
   const report = moment => {
     const { shown, clock } = points.get(moment) ?? {};
     place('reading').textContent = clock ? `${dateText(clock.date)} ${clock.time} ${clock.offset}: ${shown} ${answer.units}` : '';
   };
   place('chart').setAttribute('aria-label', `The curve of the week in ${answer.units}. The tables below have its events.`);
   const sill = answer.sill === null ? null : Number(answer.sill);
-  graph = drawChart(place('curve'), { ...answer, sill, sillText: thresholdText(answer), report, isPaper });
+  graph = drawChart(place('curve'), { ...answer, sill, sillText: answer.sill === null ? '' : thresholdText(answer), report, isPaper });
 }
 
 /** Shows the hint above each table or curve that is wider than its frame. */
@@ -154,78 +101,113 @@ function showHints() {
   }
 }
 
-function showAnswer(answer) {
-  place('title').textContent = answer.station;
-  place('about').replaceChildren(...aboutLine(answer));
-  place('clocks').replaceChildren(...clocksLine(answer));
-  place('station').textContent = answer.known ? stationText(answer.known) : '';
-  place('notes').replaceChildren(...answer.notes.map(noteOf));
-  if (answer.events.length === 0) place('notes').append('There are no events in this time.');
+/** The line of the present, or nothing if the server has no answer to it. */
+async function nowLine(wanted) {
+  try {
+    const [word, text] = nowText(await askNow(wanted, stationOf(wanted.station)?.notes), wanted);
+    return text ? [element('strong', {}, word), ` ${text}`] : [];
+  } catch (error) {
+    if (!(error instanceof NoAnswer)) throw error;
+    return [];
+  }
+}
+
+/** The line of the present for a question; within a minute the same question has the same line. */
+function nowOf(wanted) {
+  const { station, zone, units, hours } = wanted, key = [station, zone, units, hours, Math.floor(Date.now() / MINUTE)].join('\n');
+  if (present.key !== key) present = { key, line: nowLine(wanted) };
+  return present.line;
+}
+
+async function renewNow() {
+  const wanted = question(), turn = shows;
+  if (!wanted.station || document.hidden || place('answer').hidden) return;
+  const line = await nowOf(wanted);
+  if (turn === shows) place('now').replaceChildren(...line);
+}
+
+function showAnswer(answer, now, wanted) {
+  place('now').replaceChildren(...now);
+  showStation(answer);
   place('answer').hidden = false;
   place('sheet').replaceChildren(...(answer.view === 'week' ? weekSheet(answer) : monthSheet(answer)));
   showCurve(answer);
   showHints();
-  showNear(answer.known);
+  showTaking(wanted, answer);
+  place('status').textContent = `${answer.station}, ${whenText(answer)}: ${answer.events.length} events.`;
+  noteSeen(answer.station);
 }
 
 /** The zones to choose: the station's, the browser's, and all others. */
 function showZones(zone, name) {
-  const [own, browser] = [stationOf(name)?.notes.zone, browserZone()];
+  const [own, browser] = [usualZone(name), browserZone()];
   const text = value => value + (value === own ? " (the station's)" : '') + (value === browser ? " (this browser's)" : '');
   const names = [...new Set([...(isZone(own) ? [own] : []), browser, ...zoneNames(), zone])];
   controls.zone.replaceChildren(...names.map(value => new Option(text(value), value)));
   controls.zone.value = zone;
 }
 
-function showControls({ station, view, date, zone, sill }) {
-  const known = stationOf(station);
+function showControls({ station, view, date, zone, sill, units, hours }) {
   place('question').hidden = !station;
-  Object.entries({ view, date, sill: sill ?? '' }).forEach(([name, value]) => { controls[name].value = value; });
+  place('hint').hidden = Boolean(station);
+  Object.entries({ view, date, sill: sill ?? '', units: units ?? '', hours }).forEach(([name, value]) => { controls[name].value = value; });
   showZones(zone, station);
-  place('threshold').textContent = known?.isCurrent ? 'limit of' : 'sill at';
-  place('units').textContent = known?.units ?? '';
   document.title = station ? `${station}: tides and currents` : 'Tides and currents';
 }
 
+function showTrouble(...parts) {
+  place('answer').hidden = true;
+  place('now').replaceChildren();
+  place('trouble').replaceChildren(...parts);
+}
+
+/** Says what is wrong with the address, and offers the question without that. */
+function showFaults(faults) {
+  showTrouble(...faults.map(({ text }) => element('div', { className: 'note' }, text)),
+    element('p', {}, element('a', { href: addressWith(Object.fromEntries(faults.map(({ key }) => [key, null]))) }, 'Leave out what is wrong, and show the rest')));
+}
+
 async function show() {
-  const wanted = question(), turn = ++shows;
+  clearTimeout(retry.timer);
+  const wanted = question(), turn = ++shows, faults = faultsOf(location.search);
   showControls(wanted);
-  place('trouble').replaceChildren();
   place('answer').setAttribute('aria-busy', 'true');
   try {
-    const answer = wanted.station ? await answerTo(wanted, stationOf(wanted.station)) : null;
+    const isAsked = wanted.station && faults.length === 0;
+    const [answer, now] = isAsked ? await Promise.all([answerTo(wanted, stationOf(wanted.station)), nowOf(wanted)]) : [null, []];
     if (turn !== shows) return;
-    if (answer) showAnswer(answer); else place('answer').hidden = true;
+    retry.wait = FIRST_WAIT;
+    place('trouble').replaceChildren();
+    if (answer) showAnswer(answer, now, wanted); else place('answer').hidden = true;
+    if (faults.length > 0) showFaults(faults);
   } catch (error) {
     if (turn !== shows) return;
-    place('answer').hidden = true;
-    place('trouble').replaceChildren(noteOf(error));
+    showTrouble(noteOf(error));
+    if (error.kind !== 'refused') tryLater();
+    if (error.line === 'refused: no station') suggest(wanted.station);
   }
   place('answer').setAttribute('aria-busy', 'false');
 }
 
 function changeQuestion(event) {
   event.preventDefault();
-  const { view, date, sill, zone } = controls;
+  if (place('sills').contains(event.target)) return;
+  const { view, date, sill, zone, units, hours } = controls, { station, units: before } = question();
+  const typed = decimalText(sill.value), isOther = event.target.name === 'units' && drawn && typed;
   const changes = {
-    view: view.value, date: date.value, sill: decimalText(sill.value),
-    zone: zone.value === usualZone(question().station) ? null : zone.value,
+    view: view.value, date: date.value, sill: isOther ? sillIn(typed, drawn.ownUnits, before, units.value) : typed,
+    zone: zone.value === (isZone(usualZone(station)) ? usualZone(station) : browserZone()) ? null : zone.value,
+    units: units.value, hours: hours.value === '24' ? null : hours.value, year: null,
   };
   // The Enter key changes a field and then submits the form.
   if (event.type === 'change' || !isHere(changes) || place('trouble').hasChildNodes()) goTo(changes);
 }
 
-function listen() {
+function listenToQuestion() {
   const move = steps => {
     const { view, date } = question();
     goTo({ date: view === 'week' ? daysLater(date, 7 * steps) : monthsLater(date, steps) });
   };
-  place('finder').addEventListener('input', showFound);
-  place('finder').addEventListener('keydown', moveAmongFound);
-  place('finder').addEventListener('submit', event => {
-    event.preventDefault();
-    place('found').querySelector('a')?.click();
-  });
   place('question').addEventListener('change', changeQuestion);
   place('question').addEventListener('submit', changeQuestion);
   controls.earlier.addEventListener('click', () => move(-1));
@@ -233,9 +215,22 @@ function listen() {
   controls.today.addEventListener('click', () => goTo({ date: null }));
   controls.print.addEventListener('click', () => window.print());
   controls.year.addEventListener('click', () => location.assign(`year.html${location.search}`));
-  window.addEventListener('popstate', () => { showFound(); show(); });
+  listenToSills(sill => goTo({ sill }));
+}
+
+function listen() {
+  const hasStation = () => Boolean(question().station);
+  listenToFinder(hasStation);
+  listenToQuestion();
+  window.addEventListener('popstate', () => { showFound(hasStation()); show(); });
   window.addEventListener('resize', showHints);
-  setInterval(() => graph?.updateOptions({}), 60_000);
+  setInterval(() => { graph?.updateOptions({}); renewNow(); }, MINUTE);
+  const look = () => {
+    if (document.hidden) return;
+    if (place('trouble').querySelector('button')) show(); else renewNow();
+  };
+  window.addEventListener('online', look);
+  document.addEventListener('visibilitychange', look);
   followPaper(place('curve'), isPaper => { if (graph) showCurve(drawn, isPaper); });
 }
 
@@ -247,21 +242,34 @@ function foldControls() {
   fold();
 }
 
+/** Reads the list of stations, and tries again until it is there. */
+async function loadStations(wait = FIRST_WAIT) {
+  try {
+    stations = withNotes(readStations(await readList()), notes);
+  } catch (error) {
+    const trouble = noteOf(error);
+    // A fault that the question has too is shown once.
+    if (!place('trouble').textContent.includes(trouble.textContent)) place('count').replaceChildren(trouble);
+    setTimeout(() => loadStations(Math.min(2 * wait, LONGEST_WAIT)), wait);
+    return;
+  }
+  takeStations(stations);
+  showFound(Boolean(question().station));
+  const known = stationOf(drawn?.station);
+  if (known && drawn.known !== known && !place('answer').hidden) {
+    drawn.known = known;
+    showStation(drawn);
+  }
+  // The days that can be had depend on the kind of the station.
+  if (place('trouble').textContent.includes('out of years')) show();
+}
+
 async function start() {
   listen();
   foldControls();
-  let trouble = null;
-  try {
-    const [list, notes] = await Promise.all([ask('stations', {}), readNotes()]);
-    stations = withNotes(readStations(list), notes);
-    if (Object.keys(notes).length > 0) document.querySelector('label[for=words]').textContent = 'Find a station by any part of its name, its country or its identifier';
-    showFound();
-  } catch (error) {
-    trouble = noteOf(error);
-  }
+  notes = await readNotes();
   await show();
-  // A fault that the question has too is shown once.
-  if (trouble && place('trouble').textContent !== trouble.textContent) place('count').replaceChildren(trouble);
+  await loadStations();
 }
 
 start();

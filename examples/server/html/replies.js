@@ -54,11 +54,23 @@ export async function ask(path, question) {
   return answerOf(reply.status, reply.headers.get('Content-Type'), body, question);
 }
 
+/** A file beside the page, or null if it isn't there. */
+export async function readBeside(file) {
+  try {
+    const reply = await fetch(file);
+    return reply.ok ? await reply.text() : null;
+  } catch {
+    return null;
+  }
+}
+
+/** The program's list of stations: the file beside the page, which a browser keeps, or else the program's answer. */
+export const readList = async () => await readBeside('stations.txt') ?? ask('stations', {});
+
 /** The notes on stations by their names; an empty object if the file doesn't exist. */
 export async function readNotes() {
   try {
-    const reply = await fetch('stations.json');
-    const notes = reply.ok ? await reply.json() : null;
+    const notes = JSON.parse(await readBeside('stations.json'));
     return typeof notes === 'object' && notes !== null ? notes : {};
   } catch {
     return {};

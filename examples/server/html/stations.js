@@ -10,11 +10,14 @@ function withReference(text, references) {
 export function readStations(text) {
   const lines = text.split('\n').map(line => LINE.exec(line)).filter(Boolean);
   const references = new Set(lines.filter(([, kind]) => kind === 'Ref').map(line => line[3]));
-  return lines.map(([, kind, units, rest]) => ({
+  const stations = lines.map(([, kind, units, rest]) => ({
     units,
     isCurrent: units.startsWith('knots'),
+    isHydraulic: units === 'knots^2',
     ...(kind === 'Ref' ? { name: rest, reference: null } : withReference(rest, references)),
   }));
+  const names = new Set(stations.map(({ name }) => name));
+  return stations.map(station => ({ ...station, twin: twinName(station.name, names) }));
 }
 
 /** The stations with their notes, by name, with names that begin with a digit last. Without notes a station has an empty object. */
@@ -25,18 +28,27 @@ export function withNotes(stations, notes) {
     .sort((one, other) => compare(one.name, other.name));
 }
 
-const folded = text => text.normalize('NFD').replace(/\p{M}/gu, '').toLowerCase();
+/** The name without ` (sub)` if another station has that name, or null: the same place with constants of its own. */
+function twinName(name, names) {
+  const plain = name.replace(/ \(sub\)$/, '');
+  return plain !== name && names.has(plain) ? plain : null;
+}
 
-/**
- * The stations that have each of the words in their name, country or identifier, without regard to accents and capitals;
- * those whose name begins with a word come first.
- */
-export function findStations(stations, words) {
-  const parts = folded(words).split(/\s+/).filter(Boolean);
-  const found = stations.filter(({ name, notes }) => {
-    const text = folded([name, notes?.country ?? '', notes?.identifier ?? ''].join('\n'));
-    return parts.every(part => text.includes(part));
-  });
-  const begins = ({ name }) => parts.some(part => folded(name).startsWith(part));
-  return [...found.filter(begins), ...found.filter(station => !begins(station))];
+/** The station that is the same place with constants of its own, or null. */
+export const twinOf = ({ twin }, stations) => (twin ? stations.find(({ name }) => name === twin) ?? null : null);
+
+/** The region of a name: its last part, as `Maine`, without parentheses and what follows `Current`. A name of one part has none. */
+export function regionOf(name) {
+  const last = name.split(', ').slice(1).at(-1) ?? '';
+  return last.replace(/ \([^)]*\)/g, '').replace(/ Current\b.*$/, '').trim();
+}
+
+/** The regions by name, each with its stations. Stations without a region are the last, under ''. */
+export function regionsOf(stations) {
+  const regions = new Map();
+  for (const station of stations) {
+    const region = regionOf(station.name);
+    regions.set(region, [...(regions.get(region) ?? []), station]);
+  }
+  return [...regions].sort(([one], [other]) => (one === '') - (other === '') || one.localeCompare(other, 'en'));
 }

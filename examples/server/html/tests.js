@@ -1,21 +1,17 @@
 import { offsetsOf } from './answer.js';
-import { rangeOf } from './chart.js';
 import { readRecords, readRows } from './csv.js';
 import { hoursText, isStrongest, levelText, lineOf, readPoints, timesAbove } from './events.js';
 import { bearingOf, distanceOf, distanceText, hasPlace, nearestTo, placeText } from './near.js';
 import { answerOf } from './replies.js';
 import { monthSheet, thresholdText, weekSheet } from './sheets.js';
-import { findStations, readStations, withNotes } from './stations.js';
+import { findStations } from './search.js';
+import { readStations, withNotes } from './stations.js';
+import { report, same } from './testing.js';
+import './tests_looks.js';
+import './tests_page.js';
 import {
   clockAt, dateText, daysLater, differenceText, isDate, isZone, momentText, monthsLater, startOfDay, zoneNames,
 } from './zones.js';
-
-const results = [];
-
-function same(about, found, wanted) {
-  const [one, other] = [found, wanted].map(value => JSON.stringify(value));
-  results.push({ about, passed: one === other, reason: one === other ? '' : `: ${one} in place of ${other}` });
-}
 
 const at = text => Date.parse(text);
 
@@ -188,9 +184,6 @@ same('clocks that agree', differenceText('Europe/Paris', 'Europe/Berlin', [JUNE,
 
 same('the strongest events', ['High Tide', 'Low Tide', 'Max Flood', 'Max Ebb', 'Min Ebb', 'Slack Ebb Begins', 'Mark Rising'].map(event => isStrongest({ event })),
   [true, false, true, true, false, false, false]);
-same('room for labels', rangeOf([0, 10], 74 * 2 + 20 + 100, false).map(Math.round), [-7, 17]);
-same('room for times of slack', rangeOf([0, 10], 74 * 2 + 40 + 20 + 100, true).map(Math.round), [-11, 17]);
-same('room around a level that stays', rangeOf([2, 2], 0, false).every(Number.isFinite), true);
 
 const event = (moment, name, zone) => ({ moment: at(moment), event: name, shown: '1.00', units: 'feet', clock: clockAt(at(moment), zone) });
 const NEW_YORK = 'America/New_York';
@@ -201,23 +194,17 @@ same('offsets of a time that the begin cuts', offsetsOf(midnight, FALL, [{ from:
 same('offsets of a time above', offsetsOf(midnight, FALL, [{ from: midnight, to: at('2026-11-01T05:30Z'), openFrom: true }], NEW_YORK), ['-04:00', '-05:00']);
 same('the offset of an empty sheet', offsetsOf(midnight, [], [], NEW_YORK), ['-04:00']);
 const sheet = {
-  events: FALL, above: [], dates: ['2026-11-01', '2026-11-02'], zone: NEW_YORK, sill: '4', units: 'feet', isCurrent: false, offsets: ['-05:00'],
+  events: FALL, times: [], dates: ['2026-11-01', '2026-11-02'], zone: NEW_YORK, sill: '4', units: 'feet', isCurrent: false, offsets: ['-05:00'],
+  clockOf: moment => clockAt(moment, NEW_YORK),
 };
 const textOf = elements => elements.map(({ textContent }) => textContent).join('|');
 same('a week without marks', /Mark|07:00|02:00/.test(textOf(weekSheet(sheet))), false);
-same('a week names its sill', textOf(weekSheet(sheet)).startsWith('Above the sill at 4 feet|'), true);
+same('a week names its sill', textOf(weekSheet(sheet)).startsWith('Events, and times above the sill at 4 feet|'), true);
 same('a month without a star', textOf(monthSheet(sheet)).includes('*'), false);
 same('a month with a star', textOf(monthSheet({ ...sheet, offsets: ['-04:00', '-05:00'], events: [event('2026-11-01T04:30Z', 'Low Tide', NEW_YORK), ...FALL, event('2026-11-01T20:30Z', 'Low Tide', NEW_YORK)] }))
   .includes('times with * at -04:00, the others at -05:00'), true);
 same('a month without two points', textOf(monthSheet(sheet)).includes('..'), false);
-same('a month with two points', textOf(monthSheet({ ...sheet, above: [{ from: midnight, to: at('2026-11-01T09:00Z'), openFrom: true }] })).includes('..: outside this month'), true);
+same('a month with two points', textOf(monthSheet({ ...sheet, times: [{ from: midnight, to: at('2026-11-01T09:00Z'), openFrom: true }] })).includes('..: outside this month'), true);
 same('a limit', thresholdText({ isCurrent: true, sill: '2', units: 'knots' }), 'limit of 2 knots');
 
-const failed = results.filter(({ passed }) => !passed).length;
-document.getElementById('result').textContent = `${results.length - failed} passed, ${failed} failed`;
-for (const { about, passed, reason } of results) {
-  const line = document.createElement('li');
-  line.className = passed ? 'passed' : 'failed';
-  line.textContent = `${passed ? 'passed' : 'FAILED'} ${about}${reason}`;
-  document.getElementById('tests').append(line);
-}
+report();

@@ -1,127 +1,111 @@
-import { isMark, readPoints, timesAbove } from './events.js';
-import { ask, NoAnswer, readNotes } from './replies.js';
+import { turnsOnlyText } from './about.js';
+import { answerTo } from './answer.js';
+import { addressOf, decimalText, faultsOf, questionOf } from './question.js';
+import { NoAnswer, readBeside, readList, readNotes } from './replies.js';
 import { element } from './sheets.js';
-import { readStations } from './stations.js';
-import { browserZone, clockAt, isZone, momentText, zoneNames } from './zones.js';
-import { clockChanges, spanOf } from './year_days.js';
-import { yearSheets } from './year_sheets.js';
+import { readStations, withNotes } from './stations.js';
+import { zoneNames } from './zones.js';
+import { clockChanges } from './year_days.js';
+import { aboutLines, mostLines, yearSheets } from './year_sheets.js';
 
 const place = id => document.getElementById(id);
 const controls = place('question').elements;
 const PAPERS = ['A4', 'Letter'];
-
-/** A file beside the page, or null if it isn't there. */
-async function beside(file) {
-  try {
-    const reply = await fetch(file);
-    return reply.ok ? await reply.text() : null;
-  } catch {
-    return null;
-  }
-}
+/** In mm: the greatest height of a line, the height around the lines by year.css, and of a line of text above and below them. */
+const MOST_HIGH = 3.6, AROUND = 54, TEXT = 3.4;
 
 const noted = (all, name) => (Object.hasOwn(all, name) && all[name]) || {};
 
 /** The files of constants with their SHA-256, from the lines of sha256sum. */
 async function constantsOf() {
-  const lines = (await beside('constants.sha256') ?? '').split('\n').map(line => /^([0-9a-f]{64}) [ *](.*)$/.exec(line));
+  const lines = (await readBeside('constants.sha256') ?? '').split('\n').map(line => /^([0-9a-f]{64}) [ *](.*)$/.exec(line));
   return lines.filter(Boolean).map(([, sum, file]) => `Constants: ${file.split('/').at(-1)}, SHA-256 ${sum}`);
 }
 
-/** The question in the address bar. */
-function question(notes) {
-  const query = new URLSearchParams(location.search);
-  const zone = [query.get('zone'), notes.zone, browserZone()].find(isZone);
-  const year = Number(query.get('year') ?? query.get('date')?.slice(0, 4) ?? clockAt(Date.now(), zone).date.slice(0, 4));
-  return {
-    name: query.get('station'), zone,
-    year: Number.isInteger(year) && year >= 2 && year <= 9998 ? year : new Date().getFullYear(),
-    sill: query.get('sill')?.trim().replace(',', '.') || null,
-    paper: PAPERS.find(paper => paper === query.get('paper')),
-  };
+/** The question of the address, for the year that it names, that of its date, or the present one. */
+function questionFor(notes) {
+  const question = questionOf(location.search, notes.zone), named = new URLSearchParams(location.search).get('year');
+  const year = Number(named?.trim() || question.date.slice(0, 4));
+  return { ...question, view: 'year', year, date: `${String(year).padStart(4, '0')}-01-01` };
+}
+
+function addStyle(text) {
+  const style = new CSSStyleSheet();
+  style.replaceSync(text);
+  document.adoptedStyleSheets = [...document.adoptedStyleSheets, style];
 }
 
 /** Sets the paper for printing, if the address names one. */
-function setPaper(paper) {
-  if (!paper) return;
-  const style = new CSSStyleSheet();
-  style.replaceSync(`@page { size: ${paper}; }`);
-  document.adoptedStyleSheets = [style];
+function setPaper() {
+  const paper = PAPERS.find(name => name === new URLSearchParams(location.search).get('paper'));
+  if (paper) addStyle(`@page { size: ${paper}; }`);
 }
 
-/** The events, without a mark if the station takes none, and why. */
-async function eventsOf(span, sill) {
-  try {
-    return { text: await ask('predict', { ...span, ...(sill === null ? {} : { mark: sill }) }), sill };
-  } catch (error) {
-    if (error.line !== 'refused: mark not here') throw error;
-    return { text: await ask('predict', span), sill: null, why: error };
-  }
+/** Has the fullest half of a month fill the height of the paper. */
+function fillPaper(answer) {
+  const more = Math.max(0, aboutLines(answer).length - 3) + Math.max(0, answer.constants.length - 2);
+  const height = `min(${MOST_HIGH}mm, calc((100vh - ${AROUND + TEXT * more}mm) / ${mostLines(answer)}))`;
+  addStyle(`@media print { .half td, .half tbody th { line-height: ${height}; } }`);
 }
 
-async function askYear(asking, all) {
-  const { name, year, zone } = asking;
-  const [begin, end] = spanOf(year, zone);
-  const span = { station: name, begin: momentText(begin), end: momentText(end), layout: 'csv' };
-  const { text, sill, why } = await eventsOf(span, asking.sill);
-  const events = readPoints(text).map(event => ({ ...event, clock: clockAt(event.moment, zone) }));
-  const first = sill === null ? [] : readPoints(await ask('heights', { ...span, end: span.begin }));
-  const known = readStations(await ask('stations', {})).find(station => station.name === name);
-  const units = events[0]?.units ?? known?.units ?? '';
-  const changes = clockChanges(begin, end, zone);
-  const points = [...changes, ...events.filter(event => !isMark(event))].sort((one, other) => one.moment - other.moment);
+/** What the sheets show. */
+async function askYear(question, all) {
+  const stations = withNotes(readStations(await readList()), all);
+  const known = stations.find(({ name }) => name === question.station);
+  const [answer, constants] = await Promise.all([answerTo(question, known), constantsOf()]);
+  const changes = clockChanges(answer.begin, answer.end, question.zone);
+  const points = [...changes, ...answer.events].sort((one, other) => one.moment - other.moment);
   return {
-    ...asking, sill, why, begin, events, points, changes, units, isCurrent: units.startsWith('knots'),
-    offset: clockAt(begin, zone).offset, reference: known?.reference ?? null,
-    datum: noted(all, name).datum ?? noted(all, known?.reference).datum ?? null,
-    above: sill === null ? [] : timesAbove(events, begin, end, first[0].level > Number(sill)),
-    constants: await constantsOf(),
+    ...answer, changes, points, constants, offset: answer.clockOf(answer.begin).offset,
+    datum: noted(all, question.station).datum ?? noted(all, known?.reference).datum ?? null,
   };
 }
 
-function note(error) {
-  if (!(error instanceof NoAnswer)) throw error;
-  return element('div', { className: 'note' }, error.message, ' ', element('code', {}, error.line));
+function note(text, line = '') {
+  place('trouble').append(element('div', { className: 'note' }, text, ...(line ? [' ', element('code', {}, line)] : [])));
 }
 
-function showControls({ name, year, zone, sill }) {
-  controls.zone.append(...zoneNames().map(zone => new Option(zone, zone)));
+function showControls({ station, year, zone, sill, units }) {
+  controls.zone.append(...zoneNames().map(name => new Option(name, name)));
   if (![...controls.zone.options].some(({ value }) => value === zone)) controls.zone.append(new Option(zone, zone));
   Object.entries({ year, zone, sill: sill ?? '' }).forEach(([key, value]) => { controls[key].value = value; });
-  place('week').href = `index.html${location.search}`;
-  document.title = `${name ?? 'A station'}, ${year}: tides and currents`;
+  place('units').textContent = units ?? '';
+  place('week').href = `index.html${addressOf(location.search, { year: null, paper: null })}`;
+  document.title = `${station ?? 'A station'}, ${year}: tides and currents`;
 }
 
-function listen({ name, paper }) {
+function listen() {
   place('question').addEventListener('submit', submit => {
     submit.preventDefault();
-    const query = new URLSearchParams({ station: name ?? '', year: controls.year.value, zone: controls.zone.value });
-    if (controls.sill.value) query.set('sill', controls.sill.value);
-    if (paper) query.set('paper', paper);
-    location.search = `?${query}`;
+    const { year, zone, sill } = controls;
+    location.search = addressOf(location.search, { year: year.value, zone: zone.value, sill: decimalText(sill.value) });
   });
   controls.print.addEventListener('click', () => window.print());
 }
 
-async function show(asking, all) {
+async function show(question, all) {
   try {
-    const answer = await askYear(asking, all);
-    if (answer.why) place('trouble').append(note(answer.why));
+    const answer = await askYear(question, all);
+    place('threshold').textContent = answer.isCurrent ? 'limit of' : 'sill at';
+    place('units').textContent = answer.units;
+    if (answer.isTurnsOnly && answer.wantedSill !== null) note(turnsOnlyText(answer));
     place('sheets').replaceChildren(...yearSheets(answer));
+    fillPaper(answer);
   } catch (error) {
-    place('trouble').append(note(error));
+    if (!(error instanceof NoAnswer)) throw error;
+    note(error.message, error.line);
   }
 }
 
 async function start() {
-  const station = new URLSearchParams(location.search).get('station');
-  const all = await readNotes();
-  const asking = question(noted(all, station));
-  showControls(asking);
-  listen(asking);
-  setPaper(asking.paper);
-  if (station === null) place('trouble').append('Choose a station on the page of the week.');
-  else await show(asking, all);
+  const all = await readNotes(), faults = faultsOf(location.search);
+  const question = questionFor(noted(all, new URLSearchParams(location.search).get('station')));
+  showControls(question);
+  listen();
+  setPaper();
+  faults.forEach(({ text }) => note(text));
+  if (question.station === null) note('Choose a station on the page of the week.');
+  else if (faults.length === 0) await show(question, all);
   place('sheets').setAttribute('aria-busy', 'false');
 }
 

@@ -42,36 +42,44 @@ export function clockChanges(begin, end, zone) {
   return changes;
 }
 
+const isAfter = ({ event: slack }, { event: turn }) => slack.split(' ')[1] === turn.split(' ')[1];
+
 /** The lines of a day: a change of the clock, or a slack with the maximum after it, or one of both. */
 export function linesOf(points) {
   const lines = [];
   for (const point of points) {
+    const last = lines.at(-1);
     if (point.isChange) lines.push({ change: point });
     else if (point.event.startsWith('Slack ')) lines.push({ slack: point });
-    else if (lines.at(-1)?.slack && !lines.at(-1).turn) lines.at(-1).turn = point;
+    else if (last?.slack && !last.turn && isAfter(last.slack, point)) last.turn = point;
     else lines.push({ turn: point });
   }
   return lines;
 }
 
-/** A time above the sill by the clock of a zone. `+N`: it ends N days later, if that isn't the same or the next day. */
-export function aboveText({ from, to, openFrom, openTo }, zone) {
-  const [first, last] = [clockAt(from, zone), clockAt(to, zone)];
+/** A time of day without a space: `3:05p` for `3:05 pm`. */
+export const shortTime = ({ time }) => time.replace(/ ([ap])m$/, '$1');
+
+/** A time above the sill or within the limit. `+N`: it ends N days later, if that isn't the same or the next day. */
+export function aboveText({ from, to, openFrom, openTo }, clockOf) {
+  const [first, last] = [from, to].map(clockOf);
   const days = (Date.parse(last.date) - Date.parse(first.date)) / DAY;
-  return `${openFrom ? '..' : first.time}–${openTo ? '..' : last.time}${days > 1 ? ` +${days}` : ''}`;
+  return `${openFrom ? '..' : shortTime(first)}–${openTo ? '..' : shortTime(last)}${days > 1 ? ` +${days}` : ''}`;
 }
 
-/** A day's lines and its times above the sill, each under the date on which it begins. */
-export function dayOf(date, { points, above, zone }) {
+/** A day's lines and its times above the sill or within the limit, each under the date on which it begins. */
+export function dayOf(date, { points, times, clockOf }) {
   return {
     lines: linesOf(points.filter(({ clock }) => clock.date === date)),
-    above: above.filter(({ from }) => clockAt(from, zone).date === date).map(time => aboveText(time, zone)),
+    above: times.filter(({ from }) => clockOf(from).date === date).map(time => aboveText(time, clockOf)),
   };
 }
 
-/** The number of lines of a day: times above the sill have a column beside a tide, and lines below a current. */
-export const heightOf = ({ lines, above }, isCurrent) =>
-  Math.max(2, isCurrent ? lines.length + above.length : Math.max(lines.length, above.length));
+/** The number of lines of a day; times above a sill or within a limit have a column beside the events. */
+export const heightOf = ({ lines, above }) => Math.max(2, lines.length, above.length);
+
+/** The months of a sheet: three if their columns are narrow, and else two. */
+export const monthsOnSheet = ({ sill, hours }) => (sill === null && hours !== '12' ? 3 : 2);
 
 /** The class of year.css for half a month with so many lines. */
 export const sizeFor = most => `lines-${SIZES.find(size => most <= size) ?? SIZES.at(-1)}`;

@@ -1,28 +1,33 @@
+import { directionsText, stationText, timesText } from './about.js';
 import { isStrongest } from './events.js';
 import { element } from './sheets.js';
-import { aboveText, dateOf, dayOf, daysIn, heightOf, MONTHS, SIGNS, sizeFor } from './year_days.js';
+import { shortUnits } from './units.js';
+import { aboveText, dateOf, dayOf, daysIn, heightOf, MONTHS, monthsOnSheet, shortTime, SIGNS, sizeFor } from './year_days.js';
 
 const WEEKDAYS = ['Sun', 'Mon', 'Tue', 'Wed', 'Thu', 'Fri', 'Sat'];
 const weekdayOf = date => WEEKDAYS[new Date(`${date}T00:00Z`).getUTCDay()];
 const cell = (className, text) => element('td', { className }, text);
+const unseen = text => element('span', { className: 'unseen' }, text);
 
 function turnCells(turn) {
   if (!turn) return [cell('', ''), cell('', ''), cell('', '')];
   const top = isStrongest(turn) ? ' top' : '';
-  return [cell(`sign${top}`, SIGNS[turn.event]), cell(`time${top}`, turn.clock.time), cell(`level${top}`, turn.shown)];
+  return [cell(`sign${top}`, SIGNS[turn.event]), cell(`time${top}`, shortTime(turn.clock)), cell(`level${top}`, turn.shown)];
 }
 
-function slackCells(slack) {
-  return slack ? [cell('sign', SIGNS[slack.event]), cell('time', slack.clock.time)] : [cell('', ''), cell('', '')];
+/** The cells of a current's line: the maximum beside a slack says which one begins. */
+function currentCells({ slack, turn }) {
+  if (!slack || turn) return [cell('begins', slack ? shortTime(slack.clock) : ''), ...turnCells(turn)];
+  return [cell('begins', shortTime(slack.clock)), element('td', { className: 'sign', colSpan: 3 }, SIGNS[slack.event])];
 }
 
 /** The cells of each row of a day, behind its date. */
 function cellsOf({ lines, above }, { isCurrent, sill }) {
-  const wide = isCurrent ? 5 : 3;
-  const rows = lines.map(({ change, slack, turn }) => (change
-    ? [element('td', { className: 'change', colSpan: wide }, `clock ${change.clock.offset}`)]
-    : [...(isCurrent ? slackCells(slack) : []), ...turnCells(turn)]));
-  if (isCurrent) return [...rows, ...above.map(text => [element('td', { className: 'above', colSpan: wide }, `> ${text}`)])];
+  const wide = isCurrent ? 4 : 3;
+  const rows = lines.map(({ change, slack, turn }) => {
+    if (change) return [element('td', { className: 'change', colSpan: wide }, `clock ${change.clock.offset}`)];
+    return isCurrent ? currentCells({ slack, turn }) : turnCells(turn);
+  });
   if (sill === null) return rows;
   while (rows.length < above.length) rows.push([element('td', { colSpan: wide }, '')]);
   return rows.map((row, place) => [...row, cell('above', above[place] ?? '')]);
@@ -30,69 +35,92 @@ function cellsOf({ lines, above }, { isCurrent, sill }) {
 
 function dayRows(date, answer) {
   const day = dayOf(date, answer), weekday = weekdayOf(date);
-  const rows = cellsOf(day, answer), height = heightOf(day, answer.isCurrent);
+  const rows = cellsOf(day, answer), height = heightOf(day);
   while (rows.length < height) rows.push([element('td', {}, '\u00a0')]);
   const head = element('th', { scope: 'rowgroup', rowSpan: height }, String(Number(date.slice(8))), element('br'), weekday);
   return element('tbody', { className: weekday === 'Sun' ? 'sunday' : '' },
     ...rows.map((row, place) => element('tr', {}, ...(place === 0 ? [head] : []), ...row)));
 }
 
-const columnsOf = ({ isCurrent, sill }) => ['day', ...(isCurrent ? ['slack', 'begins'] : []), 'sign', 'time', 'level',
-  ...(isCurrent || sill === null ? [] : ['above'])];
+/** The name of the times above a sill or within a limit, in a word and a level. */
+const timesName = ({ isCurrent, sill, units }) => `${isCurrent ? 'Within' : 'Above'} ${sill} ${shortUnits(units)}`;
+
+/** The columns with their heads. */
+function columnsOf(answer) {
+  const { isCurrent, sill, units } = answer;
+  return [['day', unseen('Day')], ...(isCurrent ? [['begins', 'Slack']] : []), ['sign', unseen('Event')],
+    ['time', isCurrent ? 'Max' : 'Time'], ['level', shortUnits(units)], ...(sill === null ? [] : [['above', timesName(answer)]])];
+}
+
+function halfTable(name, dates, answer) {
+  const columns = columnsOf(answer);
+  return element('table', {}, element('caption', { className: 'unseen' }, name),
+    element('colgroup', {}, ...columns.map(([className]) => element('col', { className }))),
+    element('thead', {}, element('tr', {}, ...columns.map(([className, text]) => element('th', { className, scope: 'col' }, text)))),
+    ...dates.map(date => dayRows(date, answer)));
+}
 
 function halvesOf(year, month) {
   const dates = Array.from({ length: daysIn(year, month) }, (_, place) => dateOf(year, month, place + 1));
   return [dates.slice(0, 16), dates.slice(16)];
 }
 
-function monthPart(month, answer) {
-  const halves = halvesOf(answer.year, month);
-  const columns = () => element('colgroup', {}, ...columnsOf(answer).map(className => element('col', { className })));
-  const table = dates => element('table', {}, columns(), ...dates.map(date => dayRows(date, answer)));
-  return element('section', { className: 'month' },
-    element('h3', {}, MONTHS[month - 1], ' ', element('span', {}, offsetBefore(halves[0][0], answer))),
-    ...halves.map(dates => element('div', { className: 'half' }, table(dates))));
-}
-
 /** The offset with which a month begins: the offset of the last change before its first day. */
 const offsetBefore = (date, { changes, offset }) => changes.filter(({ clock }) => clock.date < date).at(-1)?.clock.offset ?? offset;
 
-/** The unit, the datum, the clock and the sill. */
-function aboutLines({ isCurrent, units, datum, reference, sill, zone, offset, changes }) {
-  const what = isCurrent ? `Current in ${units}, flood above 0 and ebb below` : `Tide in ${units} above ${datum ?? 'the datum of its constants'}`;
-  const clock = changes.map(({ clock: { date, time, offset: next } }) =>
-    `; from ${Number(date.slice(8))} ${MONTHS[Number(date.slice(5, 7)) - 1]} ${time}: ${next}`);
-  return [
-    `${what}${reference ? ` · by differences from ${reference}` : ''}`,
-    `Clock of ${zone}: ${offset}${clock.join('')}`,
-    ...(sill === null ? [] : [`Times above ${sill} ${units}, from the first whole minute to the last, on the day on which they begin`]),
-  ];
+function monthPart(month, answer) {
+  const halves = halvesOf(answer.year, month);
+  const half = (dates, place) => element('div', { className: 'half' },
+    halfTable(`${MONTHS[month - 1]} ${answer.year}, ${place === 0 ? 'first' : 'second'} half`, dates, answer));
+  return element('section', { className: 'month' },
+    element('h3', {}, MONTHS[month - 1], ' ', element('span', {}, offsetBefore(halves[0][0], answer))), ...halves.map(half));
 }
 
-function legendOf({ events, above, changes, zone }) {
+/** The unit, the datum, the clock and the place. */
+export function aboutLines(answer) {
+  const { isCurrent, isConverted, units, ownUnits, datum, known } = answer;
+  const what = isCurrent ? `Current in ${units}, flood above 0 and ebb below` : `Tide in ${units}${isConverted ? ` (converted from ${ownUnits})` : ''} above ${datum ?? 'the datum of its constants'}`;
+  return [
+    [what, isCurrent ? directionsText(known?.notes) : '', known?.reference ? `by differences from ${known.reference}` : ''].filter(Boolean).join(' · '),
+    timesText(answer), known ? stationText(known) : '',
+  ].filter(Boolean);
+}
+
+function legendOf(answer) {
+  const { events, times, clockOf, sill, hours } = answer;
   const signs = Object.entries(SIGNS).filter(([word]) => events.some(({ event }) => event === word));
-  const times = above.map(time => aboveText(time, zone));
-  return [signs.map(([word, sign]) => `${sign} ${word}`).join(', '), ...(changes.length > 0 ? ['clock: the offset of the times from here on'] : []),
-    ...(times.some(text => text.includes('+')) ? ['+N: it ends N days later'] : []),
-    ...(times.some(text => text.includes('..')) ? ['..: outside this year'] : [])].join('; ');
+  const texts = times.map(time => aboveText(time, clockOf));
+  return [signs.map(([word, sign]) => `${sign} ${word}`).join(', '),
+    ...(sill === null ? [] : [`${timesName(answer)}: first to last whole minute, on the day on which it begins`]),
+    ...(hours === '12' ? ['a before noon, p after it'] : []),
+    ...(texts.some(text => text.includes('+')) ? ['+N: it ends N days later'] : []),
+    ...(texts.some(text => text.includes('..')) ? ['..: outside this year'] : [])].join('; ');
 }
 
 /** The number of lines of the fullest half of a month. */
-function mostLines(answer) {
+export function mostLines(answer) {
   const halves = MONTHS.flatMap((_, place) => halvesOf(answer.year, place + 1));
-  return Math.max(...halves.map(dates => dates.reduce((sum, date) => sum + heightOf(dayOf(date, answer), answer.isCurrent), 0)));
+  return Math.max(...halves.map(dates => dates.reduce((sum, date) => sum + heightOf(dayOf(date, answer)), 0)));
 }
 
-/** A year on four sheets, three months each. */
-export function yearSheets(answer) {
-  const { name, year, isCurrent, sill, constants } = answer;
-  const kind = `sheet ${isCurrent ? 'current' : 'tide'}${sill === null ? '' : ' with-sill'} ${sizeFor(mostLines(answer))}`;
-  return [1, 4, 7, 10].map((first, place) => element('section', { className: kind },
-    element('h2', {}, name),
-    element('p', { className: 'when' }, `${MONTHS[first - 1]} to ${MONTHS[first + 1]} ${year} · sheet ${place + 1} of 4`),
+function sheetOf(first, answer, size) {
+  const { station, year, isCurrent, sill, hours, constants } = answer, count = monthsOnSheet(answer);
+  const kind = ['sheet', isCurrent ? 'current' : 'tide', ...(sill === null ? [] : ['with-sill']), ...(count === 2 ? ['pairs'] : []),
+    ...(hours === '12' ? ['twelve'] : []), size].join(' ');
+  const months = Array.from({ length: count }, (_, place) => first + place);
+  const place = (first - 1) / count + 1;
+  return element('section', { className: kind },
+    element('h2', {}, station),
+    element('p', { className: 'when' }, `${MONTHS[first - 1]} ${count === 2 ? 'and' : 'to'} ${MONTHS[first + count - 2]} ${year} · sheet ${place} of ${12 / count}`),
     ...aboutLines(answer).map(line => element('p', {}, line)),
-    element('div', { className: 'months' }, ...[first, first + 1, first + 2].map(month => monthPart(month, answer))),
+    element('div', { className: 'months' }, ...months.map(month => monthPart(month, answer))),
     element('p', { className: 'legend' }, legendOf(answer)),
     element('p', { className: 'warning' }, 'NOT FOR NAVIGATION. Predicted from harmonic constants, without the weather.'),
-    ...constants.map(line => element('p', { className: 'constants' }, line))));
+    ...constants.map(line => element('p', { className: 'constants' }, line)));
+}
+
+/** A year on four sheets of three months each, or on six of two if they have times above a sill or within a limit too. */
+export function yearSheets(answer) {
+  const size = sizeFor(mostLines(answer)), count = monthsOnSheet(answer);
+  return Array.from({ length: 12 / count }, (_, place) => sheetOf(count * place + 1, answer, size));
 }

@@ -81,3 +81,25 @@ export function differenceText(zone, other, moments) {
   };
   return minutes.every(difference => difference === 0) ? '' : minutes.map(text).join(' or ');
 }
+
+/** English-speaking countries, of which each names the clocks of its own part of the world. */
+const LOCALES = ['en-US', 'en-GB', 'en-AU', 'en-NZ', 'en-IN', 'en-ZA'];
+
+/** The short name of a zone's clock at a moment, as `EST`, or '' if English has none. */
+export function shortName(zone, moment) {
+  const names = LOCALES.map(locale => new Intl.DateTimeFormat(locale, { timeZone: zone, timeZoneName: 'short' })
+    .formatToParts(moment).find(({ type }) => type === 'timeZoneName').value);
+  return names.find(name => !/^(GMT|UTC)./.test(name)) ?? '';
+}
+
+/** How far a clock is ahead of UTC, as `UTC-5` or `UTC+5:45`. */
+export function utcText(ahead) {
+  const minutes = Math.abs(ahead) / MINUTE, rest = minutes % 60;
+  return minutes === 0 ? 'UTC' : `UTC${ahead < 0 ? '-' : '+'}${Math.floor(minutes / 60)}${rest > 0 ? `:${String(rest).padStart(2, '0')}` : ''}`;
+}
+
+/** A zone's clock at a moment, as `EST (UTC-5)`. */
+export function clockName(zone, moment) {
+  const name = shortName(zone, moment), utc = utcText(clockAt(moment, zone).ahead);
+  return name === '' || name === utc ? utc : `${name} (${utc})`;
+}

@@ -1,0 +1,160 @@
+import { isMark, isSlack, isTop } from './events.js';
+import { freeX, isCrowded, placeLabels } from './labels.js';
+
+const FONT = '11px system-ui, sans-serif', BOLD = `bold ${FONT}`;
+/** Pixels of height for the times of slacks, upright. */
+const UPRIGHT_SLACKS = 44;
+
+const ruler = document.createElement('canvas').getContext('2d');
+function widthOf(text, font = FONT) {
+  ruler.font = font;
+  return ruler.measureText(text).width;
+}
+
+function write(context, text, x, y, colors, traits = {}) {
+  Object.assign(context, { font: FONT, textAlign: 'center', textBaseline: 'middle', fillStyle: colors.ink,
+    lineWidth: 3, lineJoin: 'round', strokeStyle: colors.page, ...traits });
+  context.strokeText(text, x, y);
+  context.fillText(text, x, y);
+}
+
+function writeUpwards(context, text, x, y, colors, traits) {
+  context.save();
+  context.translate(x, y);
+  context.rotate(-Math.PI / 2);
+  write(context, text, 0, 0, colors, traits);
+  context.restore();
+}
+
+export function drawLine(context, from, to, traits, dashes = []) {
+  Object.assign(context, { lineWidth: 1.5, ...traits });
+  context.setLineDash(dashes);
+  context.beginPath();
+  context.moveTo(...from);
+  context.lineTo(...to);
+  context.stroke();
+  context.setLineDash([]);
+}
+
+export function drawPoint(context, [x, y], { color, fill, size }) {
+  Object.assign(context, { fillStyle: fill, strokeStyle: color, lineWidth: 1.5 });
+  context.beginPath();
+  context.arc(x, y, size, 0, 2 * Math.PI);
+  context.fill();
+  context.stroke();
+}
+
+/** The events with a label of two lines, and those with a label at the bottom. */
+export function partsOf({ events }) {
+  const shown = events.filter(event => !isMark(event));
+  return { turns: shown.filter(event => !isSlack(event)), slacks: shown.filter(isSlack) };
+}
+
+export const turnWidth = ({ clock, shown }) => Math.max(widthOf(clock.time), widthOf(shown, BOLD));
+
+/** Writes the level and the time of each turn where it crosses no other, and returns the boxes of these labels. */
+function drawTurns(context, area, graph, turns, colors) {
+  const labels = turns.map(event => ({
+    event, x: graph.toDomXCoord(event.moment), y: graph.toDomYCoord(event.level), isAbove: isTop(event),
+    width: turnWidth(event) + 4, length: widthOf(`${event.clock.time}  `) + widthOf(event.shown, BOLD),
+  }));
+  const boxes = placeLabels(labels, area);
+  labels.forEach(({ event: { clock, shown }, x, y }, place) => {
+    const { left, right, top, bottom, isUpright } = boxes[place], middle = (left + right) / 2;
+    if (isUpright) {
+      writeUpwards(context, clock.time, middle, bottom, colors, { textAlign: 'left' });
+      writeUpwards(context, shown, middle, top, colors, { textAlign: 'right', font: BOLD });
+    } else {
+      write(context, clock.time, middle, top + 6.5, colors);
+      write(context, shown, middle, bottom - 6.5, colors, { font: BOLD });
+    }
+    drawPoint(context, [x, y], { color: colors.water, fill: colors.water, size: 3.5 });
+  });
+  return boxes;
+}
+
+const slackPositions = (slacks, word, xOf) =>
+  slacks.filter(({ event }) => event === `Slack ${word} Begins`).map(({ moment }) => xOf(moment));
+
+/** Whether the times of slacks fit two lines, one for those before flood and one for those before ebb. */
+export function fitLines(slacks, xOf) {
+  const width = Math.max(0, ...slacks.map(({ clock }) => widthOf(clock.time)));
+  return ['Flood', 'Ebb'].every(word => !isCrowded(slackPositions(slacks, word, xOf), width));
+}
+
+/** Writes the times of slacks at the bottom, away from the curve. */
+function drawSlacks(context, area, graph, slacks, colors) {
+  const isFlat = fitLines(slacks, moment => graph.toDomXCoord(moment)), bottom = area.y + area.h;
+  for (const event of slacks) {
+    const x = graph.toDomXCoord(event.moment), y = graph.toDomYCoord(event.level);
+    const half = isFlat ? widthOf(event.clock.time) / 2 : 6;
+    const middle = Math.min(Math.max(x, area.x + half + 2), area.x + area.w - half - 2);
+    const line = bottom - (event.event === 'Slack Flood Begins' ? 22 : 8);
+    drawLine(context, [x, y + 4], [x, isFlat ? line - 7 : bottom - UPRIGHT_SLACKS + 6], { strokeStyle: colors.guide, lineWidth: 1 }, [1, 3]);
+    if (isFlat) write(context, event.clock.time, middle, line, colors);
+    else writeUpwards(context, event.clock.time, middle, bottom - 4, colors, { textAlign: 'left' });
+    drawPoint(context, [x, y], { color: colors.water, fill: colors.page, size: 3.5 });
+  }
+}
+
+/** The levels of the lines for a sill, or for both sides of a limit. */
+export const linesOf = ({ sill, isCurrent }) => (sill === null ? [] : isCurrent ? [sill, -sill] : [sill]);
+
+/** Draws the lines of the sill or the limit, and marks the times above the one or within the other. */
+function drawThreshold(context, area, graph, picture, colors) {
+  const lines = linesOf(picture).map(level => graph.toDomYCoord(level));
+  for (const y of lines) drawLine(context, [area.x, y], [area.x + area.w, y], { strokeStyle: colors.mark, lineWidth: 1 });
+  for (const { from, to } of picture.times) {
+    const [left, right] = [from, to].map(moment => graph.toDomXCoord(moment)), width = Math.max(right - left, 1);
+    if (lines.length === 1) drawLine(context, [left, lines[0]], [left + width, lines[0]], { strokeStyle: colors.mark, lineWidth: 4 });
+    context.fillStyle = colors.band;
+    if (lines.length === 2) context.fillRect(left, lines[0], width, lines[1] - lines[0]);
+  }
+}
+
+/** Shades every second day behind the curve, and draws the sill's line and, but for paper, the line of the present moment. */
+export function drawBehind(context, area, graph, days, picture, colors) {
+  context.fillStyle = colors.shade;
+  for (let index = 0; index + 1 < days.length; index += 2) {
+    const [left, right] = [days[index], days[index + 1]].map(({ start }) => graph.toDomXCoord(start));
+    context.fillRect(left, area.y, right - left, area.h);
+  }
+  if (picture.sill !== null) drawThreshold(context, area, graph, picture, colors);
+  const now = graph.toDomXCoord(Date.now());
+  if (picture.isPaper || now < area.x || now >= area.x + area.w) return;
+  drawLine(context, [now, area.y], [now, area.y + area.h], { strokeStyle: colors.now });
+}
+
+/** Joins the turns of a station without a curve by thin dashed lines. */
+function drawJoins(context, graph, events, colors) {
+  const points = events.map(({ moment, level }) => [graph.toDomXCoord(moment), graph.toDomYCoord(level)]);
+  points.slice(1).forEach((point, place) => drawLine(context, points[place], point, { strokeStyle: colors.water, lineWidth: 1 }, [3, 4]));
+}
+
+/** Writes the sill's name, or its level if there is no room, on its line, where it crosses the least of labels and curve. */
+function nameThreshold(context, area, graph, picture, labels, colors) {
+  const y = graph.toDomYCoord(linesOf(picture)[0]);
+  const points = picture.levels.map(({ moment, level }) => [graph.toDomXCoord(moment), graph.toDomYCoord(level)])
+    .map(([x, top]) => ({ left: x - 1, right: x + 1, top, bottom: top + 1 }));
+  const boxes = [...labels, ...labels, ...labels, ...points];
+  const places = [picture.sillText, picture.sillText.replace(/^\w+ (at|of) /, '')]
+    .map(text => ({ text, ...freeX(widthOf(text, BOLD), [y - 16, y - 3], boxes, area) }));
+  const { text, left } = places.find(({ count }) => count === 0) ?? places.at(-1);
+  write(context, text, left, y - 9, colors, { font: BOLD, fillStyle: colors.mark, textAlign: 'left' });
+}
+
+/** Draws in front of the curve: the events, the sill's name, and 'now'. */
+export function drawBefore(context, area, graph, picture, colors) {
+  const { turns, slacks } = partsOf(picture);
+  if (picture.levels.length === 0) drawJoins(context, graph, picture.events, colors);
+  for (const { moment, level } of picture.passes) {
+    drawPoint(context, [graph.toDomXCoord(moment), graph.toDomYCoord(level)], { color: colors.mark, fill: colors.mark, size: 2 });
+  }
+  drawSlacks(context, area, graph, slacks, colors);
+  const boxes = drawTurns(context, area, graph, turns, colors);
+  if (picture.sill !== null) nameThreshold(context, area, graph, picture, boxes, colors);
+  const now = graph.toDomXCoord(Date.now());
+  if (picture.isPaper || now < area.x || now >= area.x + area.w) return;
+  const isLate = now > area.x + area.w - 40;
+  write(context, 'now', now + (isLate ? -4 : 4), area.y + 8, colors, { font: BOLD, fillStyle: colors.now, textAlign: isLate ? 'right' : 'left' });
+}
