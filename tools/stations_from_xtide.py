@@ -7,8 +7,10 @@ CONSTANTS is a text file of harmonic constants, whose comments before a station 
 subordinate stations. `only` keeps the stations of another file of constants.
 
 The result is an object with a member for each station's name: an object of `zone`, `latitude` and `longitude` (degrees,
-north and east positive), `datum`, `country`, `source` and `identifier`. A note that is missing or `Unknown` has no member.
-Of two stations of one name the first has the notes. Standard error has the number of stations with each note.
+north and east positive), `datum`, `country`, `source`, `identifier`, and for a current `flood_direction` and
+`ebb_direction` (whole degrees from true north towards which it sets, 0 to 359). A note that is missing, out of range or
+`Unknown` has no member. Of two stations of one name the first has the notes. Standard error has the number of stations
+with each note.
 """
 
 import collections
@@ -16,17 +18,26 @@ import json
 import re
 import sys
 
+# Nothing is written beside the scripts, so that a package that root calls leaves no file behind.
+sys.dont_write_bytecode = True
+
 from offsets_from_xtide import stations
 
-NOTES = ('zone', 'latitude', 'longitude', 'datum', 'country', 'source', 'identifier')
+NOTES = ('zone', 'latitude', 'longitude', 'datum', 'country', 'source', 'identifier', 'flood_direction', 'ebb_direction')
 COMMENT = re.compile(r'#\s*!?(\w+):\s*(.*)')
 DEGREES = {'latitude': 90, 'longitude': 180}
+DIRECTIONS = {'flood_direction': 'max', 'ebb_direction': 'min'}
 
 
 def degrees(text, most):
     """A number of degrees, or None if the text isn't one up to `most` in size."""
     form = re.fullmatch(r'[+-]?\d{1,3}(\.\d*)?', text or '')
     return float(text) if form and abs(float(text)) <= most else None
+
+
+def direction(text):
+    """A direction in whole degrees, or None if the text isn't one."""
+    return int(text) % 360 if re.fullmatch(r'\d{1,3}', text or '', re.ASCII) and int(text) <= 360 else None
 
 
 def notes_of(values):
@@ -37,6 +48,7 @@ def notes_of(values):
     found.update({key: degrees(values.get(key), most) for key, most in DEGREES.items()})
     if found['latitude'] is None or found['longitude'] is None:
         found['latitude'] = found['longitude'] = None
+    found.update({key: direction(values.get(f'{part}_direction')) for key, part in DIRECTIONS.items()})
     return {key: found[key] for key in NOTES if found[key] not in ('', None, 'Unknown')}
 
 
@@ -63,9 +75,15 @@ def reference_stations(path):
 
 def subordinate_stations(path):
     with open(path, encoding='latin-1', newline='') as file:
-        for station, _ in stations(file.read()):
+        for station, offsets in stations(file.read()):
             if station.get('name'):
-                yield station['name'], station
+                yield station['name'], {**station, **true_directions(offsets)}
+
+
+def true_directions(offsets):
+    """The directions of a subordinate station that are from true north (as those of reference stations are, without a unit)."""
+    given = {part: offsets.get(f'{part} direction', {}) for part in DIRECTIONS.values()}
+    return {f'{part}_direction': it.get('value') for part, it in given.items() if it.get('units') == 'degrees true'}
 
 
 def main(file, xml=None, only=None):
