@@ -1,4 +1,4 @@
-"""The stations of a yearbook: their names, zones and sills, with units, references and notes."""
+"""The stations of a yearbook: their names, zones and sills or limits, with units, references and notes."""
 
 import csv
 import hashlib
@@ -8,10 +8,11 @@ import re
 import subprocess
 import unicodedata
 
-from yearbook_sheets import ZONES
+from yearbook_clock import ZONES, Clock, moment_text
 
 SILL = re.compile(r'[+-]?(\d+\.?\d*|\.\d+)')
 ZONE = re.compile(r'[\w+-]+(/[\w+-]+)*')
+NOTES = ('zone', 'latitude', 'longitude', 'country', 'identifier', 'source', 'flood_direction', 'ebb_direction')
 
 
 class Wrong(Exception):
@@ -58,6 +59,27 @@ def key_of(name):
     return re.sub('[^a-z0-9]+', '-', plain).strip('-')[:80] or 'station'
 
 
+def can_have_mark(words, station):
+    """False if the program refuses a mark at a station, since its highs and lows have different offsets."""
+    begin = moment_text(Clock(station['zone']).start(int(words['year'])))
+    files = [f'{key}={words[key]}' for key in ('file', 'offsets') if key in words]
+    run = subprocess.run([words['program'], 'predict', *files, f'station={station["name"]}', f'begin={begin}', f'end={begin}',
+                          f'mark={station["sill"]}'], capture_output=True, text=True, check=False)
+    return run.stderr.strip() != 'refused: mark not here'
+
+
+def check_sill(words, station):
+    """Takes a current's limit by its size, and leaves out a sill that the station can't have."""
+    if not station['sill']:
+        return
+    if station['units'].startswith('knots'):
+        station['sill'] = station['sill'].lstrip('+-')
+        if not float(station['sill']):
+            raise Wrong(f'{station["name"]}: a current is within a limit of 0 at no time')
+    if station['reference'] and not can_have_mark(words, station):
+        station |= {'sill': None, 'left_out': station['sill']}
+
+
 def read_stations(words, usual_notes):
     """The stations of a list."""
     notes_file = pathlib.Path(words['notes']) if 'notes' in words else usual_notes
@@ -72,7 +94,9 @@ def read_stations(words, usual_notes):
             raise Wrong(f'{name}: there is no zone {zone} in {ZONES}')
         more = known.get(name, {'units': '', 'reference': None})
         datum = note.get('datum') or notes.get(more['reference'], {}).get('datum')
-        stations.append({'name': name, 'zone': zone, 'sill': sill or None, 'datum': datum, 'key': key_of(name), **more})
+        kept = {key: note[key] for key in NOTES if key in note}
+        stations.append({'name': name, 'zone': zone, 'sill': sill or None, 'left_out': None, 'datum': datum, 'notes': kept, 'key': key_of(name), **more})
+        check_sill(words, stations[-1])
     keys = [station['key'] for station in stations]
     for station in stations:
         if keys.count(station['key']) > 1:

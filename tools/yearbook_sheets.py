@@ -6,81 +6,18 @@ import datetime
 import decimal
 import html
 import io
-import pathlib
-import zoneinfo
 
-ZONES = pathlib.Path('/usr/share/zoneinfo')
-MINUTE = datetime.timedelta(minutes=1)
-DAY = datetime.timedelta(days=1)
+from yearbook_clock import MINUTE, Point, clock_name, day_text, moment_of, offset_text
+
 SIZES = (64, 72, 80, 92, 104, 120, 144, 180, 240)  # those of year.css
+LINES_HIGH = {'A4': 223, 'Letter': 205.4}  # the height for the lines of half a month in mm, by year.css
+MOST_HIGH = 3.6  # the greatest height of a line, in mm
+USUAL_LINES, WIDE = 3, 110  # the lines about a station for which there is room, and the letters of such a line
+SHORT = {'feet': 'ft', 'meters': 'm', 'knots': 'kn'}
 SIGNS = {'High Tide': 'H', 'Low Tide': 'L', 'Max Flood': 'F', 'Max Ebb': 'E', 'Min Flood': 'f', 'Min Ebb': 'e',
          'Slack Flood Begins': 'SF', 'Slack Ebb Begins': 'SE'}
+BOOKMARKS = '.sheet h2 { bookmark-level: none; } .sheet .when { bookmark-level: 1; } .sheet h3 { bookmark-level: 2; }'
 WARNING = 'NOT FOR NAVIGATION. Predicted from harmonic constants, without the weather.'
-
-
-class Clock:
-    """The clock of a zone, by the file that `tide` reads."""
-
-    def __init__(self, name):
-        with (ZONES / name).open('rb') as file:
-            self.zone = zoneinfo.ZoneInfo.from_file(file)
-
-    def ahead(self, moment):
-        """The offset of a moment, in whole minutes towards the past, as the program prints it."""
-        return moment.astimezone(self.zone).utcoffset() // MINUTE * MINUTE
-
-    def at(self, moment):
-        """The date and time as (`2027-01-01`, `00:00`), and the offset as `-05:00`."""
-        return *f'{(moment + self.ahead(moment)):%Y-%m-%d %H:%M}'.split(), offset_text(self.ahead(moment))
-
-    def start(self, year):
-        """The first moment of a year."""
-        local = datetime.datetime(year, 1, 1, tzinfo=self.zone)
-        return local.astimezone(datetime.timezone.utc).replace(second=0)
-
-    def changes(self, begin, end):
-        """The changes of the clock, at most one a day: the first minute of each new offset."""
-        found, start = [], begin
-        while start < end:
-            stop = min(start + DAY, end)
-            if self.ahead(start) != self.ahead(stop):
-                moment = self.first_other(start, stop)
-                found += [Point(moment, self.at(moment))] if moment < end else []
-            start = stop
-        return found
-
-    def first_other(self, low, high):
-        usual = self.ahead(low)
-        while high - low > MINUTE:
-            middle = low + (high - low) / 2 // MINUTE * MINUTE
-            low, high = (middle, high) if self.ahead(middle) == usual else (low, middle)
-        return high
-
-
-class Point:
-    """An event, or a change of the clock if it has no word."""
-
-    def __init__(self, moment, clock, word=None, shown=''):
-        self.moment, (self.date, self.time, self.offset), self.word, self.shown = moment, clock, word, shown
-
-    def is_slack(self):
-        return self.word.startswith('Slack ')
-
-    def is_mark(self):
-        return self.word.startswith('Mark ')
-
-
-def offset_text(ahead):
-    minutes = ahead // MINUTE
-    return f'{"-" if minutes < 0 else "+"}{abs(minutes) // 60:02}:{abs(minutes) % 60:02}'
-
-
-def moment_of(text):
-    return datetime.datetime.strptime(text, '%Y-%m-%dT%H:%MZ').replace(tzinfo=datetime.timezone.utc)
-
-
-def moment_text(moment):
-    return f'{moment:%Y-%m-%dT%H:%MZ}'.rjust(17, '0')
 
 
 def level_text(decimals):
@@ -99,35 +36,59 @@ def events_of(text):
     return events
 
 
-def times_above(events, begin, end, is_above):
-    """The times above the sill as (from, to, whether each is cut): from the first whole minute above it to the last."""
-    times, start = [], (begin, True) if is_above else None
-    for event in events:
-        if event.word == 'Mark Rising':
-            start = (event.moment + MINUTE, False)
-        elif event.word == 'Mark Falling' and start:
-            times.append((start[0], event.moment, start[1], False))
+def times_inside(changes, begin, end, is_inside):
+    """The times inside as (from, to, whether each is cut), by changes as (the last minute before, whether it is inside then)."""
+    times, start = [], (begin, True) if is_inside else None
+    for moment, inside in changes:
+        if inside and not start:
+            start = (moment + MINUTE, False)
+        elif not inside and start:
+            times += [(start[0], moment, start[1], False)] if start[0] <= moment else []
             start = None
     return times + ([(start[0], end - MINUTE, start[1], True)] if start and start[0] < end else [])
+
+
+def times_above(marks, sill, begin, end, level):
+    """The times above a sill, from the first whole minute to the last. `level` is that at `begin`."""
+    return times_inside([(mark.moment, mark.word == 'Mark Rising') for mark in marks], begin, end, level > sill)
+
+
+def times_within(marks, low_marks, limit, begin, end, level):
+    """The times at which -limit < level <= limit, by the marks of the limit and of minus the limit."""
+    above, changes = {'high': level > limit, 'low': level > -limit}, []
+    is_within = lambda: above['low'] and not above['high']
+    first = is_within()
+    passes = [(mark, 'low') for mark in low_marks] + [(mark, 'high') for mark in marks]
+    for mark, side in sorted(passes, key=lambda it: it[0].moment):
+        above[side] = mark.word == 'Mark Rising'
+        changes.append((mark.moment, is_within()))
+    return times_inside(changes, begin, end, first)
 
 
 class Year:
     """A station's year: what the sheets show."""
 
-    def __init__(self, station, year, clock, text, is_above, constants):
+    def __init__(self, station, year, clock, texts, level, constants):
+        """`texts` are the listings for each mark, and `level` is that with which the year begins, if there is a mark."""
         self.station, self.year, self.clock, self.constants = station, year, clock, constants
+        self.notes, self.units = station.get('notes') or {}, SHORT.get(station['units'], station['units'])
         self.begin, self.end = clock.start(year), clock.start(year + 1)
-        self.events = events_of(text)
+        self.events = events_of(texts[0])
         self.changes = clock.changes(self.begin, self.end)
         shown = [event for event in self.events if not event.is_mark()]
         self.is_current = station['units'].startswith('knots')
         self.sill = station.get('sill')
-        above = times_above(self.events, self.begin, self.end, is_above) if self.sill else []
+        above = self.times(level, *([event for event in events_of(text) if event.is_mark()] for text in texts)) if self.sill else []
         self.lines, self.above = {}, {}
         for point in sorted(self.changes + shown, key=lambda point: point.moment):
             add_line(self.lines.setdefault(point.date, []), point)
         for time in above:
             self.above.setdefault(clock.at(time[0])[0], []).append(self.above_text(*time))
+
+    def times(self, level, *marks):
+        """The times above the sill or within the limit."""
+        inside = times_within if self.is_current else times_above
+        return inside(*marks, decimal.Decimal(self.sill), self.begin, self.end, level)
 
     def above_text(self, start, stop, open_start, open_stop):
         first, last = self.clock.at(start), self.clock.at(stop)
@@ -136,24 +97,34 @@ class Year:
 
     def height(self, date):
         """How many lines a day takes."""
-        lines, above = len(self.lines.get(date, [])), len(self.above.get(date, []))
-        return max(2, lines + above if self.is_current else max(lines, above))
+        return max(2, len(self.lines.get(date, [])), len(self.above.get(date, [])))
 
     def halves(self, month):
         dates = [f'{self.year:04}-{month:02}-{day + 1:02}' for day in range(calendar.monthrange(self.year, month)[1])]
         return dates[:16], dates[16:]
 
+    def most(self):
+        """The lines of the fullest half of a month."""
+        return max(sum(map(self.height, dates)) for month in range(1, 13) for dates in self.halves(month))
+
     def size(self):
-        most = max(sum(map(self.height, dates)) for month in range(1, 13) for dates in self.halves(month))
-        return next((size for size in SIZES if most <= size), SIZES[-1])
+        return next((size for size in SIZES if self.most() <= size), SIZES[-1])
+
+
+def is_after(slack, turn):
+    """Whether a maximum is of the flood or the ebb that a slack begins."""
+    return slack.word.split(' ')[1] == turn.word.split(' ')[1]
 
 
 def add_line(lines, point):
-    """Adds a point to a day's lines: a maximum is beside the slack before it."""
-    if point.word and not point.is_slack() and lines and lines[-1][0] and lines[-1][0].word and not lines[-1][1]:
-        lines[-1][1] = point
+    """Adds a point to a day's lines of (change or slack, turn): a maximum is beside the slack before it."""
+    last = lines[-1] if lines else (None, None)
+    if not point.word or point.is_slack():
+        lines.append([point, None])
+    elif last[0] and last[0].word and not last[1] and is_after(last[0], point):
+        last[1] = point
     else:
-        lines.append([point, None] if not point.word or point.is_slack() else [None, point])
+        lines.append([None, point])
 
 
 def element(name, content, **traits):
@@ -165,6 +136,10 @@ def cell(kind, text):
     return element('td', html.escape(text), **{'class': kind})
 
 
+def unseen(text):
+    return element('span', text, **{'class': 'unseen'})
+
+
 def turn_cells(turn):
     if not turn:
         return cell('', '') * 3
@@ -172,21 +147,22 @@ def turn_cells(turn):
     return cell(f'sign{top}', SIGNS[turn.word]) + cell(f'time{top}', turn.time) + cell(f'level{top}', turn.shown)
 
 
-def slack_cells(slack):
-    return cell('sign', SIGNS[slack.word]) + cell('time', slack.time) if slack else cell('', '') * 2
+def current_cells(slack, turn):
+    """The cells of a current's line: the maximum beside a slack says which one begins."""
+    if not slack or turn:
+        return cell('begins', slack.time if slack else '') + turn_cells(turn)
+    return cell('begins', slack.time) + element('td', SIGNS[slack.word], **{'class': 'sign', 'colspan': 3})
 
 
 def rows_of(year, date):
     """The cells of each row of a day, behind its date."""
-    wide, above = (5 if year.is_current else 3), year.above.get(date, [])
+    wide, above = (4 if year.is_current else 3), year.above.get(date, [])
     rows = []
     for first, turn in year.lines.get(date, []):
         if first and not first.word:
             rows.append(element('td', f'clock {first.offset}', **{'class': 'change', 'colspan': wide}))
         else:
-            rows.append((slack_cells(first) if year.is_current else '') + turn_cells(turn))
-    if year.is_current:
-        return rows + [element('td', html.escape(f'> {text}'), **{'class': 'above', 'colspan': wide}) for text in above]
+            rows.append(current_cells(first, turn) if year.is_current else turn_cells(turn))
     if not year.sill:
         return rows
     rows += [element('td', '', colspan=wide)] * (len(above) - len(rows))
@@ -202,60 +178,128 @@ def day_rows(year, date):
                    **{'class': 'sunday' if weekday == 'Sun' else ''})
 
 
+def times_name(year):
+    """The name of the times above a sill or within a limit, in a word and a level."""
+    return f'{"Within" if year.is_current else "Above"} {year.sill} {year.units}'
+
+
 def columns(year):
-    slack, above = ['slack', 'begins'] * year.is_current, ['above'] * bool(year.sill and not year.is_current)
-    return element('colgroup', ''.join(f'<col class="{name}">' for name in ['day', *slack, 'sign', 'time', 'level', *above]))
+    """The columns with their heads."""
+    begins, above = [('begins', 'Slack')] * year.is_current, [('above', times_name(year))] if year.sill else []
+    return [('day', unseen('Day')), *begins, ('sign', unseen('Event')), ('time', 'Max' if year.is_current else 'Time'), ('level', year.units), *above]
+
+
+def half_table(year, name, dates):
+    heads = columns(year)
+    return element('table', element('caption', name, **{'class': 'unseen'})
+                   + element('colgroup', ''.join(f'<col class="{kind}">' for kind, _ in heads))
+                   + element('thead', element('tr', ''.join(element('th', text, **{'class': kind, 'scope': 'col'}) for kind, text in heads)))
+                   + ''.join(day_rows(year, date) for date in dates))
 
 
 def month_part(year, month):
-    halves = year.halves(month)
+    halves, name = year.halves(month), calendar.month_name[month]
     before = [change.offset for change in year.changes if change.date < halves[0][0]]
     offset = before[-1] if before else year.clock.at(year.begin)[2]
-    tables = (element('table', columns(year) + ''.join(day_rows(year, date) for date in dates)) for dates in halves)
-    return element('section', element('h3', f'{calendar.month_name[month]} {element("span", offset)}')
+    tables = (half_table(year, f'{name} {year.year}, {half} half', dates) for half, dates in zip(('first', 'second'), halves))
+    return element('section', element('h3', f'{name} {element("span", offset)}')
                    + ''.join(element('div', table, **{'class': 'half'}) for table in tables), **{'class': 'month'})
 
 
+def directions_text(notes):
+    """The directions towards which a current sets, as `flood 108°, ebb 288°`."""
+    found = [(word, notes.get(f'{word}_direction')) for word in ('flood', 'ebb')]
+    return ', '.join(f'{word} {degrees:03}°' for word, degrees in found if isinstance(degrees, (int, float)))
+
+
+def place_text(notes):
+    """The coordinates, if there are any."""
+    found = [(notes.get(key), signs) for key, signs in (('latitude', 'NS'), ('longitude', 'EW'))]
+    if not all(isinstance(degrees, (int, float)) for degrees, _ in found):
+        return ''
+    return ', '.join(f'{abs(degrees):.4f}° {signs[degrees < 0]}' for degrees, signs in found)
+
+
+def times_text(year):
+    """The clocks of the times that are shown, as `Times in EST (UTC-5)`, and whose clock that is."""
+    zone, names = year.station['zone'], [clock_name(year.clock, year.begin)]
+    names += [f'from {day_text(datetime.date.fromisoformat(it.date))} {it.time} in {clock_name(year.clock, it.moment)}' for it in year.changes]
+    whose = 'local time at the station' if zone == year.notes.get('zone') else f'the clock of {zone}'
+    return f'Times in {", ".join(names)}, {whose}'
+
+
+def turns_only_text(station):
+    """Why a station has no times above a sill or within a limit."""
+    what, between, missing = ('slack waters and greatest speeds', 'the speed', 'times within a limit') if station['units'].startswith('knots') else (
+        'high and low waters', 'the level', 'times above a sill')
+    return (f'This station has {what} only. They follow from {station["reference"]}, and nothing is known about {between} in between. '
+            f'So there are no {missing} here.')
+
+
 def about_lines(year):
-    """The unit, the datum, the clock and the sill."""
-    station, units = year.station, year.station['units']
+    """The unit, the datum, the clock and the place."""
+    station, notes, units = year.station, year.notes, year.station['units']
     datum = station.get('datum') or 'the datum of its constants'
     what = f'Current in {units}, flood above 0 and ebb below' if year.is_current else f'Tide in {units} above {datum}'
-    after = f' · by differences from {station["reference"]}' if station.get('reference') else ''
-    changes = ''.join(f'; from {int(it.date[8:])} {calendar.month_name[int(it.date[5:7])]} {it.time}: {it.offset}' for it in year.changes)
-    lines = [what + after, f'Clock of {station["zone"]}: {year.clock.at(year.begin)[2]}{changes}']
-    sill = f'Times above {year.sill} {units}, from the first whole minute to the last, on the day on which they begin'
-    return lines + ([sill] if year.sill else [])
+    after = f'by differences from {station["reference"]}' if station.get('reference') else ''
+    source = f'constants from {notes["source"]}' if notes.get('source') else ''
+    lines = [' · '.join(filter(None, (what, directions_text(notes) if year.is_current else '', after))), times_text(year),
+             ' · '.join(filter(None, (place_text(notes), notes.get('country'), notes.get('identifier'), source)))]
+    return [line for line in lines + [turns_only_text(station) if station.get('left_out') else ''] if line]
 
 
 def legend(year):
     words = {event.word for event in year.events}
     signs = ', '.join(f'{sign} {word}' for word, sign in SIGNS.items() if word in words)
     times = ' '.join(text for texts in year.above.values() for text in texts)
-    return '; '.join([signs] + ['clock: the offset of the times from here on'] * bool(year.changes) + ['+N: it ends N days later'] * ('+' in times)
-                     + ['..: outside this year'] * ('..' in times))
+    above = f'{times_name(year)}: first to last whole minute, on the day on which it begins'
+    return '; '.join([signs] + [above] * bool(year.sill) + ['+N: it ends N days later'] * ('+' in times) + ['..: outside this year'] * ('..' in times))
 
 
-def sheet(year, place):
-    first = 3 * place + 1
-    kind = f'sheet {"current" if year.is_current else "tide"}{" with-sill" if year.sill else ""} lines-{year.size()}'
-    names = f'{calendar.month_name[first]} to {calendar.month_name[first + 2]} {year.year} · sheet {place + 1} of 4'
+def sheet_count(station):
+    """Four sheets of three months, or six of two with the times above a sill."""
+    return 6 if station.get('sill') else 4
+
+
+def months_of(place, count):
+    """The months of a sheet."""
+    more = 12 // count
+    return range(more * place + 1, more * place + more + 1)
+
+
+def months_text(place, count):
+    first, *_, last = months_of(place, count)
+    return f'{calendar.month_name[first]} {"and" if count == 6 else "to"} {calendar.month_name[last]}'
+
+
+def sheet(year, place, count):
+    kind = (f'sheet {"current" if year.is_current else "tide"}{" with-sill" if year.sill else ""}{" pairs" if count == 6 else ""} '
+            f'lines-{year.size()}')
+    names = f'{months_text(place, count)} {year.year} · sheet {place + 1} of {count}'
     text = lambda words, **traits: element('p', html.escape(words, False), **traits)
     return element('section', ''.join([
         element('h2', html.escape(year.station['name'], False)), text(names, **{'class': 'when'}), *map(text, about_lines(year)),
-        element('div', ''.join(month_part(year, month) for month in range(first, first + 3)), **{'class': 'months'}),
+        element('div', ''.join(month_part(year, month) for month in months_of(place, count)), **{'class': 'months'}),
         text(legend(year), **{'class': 'legend'}), text(WARNING, **{'class': 'warning'}),
         *(text(line, **{'class': 'constants'}) for line in year.constants)]), **{'class': kind})
 
 
 def sheets(year):
-    """The four sheets of a year, three months each."""
-    return ''.join(sheet(year, place) for place in range(4))
+    """A year on its sheets."""
+    count = sheet_count(year.station)
+    return ''.join(sheet(year, place, count) for place in range(count))
 
 
-def document(title, body, style, paper, first_page=1):
+def line_height(year, paper):
+    """The rule by which the fullest half of a month fills the height of a paper, for WeasyPrint, which doesn't compute lengths."""
+    above = sum(-(-len(line) // WIDE) for line in about_lines(year)) - USUAL_LINES
+    high = (LINES_HIGH[paper] - max(above, 0) * 3.4) / year.most()
+    return f'.half td, .half tbody th {{ line-height: {min(high, MOST_HIGH):.3f}mm; }}'
+
+
+def document(title, body, style, paper, first_page=1, rule=''):
     """A document for WeasyPrint, with the number of each page below it."""
-    pages = (f'@page {{ size: {paper}; margin: 10mm 10mm 9mm; @bottom-right {{ content: counter(page); font: 8pt Liberation Sans, sans-serif; }} }}'
-             f' @page :first {{ counter-reset: page {first_page}; }}')
+    pages = (f'@page {{ size: {paper}; margin: 10mm 8mm; @bottom-right {{ content: counter(page); font: 8pt Liberation Sans, sans-serif; }} }}'
+             f' @page :first {{ counter-reset: page {first_page}; }} {rule} {BOOKMARKS}')
     return (f'<!DOCTYPE html>\n<html lang="en"><head><meta charset="utf-8"><title>{html.escape(title)}</title>'
             f'<style>{style}</style><style>{pages}</style></head><body>{body}</body></html>\n')
