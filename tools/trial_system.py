@@ -98,6 +98,11 @@ class System:
         command = [*self.enter, '--net', sys.executable, __file__, 'get', str(port), path]
         return tuple(json.loads(subprocess.run(command, stdout=subprocess.PIPE, text=True, timeout=60, check=True).stdout))
 
+    def fields(self, port, path, **fields):
+        """The status and the fields of a reply to a request with some fields."""
+        command = [*self.enter, '--net', sys.executable, __file__, 'fields', str(port), path, json.dumps(fields)]
+        return tuple(json.loads(subprocess.run(command, stdout=subprocess.PIPE, text=True, timeout=60, check=True).stdout))
+
     def stop(self):
         self.process.kill()
         self.process.wait()
@@ -142,12 +147,14 @@ class Watch:
         self.count, self.failed, self.faults = json.loads(out.splitlines()[-1])
 
 
-def request(port, path, address='127.0.0.1'):
+def request(port, path, address='127.0.0.1', fields=None):
+    """The status and the body of a reply, or its fields if the request has some."""
     link = http.client.HTTPConnection('127.0.0.1', port, timeout=20, source_address=(address, 0))
     try:
-        link.request('GET', path)
+        link.request('GET', path, headers=fields or {})
         reply = link.getresponse()
-        return reply.status, reply.read().decode(errors='replace')
+        body = reply.read().decode(errors='replace')
+        return reply.status, body if fields is None else dict(reply.getheaders())
     except (OSError, http.client.HTTPException) as fault:
         return 0, repr(fault)
     finally:
@@ -181,5 +188,7 @@ def watch(port, path):
 if __name__ == '__main__':
     if sys.argv[1] == 'get':
         print(json.dumps(request(int(sys.argv[2]), sys.argv[3])))
+    elif sys.argv[1] == 'fields':
+        print(json.dumps(request(int(sys.argv[2]), sys.argv[3], fields=json.loads(sys.argv[4]))))
     else:
         watch(int(sys.argv[2]), sys.argv[3])
