@@ -58,7 +58,7 @@ pub fn asked(
     put_texts(alloc, origin, items, &mut question).and(Ok(question))
 }
 
-/// Puts the values that have texts of their own into `question`.
+/// Puts the values that are kept as texts into `question`.
 fn put_texts(
     alloc: Global,
     origin: Origin,
