@@ -1,4 +1,4 @@
-//! The events of a station from those of its reference.
+//! The events of a station, made from the events of its reference.
 
 ghost use Rattle.std.specs.Prelude.{◌≡◌, All, IfOk};
 ghost use Rattle.event_list.specs.Shifts.{HasOffsets, IsMovable, is_within, shifted_of};
