@@ -7,7 +7,8 @@ pub struct Offset {
     pub add: i32,
     /// The factor of the levels, in millionths, from 1 to 100,000,000.
     pub times: i64,
-    /// The height then added to the levels, in millionths of the unit, from -10,000,000,000 to 10,000,000,000.
+    /// The height then added to the levels, in millionths of the unit, from -10,000,000,000 to
+    /// 10,000,000,000.
     pub plus: i64,
 }
 
