@@ -42,8 +42,6 @@ use Rattle.question.specs.declared.origin.Origin.TheVariants.{Line, Query}
 use Rattle.question.specs.Layouts.{layout_of}
 use Rattle.question.specs.declared.question.ZoneWord.{ZoneWord}
 use Rattle.question.specs.declared.question.ZoneWord.TheVariants.{Utc, Fixed, Named}
-use Rattle.question.specs.declared.values.Form.{Form}
-use Rattle.question.specs.declared.values.Form.TheVariants as form
 
 -- any text other than the empty one
 unfoldable pub some_text : List ℕ → Option (List ℕ)
@@ -130,15 +128,3 @@ are_sheets earlier (word ∷ words) =
 -- the names of sheets with single commas (44) between them, if none occurs twice
 unfoldable pub sheets_of : List ℕ → Option (List (List ℕ))
 sheets_of text = let words = slice_split is_comma text in if are_sheets [] words then Some words else None
-
--- a text has the form in a question of this origin
-abbrev pub meets : Form → Origin → List ℕ → Bool
-meets form.Text origin text = is_some (some_text text)
-meets form.Moment origin text = is_some (moment_of text)
-meets form.Mark origin text = is_some (mark_of text)
-meets form.Step origin text = is_some (step_of text)
-meets form.Zone origin text = is_some (zone_of origin text)
-meets form.Layout origin text = is_some (layout_of text)
-meets form.Seed origin text = is_some (seed_of text)
-meets form.Port origin text = is_some (port_of text)
-meets form.Sheets origin text = is_some (sheets_of text)
