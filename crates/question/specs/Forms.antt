@@ -1,34 +1,5 @@
 -- The forms of keys' values, and the values of texts in each form (this project).
-use Rattle.std.specs.Prelude.{
-  ℕ,
-  ◌+◌,
-  ◌*◌,
-  ◌==◌,
-  ◌&&◌,
-  nat_le,
-  nat_lt,
-  not,
-  Bool,
-  true,
-  if◌then◌else◌,
-  List,
-  [],
-  ◌∷◌,
-  length,
-  codes,
-  ℤ,
-  pos,
-  neg_ℤ,
-  unsigned_abs,
-  Option,
-  Some,
-  None,
-  option_and_then,
-  is_some,
-  Result,
-  Ok,
-  Err,
-}
+use Rattle.std.specs.Prelude.{ℕ, ◌+◌, ◌*◌, ◌==◌, ◌&&◌, nat_le, nat_lt, not, Bool, true, if◌then◌else◌, List, [], ◌∷◌, length, codes, ℤ, pos, neg_ℤ, unsigned_abs, Option, Some, None, option_and_then, Result, Ok, Err}
 use Rattle.std.specs.Option.{option_map, option_or}
 use Rattle.std.specs.List.{list_all, list_any, before_first, after_first, slice_split}
 use Rattle.std.specs.Char.{is_ascii_digit, is_ascii_lowercase}
@@ -36,10 +7,8 @@ use Rattle.std.specs.Str.{bytes_eq}
 use Rattle.std.specs.Str.Parse.{digits_value}
 use Rattle.decimal_text.specs.declared.fault.DecimalFault.{DecimalFault}
 use Rattle.decimal_text.specs.Decimal.{read_of}
-use Rattle.zone_time.specs.Moments.{moment_of}
 use Rattle.question.specs.declared.origin.Origin.{Origin}
 use Rattle.question.specs.declared.origin.Origin.TheVariants.{Line, Query}
-use Rattle.question.specs.Layouts.{layout_of}
 use Rattle.question.specs.declared.question.ZoneWord.{ZoneWord}
 use Rattle.question.specs.declared.question.ZoneWord.TheVariants.{Utc, Fixed, Named}
 
