@@ -8,7 +8,7 @@ use std::alloc::{AllocError, Global};
 use std::marker::Model;
 
 /// A response in two parts, its head and its body, which isn't copied. A contract sees the bytes of both.
-#[derive(Debug, Drop)]
+#[derive(Drop)]
 pub struct Response {
     head: ArrayString<256>,
     /// `None` in a response to `HEAD`.

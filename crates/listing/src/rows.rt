@@ -6,7 +6,7 @@ use crate::row::Row;
 use std::marker::Model;
 
 /// Levels in the order of their listing. Contracts see it as a list.
-#[derive(Clone, Debug, Drop)]
+#[derive(Drop)]
 pub struct Rows {
     items: Vec<Row>,
 }

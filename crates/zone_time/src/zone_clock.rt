@@ -10,7 +10,7 @@ use std::marker::Model;
 
 /// The clock of a zone whose fixed offset, if it has one, is at most 1560 minutes. [`Zone::clock`] makes
 /// one. In contracts its value is the zone.
-#[derive(Debug, Drop)]
+#[derive(Drop)]
 pub struct ZoneClock<'a> {
     zone: &'a Zone,
 }
