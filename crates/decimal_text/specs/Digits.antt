@@ -1,4 +1,4 @@
--- Whole numbers written in digits alone (this project).
+-- Whole numbers written in only digits (this project).
 use Rattle.std.specs.Prelude.{ℕ, nat_le, ◌&&◌, if◌then◌else◌, List, length, Option, Some, None}
 use Rattle.std.specs.List.{list_all}
 use Rattle.std.specs.Char.{is_ascii_digit}

@@ -2,7 +2,7 @@
 //!
 //! In contracts a [`Text`] is the list of its UTF-8 bytes; [`Bytes`], [`Numbers`] and [`Words`] are the
 //! lists of their items. Only `copy` and [`Text::from_str`] allocate. [`read`] and [`write`] convert
-//! between decimals and whole numbers; [`digits`] reads a whole number written in digits alone, and
+//! between decimals and whole numbers; [`digits`] reads a whole number written in only digits, and
 //! [`wide_digits`] one that needs up to 128 bits. [`are_name_bytes`] checks the bytes of a name.
 #![tactic(auto)]
 

@@ -29,7 +29,7 @@ pub struct Steps {
     pub value: u64,
     /// The number of decimal places still to be read.
     pub left: u32,
-    /// True if no digit other than 0 came after the last place.
+    /// True if no digit other than 0 followed the last place.
     pub exact: bool,
 }
 

@@ -1,4 +1,4 @@
-//! Whole numbers written in digits alone.
+//! Whole numbers written in only digits.
 
 ghost use Rattle.std.specs.Prelude.{◌≡◌, ◌<◌, ◌≤◌, ◌^◌, true, length};
 ghost use Rattle.std.specs.Option.{ForSome};

@@ -11,8 +11,8 @@ use itoa::Buffer;
 
 /// Writes `value / 10^places` to the empty `out` with exactly `places` decimals, at most 6.
 ///
-/// At least one digit comes before the point, `-` comes only before a negative value, and there is no
-/// point if `places` is 0. It doesn't allocate.
+/// The text has at least one digit before the point, `-` only if the value is negative, and no point if
+/// `places` is 0. It doesn't allocate.
 ///
 /// # Examples
 /// ```

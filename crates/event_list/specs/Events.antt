@@ -100,7 +100,7 @@ pub record AreShort (t : Tracks) : Type 0 where
   pub slack : ForSome t.slack (λ cells. all_minutes cells ≤ 6000000)
   pub mark : ForSome t.mark (λ cells. all_minutes cells ≤ 6000000)
 
--- a lawful curve whose minutes contain the span
+-- a lawful curve with minutes that contain the span
 pub record IsValidOver (s : Span) (c : Meaning) : Type 0 where
   pub lawful : IsLawful c
   pub span : IsSpan c s.begin (span_minutes s)

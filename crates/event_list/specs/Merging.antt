@@ -68,13 +68,13 @@ looked w = looked_event w.found w
 abbrev pub given : Waiting → Waiting
 given w = record { found = None; at = w.at; cells = w.cells }
 
--- the second event, if there is one, doesn't come before the first
+-- the second event, if there is one, isn't before the first
 abbrev pub leads : Option Event → Option Event → Bool
 leads a None = true
 leads None (Some e) = false
 leads (Some d) (Some e) = not (comes_before e d)
 
--- the track whose event comes first, if any has one; the earlier track if two events are equal
+-- the track with the first event, if any has one; the earlier track if two events are equal
 abbrev pub leading : Option Event → Option Event → Option Event → Leading
 leading turn slack mark =
     if leads turn slack

@@ -57,7 +57,7 @@ greatest_add b = fold int_max b.high.add (b.low.add ∷ slack_adds b.slack)
 abbrev pub least_add : Basis → ℤ
 least_add b = fold int_min b.high.add (b.low.add ∷ slack_adds b.slack)
 
--- the reference's span from which all events of the station's span come
+-- the reference's span that determines all events of the station's span
 abbrev pub widened_of : Basis → ℤ → ℤ → Span
 widened_of b begin end = record { begin = begin -ℤ greatest_add b; end = end -ℤ least_add b }
 
@@ -109,11 +109,11 @@ is_within begin end e = int_le begin e.minute && int_lt e.minute end
 abbrev pub moved_within : Basis → ℤ → ℤ → List Event → List Event
 moved_within b begin end events = filter (is_within begin end) (map (moved b) events)
 
--- the events of a station from those of its reference, in order
+-- the events of a station, made from the events of its reference, in order
 unfoldable pub shifted_of : Basis → ℤ → ℤ → List Event → List Event
 shifted_of b begin end events = ordered (moved_within b begin end events)
 
--- an event whose minute and level are small enough to be moved
+-- an event with a minute and a level small enough to be moved
 pub record IsMovable (e : Event) : Type 0 where
   pub minute : unsigned_abs e.minute ≤ 10 ^ 12
   pub level : unsigned_abs e.level ≤ 11000000000

@@ -1,4 +1,4 @@
--- The events of a pier and the bases of three stations beside it, for tests; minutes are counted from a
+-- The events of a pier and the bases of three stations near it, for tests; minutes are counted from a
 -- midnight (this project).
 use Rattle.std.specs.Prelude.{ℤ, pos, negsuc, false, true, List, [], ◌∷◌, Some, None}
 use Rattle.curve_law.specs.declared.cell.Cell.TheVariants.{Quiet, Still, Turn}
@@ -39,7 +39,7 @@ slacks =
 abbrev pub marks : List Event
 marks = event (pos 119) MarkFalling (pos 507538) ∷ event (pos 600) MarkRising (pos 500000) ∷ []
 
--- ---- the stations beside it
+-- ---- the stations near it
 
 -- a dock whose highs are 30 minutes later at 1.1 times the level plus 0.1, and its lows 10 minutes
 -- earlier at 0.9 times

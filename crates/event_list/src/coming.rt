@@ -9,8 +9,8 @@ use curve_law::{Cell, Curve, Event};
 use interval_search::{Found, Search};
 use std::marker::Model;
 
-/// The events of an optional search, one at a time. The search runs on only when its next event is
-/// requested.
+/// The events of an optional search, one at a time. The search advances only when the caller takes its next
+/// event.
 ///
 /// In contracts its value is the events left, the state of the search, the number of cells that it has
 /// returned so far, and the number of all its cells.
@@ -41,7 +41,8 @@ impl<C: Curve> Model for Coming<C> {
 impl<C: Curve> Coming<C> {
     ghost use Rattle.event_list.specs.Workings.Coming.{events_ahead, cells_ahead, first_of};
 
-    /// Returns the events of `search` from the minute that it has reached on.
+    /// Wraps `search`, which may have advanced already, as the sequence of the events in its remaining
+    /// cells.
     pub fn new(search: Option<Search<C>>) -> Coming<C>
         ensures left { result.left ≡ events_ahead search }
         ensures waiting { result.waiting ≡ waiting None search }

@@ -15,7 +15,7 @@ pub enum Leading {
     Mark,
 }
 
-/// Returns the track whose event comes first, if any has one.
+/// Returns the track with the first event in the order of events, if any track has one.
 pub fn leading_of(turn: Option<Event>, slack: Option<Event>, mark: Option<Event>) -> Leading
     ensures first { IsLeading result turn slack mark }
     ensures which { result ≡ leading turn slack mark }
@@ -33,7 +33,7 @@ pub fn leading_of(turn: Option<Event>, slack: Option<Event>, mark: Option<Event>
     }
 }
 
-/// Returns true unless `second` is an event that comes before `first`, or the only event of the two.
+/// Returns true unless `second` is an event before `first`, or the only event of the two.
 fn leads(first: Option<Event>, second: Option<Event>) -> bool
     ensures { result ≡ leads first second }
 {

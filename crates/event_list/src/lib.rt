@@ -2,7 +2,7 @@
 //!
 //! [`track_events`] and [`merged`] return the events in the cells of a station's tracks at once, and a
 //! [`Merge`] of searches returns them one at a time without allocating. [`widened`] returns the span of
-//! the reference from which a subordinate station's events come, [`shifted`] these events, and [`scaled`]
+//! the reference that determines a subordinate station's events, [`shifted`] these events, and [`scaled`]
 //! its level. `specs/Events.antt` defines the events of a station. [`word`] returns the name of an event.
 #![tactic(auto)]
 

@@ -11,8 +11,8 @@ use curve_law::{Curve, Event};
 use interval_search::Search;
 use std::marker::Model;
 
-/// The events of a station's searches in order, one at a time. It doesn't allocate, and a search runs on
-/// only when its next event is requested.
+/// The events of a station's searches in order, one at a time. A merge doesn't allocate, and a search
+/// advances only when its next event is needed.
 ///
 /// In contracts its value is the events left, for each search its pending event and the cells left, the
 /// number of cells that the searches have returned so far, and the number of all their cells.
@@ -54,7 +54,7 @@ impl<A: Curve, B: Curve> Merge<A, B> {
     }
 
     /// Returns the next event, or `None` if no event is left; then the searches have returned all their
-    /// cells. A search runs on only if it has no pending event.
+    /// cells. A search advances only if it has no pending event.
     pub fn next(&mut self) -> Option<Event>
         ensures next { ReturnsNext self.old result self.new }
         ensures asked { self.new.waiting ≡ stepped self.old.waiting }

@@ -1,4 +1,4 @@
-//! The events of a station from those of its reference.
+//! The events of a station, made from the events of its reference.
 
 ghost use Rattle.std.specs.Prelude.{◌≡◌, All, IfOk};
 ghost use Rattle.event_list.specs.Shifts.{HasOffsets, IsMovable, is_within, shifted_of};
@@ -9,8 +9,8 @@ use curve_law::{Event, Events};
 use station_table::Basis;
 use std::alloc::{AllocError, Global};
 
-/// Returns the reference's events moved and scaled by `basis`, those from `begin` on and before `end`, in
-/// order. Minutes are from -10^12 to 10^12, and levels at most 11,000,000,000 millionths in size.
+/// Returns the reference's `events`, moved and scaled by `basis`, that are from `begin` on and before `end`
+/// then, in order. Minutes are from -10^12 to 10^12, and levels at most 11,000,000,000 millionths in size.
 ///
 /// # Errors
 /// [`AllocError`] if memory runs out.

@@ -59,7 +59,7 @@ fn add_event(events: &mut Vec<Event>, minute: i64, cell: Cell) -> Result<(), All
     Ok(())
 }
 
-/// Appends the events of a track, if it is requested.
+/// Appends the events of an optional track.
 ///
 /// # Errors
 /// [`AllocError`] if memory runs out.

@@ -1,4 +1,4 @@
-//! The span of the reference from which a station's events come.
+//! The span of the reference that determines a station's events.
 
 ghost use Rattle.std.specs.Prelude.{◌≡◌, ◌+◌, ◌^◌, ◌≤◌, ◌-ℤ◌, ◌≤ℤ◌, unsigned_abs};
 ghost use Rattle.event_list.specs.Shifts.{HasOffsets, greatest_add, least_add, widened_of};
@@ -7,10 +7,10 @@ ghost use Rattle.event_list.specs.Events.{span_minutes};
 use crate::span::Span;
 use station_table::Basis;
 
-/// Returns the span of the reference from which all events of the station's span come: `begin` less the
-/// most and `end` less the least minutes by which the basis moves an event. Both are from -10^12 to
-/// 10^12, and `begin` isn't later. It doesn't allocate. By offsets in the ranges of a table each end moves
-/// by at most 1,440 minutes.
+/// Returns the span of the reference that determines all events of the station's span: `begin` less the
+/// most and `end` less the least minutes by which the basis moves an event. `begin` and `end` are from
+/// -10^12 to 10^12, and `begin` isn't later. Offsets in the ranges of a table move each end by at most
+/// 1,440 minutes. It doesn't allocate.
 pub fn widened(basis: &Basis, begin: i64, end: i64) -> Span
     requires forward { begin ≤ℤ end }
     requires begin { unsigned_abs begin ≤ 10 ^ 12 }

@@ -19,7 +19,7 @@ impl EventWord {
     ghost use Rattle.std.specs.Prelude.{◌≡◌, ◌≤◌, length};
     ghost use Rattle.event_text.specs.Words.{word_text};
 
-    /// Returns the name as it is printed, in ASCII and at most 18 bytes.
+    /// Returns the printed name, in ASCII and at most 18 bytes.
     pub fn text(self) -> &'static str
         ensures text { result.now ≡ word_text self }
         ensures length_bound { length result.now ≤ 18 }

@@ -8,7 +8,7 @@ ghost use Rattle.event_text.specs.Lines.{level_text, padded};
 use arrayvec::ArrayString;
 use decimal_text::{rounded, write};
 
-/// Writes `level`, in millionths, to the empty `out` in hundredths, as `-1.00`. It doesn't allocate.
+/// Writes `level`, in millionths, to the empty `out` in hundredths, such as `-1.00`. It doesn't allocate.
 pub fn write_level(level: i64, out: &mut ArrayString<24>)
     requires { out.old.bytes ≡ [] }
     ensures { out.new.bytes ≡ level_text level }

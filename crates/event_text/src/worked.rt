@@ -6,7 +6,7 @@ ghost use Rattle.curve_law.specs.declared.kind.Kind.{Kind};
 ghost use Rattle.zone_time.specs.declared.local.Label.{Label};
 ghost use Rattle.event_text.specs.Lines.{level_text, padded, event_line_of, height_line_of};
 
-/// Proves the lines of a tide and of a current, in universal time and by a clock that is behind it.
+/// Proves examples of lines of a tide and of a current, in universal time and in a zone west of Greenwich.
 pub fn worked_lines()
     ensures low_tide { event_line_of (record { minute = pos 15791400; label = Label.Utc })
         (record { minute = pos 15791400; kind = Kind.Low; level = negsuc 999999 }) Units.Feet

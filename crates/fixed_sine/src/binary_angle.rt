@@ -28,8 +28,8 @@ const UNSURE: u64 = 1 << 51;
 /// A factor 2^52 is applied in two steps of 2^26, so that products fit 64 bits.
 const STEP: u64 = 1 << 26;
 
-/// Returns `units`, from 0 to `CIRCLE - 1`, as a fraction of a turn in 2^-64, rounded up. It is within
-/// the same unit.
+/// Returns the angle of `units`, from 0 to `CIRCLE - 1`, in 2^-64 of a turn, rounded up. The result is
+/// within the same unit.
 pub fn binary_angle_of(units: u64) -> u64
     requires { units < circle }
     ensures { result ≡ binary_angle_of units }
@@ -39,8 +39,8 @@ pub fn binary_angle_of(units: u64) -> u64
     scaled / SHARE * STEP + rest * STEP / SHARE + 1
 }
 
-/// Returns the sine of `binary_angle`, in 2^-64 of a turn: in billionths, that of the whole unit in which the
-/// angle is.
+/// Returns the sine, in billionths, of the whole unit that contains `binary_angle`, which is in 2^-64 of a
+/// turn.
 #[inline]
 pub fn binary_angle_sine(binary_angle: u64) -> i64
     ensures value { result ≡ isin_of (units_of binary_angle) }

@@ -7,11 +7,11 @@ ghost use Rattle.fixed_sine.specs.Workings.Degrees.{slope_at, bend_at, IsReady};
 /// The prepared row of one degree.
 #[derive(Clone, Copy)]
 pub struct Degree {
-    /// The change of the sine per unit at the begin of the degree, in 2^-64 of a billionth, rounded up.
+    /// The change of the sine per unit at the start of the degree, in 2^-64 of a billionth, rounded up.
     pub slope: i64,
     /// The decrease of `slope` per unit over the degree, in 2^-72 of a billionth, rounded down.
     pub bend: i32,
-    /// The sine at the begin of the degree, in billionths; from 180 degrees on one more.
+    /// The sine at the start of the degree, in billionths; from 180 degrees on one more.
     pub sine: i32,
 }
 

@@ -36,7 +36,8 @@ pub fn sines_are_approximate()
         → unsigned_abs ((pos (2 ^ 15) *ℤ approximate_sine_of binary_angle) -ℤ isin_of (units_of binary_angle)) ≤ approximate_error }
 {}
 
-/// Proves values of sine, cosine, step and fractions of a turn that were computed elsewhere.
+/// Proves examples of sines, cosines, steps and fractions of a turn, with values that another program
+/// computed.
 #[tactic(auto, unfolding(crate::specs::Table::sines, crate::specs::Table::sine_at, crate::specs::Table::correction, crate::specs::Sine::scaled_between, crate::specs::Sine::quarter_of, crate::specs::Sine::half_of, crate::specs::Sine::isin_of, crate::specs::Sine::icos_of, crate::specs::Rate::step_of))]
 pub fn worked_rows()
     ensures at_zero { isin_of 0 ≡ pos 0 }
@@ -66,7 +67,7 @@ pub fn worked_rows()
     ensures least_number { int_rem_euclid (negsuc (2 ^ 127 - 1)) (pos circle) ≡ pos 148115894272 }
 {}
 
-/// Proves approximate sines at some fractions of a turn.
+/// Proves examples of approximate sines at fractions of a turn.
 #[tactic(auto, unfolding(crate::specs::Table::sines, crate::specs::Table::sine_at, crate::specs::Table::correction, crate::specs::Sine::scaled_between, crate::specs::Sine::quarter_of, crate::specs::Sine::half_of, crate::specs::Sine::isin_of, crate::specs::Approximate::part_sine_of))]
 pub fn worked_parts()
     ensures at_zero { approximate_sine_of 0 ≡ pos 12 }

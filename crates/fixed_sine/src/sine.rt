@@ -16,8 +16,8 @@ const HALF: u64 = 180 * UNITS;
 /// The divisor of the interpolation formula between two degrees.
 const SQUARE: i128 = 4 * UNITS as i128 * UNITS as i128;
 
-/// Returns the sine of the angle `p`, in units from 0 to `CIRCLE - 1`: in billionths, from -1,000,000,000
-/// to 1,000,000,000.
+/// Returns the sine of the angle `p`, in billionths from -1,000,000,000 to 1,000,000,000. `p` is in units,
+/// from 0 to `CIRCLE - 1`.
 ///
 /// # Examples
 /// ```
@@ -37,8 +37,8 @@ pub fn isin(p: i64) -> i64
     }
 }
 
-/// Returns the cosine of the angle `p`, in units from 0 to `CIRCLE - 1`: in billionths, from
-/// -1,000,000,000 to 1,000,000,000. It is the sine of the angle plus 90 degrees.
+/// Returns the cosine of the angle `p`, in billionths from -1,000,000,000 to 1,000,000,000: the sine of the
+/// angle plus 90 degrees. `p` is in units, from 0 to `CIRCLE - 1`.
 ///
 /// The program doesn't call it: it evaluates the sine at angles that are a quarter further on.
 pub fn icos(p: i64) -> i64

@@ -7,10 +7,10 @@ ghost use Rattle.fixed_sine.specs.Table.{sine_at, rise, correction};
 /// The row of one degree.
 #[derive(Clone, Copy)]
 pub struct SineRow {
-    /// The change of the sine per unit at the begin of the degree, in billionths, times 4 * degree *
+    /// The change of the sine per unit at the start of the degree, in billionths, times 4 * degree *
     /// degree.
     pub slope: i64,
-    /// The sine at the begin of the degree, in billionths.
+    /// The sine at the start of the degree, in billionths.
     pub sine: u32,
     /// The size of the correction over the degree; the correction is negative.
     pub correction: u32,

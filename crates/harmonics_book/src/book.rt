@@ -18,7 +18,7 @@ pub enum Units {
     Feet,
     Meters,
     Knots,
-    /// The unit of a hydraulic current, whose speed is the square root of the predicted value.
+    /// The unit of a hydraulic current: its speed is the square root of the predicted value.
     KnotsSquared,
 }
 

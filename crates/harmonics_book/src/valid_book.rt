@@ -6,8 +6,8 @@ ghost use Rattle.harmonics_book.specs.Books.{IsBook};
 use crate::book::Book;
 use std::marker::Model;
 
-/// A borrowed book whose counts, names and values are proved to be in the ranges of a file. In contracts
-/// its value is the book.
+/// A borrowed book with counts, names and values that are proved to be in the ranges of a file. In
+/// contracts its value is the book.
 #[derive(Drop)]
 pub struct ValidBook<'a> {
     book: &'a Book,

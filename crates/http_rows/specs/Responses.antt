@@ -37,7 +37,7 @@ response_head code kind allow size =
     ++ allow
     ++ codes "Connection: close\r\n\r\n"
 
--- a response with its body or without it; its length is that of the body in both cases
+-- a response with its body or without it; its length is the body's in both cases
 abbrev pub response : Code → List ℕ → List ℕ → List ℕ → Bool → List ℕ
 response code kind allow body bodiless = response_head code kind allow (length body) ++ (if bodiless then [] else body)
 

@@ -92,7 +92,7 @@ length_of head = unwrap_or (length_in head) 0
 
 -- ---- the table, in its order
 
--- the rows of a request whose head hasn't ended
+-- the rows of a request with a head that hasn't ended
 abbrev pub unended_rows : List ℕ → List (Bool × RequestRejection)
 unended_rows request =
     (nat_le MOST_HEAD (length request), HeadTooLarge)
@@ -125,7 +125,7 @@ body_rows head rest =
     (is_post head && nat_lt (length rest) (length_of head), BodyCutShort)
     ∷ []
 
--- the first row whose condition is true
+-- the first row with a true condition
 abbrev pub first_row : List (Bool × RequestRejection) → Option RequestRejection
 first_row [] = None
 first_row (row ∷ rows) = if row.0 then Some row.1 else first_row rows
@@ -145,7 +145,7 @@ pub data ReplyRow : Type 0 where
   rejects : RequestRejection → Bool → ReplyRow
   asks : Asking → ReplyRow
 
--- the request of a head whose body is at the begin of `rest`
+-- the request of a head; its body is at the start of `rest`
 abbrev pub asking : Head → List ℕ → Asking
 asking head rest = record {
   path = path_of head.target;
@@ -169,11 +169,11 @@ head_row None (Some head) rest = field_row (first_row (field_rows head ++ body_r
 abbrev pub ended_row : List ℕ → Option Head → List ℕ → ReplyRow
 ended_row bytes read rest = head_row (first_row (head_rows bytes read)) read rest
 
--- the row of a request whose head hasn't ended
+-- the row of a request with a head that hasn't ended
 abbrev pub unended_row : List ℕ → ReplyRow
 unended_row request = head_row (first_row (unended_rows request)) None []
 
--- the row of a request whose head ends at `end`, or not at all
+-- the row of a request with a head that ends at `end`, or doesn't end
 abbrev pub IsRowAt : Option ℕ → List ℕ → ReplyRow → Type 0
 IsRowAt None request row = row ≡ unended_row request
 IsRowAt (Some end) request row =

@@ -58,7 +58,7 @@ fn is_path(target: &[u8]) -> bool
     target.starts_with(b"/".as_slice())
 }
 
-/// Returns the request of `head`, whose body is at the begin of `rest`.
+/// Returns the request with this `head`; its body is at the start of `rest`.
 ///
 /// # Errors
 /// The first [`RequestRejection`] of the table of statuses that applies.

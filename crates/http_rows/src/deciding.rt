@@ -1,4 +1,4 @@
-//! Replies that follow from a request's bytes alone.
+//! Replies that follow from only a request's bytes.
 
 ghost use Rattle.std.specs.Prelude.{◌≡◌, [], is_some, unwrap_or};
 ghost use Rattle.http_rows.specs.Responses.{fixed_of, unavailable_of};

@@ -7,7 +7,8 @@ use decimal_text::Bytes;
 use std::alloc::{AllocError, Global};
 use std::marker::Model;
 
-/// A response in two parts, its head and its body, which isn't copied. A contract sees the bytes of both.
+/// A response in two parts, its head and its body, which isn't copied. In contracts its value is the bytes
+/// of both.
 #[derive(Drop)]
 pub struct Response {
     head: ArrayString<256>,

@@ -136,7 +136,7 @@ pub fn write_rejection(rejection: RequestRejection, bodiless: bool, out: &mut Ar
     );
 }
 
-/// Writes the reply 503 that replaces any other one if memory runs out to the empty `out`. It doesn't
+/// Writes to the empty `out` the reply 503, which replaces any other reply if memory runs out. It doesn't
 /// allocate.
 pub fn write_unavailable(bodiless: bool, out: &mut ArrayString<256>)
     requires { out.old.bytes ≡ [] }

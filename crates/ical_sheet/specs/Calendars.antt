@@ -75,7 +75,7 @@ content_lines head (event ∷ events) =
 unfoldable pub calendar_of : Head → List Event → List ℕ
 calendar_of head events = flat_map folded (content_lines head events)
 
--- an event whose numbers have 64 bits
+-- an event with numbers of 64 bits
 pub record IsNarrow (event : Event) : Type 0 where
   pub minute : unsigned_abs event.minute < 2 ^ 64
   pub level : unsigned_abs event.level < 2 ^ 64

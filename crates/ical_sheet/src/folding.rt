@@ -81,8 +81,7 @@ fn cut(text: &[u8], most: usize) -> (&[u8], &[u8])
     text.split_at(prefix_length(text, most))
 }
 
-/// Returns the length of that prefix: the longest one of at most `most` octets that splits no
-/// character.
+/// Returns the length of the longest prefix of `text` with at most `most` octets that splits no character.
 fn prefix_length(text: &[u8], most: usize) -> usize
     ensures octets { result ≡ prefix_length most text.now }
     ensures within { result ≤ length text.now }

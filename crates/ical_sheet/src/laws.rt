@@ -22,16 +22,15 @@ ghost use Rattle.ical_sheet.specs.Folding.{
 use crate::sheet::IcalPage;
 use report_sheets::Layout;
 
-/// A piece is the longest prefix of at most its number of octets that is text too, and so splits no
-/// character. What follows the first piece is such a prefix of at most 74 octets, and then the
-/// pieces of what follows it.
+/// Proves that a piece is the longest prefix, of at most the given number of octets, that splits no
+/// character, and that each piece after a line's first has at most 74 octets.
 pub fn lines_are_cut_between_characters()
     ensures longest { (most : ℕ) (text : List ℕ) → IsUtf8 text → IsLongestPrefix most text (prefix_length most text) }
     ensures further { (text : List ℕ) → IsUtf8 text → 0 < length text →
         further_pieces text ≡ take (prefix_length 74 text) text ∷ further_pieces (drop (prefix_length 74 text) text) }
 {}
 
-/// Folded content lines have at most 75 octets each, and unfolded they are the content lines again,
+/// Proves that folded lines have at most 75 octets each, and that unfolding them returns the content lines,
 /// each with a CR LF.
 pub fn folded_lines_unfold()
     ensures line { (line : List ℕ) → IsContentLine line → unfolded (folded line) ≡ line ++ codes "\r\n" }
@@ -40,8 +39,8 @@ pub fn folded_lines_unfold()
     ensures length_bound { (lines : List (List ℕ)) → All IsContentLine lines → AreShort (physical_lines (flat_map folded lines)) }
 {}
 
-/// The physical lines of a calendar have at most 75 octets each, and unfolded they are its content
-/// lines, each with a CR LF, if the station's name is text without control characters.
+/// Proves that the lines of a calendar have at most 75 octets each, and that unfolding them returns its
+/// content lines, each with a CR LF, if the station's name is text without control characters.
 pub fn calendars_unfold()
     ensures lines { (head : Head) (events : List Event) → IsUtf8 head.name → IsHead head → All IsNarrow events →
         unfolded (calendar_of head events) ≡ flat_map (λ line. line ++ codes "\r\n") (content_lines head events) }
@@ -49,13 +48,13 @@ pub fn calendars_unfold()
         AreShort (physical_lines (calendar_of head events)) }
 {}
 
-/// The layout of a calendar is that of its definition.
+/// Proves that a calendar has the layout that `specs/` defines.
 pub fn calendars_are_sheets()
     ensures { ⟦<IcalPage as Layout>⟧.sheet ≡ ical_sheet }
 {}
 
-/// Two events with the same identifier have the same minute, the same kind and stations of the same
-/// name.
+/// Proves that two events with the same identifier have the same minute, the same kind and stations of the
+/// same name.
 pub fn identifiers_are_unique()
     ensures { (name other : List ℕ) (event later : Event) → IsBytes name → IsBytes other → IsNarrow event → IsNarrow later →
         uid_line name event ≡ uid_line other later → (name ≡ other) × (event.minute ≡ later.minute) × (event.kind ≡ later.kind) }

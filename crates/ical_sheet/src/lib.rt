@@ -2,7 +2,7 @@
 //!
 //! [`IcalSheet`] is the sheet that writes it. A calendar consists of content lines: [`fold`] splits
 //! one into physical lines of at most 75 octets, [`unfold`] joins the lines of a text again, and
-//! [`escape`] marks the characters of a text that have a meaning of their own. `specs/` has the
+//! [`escape`] marks the characters of a text that have a special meaning. `specs/` has the
 //! rules.
 #![tactic(auto)]
 

@@ -8,8 +8,8 @@ ghost use Rattle.ical_sheet.specs.Escaping.{escaped};
 ghost use Rattle.ical_sheet.specs.Folding.{folded, physical_lines, pieces_of, unfolded};
 ghost use Rattle.ical_sheet.specs.Worked.{long_name, pier};
 
-/// Lines of ASCII at the lengths at which they are split, and a letter of two octets and a
-/// character of four that no longer fit.
+/// Proves examples of folded lines: ASCII at the lengths at which lines are split, and a letter of two
+/// octets and a character of four that no longer fit.
 #[tactic(auto, unfolding(crate::specs::Folding::folded, crate::specs::Folding::greatest, crate::specs::Folding::cut_up, crate::specs::Folding::physical_lines))]
 pub fn worked_folds()
     ensures empty { folded [] ≡ codes "\r\n" }
@@ -23,8 +23,8 @@ pub fn worked_folds()
     ensures lines { map length (physical_lines (folded (replicate 150 97))) ≡ 75 ∷ 75 ∷ 2 ∷ [] }
 {}
 
-/// Unfolded texts: a fold before a space and one before a tab, a CR LF that neither follows, and
-/// folds within what another leaves.
+/// Proves examples of unfolded texts: a fold before a space and one before a tab, a CR LF that neither
+/// follows, and folds within what another leaves.
 #[tactic(auto, unfolding(crate::specs::Folding::unfolded))]
 pub fn worked_unfolds()
     ensures space { unfolded (codes "SUMMARY:Pie\r\n r\r\n") ≡ codes "SUMMARY:Pier\r\n" }
@@ -35,13 +35,13 @@ pub fn worked_unfolds()
     ensures last { unfolded (codes "a\r\n") ≡ codes "a\r\n" }
 {}
 
-/// A text with each of the escaped characters, and one with others.
+/// Proves examples of escaped texts: one with each of the special characters, and one with others.
 pub fn worked_escapes()
     ensures all { escaped (codes "Pier, North; A\\B") ≡ codes "Pier\\, North\\; A\\\\B" }
     ensures others { escaped (codes "Ca\"d:iz") ≡ codes "Ca\"d:iz" }
 {}
 
-/// Moments as dates and times, and the nearest ones to minutes of other years.
+/// Proves examples of moments as dates and times, and of the moments nearest to minutes of other years.
 #[tactic(auto, unfolding(crate::specs::Calendars::stamp_of, zone_time::specs::Dates::two_digits, zone_time::specs::Dates::date_of, zone_time::specs::Dates::date_from_year, zone_time::specs::Dates::date_from_month))]
 pub fn worked_stamps()
     ensures usual { stamp_of (pos 15791400) ≡ codes "20000110T060000Z" }
@@ -52,7 +52,7 @@ pub fn worked_stamps()
     ensures year_zero { nearest_moment (negsuc 1035593280) ≡ negsuc 1035593279 }
 {}
 
-/// A calendar of one event and one of none, and the pieces of the lines of a long name.
+/// Proves examples of calendars: one event, none, and the folded lines of a long name.
 pub fn worked_calendars()
     ensures one { calendar_of pier (low_tide ∷ [])
         ≡ codes "BEGIN:VCALENDAR\r\nVERSION:2.0\r\nPRODID:-//Tide desk//Tide predictor//EN\r\nBEGIN:VEVENT\r\nUID:15791400-1-50696572@tide.invalid\r\nDTSTAMP:20000110T030000Z\r\nDTSTART:20000110T060000Z\r\nSUMMARY:Pier Low Tide -1.00 feet\r\nEND:VEVENT\r\nEND:VCALENDAR\r\n" }

@@ -1,4 +1,4 @@
--- The list of stations: those of a harmonics file, and those of a table of subordinate stations (the layout
+-- The list of the stations of a harmonics file and of a table of subordinate stations (the layout
 -- of XTide's list of locations).
 use Rattle.std.specs.Prelude.{ℕ, List, ◌++◌, codes, Option, Some, None, option_map, find}
 use Rattle.std.specs.List.{flat_map}

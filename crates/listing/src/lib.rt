@@ -6,7 +6,7 @@
 //! - [`plain_events`] returns such lines below the station's name, and [`csv_events`] the same
 //!   events as records; [`plain_heights`] and [`csv_heights`] do so for levels. [`events_text`] and
 //!   [`heights_text`] choose between them by the layout.
-//! - [`clock_text`] begins with the level now, and [`highest_text`] has the highest level alone.
+//! - [`clock_text`] begins with the level now, and [`highest_text`] has only the highest level.
 //! - [`stations_text`] lists the stations of a harmonics file and of a table, and [`about_text`]
 //!   the facts of one station.
 //!

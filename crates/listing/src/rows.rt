@@ -5,7 +5,7 @@ ghost use Rattle.std.specs.Prelude.{◌≡◌};
 use crate::row::Row;
 use std::marker::Model;
 
-/// Levels in the order of their listing. Contracts see it as a list.
+/// Levels in the order of their listing. In contracts its value is the list of them.
 #[derive(Drop)]
 pub struct Rows {
     items: Vec<Row>,

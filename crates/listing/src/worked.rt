@@ -11,7 +11,7 @@ ghost use Rattle.listing.specs.StationLists.{stations_text_of};
 ghost use Rattle.event_text.specs.Worked.{high_tide, low_tide};
 ghost use Rattle.listing.specs.Worked.{level_now};
 
-/// Listings as lines: two events; a level by a clock that is behind universal time; the level now
+/// Proves examples of listings in lines: two events; a level in a zone west of Greenwich; the level now
 /// with the next event; and a highest water.
 pub fn worked_listings()
     ensures events { plain_events_of (codes "Pier") Units.Feet (low_tide ∷ high_tide ∷ []) Zone.Utc
@@ -24,8 +24,8 @@ pub fn worked_listings()
         ≡ codes "Pier\nHighest 2000-01-10 00:00 UTC       1.00 feet\n" }
 {}
 
-/// Listings as records: a name that has a comma and quotes is quoted, and the moment is in
-/// universal time.
+/// Proves examples of listings in records: a name that has a comma and quotes is quoted, and the moment is
+/// in universal time.
 pub fn worked_records()
     ensures event { csv_events_of (codes "Pier") Units.Feet (low_tide ∷ []) (Zone.Fixed (negsuc 299))
         ≡ codes "station,moment,local,event,level,units\nPier,2000-01-10T06:00Z,2000-01-10 01:00,Low Tide,-1.000000,feet\n" }
@@ -34,8 +34,8 @@ pub fn worked_records()
     ensures none { csv_events_of (codes "Pier") Units.Feet [] Zone.Utc ≡ codes "station,moment,local,event,level,units\n" }
 {}
 
-/// The list of the stations of a harmonics file and of a table, one of whose reference stations the
-/// file lacks.
+/// Proves an example of a list of stations, in which the harmonics file lacks a reference station of the
+/// table.
 #[tactic(auto, unfolding(crate::specs::StationLists::stations_text_of, event_text::specs::Lines::text_of_unit))]
 pub fn worked_stations()
     ensures { stations_text_of pier_book dock_rows

@@ -62,7 +62,7 @@ impl Command {
     ghost use Rattle.std.specs.Str.{bytes_eq};
     ghost use Rattle.question.specs.Commands.{word_of, is_asked_in};
 
-    /// Returns the name of the command, as it is given. It doesn't allocate.
+    /// Returns the name of the command, such as `predict`. It doesn't allocate.
     pub fn text(self) -> &'static str
         ensures { result.now ≡ word_of self }
     {

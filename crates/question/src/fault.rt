@@ -10,13 +10,13 @@ pub enum AskFault {
     NoMemory,
     /// The command is missing.
     NoCommand,
-    /// A question of this origin can't request such a command.
+    /// A question of this origin can't request this command.
     UnknownCommand,
     /// The item with this number has no value.
     NotAPair(u64),
     /// The key of the item with this number isn't one of the command's.
     UnknownKey(u64),
-    /// The key of the item with this number is that of an earlier item.
+    /// An earlier item has the same key as the item with this number.
     RepeatedKey(u64),
     /// The value of the item with this number doesn't have the form of its key.
     BadValue(u64),

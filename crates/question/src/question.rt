@@ -29,9 +29,9 @@ pub struct Question {
     pub certificate: Option<Text>,
     /// The name of the station.
     pub station: Option<Text>,
-    /// The begin of the span, in minutes since 1970-01-01T00:00Z, of the years from 1 to 9999.
+    /// The first minute of the span, counted from 1970-01-01T00:00Z, in the years from 1 to 9999.
     pub begin: Option<i64>,
-    /// The end of the span, in the same unit and range.
+    /// The end of the span, counted in the same way and in the same range.
     pub end: Option<i64>,
     /// The mark in millionths of the station's unit, from -10,000,000,000 to 10,000,000,000.
     pub mark: Option<i64>,

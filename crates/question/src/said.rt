@@ -10,7 +10,7 @@ use crate::key::{KEYS, Key, is_needed};
 use crate::origin::Origin;
 use crate::pairs::Item;
 
-/// Returns the text that `items` give to `key`: that of the last item with this key.
+/// Returns the text that `items` give to `key`, that is, the value of the last item with this key.
 pub fn text_for<'a>(items: &'a [Item], key: Key) -> Option<&'a str>
     ensures { option_copied result ≡ said_by items.now key }
 {

@@ -56,14 +56,14 @@ pub fn number(text: &str, digits: usize, least: u64, most: u64) -> Option<u64>
     }
 }
 
-/// Returns the seed of a generator, from 0 to 2^64 - 1.
+/// Parses `text` as the seed of a generator, from 0 to 2^64 - 1.
 pub fn seed(text: &str) -> Option<u64>
     ensures { result ≡ seed_of text.now }
 {
     number(text, 20, 0, u64::MAX)
 }
 
-/// Returns the port of the web server, from 1 to 65,535.
+/// Parses `text` as the port of the web server, from 1 to 65,535.
 pub fn port(text: &str) -> Option<u16>
     ensures { result ≡ port_of text.now }
 {
@@ -71,7 +71,7 @@ pub fn port(text: &str) -> Option<u16>
     Some(number as u16)
 }
 
-/// Returns the minutes from one height to the next, from 1 to 44,640.
+/// Parses `text` as the number of minutes from one height to the next, from 1 to 44,640.
 pub fn step(text: &str) -> Option<i64>
     ensures { result ≡ step_of text.now }
 {
@@ -79,7 +79,7 @@ pub fn step(text: &str) -> Option<i64>
     Some(number as i64)
 }
 
-/// Returns a mark in millionths, from -10,000,000,000 to 10,000,000,000.
+/// Parses `text` as a mark, and returns it in millionths, from -10,000,000,000 to 10,000,000,000.
 #[tactic(auto, unfolding(crate::specs::Forms::mark_of))]
 pub fn mark(text: &str) -> Option<i64>
     ensures { result ≡ mark_of text.now }

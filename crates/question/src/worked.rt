@@ -12,7 +12,7 @@ ghost use Rattle.question.specs.Words.{item_of, pairs_of};
 ghost use Rattle.question.specs.Worked.{of_line, of_query, bare};
 ghost use Rattle.question.specs.declared.origin.Origin.{Origin};
 
-/// Proves questions that can be read, with the defaults of keys that aren't given.
+/// Proves examples of questions, with the defaults of keys that aren't given.
 #[tactic(auto, unfolding(crate::specs::Questions::question_of, crate::specs::Questions::with_items, crate::specs::Questions::with_item, crate::specs::Forms::some_text, crate::specs::Forms::number_of, crate::specs::Forms::mark_of, crate::specs::Layouts::layout_of, crate::specs::Forms::clock_of, crate::specs::Forms::offset_of, crate::specs::Forms::zone_of, crate::specs::Forms::sheets_of, zone_time::specs::Moments::moment_of, zone_time::specs::Moments::has_form, decimal_text::specs::Decimal::read_of, decimal_text::specs::Decimal::decimal_of, decimal_text::specs::Decimal::after_point, decimal_text::specs::Decimal::made_of, decimal_text::specs::Decimal::scaled_or_bad, decimal_text::specs::Decimal::scaled))]
 pub fn worked_questions()
     ensures predict { of_line (codes "predict file=pier.txt station=Pier begin=2000-01-10T00:00Z end=2000-01-11T00:00Z")
@@ -104,7 +104,7 @@ pub fn worked_values()
     ensures no_sheet { sheets_of (codes "a,,b") ≡ None }
 {}
 
-/// Proves how arguments are split.
+/// Proves examples of arguments that are split into keys and values.
 pub fn worked_words()
     ensures first_sign { item_of (codes "file=a=b") ≡ record { key = codes "file"; value = Some (codes "a=b") } }
     ensures no_value { item_of (codes "file=") ≡ record { key = codes "file"; value = Some [] } }

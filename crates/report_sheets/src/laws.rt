@@ -14,8 +14,8 @@ use crate::layout::Layout;
 use crate::ranges::RangesPage;
 use crate::tally::TallyPage;
 
-/// A sheet whose limit no list of events exceeds shows all of them. A sheet that is full shows
-/// exactly as many events as its limit, and these are the first.
+/// Proves that a sheet shows all events if they don't exceed its limit, and otherwise exactly the first
+/// ones up to the limit.
 #[tactic(auto, unfolding(crate::specs::Pages::page_of))]
 pub fn pages_show_the_first_events()
     ensures all { (sheet : SheetMeaning) (head : Head) (events : List Event)
@@ -25,7 +25,7 @@ pub fn pages_show_the_first_events()
         × (length (take sheet.limit events) ≡ sheet.limit) }
 {}
 
-/// The layouts of a tally, of ranges and of first lines are those of their definitions.
+/// Proves that a tally, ranges and first lines have the layouts that `specs/` defines for them.
 pub fn sheets_write_their_layouts()
     ensures tally { ⟦<TallyPage as Layout>⟧.sheet ≡ tally_sheet }
     ensures range { ⟦<RangesPage as Layout>⟧.sheet ≡ range_sheet }

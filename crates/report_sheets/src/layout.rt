@@ -14,7 +14,7 @@ pub trait Layout {
     /// The meaning of the sheet with a limit.
     ghost sheet: { ℕ → SheetMeaning };
 
-    /// Returns the word by which the sheet is requested.
+    /// Returns the word that requests the sheet.
     fn word() -> &'static str
         ensures { (limit : ℕ) → result.now ≡ (sheet limit).word };
 

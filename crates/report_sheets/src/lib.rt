@@ -1,4 +1,4 @@
-//! Sheets: listings of one station's events, each in a layout of its own, joined into a report.
+//! Sheets: listings of one station's events, each in its layout, joined into a report.
 //!
 //! A [`Sheet`] has a word, is opened with a [`Head`], takes the events one by one up to its limit,
 //! and writes its text. [`Tally`] counts events, [`Ranges`] shows the highest and the lowest water,

@@ -45,8 +45,8 @@ fn is_named(sheet: &Box<dyn Sheet>, word: &Text) -> bool
     sheet.named(word)
 }
 
-/// Returns the text of a report: the pages of those `sheets` whose word is in `wanted`, in the
-/// order of `sheets`. A page shows the head and the first events, up to the limit of its sheet.
+/// Returns the text of a report: the page of each sheet in `sheets` with a word in `wanted`, in the order
+/// of `sheets`. A page shows the head and the first events, up to the limit of its sheet.
 ///
 /// The name has no control characters, and the unit isn't knots squared. Each event has a
 /// [`word`](event_text::word) in the head's unit, and a minute in the years 2 to 9300 or on the day

@@ -13,8 +13,8 @@ use curve_law::Event;
 use decimal_text::{Bytes, Text};
 use std::alloc::AllocError;
 
-/// A listing of events in a layout of its own. It is opened with a head, takes events up to its
-/// limit, and writes its text for that head and those events.
+/// A listing of events in some layout. A sheet is opened with a head, takes events up to its limit, and
+/// returns the text for this head and these events.
 ///
 /// Its word, its limit and its layout never change.
 pub trait Sheet: Drop {

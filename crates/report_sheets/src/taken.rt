@@ -5,6 +5,6 @@
 pub enum Taken {
     /// The event was appended to the sheet's list.
     Kept,
-    /// The list has as many events as the sheet takes, and stays as it is.
+    /// The list has as many events as the sheet takes, and is unchanged.
     Full,
 }

@@ -22,7 +22,7 @@ impl Model for Generator {
 }
 
 impl Generator {
-    /// Returns a generator whose first state is `seed`.
+    /// Returns a generator with the first state `seed`.
     pub(crate) fn new(seed: u64) -> Generator
         ensures { result ≡ seed }
     {

@@ -11,7 +11,7 @@ use itoa::Buffer;
 use std::alloc::{AllocError, Global};
 use std::marker::Model;
 
-/// The text written so far, and the generator of the numbers still to come.
+/// The text written so far, and the generator of the numbers that are still to be drawn.
 #[derive(Drop)]
 pub(crate) struct SampleWriter {
     text: Vec<u8>,
@@ -29,7 +29,7 @@ impl Model for SampleWriter {
 impl SampleWriter {
     ghost use Rattle.sample_tides.specs.Parts.{append, line, moved};
 
-    /// Returns the empty text, with a generator whose first state is `seed`.
+    /// Returns the empty text, with a generator with the first state `seed`.
     pub(crate) fn new(alloc: Global, seed: u64) -> SampleWriter
         ensures { result ≡ record { text = []; state = seed } }
     {

@@ -14,8 +14,8 @@ pub fn worked_draws()
     ensures greatest { scaled_to 25 (2 ^ 64 - 1) ≡ 24 }
 {}
 
-/// Proves the first lines of the file of seed 0, and lines of its tables and its first station from the
-/// states reached there. A line without a draw leaves the state unchanged.
+/// Proves the first lines of the file of seed 0, and lines of its tables and its first station, each from
+/// the generator's state there. A line without a draw leaves the state unchanged.
 pub fn worked_lines()
     ensures first_lines { (constituent 6 (heading 0 (record { text = []; state = 0 }))).text
         ≡ codes "# sample tides, seed 0\n37\nM2 28.9841042\nS2 30.0000000\nN2 28.4397295\nK1 15.0410686\nO1 13.9430356\nC6 27.3128346\n" }

@@ -1,4 +1,4 @@
--- The basis of a name: its own station, or that of its reference with offsets (this project).
+-- The basis of a name: its station, or its reference with offsets (this project).
 use Rattle.std.specs.Prelude.{ℕ, pos, ◌<◌, Bool, ◌&&◌, is_none, position, List, Option, Some, None, Result, Ok, slice_get}
 use Rattle.std.specs.Option.{ForSome, ok_or}
 use Rattle.std.specs.Ordering.{int_eq}
@@ -58,7 +58,7 @@ basis_in book table name = do
   offsets ← ok_or (slice_get table row) NoStation
   basis_over book row offsets
 
--- the basis of a station of the book, if there is one, else that of a row
+-- the basis of a station of the book, if there is one, else the basis of a row
 abbrev pub reference_or : Result Basis FindFault → Option ℕ → Result Basis FindFault
 reference_or subordinate (Some station) = Ok (reference_basis station)
 reference_or subordinate None = subordinate

@@ -36,7 +36,7 @@ use Rattle.decimal_text.specs.declared.fault.DecimalFault.TheVariants as decimal
 use Rattle.station_table.specs.declared.fault.OffsetWhy.{OffsetWhy}
 use Rattle.station_table.specs.declared.fault.OffsetWhy.TheVariants.{BadNumber, TooFine, OutOfRange, NotUtf8, BadName}
 
--- the text of a field, whose bytes must be UTF-8
+-- the text of a field, which must be UTF-8
 unfoldable pub text_of : List ℕ → Result (List ℕ) OffsetWhy
 text_of field = if is_utf8 field then Ok field else Err NotUtf8
 

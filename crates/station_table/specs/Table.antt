@@ -83,7 +83,7 @@ slack_of WithSlack fields = do
   ebb_add ← add_of (field_of fields 9)
   both_or_none (is_empty (field_of fields 8)) (is_empty (field_of fields 9)) (record { flood_add = flood_add; ebb_add = ebb_add })
 
--- the number of fields is that of the columns
+-- there are as many fields as columns
 abbrev pub counted : Header → List (List ℕ) → Result (Unit {0}) OffsetWhy
 counted header fields = if length fields == length (columns_of header) then Ok tt else Err FieldCount
 

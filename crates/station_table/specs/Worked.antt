@@ -14,7 +14,7 @@ plain_header = codes "name,reference,high_add,low_add,high_times,low_times,high_
 abbrev pub slack_header : List ℕ
 slack_header = plain_header ++ codes ",flood_add,ebb_add"
 
--- a file with two stations that follow the pier, and one whose reference the book doesn't have
+-- a file with two stations that follow the pier, and one without its reference in the book
 abbrev pub dock_file : List ℕ
 dock_file =
     plain_header ++ codes "\nDock,Pier,0:30,-0:10,1.1,0.9,0.1,0\nOuter,Pier,0:30,0:30,2,2,0.5,0.5\n"

@@ -43,7 +43,7 @@ impl OffsetWhy {
         }
     }
 
-    /// Returns the text of the reason, as it is printed.
+    /// Returns the printed text of the reason.
     pub fn text(self) -> &'static str
         ensures { result.now ≡ text_of self }
     {
@@ -65,8 +65,8 @@ impl OffsetWhy {
 pub enum OffsetFault {
     /// Out of memory.
     NoMemory,
-    /// The first row that breaks a rule, and the first reason. Rows are counted from 1, which is the
-    /// header's; it is also the one for a file without a header.
+    /// The first row that breaks a rule, and the first reason. Rows are counted from the header, which is
+    /// row 1; a file without a header has its fault in row 1.
     At { row: u32, why: OffsetWhy },
 }
 

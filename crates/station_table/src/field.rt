@@ -25,7 +25,7 @@ fn text(field: &[u8]) -> Result<&str, OffsetWhy>
     }
 }
 
-/// Returns the name in `field`: from 1 to 400 bytes of UTF-8 without control bytes.
+/// Parses `field` as a name: from 1 to 400 bytes of UTF-8 without control bytes.
 ///
 /// # Errors
 /// [`OffsetWhy::NotUtf8`], else [`OffsetWhy::BadName`].
@@ -83,7 +83,7 @@ fn millionths(least: i64, most: i64, text: &[u8]) -> Result<i64, OffsetWhy>
     }
 }
 
-/// Returns the minutes in `field` that are added to a time, from -1440 to 1440: 0 for an empty field.
+/// Parses `field` as the minutes added to a time, from -1440 to 1440; an empty field is 0.
 ///
 /// # Errors
 /// The first of [`OffsetWhy::NotUtf8`], [`OffsetWhy::BadNumber`] and [`OffsetWhy::OutOfRange`] that
@@ -100,7 +100,8 @@ pub fn add(field: &[u8]) -> Result<i32, OffsetWhy>
     minutes(field)
 }
 
-/// Returns the factor in `field`, in millionths, from 1 to 100,000,000: 1,000,000 for an empty field.
+/// Parses `field` as the factor of a level, in millionths, from 1 to 100,000,000; an empty field is
+/// 1,000,000.
 ///
 /// # Errors
 /// The first of [`OffsetWhy::NotUtf8`], [`OffsetWhy::BadNumber`], [`OffsetWhy::TooFine`] and
@@ -117,8 +118,8 @@ pub fn times(field: &[u8]) -> Result<i64, OffsetWhy>
     millionths(1, 100_000_000, field)
 }
 
-/// Returns the level in `field` that is added to a level, in millionths, from -10,000,000,000 to
-/// 10,000,000,000: 0 for an empty field.
+/// Parses `field` as the height added to a level, in millionths, from -10,000,000,000 to 10,000,000,000; an
+/// empty field is 0.
 ///
 /// # Errors
 /// The first of [`OffsetWhy::NotUtf8`], [`OffsetWhy::BadNumber`], [`OffsetWhy::TooFine`] and

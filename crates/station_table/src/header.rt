@@ -94,7 +94,7 @@ pub fn header_of(fields: &ByteRecord) -> Result<Header, OffsetFault>
     }
 }
 
-/// The fault of a file whose first record is no header.
+/// The fault of a file in which the first record is no header.
 pub const NO_HEADER: OffsetFault = OffsetFault::At {
     row: 1,
     why: OffsetWhy::BadHeader,

@@ -1,4 +1,4 @@
-//! Offsets of a station's events from those of its reference.
+//! Offsets of a station's events from the events of its reference.
 
 /// The change from a reference's high or low waters to a station's.
 #[derive(Clone, Copy, PartialEq, Eq)]

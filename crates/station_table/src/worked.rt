@@ -22,7 +22,7 @@ ghost use Rattle.station_table.specs.Worked.{
   changes,
 };
 
-/// Proves the values of some fields, empty ones among them.
+/// Proves the values of some fields, some of which are empty.
 #[tactic(auto, unfolding(crate::proofs::OnLiterals::table_on_literals))]
 pub fn worked_fields()
     ensures greatest_add { add_of (codes "24:00") ≡ Ok (pos 1440) }

@@ -3,7 +3,7 @@ use Rattle.std.specs.Prelude.{ℕ, ◌+◌, ◌/◌, ℤ, pos, ◌+ℤ◌, ◌-�
 use Rattle.std.specs.List.{range_with_len}
 use Rattle.listing.specs.declared.row.Row.{Row}
 
--- the minute of the row at `index`, which is `index` steps after the begin
+-- the minute of the row at `index`, which is `index` steps after the beginning
 abbrev pub minute_at : ℤ → ℤ → ℕ → ℤ
 minute_at begin step index = begin +ℤ (step *ℤ pos index)
 

@@ -34,14 +34,14 @@ pub record FindsRow (book : Book) (table : List Offsets) (name : List ℕ) : Typ
 abbrev pub unit_of_row : Book → Offsets → List ℕ
 unit_of_row book row = unit_or_dash (unit_in book.stations row.reference)
 
--- a row whose line has the unit of the station that the row is over
+-- a row with a line that has the unit of its reference station
 pub record HasUnit (book : Book) (row : Offsets) (basis : Basis) : Type 0 where
   pub station : Station
   pub at : slice_get book.stations basis.station ≡ Some station
   pub named : station.name ≡ row.reference
   pub unit : unit_of_row book row ≡ text_of_unit station.units
 
--- a row whose line has the unit of its reference, or `-` if the harmonics file lacks it
+-- a row with a line that has the unit of its reference, or `-` if the harmonics file lacks it
 abbrev pub SaysUnit : Book → ℕ → Offsets → Result Basis FindFault → Type 0
 SaysUnit book index row (Ok basis) = HasUnit book row basis
 SaysUnit book index row (Err fault) = (fault ≡ NoReference index) × (unit_of_row book row ≡ codes "-")

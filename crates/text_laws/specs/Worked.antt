@@ -1,4 +1,4 @@
--- A zone whose clock goes back an hour, from the begin of one date into the date before (this project).
+-- A zone with a clock that goes back an hour, from the start of one date into the date before (this project).
 use Rattle.std.specs.Prelude.{pos, [], ◌∷◌, codes, None}
 use Rattle.jiff_tz.specs.declared.info.Dst.TheVariants.{No}
 use Rattle.jiff_tz.specs.TzifText.{TypeText}
@@ -13,7 +13,7 @@ hour_ahead = record { seconds = pos 3600; dst = No; name = codes "AHEAD" }
 abbrev pub universal : TypeText
 universal = record { seconds = pos 0; dst = No; name = codes "UTC" }
 
--- a zone whose clock goes back from 00:59 of a date to 23:59 of the date before, at 1970-01-01T23:59Z
+-- a zone with a clock that goes back from 00:59 of a date to 23:59 of the date before, at 1970-01-01T23:59Z
 abbrev pub goes_back : Zone
 goes_back = File (record {
   version = 50;

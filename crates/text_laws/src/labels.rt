@@ -15,10 +15,9 @@ ghost use Rattle.zone_time.specs.Zones.{local_in};
 
 use zone_time::{Label, Local};
 
-/// The clocks of two zones list the same minutes in the same order, in lists of events and of levels
-/// and in the texts of `clock` and `highest`. The lines differ only in their local times, and the
-/// label of each local time determines the minute that it means. A record differs only in its third
-/// field.
+/// Proves that in two zones listings of events and of levels, and the texts of `clock` and `highest`, have
+/// the same minutes in the same order. The lines differ only in their local times, and the label of each
+/// local time determines the minute that it means. A record differs only in its third field.
 pub fn zones_only_label()
     ensures minute { (zone : Zone) (minute : ℤ) → minute_of (local_in zone minute) ≡ minute }
     ensures events { (name : List ℕ) (units : Units) (events : List Event) (zone other : Zone) → All (λ event. IsLevel event.level) events →
@@ -52,7 +51,7 @@ pub fn minute_of_local(local: Local) -> i64
     }
 }
 
-/// The same minute by universal time and by a clock five hours behind it.
+/// Proves an example of one minute in universal time and by a clock five hours behind UTC.
 pub fn worked_labels()
     ensures universal { minute_of (local_in Zone.Utc (pos 15791759)) ≡ pos 15791759 }
     ensures behind { local_in (Zone.Fixed (negsuc 299)) (pos 15791759)

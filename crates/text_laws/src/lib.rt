@@ -1,7 +1,7 @@
 //! Laws of listings and calendars: what a reader of the text relies on.
 //!
 //! Each printed text is proved equal to a definition of `listing` or `calendar_sheet`. The laws are
-//! over these definitions alone: which events and levels a text has, on which lines, and what a
+//! over these definitions: which events and levels a text has, on which lines, and what a
 //! reader of comma-separated values finds. A law is an empty function, and its clauses state the
 //! law.
 #![tactic(auto)]

@@ -10,8 +10,8 @@ ghost use Rattle.text_laws.specs.Lines.{IsLevel, IsLine};
 ghost use Rattle.text_laws.specs.Pages.{line_of, CalendarLine};
 ghost use Rattle.zone_time.specs.declared.zone.Zone.{Zone};
 
-/// The line of an event, of a level and of a date ends with its only LF, and has no other byte
-/// below 32. So it is one line of its text.
+/// Proves that the line of an event, of a level or of a date ends with its only LF and has no other byte
+/// below 32, so that it is one line of its text.
 pub fn lines_end_once()
     ensures events { (zone : Zone) (units : Units) (event : Event) → IsLevel event.level → IsLine (event_line_in zone units event) }
     ensures heights { (zone : Zone) (units : Units) (row : Row) → IsLevel row.level → IsLine (row_line_in zone units row) }

@@ -11,11 +11,11 @@ ghost use Rattle.text_laws.specs.Pages.{DatesAscend, IsCalendar};
 ghost use Rattle.text_laws.specs.Worked.{goes_back};
 ghost use Rattle.zone_time.specs.declared.zone.Zone.{Zone};
 
-/// The calendar of a span has a line for each local date from the least to the greatest of those of
-/// its first and last minute and of its events. Each event is on the line of its own date alone,
-/// once, and the events of a line keep their order. So all lines together have exactly the events, in
-/// their order unless the clock goes back from one date to the one before. The calendar of no minute
-/// has no line.
+/// Proves that the calendar of a span has a line for each local date, from the least to the greatest date
+/// of its first minute, its last minute and its events. Each event is listed once, on the line of its local
+/// date, and the events of a line keep their order. All lines together have exactly the events, in their
+/// order unless the clock goes back from one date to the one before. The calendar of an empty span has no
+/// line.
 pub fn calendar_shows_each_event_once()
     ensures shown { (name : List ℕ) (units : Units) (events : List Event) (zone : Zone) (begin end : ℤ) → begin <ℤ end
         → All (λ event. IsLevel event.level) events →
@@ -24,15 +24,16 @@ pub fn calendar_shows_each_event_once()
         calendar_text_of name units events zone begin end ≡ listing_of name [] }
 {}
 
-/// A calendar lists the later event first if the clock goes back from its date to the date before.
+/// Proves that a calendar lists the later of two events first if the clock goes back from one date to the
+/// date before.
 pub fn dates_that_go_back_change_the_order()
     ensures { (zone : Zone) (early late : Event) (day : ℤ) →
         day_in zone early.minute ≡ day +ℤ pos 1 → day_in zone late.minute ≡ day →
         flat_map (events_on zone (early ∷ late ∷ [])) (days_through day (day +ℤ pos 1)) ≡ late ∷ early ∷ [] }
 {}
 
-/// Events in the order of their minutes have ascending dates in universal time and by a clock with
-/// a fixed offset.
+/// Proves that events in the order of their minutes have ascending dates in universal time and by a fixed
+/// offset.
 pub fn fixed_clocks_keep_the_order()
     ensures universal { (events : List Event) → AllPairs (λ event later. event.minute ≤ℤ later.minute) events
         → DatesAscend Zone.Utc events }
@@ -40,14 +41,16 @@ pub fn fixed_clocks_keep_the_order()
         → DatesAscend (Zone.Fixed ahead) events }
 {}
 
-/// Two events that have one date in universal time, and two dates by a clock 14 hours ahead of it.
+/// Proves an example of two events that have one date in universal time, and two dates by a clock 14 hours
+/// ahead of UTC.
 pub fn worked_dates()
     ensures universal { events_on Zone.Utc (low_tide ∷ high_tide ∷ []) (pos 10966) ≡ low_tide ∷ high_tide ∷ [] }
     ensures first { events_on (Zone.Fixed (pos 840)) (low_tide ∷ high_tide ∷ []) (pos 10966) ≡ low_tide ∷ [] }
     ensures second { events_on (Zone.Fixed (pos 840)) (low_tide ∷ high_tide ∷ []) (pos 10967) ≡ high_tide ∷ [] }
 {}
 
-/// A zone whose clock shows a date at one minute and the date before at a later one.
+/// Proves an example of a zone in which the clock shows a date at one minute and the date before at a later
+/// one.
 #[tactic(auto, unfolding(zone_time::specs::ZoneFiles::clock_minute, zone_time::specs::ZoneFiles::ahead_after))]
 pub fn worked_dates_that_go_back()
     ensures early { day_in goes_back (pos 1385) ≡ pos 0 +ℤ pos 1 }

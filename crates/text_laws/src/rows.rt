@@ -10,8 +10,8 @@ ghost use Rattle.text_laws.specs.Lines.{IsLevel};
 ghost use Rattle.text_laws.specs.Rows.{records_in, AreOneList, ShowOneEvent, ShowOneLevel};
 ghost use Rattle.zone_time.specs.declared.zone.Zone.{Zone};
 
-/// A reader of comma-separated values finds the header, and then the fields of each event or level
-/// as they were written.
+/// Proves that a reader of comma-separated values finds the header, and then the fields of each event or
+/// level as they were written.
 pub fn records_read_back()
     ensures events { (name : List ℕ) (units : Units) (events : List Event) (zone : Zone) →
         records_in (csv_events_of name units events zone) ≡ event_header ∷ map (event_fields name units zone) events }
@@ -19,9 +19,9 @@ pub fn records_read_back()
         records_in (csv_heights_of name units rows zone) ≡ row_header ∷ map (row_fields name units zone) rows }
 {}
 
-/// The records after the header are those of the lines of the plain listing, one for each line and
-/// in their order. Both have the same minute, local time, name and unit, and the level of the line
-/// is the level of the record, rounded to hundredths.
+/// Proves that after the header there is one record for each line of the plain listing, in the same order.
+/// Both have the same minute, local time, name and unit, and the level of the line is the level of the
+/// record, rounded to hundredths.
 pub fn csv_and_plain_show_one_list()
     ensures events { (name : List ℕ) (units : Units) (events : List Event) (zone : Zone) → All (λ event. IsLevel event.level) events →
         AreOneList event_header name (ShowOneEvent name zone) (csv_events_of name units events zone)
@@ -30,7 +30,7 @@ pub fn csv_and_plain_show_one_list()
         AreOneList row_header name (ShowOneLevel name zone) (csv_heights_of name units rows zone) (plain_heights_of name units rows zone) }
 {}
 
-/// The record of a station whose name has a comma and quotes.
+/// Proves an example of a record: the name of its station has a comma and quotes.
 #[tactic(auto, unfolding(csv::specs::Machine::next_record, csv::specs::Reading::records_from, csv::specs::Reading::strip_bom))]
 pub fn worked_records()
     ensures { records_in (codes "station,level\n\"Pier, \"\"old\"\"\",1.000000\n")

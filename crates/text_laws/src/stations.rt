@@ -13,11 +13,10 @@ ghost use Rattle.station_table.specs.Bases.{basis_of, basis_over};
 ghost use Rattle.station_table.specs.Worked.{dock_rows};
 ghost use Rattle.text_laws.specs.Stations.{station_lines, FindsRow, FindsStation, SaysUnit};
 
-/// The list has one line for each station of the harmonics file and then one for each row of the
-/// table. The name on each line can be requested: that of a station finds a station of this name,
-/// and that of a row finds a row of this name if the file has no such station. The unit of a row's
-/// line is that of the station that the row is over, and `-`, which is no unit, exactly if the file
-/// lacks its reference.
+/// Proves that the list has one line for each station of the harmonics file and then one for each row of
+/// the table. A listed name finds a station or a row: a station's name finds a station of this name, and a
+/// row's name finds a row of this name if the file has no such station. A row's line has the unit of its
+/// reference, or `-`, which is no unit, exactly if the file lacks the reference.
 pub fn stations_list_what_can_be_requested()
     ensures lines { (book : Book) (table : List Offsets) →
         stations_text_of book table ≡ flat_map (λ line. line) (station_lines book table) }
@@ -29,8 +28,8 @@ pub fn stations_list_what_can_be_requested()
     ensures dash { (units : Units) → text_of_unit units ≢ codes "-" }
 {}
 
-/// A row whose reference station the harmonics file lacks: a request by its name finds it, and its
-/// line has `-`.
+/// Proves an example of a row without its reference station in the harmonics file: a request by its name
+/// finds the row, and its line has `-`.
 #[tactic(auto, unfolding(station_table::specs::Bases::basis_of, station_table::specs::Bases::basis_in, station_table::specs::Bases::basis_over))]
 pub fn worked_missing_reference()
     ensures { basis_of pier_book dock_rows (codes "Lost") ≡ Err (FindFault.NoReference 2) }

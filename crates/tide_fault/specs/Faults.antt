@@ -176,14 +176,14 @@ line_of rows (Offsets fault) = table_line fault
 line_of rows BadZone = codes "zone: bad zone file\n"
 line_of rows (Refused refusal) = refusal_line rows refusal
 
--- a refusal whose line can be printed: its moments are in the years 1 to 9999, and its row is an index of
+-- a refusal with a line that can be printed: its moments are in the years 1 to 9999, and its row is an index of
 -- the table
 abbrev pub IsPrintableRefusal : List TableRow → Refusal → Type 0
 IsPrintableRefusal rows (OutOfYears first last) = IsMoment first × IsMoment last
 IsPrintableRefusal rows (NoReference place) = place < length rows
 IsPrintableRefusal rows _ = Unit {0}
 
--- a fault whose line can be printed
+-- a fault with a line that can be printed
 abbrev pub IsPrintable : List TableRow → Fault → Type 0
 IsPrintable rows (Refused refusal) = IsPrintableRefusal rows refusal
 IsPrintable rows _ = Unit {0}
@@ -214,7 +214,7 @@ abbrev pub refusal_of_find : FindFault → Refusal
 refusal_of_find find.NoStation = NoStation
 refusal_of_find (find.NoReference row) = NoReference row
 
--- the refusal of a station whose curve can't be made
+-- the refusal of a station for which no curve can be made
 abbrev pub refusal_of_curve : CurveFault → Refusal
 refusal_of_curve curve.NoMemory = NoMemory
 refusal_of_curve curve.Hydraulic = Hydraulic

@@ -11,8 +11,8 @@ use std::alloc::AllocError;
 pub enum Refusal {
     /// Memory ran out.
     NoMemory,
-    /// The bytes of a certificate are none: `line`, counted from 1, is the first with which no
-    /// certificate goes on.
+    /// The bytes aren't a certificate. `line`, counted from 1, is the first line that no certificate could
+    /// have there.
     NotACertificate { line: u32 },
     /// The file made from a seed is not of the form: `line`, counted from 1, is the first that
     /// breaks the rule `why`.
@@ -27,22 +27,22 @@ pub enum Refusal {
     Hydraulic,
     /// The span ends before it begins.
     BackwardSpan,
-    /// The highest water of a span without a minute is requested.
+    /// The request is for the highest water of a span without a minute.
     EmptySpan,
     /// The span isn't within the file's years. `first` is their first minute and `last` the minute
     /// after their last, since 1970-01-01T00:00Z.
     OutOfYears { first: i64, last: i64 },
-    /// The amplitudes of the station's constituents exceed their bound; `year` is the first such
-    /// year.
+    /// The sizes of the amplitudes of the station's constituents add up to more than their bound; `year` is
+    /// the first such year.
     TooLarge { year: i32 },
-    /// The products of amplitude and speed of the station's constituents exceed their bound; `year`
-    /// is the first such year.
+    /// The sizes of the amplitudes times the speeds of the station's constituents add up to more than their
+    /// bound; `year` is the first such year.
     TooSteep { year: i32 },
     /// The span has `minutes`, which are too many.
     SpanTooLong { minutes: i64 },
-    /// A mark is requested of a station whose highs and lows have different offsets.
+    /// The request has a mark, and the station's highs and lows have different offsets.
     MarkNotHere,
-    /// A level is requested of a station whose highs and lows have different offsets.
+    /// The request is for a level, and the station's highs and lows have different offsets.
     LevelNotHere,
     /// The request is for `rows` heights, more than a list may have.
     TooManyRows { rows: i64 },

@@ -7,7 +7,7 @@ use Rattle.year_blend.specs.declared.parts.Stretch.{Stretch}
 use Rattle.year_blend.specs.declared.parts.Stretch.TheVariants.{Within, Across}
 use Rattle.year_blend.specs.Places.{IsInBlend, place_of, plain_end_of}
 
--- a position in the blend at a new year, or in the plain part of one of the two years beside it
+-- a position in the blend at a new year, or in the plain part of one of the two years next to it
 abbrev pub IsBeside : ℕ → Place → Type 0
 IsBeside year (Plain other) = (suc other ≡ year) ⊎ (other ≡ year)
 IsBeside year (Blend other x) = other ≡ year

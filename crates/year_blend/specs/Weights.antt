@@ -1,5 +1,5 @@
 -- The weight of the later year in a blend at a new year, and its slope (this project: the polynomial of
--- degree 5 whose first and second derivatives are 0 at both ends).
+-- degree 5 with first and second derivatives of 0 at both ends).
 use Rattle.std.specs.Prelude.{ℕ, ℤ, pos, negsuc, ◌+ℤ◌, ◌-ℤ◌, ◌*ℤ◌, ◌≤ℤ◌}
 
 -- the sum of the weights of both years

@@ -7,7 +7,7 @@ use Rattle.jiff_core.specs.Calendar.{days_from_civil}
 unfoldable pub year_start_of : ℤ → ℤ
 year_start_of y = pos 1440 *ℤ days_from_civil y 1 1
 
--- a year whose start is defined: from 2 to 9300
+-- a year with a defined start: from 2 to 9300
 pub record IsYearInReach (y : ℤ) : Type 0 where
   pub least : pos 2 ≤ℤ y
   pub most : y ≤ℤ pos 9300

@@ -57,7 +57,8 @@ pub fn weight_steps()
         → unsigned_abs (weight_slope_of (x +ℤ pos 1) -ℤ weight_slope_of x) ≤ 1663000 }
 {}
 
-/// Proves the positions of minutes among three years from 1999 on: at both ends, and about a new year.
+/// Proves examples of positions of minutes among three years from 1999 on: at both ends, and near a new
+/// year.
 pub fn worked_places()
     ensures first { place_of (pos 1999) 3 (pos 15252480) ≡ Place.Plain 0 }
     ensures hour_before { place_of (pos 1999) 3 (pos 15778020) ≡ Place.Plain 0 }
@@ -68,8 +69,8 @@ pub fn worked_places()
     ensures last { place_of (pos 1999) 3 (pos 16830720) ≡ Place.Plain 2 }
 {}
 
-/// Proves the stretches of hours among three years from 1999 on: up to the end of a plain part, past it,
-/// beside a blend, over it, in it, and up to the last minute of the domain.
+/// Proves examples of stretches of hours among three years from 1999 on: up to the end of a plain part,
+/// past it, next to a blend, over it, in it, and up to the last minute of the domain.
 pub fn worked_stretches()
     ensures up_to_the_end { stretch_of (pos 1999) 3 (pos 15776996) 1024 ≡ Stretch.Within 0 }
     ensures past_the_end { stretch_of (pos 1999) 3 (pos 15776997) 1024 ≡ Stretch.Across 1 }
@@ -79,7 +80,7 @@ pub fn worked_stretches()
     ensures up_to_the_last { stretch_of (pos 1999) 3 (pos 16829696) 1024 ≡ Stretch.Within 2 }
 {}
 
-/// Proves starts of years and weights that were computed elsewhere.
+/// Proves examples of starts of years and of weights, with values that another program computed.
 #[tactic(auto, unfolding(crate::specs::Weights::weight_of, crate::specs::Weights::weight_slope_of))]
 pub fn worked_rows()
     ensures epoch { year_start_of (pos 1970) ≡ pos 0 }

@@ -1,4 +1,4 @@
--- Zone files whose clocks are computed elsewhere: New York's, with a table up to 1999, and one without
+-- Zone files with clocks that are computed elsewhere: New York's, with a table up to 1999, and one without
 -- any change.
 use Rattle.std.specs.Prelude.{ℕ, ℤ, pos, negsuc, List, [], ◌∷◌, ◌++◌, replicate, codes, Some}
 use Rattle.jiff_tz.specs.declared.info.Dst.TheVariants.{Yes, No}

@@ -46,7 +46,7 @@ use Rattle.jiff_tz.specs.TzifText.{TypeText, TransitionText}
 use Rattle.jiff_tz.specs.Year.{year_of_nanos}
 
 -- the instant of a rule's day and time of day in a year, in nanoseconds of universal time, by a clock
--- `ahead` seconds ahead of it: no earlier than the begin of the year and no later than its end, and the
+-- `ahead` seconds ahead of it: no earlier than the start of the year and no later than its end, and the
 -- end of the year if the year lacks the day
 unfoldable pub rule_moment : ℤ → Day × ℤ → ℤ → ℤ
 rule_moment year moment ahead = match_some (rule_day year moment.0) (last_nanosecond year) (λ day.
@@ -113,6 +113,6 @@ goes_on rule [] = true
 goes_on rule (row ∷ []) = same_type (rule_type rule row.second) row.after
 goes_on rule (row ∷ next ∷ rows) = goes_on rule (next ∷ rows)
 
--- a file whose rule, if it has one, continues its table
+-- a file with no rule, or with a rule that continues its table
 unfoldable pub is_consistent : TzifText → Bool
 is_consistent file = match_some file.rule true (λ rule. goes_on rule file.transitions)

@@ -61,6 +61,6 @@ abbrev pub zone_from : Result TzifText TzifFault → Result Zone ZoneFault
 zone_from (Ok file) = if is_consistent file then Ok (File file) else Err BadZone
 zone_from (Err fault) = Err BadZone
 
--- the zone of a file's bytes, if they are a zone file whose rule continues its table
+-- the zone of a file's bytes, if they are a zone file with a rule that continues its table
 unfoldable pub zone_of : List ℕ → Result Zone ZoneFault
 zone_of bytes = zone_from (read_tzif bytes)

@@ -14,7 +14,8 @@ ghost use Rattle.zone_time.specs.Dates.{IsDay, date_of};
 ghost use Rattle.zone_time.specs.Moments.{IsMoment, moment_text, moment_of};
 ghost use Rattle.zone_time.specs.ZoneFiles.{seconds_ahead, goes_on};
 
-/// Proves that the date of a day number is a date of the calendar of `jiff`, with that day number there.
+/// Proves that the date of a day number is a date of `jiff`'s calendar, and that `jiff` gives this date the
+/// same day number.
 pub fn days_have_their_date()
     ensures civil { (day : ℤ) → IsDay day →
         IsCivilDate (pos (date_of day).year) (date_of day).month (date_of day).day }
@@ -30,7 +31,7 @@ pub fn moments_have_one_text()
         moment_of text ≡ Some m → IsMoment m × (moment_text m ≡ text) }
 {}
 
-/// Proves that the offset of a zone file's clock is that of `jiff` at each second, and that a rule
+/// Proves that at each second a zone file's clock has the offset that `jiff` computes, and that a rule
 /// continues a table exactly if `jiff` finds that the two agree.
 pub fn zone_files_go_by_jiff()
     ensures ahead { (zone : Tzif) (second : ℤ) →

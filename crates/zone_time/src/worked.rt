@@ -11,8 +11,8 @@ ghost use Rattle.zone_time.specs.Worked.{new_york_to, hour_ahead};
 ghost use Rattle.zone_time.specs.ZoneFiles.{clock_minute, is_consistent};
 ghost use Rattle.zone_time.specs.Zones.{local_in, zone_of};
 
-/// Proves the texts of moments: the first and the last of all, 1970-01-01T00:00Z and the minute before
-/// it, leap days, and a century without one.
+/// Proves the texts of some moments: the first and the last of all, 1970-01-01T00:00Z and the minute before
+/// it, leap days, and a century year without one.
 pub fn worked_texts()
     ensures usual { moment_text (pos 15791040) ≡ codes "2000-01-10T00:00Z" }
     ensures zero { moment_text (pos 0) ≡ codes "1970-01-01T00:00Z" }

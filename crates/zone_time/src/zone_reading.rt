@@ -11,8 +11,8 @@ use jiff_core::Error;
 use jiff_tz::Tzif;
 use std::alloc::Global;
 
-/// Reads the zone file `bytes`, and returns its zone, whose clock follows the file's table and the rule
-/// of its footer. A file has at most 1,048,576 bytes.
+/// Returns the zone of the zone file `bytes`, with a clock that follows the file's table and the rule of
+/// its footer. A file has at most 1,048,576 bytes.
 ///
 /// # Errors
 /// [`ZoneFault::BadZone`] if `jiff` refuses the bytes: they aren't in the format, or the rule of the

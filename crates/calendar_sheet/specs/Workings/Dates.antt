@@ -16,7 +16,7 @@ pub record CalendarPage : Type 0 where
 abbrev pub empty_page : ℤ → CalendarPage
 empty_page day = record { day = day; events = [] }
 
--- a date with those of the events that are on it
+-- a date with the events that are on it
 abbrev pub page_of : Zone → List Event → ℤ → CalendarPage
 page_of zone events day = record { day = day; events = events_on zone events day }
 
@@ -34,7 +34,7 @@ pub record AreDays (first last : ℤ) : Type 0 where
   pub last_day : IsDay last
   pub forward : first ≤ℤ last
 
--- an event whose local date is in the range
+-- an event with a local date in the range
 pub record IsAmong (zone : Zone) (first last : ℤ) (event : Event) : Type 0 where
   pub least : first ≤ℤ day_in zone event.minute
   pub most : day_in zone event.minute ≤ℤ last

@@ -8,7 +8,7 @@ use Rattle.fixed_sine.specs.Table.{rise, correction}
 abbrev pub bend_at : ℕ → ℕ
 bend_at k = unsigned_abs (correction (min k (179 - k)))
 
--- the change of the sine per unit at the begin of degree k, times 4 * degree * degree
+-- the change of the sine per unit at the start of degree k, times 4 * degree * degree
 abbrev pub slope_at : ℕ → ℤ
 slope_at k = (pos (4 * degree) *ℤ rise k) +ℤ pos (degree * bend_at k)
 
