@@ -1,6 +1,6 @@
 #!/usr/bin/env python3
 """Checks a certificate by docs/CERTIFICATES.md and prints the first line of the answer of `tide check` or, if the text
-begins with `peak certificate 1`, of `tide peakcheck`. The constants and the table have to be without fault.
+begins with `peak certificate 1`, of `tide peakcheck` (docs/HIGHEST.md). The constants and the table must have no fault.
 
 check_certificate.py file=CONSTANTS certificate=C [offsets=TABLE]
 """

@@ -6,7 +6,7 @@ use decimal_text::Text;
 /// A claim about a station's events in a span: the request, and the cells of each track that it
 /// follows. Contracts that speak of the text of a certificate require `IsCertificate`, which is the
 /// ranges below.
-#[derive(Clone, Debug, Drop)]
+#[derive(Drop)]
 pub struct Certificate {
     /// The rule by which quiet cells are checked: 1 or 2.
     pub version: u32,

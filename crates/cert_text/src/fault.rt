@@ -18,7 +18,7 @@ pub enum CertFault {
 }
 
 /// An error of reading one line.
-#[derive(Clone, Copy, Debug, PartialEq, Eq)]
+#[derive(Clone, Copy, PartialEq, Eq)]
 pub enum LineFault {
     /// Memory ran out.
     NoMemory,

@@ -1,7 +1,7 @@
 //! The tracks of a certificate.
 
 /// A track of a certificate.
-#[derive(Clone, Copy, Debug, PartialEq, Eq)]
+#[derive(Clone, Copy, PartialEq, Eq)]
 pub enum TrackName {
     /// High and low waters, or maximum floods and ebbs.
     Turn,

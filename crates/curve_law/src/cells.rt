@@ -6,7 +6,7 @@ use crate::cell::Cell;
 use std::marker::Model;
 
 /// Cells one after the other. In contracts its value is the list of them.
-#[derive(Clone, Debug, Drop)]
+#[derive(Drop)]
 pub struct Cells {
     items: Vec<Cell>,
 }

@@ -3,7 +3,7 @@
 use crate::kind::Kind;
 
 /// An event of a track. It happens after its minute and no later than the next one.
-#[derive(Clone, Copy, Debug, PartialEq, Eq)]
+#[derive(Clone, Copy, PartialEq, Eq)]
 pub struct Event {
     /// The minute since 1970-01-01T00:00Z.
     pub minute: i64,

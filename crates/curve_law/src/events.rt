@@ -6,7 +6,7 @@ use crate::event::Event;
 use std::marker::Model;
 
 /// Events in order of time. In contracts its value is the list of them.
-#[derive(Clone, Debug, Drop)]
+#[derive(Drop)]
 pub struct Events {
     items: Vec<Event>,
 }

@@ -7,7 +7,7 @@ ghost use Rattle.curve_law.specs.CurveStates.{evaluated_once};
 use crate::curve::Curve;
 
 /// A minute, and the value of a curve there, exact or approximate.
-#[derive(Clone, Copy, Debug, Default)]
+#[derive(Clone, Copy, Default)]
 pub struct Point {
     pub minute: i64,
     pub value: i128,

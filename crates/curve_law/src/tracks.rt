@@ -3,7 +3,7 @@
 use crate::cells::Cells;
 
 /// The cells of each requested track of a station, over one span.
-#[derive(Clone, Debug, Drop)]
+#[derive(Drop)]
 pub struct Tracks {
     /// High and low waters, or greatest and least streams.
     pub turn: Cells,

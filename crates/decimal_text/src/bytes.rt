@@ -6,7 +6,7 @@ use std::alloc::AllocError;
 use std::marker::Model;
 
 /// A list of bytes. In contracts its value is the list of their numbers, each below 256.
-#[derive(Clone, Debug, Drop)]
+#[derive(Clone, Drop)]
 pub struct Bytes {
     items: Vec<u8>,
 }

@@ -1,7 +1,7 @@
 //! A span of time.
 
 /// The minutes from `begin` on and before `end`, counted from 1970-01-01T00:00Z.
-#[derive(Clone, Copy, Debug, PartialEq, Eq)]
+#[derive(Clone, Copy, PartialEq, Eq)]
 pub struct Span {
     pub begin: i64,
     pub end: i64,

@@ -1,7 +1,7 @@
 //! The names of events.
 
 /// The name of an event in tide and current tables.
-#[derive(Clone, Copy, Debug, PartialEq, Eq)]
+#[derive(Clone, Copy, PartialEq, Eq)]
 pub enum EventWord {
     HighTide,
     LowTide,

@@ -8,7 +8,7 @@ use std::marker::Model;
 
 /// A borrowed book with counts, names and values that are proved to be in the ranges of a file. In
 /// contracts its value is the book.
-#[derive(Debug, Drop)]
+#[derive(Drop)]
 pub struct ValidBook<'a> {
     book: &'a Book,
 }

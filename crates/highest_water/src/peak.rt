@@ -3,7 +3,7 @@
 use crate::peak_cells::PeakCells;
 
 /// The highest water of a span, with the cells that show it.
-#[derive(Debug, Drop)]
+#[derive(Drop)]
 pub struct Peak {
     /// The first minute with the greatest value, since 1970-01-01T00:00Z.
     pub at: i64,

@@ -1,7 +1,7 @@
 //! The cells of a highest water.
 
 /// A cell of a highest water: minutes of the span that lie one after the other.
-#[derive(Clone, Copy, Debug, PartialEq, Eq)]
+#[derive(Clone, Copy, PartialEq, Eq)]
 pub enum PeakCell {
     /// A cell of 2 to 1,024 minutes that is under the highest water: none has a greater value, and
     /// none before the minute of the highest water an equal one.

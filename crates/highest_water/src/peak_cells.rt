@@ -6,7 +6,7 @@ use crate::peak_cell::PeakCell;
 use std::marker::Model;
 
 /// Cells that lie one after the other. Contracts see it as a list.
-#[derive(Clone, Debug, Drop)]
+#[derive(Drop)]
 pub struct PeakCells {
     items: Vec<PeakCell>,
 }

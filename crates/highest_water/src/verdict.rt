@@ -2,7 +2,7 @@
 
 /// The verdict of the check of a highest water: the first fault, or acceptance. Cells are counted
 /// from 1.
-#[derive(Clone, Copy, Debug, PartialEq, Eq)]
+#[derive(Clone, Copy, PartialEq, Eq)]
 pub enum PeakVerdict {
     /// The cells don't have the span's number of minutes, `wanted`. If they have more than an `i64`
     /// holds, `covered` is its greatest value.

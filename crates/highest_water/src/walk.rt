@@ -13,7 +13,7 @@ use curve_law::{Curve, Point};
 use interval_search::{Front, Piece, front_at, next_piece};
 
 /// A cell, and the point at which it begins.
-#[derive(Clone, Copy, Debug)]
+#[derive(Clone, Copy)]
 pub struct LocatedCell {
     pub at: Point,
     pub cell: PeakCell,

@@ -14,7 +14,7 @@ use crate::target::{path_of, query_of};
 use decimal_text::digits;
 
 /// A request that passes all fixed rows: its path, query and body.
-#[derive(Clone, Copy, Debug)]
+#[derive(Clone, Copy)]
 pub struct Asking<'a> {
     pub path: Path,
     pub query: &'a [u8],

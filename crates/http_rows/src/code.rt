@@ -1,7 +1,7 @@
 //! The status codes of responses.
 
 /// A status code of the server's responses (RFC 9110, section 15).
-#[derive(Clone, Copy, Debug, PartialEq, Eq)]
+#[derive(Clone, Copy, PartialEq, Eq)]
 pub enum Code {
     /// 200
     Success,

@@ -13,14 +13,14 @@ use httparse::Status;
 use httparse::spans::{EMPTY_HEADER_SPAN, HeaderSpan, RequestSpans, parse_request};
 
 /// The number of fields of one name, and the value of the first of them.
-#[derive(Clone, Copy, Debug)]
+#[derive(Clone, Copy)]
 pub(crate) struct Occurs<'a> {
     pub(crate) count: usize,
     pub(crate) first: &'a [u8],
 }
 
 /// The parts of a head that the server uses.
-#[derive(Clone, Copy, Debug)]
+#[derive(Clone, Copy)]
 pub(crate) struct Head<'a> {
     pub(crate) method: &'a [u8],
     pub(crate) target: &'a [u8],

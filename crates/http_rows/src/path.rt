@@ -1,7 +1,7 @@
 //! The paths of the server.
 
 /// A path that the server serves, one for each command.
-#[derive(Clone, Copy, Debug, PartialEq, Eq)]
+#[derive(Clone, Copy, PartialEq, Eq)]
 pub enum Path {
     Predict,
     Certify,

@@ -12,7 +12,7 @@ use crate::limits::{MOST_HEAD, MOST_LINES};
 use crate::request_rejection::RequestRejection;
 
 /// The row of the table of statuses that applies to a request.
-#[derive(Clone, Copy, Debug)]
+#[derive(Clone, Copy)]
 pub enum ReplyRow<'a> {
     /// A fixed row, which rejects the request; true if its reply has no body.
     Rejects(RequestRejection, bool),

@@ -1,7 +1,7 @@
 //! The reasons why a request is rejected without the predictor.
 
 /// The reason why a request is rejected by its head or the length of its body.
-#[derive(Clone, Copy, Debug, PartialEq, Eq)]
+#[derive(Clone, Copy, PartialEq, Eq)]
 pub enum RequestRejection {
     /// The head doesn't end within 8,192 bytes, or has more than 66 lines.
     HeadTooLarge,

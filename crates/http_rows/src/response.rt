@@ -9,7 +9,7 @@ use std::marker::Model;
 
 /// A response in two parts, its head and its body, which isn't copied. In contracts its value is the bytes
 /// of both.
-#[derive(Debug, Drop)]
+#[derive(Drop)]
 pub struct Response {
     head: ArrayString<256>,
     /// `None` in a response to `HEAD`.

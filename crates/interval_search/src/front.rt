@@ -63,7 +63,7 @@ fn nearest_piece<C: Curve, R: PieceRule>(
 
 /// The state of a search over a span: the point that it has reached, the ends of the pieces after it
 /// whose values are known, the nearest first, and the end of the span.
-#[derive(Debug, Drop)]
+#[derive(Drop)]
 pub struct Front {
     pub at: Point,
     pub waiting: Waiting,

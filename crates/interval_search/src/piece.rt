@@ -8,7 +8,7 @@ use crate::rule::PieceRule;
 use curve_law::{Curve, MOST_MINUTES, Point};
 
 /// The minutes between two points, which are one block or lie in one.
-#[derive(Clone, Copy, Debug)]
+#[derive(Clone, Copy)]
 pub struct Piece {
     pub begin: Point,
     pub end: Point,

@@ -8,7 +8,7 @@ use std::marker::Model;
 
 /// A stack of up to sixteen points. In contracts its value is the list of them, the last one pushed
 /// first.
-#[derive(Debug, Drop)]
+#[derive(Drop)]
 pub struct Waiting {
     points: ArrayVec<Point, 16>,
 }

@@ -6,7 +6,7 @@ use crate::row::Row;
 use std::marker::Model;
 
 /// Levels in the order of their listing. In contracts its value is the list of them.
-#[derive(Clone, Debug, Drop)]
+#[derive(Drop)]
 pub struct Rows {
     items: Vec<Row>,
 }

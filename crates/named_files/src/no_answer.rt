@@ -4,7 +4,7 @@ use station_table::OffsetTable;
 use tide_fault::{Fault, Refusal};
 
 /// A reason for which a command line has no answer.
-#[derive(Debug, Drop)]
+#[derive(Drop)]
 pub enum NoAnswer {
     /// A file couldn't be opened or read, or the clock couldn't be read.
     Unread,

@@ -5,7 +5,7 @@ use highest_water::Peak;
 
 /// A claim about the highest water of a station in a span, with the cells that show it. Contracts
 /// that speak of the text of one require `IsPeakCertificate`, which is the ranges below.
-#[derive(Debug, Drop)]
+#[derive(Drop)]
 pub struct PeakCertificate {
     /// The station's name: 1 to 400 bytes of UTF-8, none of them below 32 and none 127.
     pub station: Text,

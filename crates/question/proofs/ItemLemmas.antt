@@ -84,6 +84,11 @@ with_items-fault is_out_of_memory origin command items i item said whole fault l
     Excused-same is_out_of_memory _ _ fault (e ∙ with_items-at origin command items i item said lt is)
     (Excused-then is_out_of_memory _ _ fault h)
 
+-- the items up to an item, with this item
+pub taken-more : (items : List Item) (i : ℕ) (item : Item) → i < length items → item ≡ get_or items i item
+    → take (i + 1) items ≡ take i items ++ item ∷ []
+taken-more items i item lt is = take_more items i item lt ∙ ap (λ x. take i items ++ x ∷ []) (sym is)
+
 -- after an item without a fault among earlier ones the result depends on the rest
 pub with_items-step : (origin : Origin) (command : Command) (items : List Item) (i : ℕ) (item : Item)
     (whole : Result Said AskFault) → i < length items → item ≡ get_or items i item
@@ -93,8 +98,7 @@ pub with_items-step : (origin : Origin) (command : Command) (items : List Item) 
 with_items-step origin command items i item whole lt is e h =
     let here = rw (length-take-le i items (omega (arith, lt))) at h in
     let more = with_items-more origin command items i item (said_by (take i items)) (said_by (take i items ++ item ∷ [])) lt is here in
-    let longer : take (i + 1) items ≡ take i items ++ item ∷ [] = take_more items i item lt ∙ ap (λ x. take i items ++ x ∷ []) (sym is) in
-    e ∙ more ∙ ap (λ first. with_items origin command (i + 1 + 1) (drop (i + 1) items) (said_by first)) (sym longer)
+    e ∙ more ∙ ap (λ first. with_items origin command (i + 1 + 1) (drop (i + 1) items) (said_by first)) (sym (taken-more items i item lt is))
 
 -- the texts after the last item
 pub with_items-end : (origin : Origin) (command : Command) (items : List Item) (i : ℕ) (whole : Result Said AskFault) → length items ≤ i

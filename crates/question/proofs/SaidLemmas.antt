@@ -1,5 +1,5 @@
 -- The texts that items give to keys, one by one.
-use Rattle.std.proofs.Common.{◌≡◌, ℕ, ◌+◌, ◌<◌, Bool, true, false, ◌&&◌, cond, List, [], ◌∷◌, ◌++◌, length, get_or, drop, Option, Some, None, refl, sym, add-one, drop-cons}
+use Rattle.std.proofs.Common.{◌≡◌, ℕ, ◌+◌, ◌<◌, Bool, true, false, ◌&&◌, cond, List, [], ◌∷◌, ◌++◌, length, get_or, drop, Option, Some, None, refl, sym, ap, ◌∙◌, add-one, drop-cons}
 use Rattle.std.specs.Prelude.{if◌then◌else◌}
 use Rattle.std.specs.List.{find}
 use Rattle.std.specs.Str.{bytes_eq}
@@ -11,8 +11,9 @@ use Rattle.question.specs.declared.key.Key.{Key}
 use Rattle.question.specs.declared.origin.Origin.{Origin}
 use Rattle.question.specs.declared.pairs.Item.{Item}
 use Rattle.question.specs.Keys.{all_keys, name_of, has_key, key_named}
-use Rattle.question.specs.Questions.{also}
-use Rattle.question.specs.Workings.Said.{text_after, said_by}
+use Rattle.question.specs.declared.key.Key.TheVariants as key
+use Rattle.question.specs.Questions.{Said, also, asked}
+use Rattle.question.specs.Workings.Said.{text_after, said_by, with_value}
 
 -- the text for a key after one more item
 text_after-end : (items : List Item) (item : Item) (k : Key) (earlier : Option (List ℕ))
@@ -46,3 +47,27 @@ pub said_by-more : (origin : Origin) (command : Command) (items : List Item) (it
     → item.value ≡ Some text → key_named origin command item.key ≡ Some k → also k text (said_by items) ≡ said_by (items ++ item ∷ [])
 said_by-more origin command items item k text value named =
     fun_ext (λ j. rw (text_after-end items item j None, value, named_so origin command item.key k named))
+
+-- a value that was put into a question is that of one more text
+also_asked : (origin : Origin) (command : Command) (k : Key) (text : List ℕ) (said : Said)
+    → with_value origin k text (asked origin command said) ≡ asked origin command (also k text said)
+also_asked origin command key.File text said = refl
+also_asked origin command key.Offsets text said = refl
+also_asked origin command key.Certificate text said = refl
+also_asked origin command key.Station text said = refl
+also_asked origin command key.Begin text said = refl
+also_asked origin command key.End text said = refl
+also_asked origin command key.Mark text said = refl
+also_asked origin command key.Step text said = refl
+also_asked origin command key.Zone text said = refl
+also_asked origin command key.Layout text said = refl
+also_asked origin command key.Seed text said = refl
+also_asked origin command key.Port text said = refl
+also_asked origin command key.Sheets text said = refl
+
+-- the question with the value of one more item
+pub asked-more : (origin : Origin) (command : Command) (items : List Item) (item : Item) (k : Key) (text : List ℕ)
+    → item.value ≡ Some text → key_named origin command item.key ≡ Some k
+    → with_value origin k text (asked origin command (said_by items)) ≡ asked origin command (said_by (items ++ item ∷ []))
+asked-more origin command items item k text value named =
+    also_asked origin command k text (said_by items) ∙ ap (asked origin command) (said_by-more origin command items item k text value named)

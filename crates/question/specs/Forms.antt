@@ -1,34 +1,5 @@
 -- The forms of keys' values, and the values of texts in each form (this project).
-use Rattle.std.specs.Prelude.{
-  ℕ,
-  ◌+◌,
-  ◌*◌,
-  ◌==◌,
-  ◌&&◌,
-  nat_le,
-  nat_lt,
-  not,
-  Bool,
-  true,
-  if◌then◌else◌,
-  List,
-  [],
-  ◌∷◌,
-  length,
-  codes,
-  ℤ,
-  pos,
-  neg_ℤ,
-  unsigned_abs,
-  Option,
-  Some,
-  None,
-  option_and_then,
-  is_some,
-  Result,
-  Ok,
-  Err,
-}
+use Rattle.std.specs.Prelude.{ℕ, ◌+◌, ◌*◌, ◌==◌, ◌&&◌, nat_le, nat_lt, not, Bool, true, if◌then◌else◌, List, [], ◌∷◌, length, codes, ℤ, pos, neg_ℤ, unsigned_abs, Option, Some, None, option_and_then, Result, Ok, Err}
 use Rattle.std.specs.Option.{option_map, option_or}
 use Rattle.std.specs.List.{list_all, list_any, before_first, after_first, slice_split}
 use Rattle.std.specs.Char.{is_ascii_digit, is_ascii_lowercase}
@@ -36,14 +7,10 @@ use Rattle.std.specs.Str.{bytes_eq}
 use Rattle.std.specs.Str.Parse.{digits_value}
 use Rattle.decimal_text.specs.declared.fault.DecimalFault.{DecimalFault}
 use Rattle.decimal_text.specs.Decimal.{read_of}
-use Rattle.zone_time.specs.Moments.{moment_of}
 use Rattle.question.specs.declared.origin.Origin.{Origin}
 use Rattle.question.specs.declared.origin.Origin.TheVariants.{Line, Query}
-use Rattle.question.specs.Layouts.{layout_of}
 use Rattle.question.specs.declared.question.ZoneWord.{ZoneWord}
 use Rattle.question.specs.declared.question.ZoneWord.TheVariants.{Utc, Fixed, Named}
-use Rattle.question.specs.declared.values.Form.{Form}
-use Rattle.question.specs.declared.values.Form.TheVariants as form
 
 -- any text other than the empty one
 unfoldable pub some_text : List ℕ → Option (List ℕ)
@@ -130,15 +97,3 @@ are_sheets earlier (word ∷ words) =
 -- the names of sheets with single commas (44) between them, if none occurs twice
 unfoldable pub sheets_of : List ℕ → Option (List (List ℕ))
 sheets_of text = let words = slice_split is_comma text in if are_sheets [] words then Some words else None
-
--- a text has the form in a question of this origin
-abbrev pub meets : Form → Origin → List ℕ → Bool
-meets form.Text origin text = is_some (some_text text)
-meets form.Moment origin text = is_some (moment_of text)
-meets form.Mark origin text = is_some (mark_of text)
-meets form.Step origin text = is_some (step_of text)
-meets form.Zone origin text = is_some (zone_of origin text)
-meets form.Layout origin text = is_some (layout_of text)
-meets form.Seed origin text = is_some (seed_of text)
-meets form.Port origin text = is_some (port_of text)
-meets form.Sheets origin text = is_some (sheets_of text)

@@ -1,20 +1,17 @@
-//! The question of items without a fault.
+//! A question as its items are read.
 
-ghost use Rattle.std.specs.Prelude.{◌≡◌, IfOk, OnOk, option_and_then};
-ghost use Rattle.zone_time.specs.Moments.{moment_of};
-ghost use Rattle.question.specs.Forms.{some_text, mark_of, step_of, zone_of, seed_of, port_of, sheets_of};
-ghost use Rattle.question.specs.Layouts.{layout_of};
-ghost use Rattle.question.specs.declared.key.Key.TheVariants as key;
-ghost use Rattle.question.specs.Questions.{asked, field_of};
-ghost use Rattle.question.specs.Workings.Said.{said_by};
+ghost use Rattle.std.specs.Prelude.{◌≡◌, IfOk, OnOk, is_some, unwrap_or};
+ghost use Rattle.question.specs.Forms.{some_text, zone_of, sheets_of};
+ghost use Rattle.question.specs.declared.origin.Origin.{Origin};
+ghost use Rattle.question.specs.declared.question.ZoneWord.TheVariants.{Utc};
+ghost use Rattle.question.specs.Questions.{asked, has_form, nothing_said};
+ghost use Rattle.question.specs.Workings.Said.{with_value};
 
 use crate::command::Command;
 use crate::key::Key;
 use crate::layout::Layout;
 use crate::origin::Origin;
-use crate::pairs::Item;
 use crate::question::{Question, ZoneWord};
-use crate::said::text_for;
 use crate::sheets::sheets;
 use crate::values::{mark, port, seed, some_text, step};
 use crate::zone_word::zone;
@@ -26,140 +23,105 @@ const DEFAULT_STEP: i64 = 60;
 
 const DEFAULT_PORT: u16 = 8080;
 
-/// Returns the question of `command` with `items`, which have no fault; keys that aren't given have their
-/// defaults.
-///
-/// # Errors
-/// [`AllocError`] if memory runs out.
-pub fn asked(
-    alloc: Global,
-    origin: Origin,
-    command: Command,
-    items: &[Item],
-) -> Result<Question, AllocError>
-    ensures { IfOk result (λ question. question ≡ asked origin command (said_by items.now)) }
+/// Returns the question of `command` without items: each key has its default.
+pub fn bare_question(command: Command) -> Question
+    ensures { (origin : Origin) → result ≡ asked origin command nothing_said }
 {
-    let mut question = Question {
+    Question {
         command,
         file: None,
         offsets: None,
         certificate: None,
         station: None,
-        begin: moment_for(items, Key::Begin),
-        end: moment_for(items, Key::End),
-        mark: mark_for(items, Key::Mark),
-        step: step_for(items, Key::Step).unwrap_or(DEFAULT_STEP),
+        begin: None,
+        end: None,
+        mark: None,
+        step: DEFAULT_STEP,
         zone: ZoneWord::Utc,
-        layout: layout_for(items, Key::Layout).unwrap_or(Layout::Plain),
-        seed: seed_for(items, Key::Seed),
-        port: port_for(items, Key::Port).unwrap_or(DEFAULT_PORT),
+        layout: Layout::Plain,
+        seed: None,
+        port: DEFAULT_PORT,
         sheets: None,
-    };
-    put_texts(alloc, origin, items, &mut question).and(Ok(question))
+    }
 }
 
-/// Puts the values that are kept as texts into `question`.
-fn put_texts(
+/// Reads `text` as the value of `key`, and puts it into `question`. Returns false if the text doesn't have
+/// the form of the key's values; the key then has its default.
+///
+/// # Errors
+/// [`AllocError`] if memory runs out.
+pub fn put_value(
     alloc: Global,
     origin: Origin,
-    items: &[Item],
-    question: &mut Question,
-) -> Result<(), AllocError>
-    ensures { OnOk result (question.new ≡ record question.old {
-      file = field_of origin (said_by items.now) key.File;
-      offsets = field_of origin (said_by items.now) key.Offsets;
-      certificate = field_of origin (said_by items.now) key.Certificate;
-      station = field_of origin (said_by items.now) key.Station;
-      zone = field_of origin (said_by items.now) key.Zone;
-      sheets = field_of origin (said_by items.now) key.Sheets;
-    }) }
-{
-    put_name(alloc, items, Key::File, &mut question.file)?;
-    put_name(alloc, items, Key::Offsets, &mut question.offsets)?;
-    put_name(alloc, items, Key::Certificate, &mut question.certificate)?;
-    put_name(alloc, items, Key::Station, &mut question.station)?;
-    put_zone(alloc, origin, items, &mut question.zone)?;
-    put_sheets(alloc, items, &mut question.sheets)
-}
-
-fn put_name(
-    alloc: Global,
-    items: &[Item],
     key: Key,
-    name: &mut Option<Text>,
-) -> Result<(), AllocError>
-    ensures { OnOk result (name.new ≡ option_and_then some_text (said_by items.now key)) }
+    text: &str,
+    question: &mut Question,
+) -> Result<bool, AllocError>
+    ensures form { IfOk result (λ is_read. is_read ≡ has_form origin key text.now) }
+    ensures value { OnOk result (question.new ≡ with_value origin key text.now question.old) }
 {
-    *name = match text_for(items, key) {
-        Some(text) => some_text(alloc, text)?,
-        None => None,
-    };
-    Ok(())
+    match key {
+        Key::File => put_text(alloc, text, &mut question.file),
+        Key::Offsets => put_text(alloc, text, &mut question.offsets),
+        Key::Certificate => put_text(alloc, text, &mut question.certificate),
+        Key::Station => put_text(alloc, text, &mut question.station),
+        Key::Begin => Ok(put(read_moment(text.as_bytes()), &mut question.begin)),
+        Key::End => Ok(put(read_moment(text.as_bytes()), &mut question.end)),
+        Key::Mark => Ok(put(mark(text), &mut question.mark)),
+        Key::Step => Ok(put_or(step(text), DEFAULT_STEP, &mut question.step)),
+        Key::Zone => put_zone(alloc, origin, text, &mut question.zone),
+        Key::Layout => Ok(put_or(Layout::named(text), Layout::Plain, &mut question.layout)),
+        Key::Seed => Ok(put(seed(text), &mut question.seed)),
+        Key::Port => Ok(put_or(port(text), DEFAULT_PORT, &mut question.port)),
+        Key::Sheets => put_sheets(alloc, text, &mut question.sheets),
+    }
 }
 
-fn moment_for(items: &[Item], key: Key) -> Option<i64>
-    ensures { result ≡ option_and_then moment_of (said_by items.now key) }
+/// Puts `value` into `field`, and returns true if there is one.
+fn put<V: Copy>(value: Option<V>, field: &mut Option<V>) -> bool
+    ensures put { field.new ≡ value }
+    ensures is_some { result ≡ is_some value }
 {
-    let text = text_for(items, key)?;
-    read_moment(text.as_bytes())
+    *field = value;
+    value.is_some()
 }
 
-fn mark_for(items: &[Item], key: Key) -> Option<i64>
-    ensures { result ≡ option_and_then mark_of (said_by items.now key) }
+/// Puts `value`, or `default` if there is none, into `field`, and returns true if there is one.
+fn put_or<V: Copy>(value: Option<V>, default: V, field: &mut V) -> bool
+    ensures put { field.new ≡ unwrap_or value default }
+    ensures is_some { result ≡ is_some value }
 {
-    let text = text_for(items, key)?;
-    mark(text)
+    *field = value.unwrap_or(default);
+    value.is_some()
 }
 
-fn step_for(items: &[Item], key: Key) -> Option<i64>
-    ensures { result ≡ option_and_then step_of (said_by items.now key) }
+fn put_text(alloc: Global, text: &str, field: &mut Option<Text>) -> Result<bool, AllocError>
+    ensures put { OnOk result (field.new ≡ some_text text.now) }
+    ensures is_some { IfOk result (λ is_read. is_read ≡ is_some (some_text text.now)) }
 {
-    let text = text_for(items, key)?;
-    step(text)
-}
-
-fn layout_for(items: &[Item], key: Key) -> Option<Layout>
-    ensures { result ≡ option_and_then layout_of (said_by items.now key) }
-{
-    let text = text_for(items, key)?;
-    Layout::named(text)
-}
-
-fn seed_for(items: &[Item], key: Key) -> Option<u64>
-    ensures { result ≡ option_and_then seed_of (said_by items.now key) }
-{
-    let text = text_for(items, key)?;
-    seed(text)
-}
-
-fn port_for(items: &[Item], key: Key) -> Option<u16>
-    ensures { result ≡ option_and_then port_of (said_by items.now key) }
-{
-    let text = text_for(items, key)?;
-    port(text)
+    *field = some_text(alloc, text)?;
+    Ok(field.is_some())
 }
 
 fn put_zone(
     alloc: Global,
     origin: Origin,
-    items: &[Item],
-    word: &mut ZoneWord,
-) -> Result<(), AllocError>
-    ensures { OnOk result (word.new ≡ field_of origin (said_by items.now) key.Zone) }
+    text: &str,
+    field: &mut ZoneWord,
+) -> Result<bool, AllocError>
+    ensures put { OnOk result (field.new ≡ unwrap_or (zone_of origin text.now) Utc) }
+    ensures is_some { IfOk result (λ is_read. is_read ≡ is_some (zone_of origin text.now)) }
 {
-    *word = match text_for(items, Key::Zone) {
-        Some(text) => zone(alloc, origin, text)?.unwrap_or(ZoneWord::Utc),
-        None => ZoneWord::Utc,
-    };
-    Ok(())
+    let zone = zone(alloc, origin, text)?;
+    let is_read = zone.is_some();
+    *field = zone.unwrap_or(ZoneWord::Utc);
+    Ok(is_read)
 }
 
-fn put_sheets(alloc: Global, items: &[Item], names: &mut Option<Words>) -> Result<(), AllocError>
-    ensures { OnOk result (names.new ≡ option_and_then sheets_of (said_by items.now key.Sheets)) }
+fn put_sheets(alloc: Global, text: &str, field: &mut Option<Words>) -> Result<bool, AllocError>
+    ensures put { OnOk result (field.new ≡ sheets_of text.now) }
+    ensures is_some { IfOk result (λ is_read. is_read ≡ is_some (sheets_of text.now)) }
 {
-    *names = match text_for(items, Key::Sheets) {
-        Some(text) => sheets(alloc, text)?,
-        None => None,
-    };
-    Ok(())
+    *field = sheets(alloc, text)?;
+    Ok(field.is_some())
 }

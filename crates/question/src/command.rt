@@ -6,7 +6,7 @@ ghost use Rattle.question.specs.Commands.{command_named};
 use crate::origin::Origin;
 
 /// The command of a question.
-#[derive(Clone, Copy, Debug, PartialEq, Eq)]
+#[derive(Clone, Copy, PartialEq, Eq)]
 pub enum Command {
     /// The events of a station over a span.
     Predict,

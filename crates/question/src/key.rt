@@ -1,13 +1,10 @@
 //! The table of a question's keys.
 
-ghost use Rattle.std.specs.Prelude.{◌≡◌, ℕ, List};
-ghost use Rattle.question.specs.Forms.{meets};
+ghost use Rattle.std.specs.Prelude.{◌≡◌};
 ghost use Rattle.question.specs.Keys.{row_of, has_key, is_needed, key_named};
-ghost use Rattle.question.specs.Questions.{has_form};
 
 use crate::command::Command;
 use crate::origin::Origin;
-use crate::values::Form;
 
 /// The keys of a question, in the order in which a missing one is reported.
 #[derive(Clone, Copy, Debug, PartialEq, Eq)]
@@ -145,8 +142,6 @@ struct KeyRow {
     commands: &'static [Command],
     /// The origins that have the key: a query names no files.
     origins: &'static [Origin],
-    /// The form of the key's values.
-    form: Form,
     is_needed: bool,
 }
 
@@ -167,14 +162,12 @@ impl KeyRow {
     }
 }
 
-/// Makes a row: the commands and the origins that have the key, the form of its values, and whether it is
-/// required.
+/// Makes a row: the commands and the origins that have the key, and whether it is required.
 macro_rules! row {
-    ($commands:ident, $origins:ident, $form:ident, $is_needed:expr) => {
+    ($commands:ident, $origins:ident, $is_needed:expr) => {
         KeyRow {
             commands: &$commands,
             origins: &$origins,
-            form: Form::$form,
             is_needed: $is_needed,
         }
     };
@@ -183,31 +176,23 @@ macro_rules! row {
 fn row_of(key: Key) -> KeyRow
     ensures commands { result.commands.now ≡ (row_of key).commands }
     ensures origins { result.origins.now ≡ (row_of key).origins }
-    ensures form { (origin : Origin) (text : List ℕ) → meets result.form origin text ≡ has_form origin key text }
     ensures needed { result.is_needed ≡ (row_of key).need.is_needed }
 {
     match key {
-        Key::File => row!(OF_FILE, IN_LINE, Text, true),
-        Key::Offsets => row!(OF_FILE, IN_LINE, Text, false),
-        Key::Certificate => row!(OF_CHECK, IN_LINE, Text, true),
-        Key::Station => row!(OF_STATION, ANYWHERE, Text, true),
-        Key::Begin => row!(OF_SPAN, ANYWHERE, Moment, true),
-        Key::End => row!(OF_SPAN, ANYWHERE, Moment, true),
-        Key::Mark => row!(OF_MARK, ANYWHERE, Mark, false),
-        Key::Step => row!(OF_STEP, ANYWHERE, Step, false),
-        Key::Zone => row!(OF_ZONE, ANYWHERE, Zone, false),
-        Key::Layout => row!(OF_LAYOUT, ANYWHERE, Layout, false),
-        Key::Seed => row!(OF_SEED, ANYWHERE, Seed, true),
-        Key::Port => row!(OF_PORT, ANYWHERE, Port, false),
-        Key::Sheets => row!(OF_SHEETS, ANYWHERE, Sheets, true),
+        Key::File => row!(OF_FILE, IN_LINE, true),
+        Key::Offsets => row!(OF_FILE, IN_LINE, false),
+        Key::Certificate => row!(OF_CHECK, IN_LINE, true),
+        Key::Station => row!(OF_STATION, ANYWHERE, true),
+        Key::Begin => row!(OF_SPAN, ANYWHERE, true),
+        Key::End => row!(OF_SPAN, ANYWHERE, true),
+        Key::Mark => row!(OF_MARK, ANYWHERE, false),
+        Key::Step => row!(OF_STEP, ANYWHERE, false),
+        Key::Zone => row!(OF_ZONE, ANYWHERE, false),
+        Key::Layout => row!(OF_LAYOUT, ANYWHERE, false),
+        Key::Seed => row!(OF_SEED, ANYWHERE, true),
+        Key::Port => row!(OF_PORT, ANYWHERE, false),
+        Key::Sheets => row!(OF_SHEETS, ANYWHERE, true),
     }
-}
-
-/// Returns the form of a key's values.
-pub fn form_of(key: Key) -> Form
-    ensures { (origin : Origin) (text : List ℕ) → meets result origin text ≡ has_form origin key text }
-{
-    row_of(key).form
 }
 
 /// Returns true if the command has the key in questions of this origin.

@@ -1,7 +1,7 @@
 //! The layouts of a listing.
 
 /// The layout of a listing.
-#[derive(Clone, Copy, Debug, PartialEq, Eq)]
+#[derive(Clone, Copy, PartialEq, Eq)]
 pub enum Layout {
     /// Text in columns.
     Plain,

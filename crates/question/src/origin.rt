@@ -1,7 +1,7 @@
 //! The origin of a question.
 
 /// The origin of a question.
-#[derive(Clone, Copy, Debug, PartialEq, Eq)]
+#[derive(Clone, Copy, PartialEq, Eq)]
 pub enum Origin {
     /// The arguments of a command line.
     Line,

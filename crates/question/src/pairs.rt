@@ -7,7 +7,7 @@ use decimal_text::Text;
 use std::marker::Model;
 
 /// A key with its value.
-#[derive(Debug, Drop)]
+#[derive(Drop)]
 pub struct Item {
     pub key: Text,
     /// `None` for an argument without `=`.
@@ -15,7 +15,7 @@ pub struct Item {
 }
 
 /// A list of items. In contracts its value is the list of them.
-#[derive(Debug, Drop)]
+#[derive(Drop)]
 pub struct Items {
     items: Vec<Item>,
 }
@@ -46,7 +46,7 @@ impl Items {
 }
 
 /// A command with its items, as they were given.
-#[derive(Debug, Drop)]
+#[derive(Drop)]
 pub struct Pairs {
     pub origin: Origin,
     pub command: Option<Text>,

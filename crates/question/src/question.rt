@@ -5,7 +5,7 @@ use crate::layout::Layout;
 use decimal_text::{Text, Words};
 
 /// The zone in which times are shown.
-#[derive(Debug, Drop)]
+#[derive(Drop)]
 pub enum ZoneWord {
     /// Universal time.
     Utc,
@@ -18,7 +18,7 @@ pub enum ZoneWord {
 
 /// A question: a command with the values of its keys. Keys that the table doesn't give to the command
 /// have their defaults.
-#[derive(Debug, Drop)]
+#[derive(Drop)]
 pub struct Question {
     pub command: Command,
     /// The name of the file of harmonic constants.

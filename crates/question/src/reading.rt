@@ -1,15 +1,15 @@
 //! Reading pairs as a question.
 
-ghost use Rattle.std.specs.Prelude.{◌≡◌, ◌+◌, ◌++◌, [], ◌∷◌, length, IfOk};
+ghost use Rattle.std.specs.Prelude.{◌≡◌, ◌+◌, ◌++◌, [], ◌∷◌, length, IfOk, OnOk};
 ghost use Rattle.decimal_text.specs.Expected.{ReturnsUnless};
 ghost use Rattle.question.specs.Asked.{IsAsked, NamesFiles};
-ghost use Rattle.question.specs.Questions.{is_out_of_memory, nothing_said, command_of, with_item, with_items, question_of, question_with};
-ghost use Rattle.question.specs.Workings.Said.{said_by, ReturnsSaid};
+ghost use Rattle.question.specs.Questions.{is_out_of_memory, nothing_said, asked, command_of, with_item, with_items, question_of, question_with};
+ghost use Rattle.question.specs.Workings.Said.{said_by, Makes};
 
-use crate::asked::asked;
+use crate::asked::{bare_question, put_value};
 use crate::command::{Command, command_named};
 use crate::fault::AskFault;
-use crate::key::{form_of, key_named};
+use crate::key::key_named;
 use crate::origin::Origin;
 use crate::pairs::{Item, Items, Pairs};
 use crate::question::Question;
@@ -72,12 +72,9 @@ fn read_fields(
 ) -> Result<Question, AskFault>
     ensures { ReturnsUnless is_out_of_memory (question_with origin command items.now) result }
 {
-    let items = items.as_slice();
-    check_items(alloc, origin, command, items)?;
-    if let Some(key) = missing_key(origin, command, items) {
-        return Err(AskFault::MissingKey(key));
-    }
-    Ok(asked(alloc, origin, command, items)?)
+    let mut question = bare_question(command);
+    let read = fill(alloc, origin, command, items.as_slice(), &mut question);
+    read.and(Ok(question))
 }
 
 fn read_command(origin: Origin, word: &Option<Text>) -> Result<Command, AskFault>
@@ -89,31 +86,55 @@ fn read_command(origin: Origin, word: &Option<Text>) -> Result<Command, AskFault
     }
 }
 
-fn check_items(
+/// Puts the values of `items` into `question`, the bare question of `command`.
+fn fill(
     alloc: Global,
     origin: Origin,
     command: Command,
     items: &[Item],
+    question: &mut Question,
 ) -> Result<(), AskFault>
-    ensures { ReturnsSaid (with_items origin command 1 items.now nothing_said) (said_by items.now) result }
+    requires { question.old ≡ asked origin command nothing_said }
+    ensures { Makes (question_with origin command items.now) question.new result }
+{
+    read_values(alloc, origin, command, items, question)?;
+    match missing_key(origin, command, items) {
+        None => Ok(()),
+        Some(key) => Err(AskFault::MissingKey(key)),
+    }
+}
+
+fn read_values(
+    alloc: Global,
+    origin: Origin,
+    command: Command,
+    items: &[Item],
+    question: &mut Question,
+) -> Result<(), AskFault>
+    requires { question.old ≡ asked origin command nothing_said }
+    ensures said { Makes (with_items origin command 1 items.now nothing_said) (said_by items.now) result }
+    ensures asked { OnOk result (question.new ≡ asked origin command (said_by items.now)) }
 {
     for (at, item) in items.iter().enumerate() {
-        check_item(alloc, origin, command, &items[..at], item)?;
+        read_value(alloc, origin, command, &items[..at], item, question)?;
     }
     Ok(())
 }
 
-/// Checks `item` after the items `earlier`.
+/// Puts the value of `item` into `question`, which has those of the items `earlier`.
 #[tactic(auto, unfolding(crate::specs::Questions::with_item))]
-fn check_item(
+fn read_value(
     alloc: Global,
     origin: Origin,
     command: Command,
     earlier: &[Item],
     item: &Item,
+    question: &mut Question,
 ) -> Result<(), AskFault>
-    ensures { ReturnsSaid (with_item origin command (length earlier.now + 1) item.now (said_by earlier.now))
+    requires { question.old ≡ asked origin command (said_by earlier.now) }
+    ensures said { Makes (with_item origin command (length earlier.now + 1) item.now (said_by earlier.now))
         (said_by (earlier.now ++ item.now ∷ [])) result }
+    ensures asked { OnOk result (question.new ≡ asked origin command (said_by (earlier.now ++ item.now ∷ []))) }
 {
     let place = earlier.len() as u64 + 1;
     let Some(text) = text_of(item) else {
@@ -125,8 +146,8 @@ fn check_item(
     if is_said(earlier, key) {
         return Err(AskFault::RepeatedKey(place));
     }
-    let is_met = form_of(key).is_met(alloc, origin, text)?;
-    if is_met {
+    let is_read = put_value(alloc, origin, key, text, question)?;
+    if is_read {
         Ok(())
     } else {
         Err(AskFault::BadValue(place))

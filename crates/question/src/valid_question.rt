@@ -8,7 +8,7 @@ use std::marker::Model;
 
 /// A borrowed question with a span, a mark and a step that are proved to be in the ranges of their
 /// keys. In contracts its value is the question.
-#[derive(Debug, Drop)]
+#[derive(Drop)]
 pub struct ValidQuestion<'a> {
     question: &'a Question,
 }

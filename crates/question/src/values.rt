@@ -1,4 +1,4 @@
-//! The forms of keys' values, and the values of texts in each form.
+//! The values of texts, by the form of each key's values.
 
 ghost use Rattle.std.specs.Prelude.{◌≡◌, ◌<◌, ◌≤◌, ◌^◌, nat_lt, true, if◌then◌else◌, length, IfOk, Some, None};
 ghost use Rattle.std.specs.Option.{ForSome};
@@ -7,53 +7,8 @@ ghost use Rattle.std.specs.Char.{is_ascii_digit};
 ghost use Rattle.std.specs.Str.Parse.{digits_value};
 ghost use Rattle.question.specs.Forms.{some_text, number_of, seed_of, port_of, step_of, mark_of};
 
-use crate::layout::Layout;
-use crate::origin::Origin;
-use crate::sheets::sheets;
-use crate::zone_word::zone;
 use decimal_text::{Text, are_digits, read};
 use std::alloc::{AllocError, Global};
-use zone_time::read_moment;
-
-/// The form of a key's values.
-#[derive(Clone, Copy)]
-pub enum Form {
-    /// Any text other than the empty one.
-    Text,
-    Moment,
-    Mark,
-    Step,
-    Zone,
-    Layout,
-    Seed,
-    Port,
-    Sheets,
-}
-
-impl Form {
-    ghost use Rattle.question.specs.Forms.{meets};
-
-    /// Returns true if `text` has this form in a question of this origin.
-    ///
-    /// # Errors
-    /// [`AllocError`] if memory runs out.
-    #[tactic(auto, unfolding(crate::specs::Forms::some_text))]
-    pub fn is_met(self, alloc: Global, origin: Origin, text: &str) -> Result<bool, AllocError>
-        ensures { IfOk result (λ met. met ≡ meets self origin text.now) }
-    {
-        Ok(match self {
-            Form::Text => !text.is_empty(),
-            Form::Moment => read_moment(text.as_bytes()).is_some(),
-            Form::Mark => mark(text).is_some(),
-            Form::Step => step(text).is_some(),
-            Form::Zone => zone(alloc, origin, text)?.is_some(),
-            Form::Layout => Layout::named(text).is_some(),
-            Form::Seed => seed(text).is_some(),
-            Form::Port => port(text).is_some(),
-            Form::Sheets => sheets(alloc, text)?.is_some(),
-        })
-    }
-}
 
 /// The decimal places of a mark.
 const MARK_PLACES: u32 = 6;

@@ -17,7 +17,7 @@ use year_blend::Stretch;
 
 /// The curve of a level less a mark; the level is `times` millionths of the station's plus `plus`
 /// millionths of the unit. It changes sign at each crossing of the mark. No call allocates.
-#[derive(Debug, Drop)]
+#[derive(Drop)]
 pub struct MarkCurve<'a> {
     station: &'a StationCurve,
     version: Version,

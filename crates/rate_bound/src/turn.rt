@@ -14,7 +14,7 @@ use year_blend::Stretch;
 
 /// The curve of a station's slope: it rises past 0 at a low water, and falls to 0 at a high water. No
 /// call allocates.
-#[derive(Debug, Drop)]
+#[derive(Drop)]
 pub struct TurnCurve<'a> {
     station: &'a StationCurve,
     version: Version,

@@ -2,7 +2,7 @@
 
 /// The version of the rates, which determines the cells that have one. A certificate names the version of
 /// its cells.
-#[derive(Clone, Copy, Debug, PartialEq, Eq)]
+#[derive(Clone, Copy, PartialEq, Eq)]
 pub enum Version {
     /// Cells outside new-year blends have a rate.
     First,

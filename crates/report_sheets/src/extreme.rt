@@ -3,7 +3,7 @@
 use curve_law::Kind;
 
 /// An end of the range of a station's levels.
-#[derive(Clone, Copy, Debug, PartialEq, Eq)]
+#[derive(Clone, Copy, PartialEq, Eq)]
 pub enum Extreme {
     /// The highest high water.
     Highest,

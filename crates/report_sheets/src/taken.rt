@@ -1,7 +1,7 @@
 //! The answer of a sheet to an event.
 
 /// The answer of a sheet to an event that it is offered.
-#[derive(Clone, Copy, Debug, PartialEq, Eq)]
+#[derive(Clone, Copy, PartialEq, Eq)]
 pub enum Taken {
     /// The event was appended to the sheet's list.
     Kept,

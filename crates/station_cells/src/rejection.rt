@@ -11,7 +11,7 @@ use decimal_text::Bytes;
 use std::alloc::{AllocError, Global};
 
 /// The first fault of the tracks of a certificate whose request is in order.
-#[derive(Clone, Copy, Debug, PartialEq, Eq)]
+#[derive(Clone, Copy, PartialEq, Eq)]
 pub enum Rejection {
     /// The slack track is required and isn't there.
     SlackWanted,

@@ -7,7 +7,7 @@ use decimal_text::Text;
 use tide_edge::{Sink, WriteFailed, write_all};
 
 /// The progress of a text that is written piece by piece.
-#[derive(Clone, Copy, Debug)]
+#[derive(Clone, Copy)]
 pub struct Sent {
     /// The number of its bytes that are written.
     pub bytes: u64,

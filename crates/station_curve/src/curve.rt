@@ -47,7 +47,7 @@ use year_blend::{Place, Stretch, TOTAL_WEIGHT, place, stretch, weight, year_star
 /// Minutes are counted from 1970-01-01T00:00Z. Levels are in billionths of a millionth of the station's
 /// unit, times the total weight of a blend ([`TOTAL_WEIGHT`]); slopes are the change of such a level in a
 /// minute, times the units of a radian. Only `new` and `over` allocate.
-#[derive(Debug, Drop)]
+#[derive(Drop)]
 pub struct StationCurve {
     first_year: i32,
     datum: i64,

@@ -9,7 +9,7 @@ ghost use Rattle.station_curve.specs.Sums.{sums_of};
 use crate::years::Year;
 
 /// The greatest sums of any year: 0 if there is no year.
-#[derive(Clone, Copy, Debug)]
+#[derive(Clone, Copy)]
 pub struct Greatest {
     /// The sum of the sizes of the amplitudes, in millionths of the station's unit.
     pub amount: i128,

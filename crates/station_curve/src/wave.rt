@@ -14,7 +14,7 @@ use std::marker::Model;
 const COARSE_UNIT: u64 = 512;
 
 /// A constituent in one year at one station: a wave.
-#[derive(Debug, Drop)]
+#[derive(Drop)]
 pub struct Wave {
     /// The amplitude in millionths of the station's unit.
     amplitude: i64,

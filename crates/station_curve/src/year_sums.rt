@@ -8,7 +8,7 @@ use crate::wave::Wave;
 
 /// Sums over the waves of one year: bounds on their size, and on their change in a minute. None is
 /// negative.
-#[derive(Clone, Copy, Debug, PartialEq, Eq)]
+#[derive(Clone, Copy, PartialEq, Eq)]
 pub struct Sums {
     /// The sum of the sizes of the amplitudes, in millionths of the station's unit. The level of the year
     /// differs from the mean one by at most 10^9 times this sum.

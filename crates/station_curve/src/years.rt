@@ -20,7 +20,7 @@ use year_blend::year_start;
 pub const HOUR: i64 = 60;
 
 /// The waves of one year.
-#[derive(Debug, Drop)]
+#[derive(Drop)]
 pub struct Year {
     /// The first minute of the year.
     pub start: i64,

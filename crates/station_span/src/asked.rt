@@ -1,7 +1,7 @@
 //! A span of a station, and perhaps a mark.
 
 /// The span and the mark of a request about a station.
-#[derive(Clone, Copy, Debug)]
+#[derive(Clone, Copy)]
 pub struct Asked {
     /// The first minute, since 1970-01-01T00:00Z.
     pub begin: i64,

@@ -28,7 +28,7 @@ use tide_fault::Refusal;
 
 /// The events of a station over a span, the unit of their levels, which is the reference's, and the
 /// number of cells in which they were found.
-#[derive(Debug, Drop)]
+#[derive(Drop)]
 pub struct FoundEvents {
     pub units: Units,
     pub events: Events,

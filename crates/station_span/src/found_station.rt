@@ -16,7 +16,7 @@ use station_table::Basis;
 /// A station that was found, with a span of it for which a request has an answer.
 ///
 /// Its curve predicts the reference, over the minutes of `span` alone.
-#[derive(Debug, Drop)]
+#[derive(Drop)]
 pub struct FoundStation {
     /// The harmonics file and the reference station, for contracts alone.
     pub origin: Origin,

@@ -9,7 +9,7 @@ use harmonics_book::{Book, Station};
 use std::marker::Model;
 
 /// A harmonics file and a station of it, for contracts alone. It allocates and copies nothing.
-#[derive(Debug, Drop)]
+#[derive(Drop)]
 pub struct Origin {
     pub ghost book: { Book },
     pub ghost station: { Station },

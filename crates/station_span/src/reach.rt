@@ -1,7 +1,7 @@
 //! The minutes of a reference station that an answer needs.
 
 /// The purpose of a request, which determines the minutes of the reference station that it needs.
-#[derive(Clone, Copy, Debug)]
+#[derive(Clone, Copy)]
 pub enum Reach {
     /// Events: the minutes whose events the offsets can move into the span.
     Events,

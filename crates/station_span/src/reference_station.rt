@@ -15,7 +15,7 @@ use std::alloc::Global;
 use tide_fault::Refusal;
 
 /// A reference station that has levels, with its curve for all minutes of the harmonics file.
-#[derive(Debug, Drop)]
+#[derive(Drop)]
 pub struct ReferenceStation<'a> {
     pub station: &'a Station,
     pub curve: StationCurve,

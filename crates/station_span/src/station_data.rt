@@ -9,7 +9,7 @@ use std::marker::Model;
 
 /// The stations that can be requested, borrowed: those of a valid book of harmonic constants, and
 /// the subordinate stations of a table of offsets beside it. In contracts its value is both.
-#[derive(Debug, Drop)]
+#[derive(Drop)]
 pub struct StationData<'a> {
     book: ValidBook<'a>,
     table: &'a OffsetTable,

@@ -10,7 +10,7 @@ use std::marker::Model;
 /// A request about a station, with its name borrowed: a span and perhaps a mark, each in the range
 /// that a request, a certificate or a clock can name. In contracts its value is the name, the span
 /// and the mark.
-#[derive(Debug, Drop)]
+#[derive(Drop)]
 pub struct StationRequest<'a> {
     name: &'a Text,
     asked: Asked,

@@ -4,7 +4,7 @@ use crate::offset::{Offset, Slack};
 
 /// A station of a book, with the offsets of another station from it. A reference station has the offsets
 /// that change nothing: nothing added, times 1,000,000 millionths.
-#[derive(Clone, Copy, Debug)]
+#[derive(Clone, Copy)]
 pub struct Basis {
     /// The index of the station in the book's list.
     pub station: u32,

@@ -1,7 +1,7 @@
 //! Offsets of a station's events from the events of its reference.
 
 /// The change from a reference's high or low waters to a station's.
-#[derive(Clone, Copy, Debug, PartialEq, Eq)]
+#[derive(Clone, Copy, PartialEq, Eq)]
 pub struct Offset {
     /// The minutes added to the times of the waters, from -1440 to 1440.
     pub add: i32,
@@ -22,7 +22,7 @@ impl Offset {
 }
 
 /// The minutes added to the times of a station's slack waters, each from -1440 to 1440.
-#[derive(Clone, Copy, Debug, PartialEq, Eq)]
+#[derive(Clone, Copy, PartialEq, Eq)]
 pub struct Slack {
     pub flood_add: i32,
     pub ebb_add: i32,

@@ -4,7 +4,7 @@ use crate::offset::{Offset, Slack};
 use decimal_text::Text;
 
 /// A subordinate station: its reference and its offsets.
-#[derive(Debug, Drop)]
+#[derive(Drop)]
 pub struct Offsets {
     /// The name, from 1 to 400 bytes.
     pub name: Text,

@@ -8,7 +8,7 @@ use std::alloc::{AllocError, Global};
 use std::marker::Model;
 
 /// Subordinate stations in the file's order: fewer than 2^32, with fields in their ranges.
-#[derive(Debug, Drop)]
+#[derive(Drop)]
 pub struct OffsetTable {
     rows: Vec<Offsets>,
 }

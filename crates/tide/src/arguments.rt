@@ -14,7 +14,7 @@ use tide_edge::Sink;
 use tide_fault::Status;
 
 /// A reason for which the program has no arguments.
-#[derive(Clone, Copy, Debug, PartialEq, Eq)]
+#[derive(Clone, Copy, PartialEq, Eq)]
 pub enum ArgumentError {
     /// One of them isn't UTF-8.
     NotText,

@@ -63,7 +63,7 @@ NOT FOR NAVIGATION.
 const VERSION: &str = "tide 1.0.0\n";
 
 /// A page about the program itself.
-#[derive(Clone, Copy, Debug, PartialEq, Eq)]
+#[derive(Clone, Copy, PartialEq, Eq)]
 pub enum InfoPage {
     Help,
     Version,

@@ -1,7 +1,7 @@
 //! The forms of an answer that is streamed.
 
 /// The form of an answer that is written as it is found.
-#[derive(Clone, Copy, Debug)]
+#[derive(Clone, Copy)]
 pub enum Form {
     /// The station's name and the line of each event.
     Listing,

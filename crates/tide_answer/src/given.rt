@@ -4,7 +4,7 @@ use decimal_text::Bytes;
 use zone_time::Zone;
 
 /// The inputs of a [`Given`], borrowed, in the same ranges.
-#[derive(Clone, Copy, Debug)]
+#[derive(Clone, Copy)]
 pub struct GivenView<'a> {
     /// The zone of the local times in the answer.
     pub zone: &'a Zone,
@@ -15,7 +15,7 @@ pub struct GivenView<'a> {
 }
 
 /// The inputs of an answer besides the request, the harmonic constants and the offsets.
-#[derive(Debug, Drop)]
+#[derive(Drop)]
 pub struct Given {
     /// The zone of the local times in the answer.
     pub zone: Zone,

@@ -22,7 +22,7 @@ use std::alloc::Global;
 use tide_fault::Refusal;
 
 /// The events of a station over a span.
-#[derive(Debug, Drop)]
+#[derive(Drop)]
 pub struct Listed {
     /// The name in the request.
     pub name: Text,

@@ -28,7 +28,7 @@ use station_cells::{Rejection, cell_count};
 use std::alloc::{AllocError, Global};
 
 /// The counts of a trial at one station, or their sums over stations.
-#[derive(Clone, Copy, Debug)]
+#[derive(Clone, Copy)]
 pub struct Tally {
     /// The minutes of all tracks.
     pub minutes: u128,

@@ -7,7 +7,7 @@ use decimal_text::Bytes;
 use std::alloc::{AllocError, Global};
 
 /// The answer to a request.
-#[derive(Debug, Drop)]
+#[derive(Drop)]
 pub struct Answer {
     pub text: Bytes,
     /// True if a certificate was checked and isn't valid. The text has the fault.

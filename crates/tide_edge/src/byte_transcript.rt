@@ -7,7 +7,7 @@ use std::marker::Model;
 
 /// A ghost record of the bytes that were transferred, in order. At run time it holds nothing and copies
 /// nothing.
-#[derive(Debug, Drop)]
+#[derive(Drop)]
 pub(crate) struct ByteTranscript {
     pub ghost bytes: { List ℕ },
 }

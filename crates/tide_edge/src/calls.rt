@@ -8,7 +8,7 @@ use std::marker::Model;
 
 /// The number of calls made, the numbers of those that fail on purpose, and the number that have failed.
 /// Both counts saturate at the greatest `u64`.
-#[derive(Debug, Drop)]
+#[derive(Drop)]
 pub(crate) struct Calls {
     fails: Vec<u64>,
     made: u64,

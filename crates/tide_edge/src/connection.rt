@@ -9,7 +9,7 @@ use std::marker::Model;
 
 /// One connection: the bytes that came, and whether their end was found; the bytes of its reply that were
 /// accepted; and whether a read or a write of it has failed.
-#[derive(Debug, Drop)]
+#[derive(Drop)]
 pub(crate) struct OneConnection {
     came: ByteTranscript,
     is_ended: bool,

@@ -7,7 +7,7 @@ use std::marker::Model;
 
 /// The port that a door was to listen on, whether it listens, the number of connections accepted, and
 /// whether one is open.
-#[derive(Debug, Drop)]
+#[derive(Drop)]
 pub(crate) struct Doorway {
     port: Option<u16>,
     listens: bool,

@@ -8,7 +8,7 @@ use crate::connection::OneConnection;
 use std::marker::Model;
 
 /// A ghost record of all connections but the last, in order. At run time it holds nothing.
-#[derive(Debug, Drop)]
+#[derive(Drop)]
 pub(crate) struct EarlierConnections {
     pub ghost connections: { List Connection },
 }

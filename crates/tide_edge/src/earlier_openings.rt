@@ -8,7 +8,7 @@ use crate::opening::OneOpening;
 use std::marker::Model;
 
 /// A ghost record of all openings of files but the last, in order. At run time it holds nothing.
-#[derive(Debug, Drop)]
+#[derive(Drop)]
 pub(crate) struct EarlierOpenings {
     pub ghost openings: { List Opening },
 }

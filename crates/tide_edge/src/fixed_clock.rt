@@ -10,7 +10,7 @@ use crate::minute_transcript::MinuteTranscript;
 use std::marker::Model;
 
 /// A clock that always shows the same minute, which is observable.
-#[derive(Debug, Drop)]
+#[derive(Drop)]
 pub struct FixedClock {
     minute: i64,
     given: MinuteTranscript,

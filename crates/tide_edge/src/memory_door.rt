@@ -36,7 +36,7 @@ use std::collections::VecDeque;
 use std::marker::Model;
 
 /// A door in memory, whose waiting requests and replies are observable.
-#[derive(Debug, Drop)]
+#[derive(Drop)]
 pub struct MemoryDoor {
     doorway: Doorway,
     connections: Connections,

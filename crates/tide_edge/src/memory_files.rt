@@ -18,7 +18,7 @@ use decimal_text::Text;
 use std::marker::Model;
 
 /// Files in memory, whose contents are observable. They are steady if none of their calls is to fail.
-#[derive(Debug, Drop)]
+#[derive(Drop)]
 pub struct MemoryFiles {
     files: Vec<NamedFile>,
     opened: Option<usize>,

@@ -6,7 +6,7 @@ ghost use Rattle.std.specs.Borrow.{ftrue};
 use std::marker::Model;
 
 /// A ghost record of the minutes that a clock returned, in order. At run time it holds nothing.
-#[derive(Debug, Drop)]
+#[derive(Drop)]
 pub(crate) struct MinuteTranscript {
     pub ghost minutes: { List ℤ },
 }

@@ -3,7 +3,7 @@
 use decimal_text::{Bytes, Text};
 
 /// A file in memory: its name and its bytes.
-#[derive(Clone, Debug, Drop)]
+#[derive(Drop)]
 pub struct NamedFile {
     pub name: Text,
     pub bytes: Bytes,

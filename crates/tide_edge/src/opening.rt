@@ -8,7 +8,7 @@ use std::marker::Model;
 
 /// One call of `open`: the name, whether a file was opened, the bytes read of it, and whether its end was
 /// found.
-#[derive(Debug, Drop)]
+#[derive(Drop)]
 pub(crate) struct OneOpening {
     name: ByteTranscript,
     is_open: bool,

@@ -9,7 +9,7 @@ use std::marker::Model;
 
 /// All openings of files, with the bytes read after each. The bytes, names and lists are ghosts: none is
 /// kept at run time.
-#[derive(Debug, Drop)]
+#[derive(Drop)]
 pub(crate) struct Openings {
     earlier: EarlierOpenings,
     latest: Option<OneOpening>,

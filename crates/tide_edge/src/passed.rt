@@ -10,7 +10,7 @@ use std::marker::Model;
 
 /// All connections, with the bytes read and written over each. The bytes and lists are ghosts: none is
 /// kept at run time.
-#[derive(Debug, Drop)]
+#[derive(Drop)]
 pub(crate) struct Connections {
     earlier: EarlierConnections,
     latest: Option<OneConnection>,

@@ -7,7 +7,7 @@ use std::marker::Model;
 
 /// The number of calls of `open`, of calls of `read` that found the end, and of bytes read. Each
 /// saturates.
-#[derive(Debug, Drop)]
+#[derive(Drop)]
 pub(crate) struct Reads {
     opens: u64,
     ends: u64,

@@ -8,7 +8,7 @@ use std::alloc::{AllocError, Global};
 use std::marker::Model;
 
 /// The replies, one after the other in memory that was allocated for all of them.
-#[derive(Debug, Drop)]
+#[derive(Drop)]
 pub(crate) struct Replies {
     bytes: Vec<u8>,
     starts: Vec<usize>,

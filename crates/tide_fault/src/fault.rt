@@ -13,7 +13,7 @@ use station_table::OffsetFault;
 
 /// A reason for which a request has no answer. The variants are in the order in which they are
 /// found.
-#[derive(Debug, Drop)]
+#[derive(Drop)]
 pub enum Fault {
     /// The command line, or a query, is no request.
     Ask(AskFault),

@@ -1,7 +1,7 @@
 //! The parts of a run of years.
 
 /// The part of a run of years that contains a minute. Years are counted from 0.
-#[derive(Clone, Copy, Debug, PartialEq, Eq)]
+#[derive(Clone, Copy, PartialEq, Eq)]
 pub enum Place {
     /// The plain part of one year: outside all blends.
     Plain { year: u32 },
@@ -11,7 +11,7 @@ pub enum Place {
 }
 
 /// The parts of a run of years that contain consecutive minutes. Years are counted from 0.
-#[derive(Clone, Copy, Debug, PartialEq, Eq)]
+#[derive(Clone, Copy, PartialEq, Eq)]
 pub enum Stretch {
     /// All minutes are in the plain part of one year.
     Within { year: u32 },

@@ -1,7 +1,7 @@
 //! Local times.
 
 /// The label of a local time.
-#[derive(Clone, Copy, Debug, PartialEq, Eq)]
+#[derive(Clone, Copy, PartialEq, Eq)]
 pub enum Label {
     /// Universal time.
     Utc,
@@ -11,7 +11,7 @@ pub enum Label {
 }
 
 /// The local time that a clock in some zone shows.
-#[derive(Clone, Copy, Debug, PartialEq, Eq)]
+#[derive(Clone, Copy, PartialEq, Eq)]
 pub struct Local {
     /// The minutes since 1970-01-01 00:00 by that clock.
     pub minute: i64,

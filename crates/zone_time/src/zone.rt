@@ -9,7 +9,7 @@ use crate::zone_clock::ZoneClock;
 use crate::zone_file::ZoneFile;
 
 /// The zone in which local times are shown.
-#[derive(Debug, Drop)]
+#[derive(Drop)]
 pub enum Zone {
     /// Universal time.
     Utc,

@@ -10,7 +10,7 @@ use std::marker::Model;
 
 /// The clock of a zone, which [`Zone::clock`] makes. If the zone is a fixed offset, it is at most 1560
 /// minutes. In contracts the clock's value is the zone.
-#[derive(Debug, Drop)]
+#[derive(Drop)]
 pub struct ZoneClock<'a> {
     zone: &'a Zone,
 }

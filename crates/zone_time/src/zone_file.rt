@@ -15,7 +15,7 @@ use std::marker::Model;
 
 /// A zone file as `jiff` reads it: the offsets of the clock from universal time, each from some second
 /// on, and the rule after the last of them. In contracts its value is the content of the file.
-#[derive(Debug, Drop)]
+#[derive(Drop)]
 pub struct ZoneFile {
     tzif: Tzif,
 }

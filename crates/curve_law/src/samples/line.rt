@@ -7,7 +7,7 @@ use crate::kind::Kind;
 
 /// A value that rises or falls by 1 each minute, over the minutes from -1,000,000 to 1,000,000. Its level
 /// is the minute, its rate may be greater than necessary, and each approximate value is 1 too high.
-#[derive(Debug, Drop)]
+#[derive(Drop)]
 pub struct Line {
     start: i64,
     falls: bool,

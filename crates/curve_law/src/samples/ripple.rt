@@ -8,7 +8,7 @@ use crate::kind::Kind;
 
 /// A curve that is 1 at even minutes and -1 at odd ones, from -1,000,000 to 1,000,000, with no rate. Each
 /// approximate value is 0, which decides nothing.
-#[derive(Debug, Default, Drop)]
+#[derive(Default, Drop)]
 pub struct Ripple {
     asked: u64,
 }

@@ -1,11 +1,14 @@
--- The texts that items give to keys, item by item.
+-- The texts that items give to keys, and the question with their values, item by item.
 use Rattle.std.specs.Prelude.{◌≡◌, ℕ, if◌then◌else◌, List, [], ◌∷◌, Option, None, Result, Ok, Err}
 use Rattle.std.specs.Str.{bytes_eq}
 use Rattle.decimal_text.specs.Expected.{Excused}
 use Rattle.question.specs.declared.fault.AskFault.{AskFault}
 use Rattle.question.specs.declared.key.Key.{Key}
+use Rattle.question.specs.declared.key.Key.TheVariants as key
+use Rattle.question.specs.declared.origin.Origin.{Origin}
 use Rattle.question.specs.declared.pairs.Item.{Item}
-use Rattle.question.specs.Keys.{name_of}
+use Rattle.question.specs.declared.question.Question.{Question}
+use Rattle.question.specs.Keys.{name_of, Field, row_of}
 use Rattle.question.specs.Questions.{Said, is_out_of_memory}
 
 -- the text that items give to a key after an earlier one: the last item with the key counts
@@ -17,7 +20,27 @@ text_after (item ∷ items) k earlier = text_after items k (if bytes_eq (name_of
 abbrev pub said_by : List Item → Said
 said_by items k = text_after items k None
 
--- the expected result is the texts so far, or the fault is excused
-abbrev pub ReturnsSaid : Result Said AskFault → Said → Result (Unit {0}) AskFault → Type 0
-ReturnsSaid expected said (Ok done) = expected ≡ Ok said
-ReturnsSaid expected said (Err fault) = Excused (is_out_of_memory fault) expected fault
+-- the field of a question for a key with a text
+abbrev pub read_as : Origin → (k : Key) → List ℕ → Field k
+read_as origin k text = (row_of k).need.field ((row_of k).form origin text)
+
+-- the question with the value that a text writes for a key, or the key's default if the text lacks its form
+abbrev pub with_value : Origin → Key → List ℕ → Question → Question
+with_value origin key.File text q = record q { file = read_as origin key.File text }
+with_value origin key.Offsets text q = record q { offsets = read_as origin key.Offsets text }
+with_value origin key.Certificate text q = record q { certificate = read_as origin key.Certificate text }
+with_value origin key.Station text q = record q { station = read_as origin key.Station text }
+with_value origin key.Begin text q = record q { begin = read_as origin key.Begin text }
+with_value origin key.End text q = record q { end = read_as origin key.End text }
+with_value origin key.Mark text q = record q { mark = read_as origin key.Mark text }
+with_value origin key.Step text q = record q { step = read_as origin key.Step text }
+with_value origin key.Zone text q = record q { zone = read_as origin key.Zone text }
+with_value origin key.Layout text q = record q { layout = read_as origin key.Layout text }
+with_value origin key.Seed text q = record q { seed = read_as origin key.Seed text }
+with_value origin key.Port text q = record q { port = read_as origin key.Port text }
+with_value origin key.Sheets text q = record q { sheets = read_as origin key.Sheets text }
+
+-- the expected result is the value that was made, or the fault is excused
+abbrev pub Makes : {V : Type 0} → Result V AskFault → V → Result (Unit {0}) AskFault → Type 0
+Makes expected made (Ok done) = expected ≡ Ok made
+Makes expected made (Err fault) = Excused (is_out_of_memory fault) expected fault
