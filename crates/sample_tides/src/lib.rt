@@ -1,7 +1,7 @@
 //! A harmonics file of made-up constants, drawn from a seed.
 //!
 //! [`sample`] returns the same file for the same seed, so tests and measurements of a predictor need no
-//! data of their own. Its constants are those of no real station. `specs/File.antt` defines the file line
+//! other data. Its constants belong to no real station. `specs/File.antt` defines the file line
 //! by line.
 #![tactic(auto)]
 

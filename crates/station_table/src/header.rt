@@ -77,7 +77,7 @@ fn has_columns(fields: &ByteRecord, header: Header) -> bool
     }
 }
 
-/// Returns the header that a table's first record is.
+/// Parses `fields`, a table's first record, as its header.
 ///
 /// # Errors
 /// [`OffsetFault::At`] row 1 if it is no header.

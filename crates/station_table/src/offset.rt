@@ -3,11 +3,12 @@
 /// The change from a reference's high or low waters to a station's.
 #[derive(Clone, Copy, PartialEq, Eq)]
 pub struct Offset {
-    /// The minutes added to their times, from -1440 to 1440.
+    /// The minutes added to the times of the waters, from -1440 to 1440.
     pub add: i32,
-    /// The factor on their levels, in millionths, from 1 to 100,000,000.
+    /// The factor of the levels, in millionths, from 1 to 100,000,000.
     pub times: i64,
-    /// The level added after that, in millionths of the unit, from -10,000,000,000 to 10,000,000,000.
+    /// The height then added to the levels, in millionths of the unit, from -10,000,000,000 to
+    /// 10,000,000,000.
     pub plus: i64,
 }
 

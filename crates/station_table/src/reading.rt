@@ -17,7 +17,7 @@ use crate::table::OffsetTable;
 use csv::{ByteRecord, ByteRecordsIntoIter, ReaderBuilder};
 use std::alloc::Global;
 
-/// Reads a CSV file of offsets, and returns its table.
+/// Parses `bytes` as a CSV file of offsets, and returns its table.
 ///
 /// The first record is the header:
 /// `name,reference,high_add,low_add,high_times,low_times,high_plus,low_plus`, which may be followed by
