@@ -8,8 +8,6 @@ use question::{
     worked_words,
 };
 use std::alloc::{AllocError, Global};
-use std::process::Abort;
-use std::test::Fail;
 
 // Arguments, separated by `|`, and their fault.
 const LINES: &[(&str, Option<AskFault>)] = &[
@@ -264,108 +262,182 @@ fn faults_of_queries_are_reported(rt: HostRuntime) {
     }
 }
 
-#[test]
-fn no_command_is_reported(rt: HostRuntime) -> Result<(), Fail> {
-    let none = pairs_of_words(rt.alloc(), &Words::from_vec(Vec::new(rt.alloc())))?;
-    assert!(rt; read_question(rt.alloc(), &none).err() == Some(AskFault::NoCommand));
-    Ok(())
+fn fault_of_nothing(alloc: Global) -> Option<AskFault> {
+    match pairs_of_words(alloc, &Words::from_vec(Vec::new(alloc))) {
+        Ok(none) => read_question(alloc, &none).err(),
+        Err(_) => None,
+    }
 }
 
-/// Returns true if `name` is `text`.
+#[test]
+fn no_command_is_reported(rt: HostRuntime) {
+    let found = fault_of_nothing(rt.alloc());
+    assert_holds(&rt, found == Some(AskFault::NoCommand), "no command");
+}
+
+// The values of a question: an empty name for none, and the sheets as their number.
+struct Values {
+    command: Command,
+    file: &'static str,
+    offsets: &'static str,
+    station: &'static str,
+    certificate: &'static str,
+    begin: Option<i64>,
+    end: Option<i64>,
+    mark: Option<i64>,
+    step: i64,
+    zone: Option<i32>,
+    zone_file: &'static str,
+    layout: Layout,
+    seed: Option<u64>,
+    port: u16,
+    sheets: usize,
+}
+
+// What a question has if its arguments don't say otherwise.
+const USUAL: Values = Values {
+    command: Command::Predict,
+    file: "f",
+    offsets: "",
+    station: "",
+    certificate: "",
+    begin: None,
+    end: None,
+    mark: None,
+    step: 60,
+    zone: None,
+    zone_file: "",
+    layout: Layout::Plain,
+    seed: None,
+    port: 8080,
+    sheets: 0,
+};
+
+// Arguments, and the values of the question.
+const VALUES: &[(&str, Values)] = &[
+    (
+        "predict|file=pier.txt|station=Pier|begin=2000-01-10T00:00Z|end=2000-01-11T00:00Z",
+        Values {
+            file: "pier.txt",
+            station: "Pier",
+            begin: Some(15_791_040),
+            end: Some(15_792_480),
+            ..USUAL
+        },
+    ),
+    (
+        "predict|end=2000-01-11T00:00Z|begin=2000-01-10T00:00Z|station=Pier|file=a=b|mark=-0.5|zone=-05:30|layout=csv|offsets=o.csv",
+        Values {
+            file: "a=b",
+            offsets: "o.csv",
+            station: "Pier",
+            begin: Some(15_791_040),
+            end: Some(15_792_480),
+            mark: Some(-500_000),
+            zone: Some(-330),
+            layout: Layout::Csv,
+            ..USUAL
+        },
+    ),
+    (
+        "check|file=f|certificate=c|zone=@rome",
+        Values {
+            command: Command::Check,
+            certificate: "c",
+            zone_file: "rome",
+            ..USUAL
+        },
+    ),
+    (
+        "report|file=f|station=s|begin=2000-01-10T00:00Z|end=2000-01-11T00:00Z|sheets=first,tally,range",
+        Values {
+            command: Command::Report,
+            station: "s",
+            begin: Some(15_791_040),
+            end: Some(15_792_480),
+            sheets: 3,
+            ..USUAL
+        },
+    ),
+    (
+        "sample|seed=18446744073709551615",
+        Values {
+            command: Command::Sample,
+            file: "",
+            seed: Some(u64::MAX),
+            ..USUAL
+        },
+    ),
+    (
+        "serve|file=f|port=65535",
+        Values {
+            command: Command::Serve,
+            port: 65535,
+            ..USUAL
+        },
+    ),
+];
+
+/// Returns true if `name` is `text`, or isn't there and `text` is empty.
 fn is_name(name: &Option<Text>, text: &str) -> bool {
-    matches!(name, Some(name) if name.as_str() == text)
+    match name {
+        Some(name) => name.as_str() == text,
+        None => text.is_empty(),
+    }
+}
+
+fn is_zone(zone: &ZoneWord, ahead: Option<i32>, file: &str) -> bool {
+    match zone {
+        ZoneWord::Utc => ahead.is_none() & file.is_empty(),
+        ZoneWord::Fixed(minutes) => ahead == Some(*minutes),
+        ZoneWord::Named(name) => name.as_str() == file,
+    }
+}
+
+fn sheets_of(question: &Question) -> usize {
+    match &question.sheets {
+        Some(words) => words.as_slice().len(),
+        None => 0,
+    }
+}
+
+fn has_names(question: &Question, values: &Values) -> bool {
+    is_name(&question.file, values.file)
+        & is_name(&question.offsets, values.offsets)
+        & is_name(&question.station, values.station)
+        & is_name(&question.certificate, values.certificate)
+        & is_zone(&question.zone, values.zone, values.zone_file)
+}
+
+fn has_numbers(question: &Question, values: &Values) -> bool {
+    (question.begin == values.begin)
+        & (question.end == values.end)
+        & (question.mark == values.mark)
+        & (question.step == values.step)
+        & (question.seed == values.seed)
+        & (question.port == values.port)
+        & (sheets_of(question) == values.sheets)
+}
+
+fn has_values(question: &Question, values: &Values) -> bool {
+    (question.command == values.command)
+        & (question.layout == values.layout)
+        & has_names(question, values)
+        & has_numbers(question, values)
+}
+
+fn is_read(alloc: Global, words: &str, values: &Values) -> Result<bool, AskFault> {
+    let question = line(alloc, words)?;
+    let is_read = has_values(&question, values);
+    drop(question);
+    Ok(is_read)
 }
 
 #[test]
 fn questions_have_their_values(rt: HostRuntime) -> Result<(), AskFault> {
-    let plain = line(
-        rt.alloc(),
-        "predict|file=pier.txt|station=Pier|begin=2000-01-10T00:00Z|end=2000-01-11T00:00Z",
-    )?;
-    check_words(&rt, &plain);
-    check_usual(&rt, &plain);
-    check_left_out(&rt, &plain);
-    Ok(())
-}
-
-fn check_left_out(rt: &impl Abort, plain: &Question) {
-    assert_holds(rt, plain.offsets.is_none(), "offsets");
-    assert_holds(rt, plain.certificate.is_none(), "certificate");
-    assert_holds(rt, plain.sheets.is_none(), "sheets");
-}
-
-fn check_words(rt: &impl Abort, plain: &Question) {
-    assert_holds(rt, plain.command == Command::Predict, "command");
-    assert_holds(rt, is_name(&plain.file, "pier.txt"), "file");
-    assert_holds(rt, is_name(&plain.station, "Pier"), "station");
-    assert_holds(rt, plain.begin == Some(15_791_040), "begin");
-    assert_holds(rt, plain.end == Some(15_792_480), "end");
-}
-
-fn check_usual(rt: &impl Abort, plain: &Question) {
-    assert_holds(rt, plain.mark == None, "mark");
-    assert_holds(rt, plain.step == 60, "step");
-    assert_holds(rt, matches!(&plain.zone, ZoneWord::Utc), "zone");
-    assert_holds(rt, plain.layout == Layout::Plain, "layout");
-    assert_holds(rt, plain.seed == None, "seed");
-    assert_holds(rt, plain.port == 8080, "port");
-}
-
-#[test]
-fn a_question_about_a_span_is_read(rt: HostRuntime) -> Result<(), AskFault> {
-    let full = line(
-        rt.alloc(),
-        "predict|end=2000-01-11T00:00Z|begin=2000-01-10T00:00Z|station=Pier|file=a=b|mark=-0.5|zone=-05:30|layout=csv|offsets=o.csv",
-    )?;
-    check_full(&rt, &full);
-    Ok(())
-}
-
-fn check_full(rt: &impl Abort, full: &Question) {
-    assert_holds(rt, is_name(&full.file, "a=b"), "file");
-    assert_holds(rt, is_name(&full.offsets, "o.csv"), "offsets");
-    assert_holds(rt, full.mark == Some(-500_000), "mark");
-    assert_holds(rt, matches!(&full.zone, ZoneWord::Fixed(-330)), "zone");
-    assert_holds(rt, full.layout == Layout::Csv, "layout");
-}
-
-fn check_zone(rt: &impl Abort, check: &Question) {
-    assert!(rt; matches!(&check.zone, ZoneWord::Named(name) if name.as_str() == "rome"));
-}
-
-#[test]
-fn names_of_files_are_read(rt: HostRuntime) -> Result<(), AskFault> {
-    let check = line(rt.alloc(), "check|file=f|certificate=c|zone=@rome")?;
-    check_zone(&rt, &check);
-    Ok(())
-}
-
-fn check_sheets(rt: &impl Abort, report: &Question) {
-    assert!(rt; matches!(&report.sheets, Some(words) if words.as_slice().len() == 3));
-}
-
-#[test]
-fn sheets_are_read(rt: HostRuntime) -> Result<(), AskFault> {
-    let report = line(
-        rt.alloc(),
-        "report|file=f|station=s|begin=2000-01-10T00:00Z|end=2000-01-11T00:00Z|sheets=first,tally,range",
-    )?;
-    check_sheets(&rt, &report);
-    Ok(())
-}
-
-/// Returns the seed and the port of the request.
-fn numbers_of(alloc: Global, words: &str) -> Result<(Option<u64>, u16), AskFault> {
-    let asked = line(alloc, words)?;
-    Ok((asked.seed, asked.port))
-}
-
-#[test]
-fn seeds_and_ports_are_read(rt: HostRuntime) -> Result<(), AskFault> {
-    let (seed, _) = numbers_of(rt.alloc(), "sample|seed=18446744073709551615")?;
-    assert!(rt; seed == Some(u64::MAX));
-    let (_, port) = numbers_of(rt.alloc(), "serve|file=f|port=65535")?;
-    assert!(rt; port == 65535);
+    for (words, values) in VALUES {
+        assert_holds(&rt, is_read(rt.alloc(), words, values)?, *words);
+    }
     Ok(())
 }
 
