@@ -13,6 +13,7 @@ use crate::quiet::{MOST_MINUTES, cell_of_sides, is_quiet, most_change};
 
 /// Returns true if the `n` minutes from `a` on are a quiet cell. `approximate` and `approximate_end` are the
 /// approximate values at its ends.
+#[inline(always)]
 pub fn is_quiet_from_approximate<C: Curve>(
     curve: &C,
     a: i64,
@@ -53,6 +54,7 @@ pub fn unit_cell_from_approximate<C: Curve>(
 /// Returns whether the `n` minutes from `a` on are a quiet cell, or `None` if the approximate values at
 /// its ends leave it open. Values whose sum exceeds the most that they may differ are on one side of 0, so
 /// the sum decides.
+#[inline(always)]
 fn quiet_if_decided<C: Curve>(
     curve: &C,
     a: i64,
