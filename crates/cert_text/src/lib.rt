@@ -34,7 +34,7 @@ pub use laws::{
 };
 pub use line_reading::{moment_after, station_of};
 pub use line_writing::{
-    begin_line, cell_line, end_line, heading_line, last_line, mark_line, title_line,
+    begin_line, cell_line, end_line, heading_line, last_line, mark_line, push_cell_line, title_line,
 };
 pub use lines::after;
 pub use numbers::{number_of, size_of};

@@ -15,9 +15,9 @@ use itoa::Buffer;
 use zone_time::write_moment;
 
 /// Appends `number`, which is below 10^14 in size, in decimal.
-fn push_number(number: i64, out: &mut ArrayString<24>)
+fn push_number<const N: usize>(number: i64, out: &mut ArrayString<N>)
     requires size { unsigned_abs number ≤ 99999999999999 }
-    requires room { array_string_len out.old + 15 ≤ 24 }
+    requires room { array_string_len out.old + 15 ≤ N }
     ensures bytes { out.new.bytes ≡ out.old.bytes ++ signed_decimal number }
     ensures length_bound { array_string_len out.new ≤ array_string_len out.old + 15 }
 {
@@ -122,20 +122,20 @@ pub fn heading_line(track: TrackName, out: &mut ArrayString<24>)
     out.push('\n');
 }
 
-/// Writes the line of `cell` without its LF.
+/// Appends the line of `cell` without its LF.
 #[tactic(auto, unfolding(crate::specs::Lines::cell_line_of))]
-fn push_cell(cell: Cell, out: &mut ArrayString<24>)
+fn push_cell<const N: usize>(cell: Cell, out: &mut ArrayString<N>)
     requires cell { IsCell cell }
-    requires empty { out.old.bytes ≡ [] }
-    ensures bytes { out.new.bytes ≡ cell_line_of cell }
-    ensures length_bound { array_string_len out.new ≤ 23 }
+    requires room { array_string_len out.old + 24 ≤ N }
+    ensures bytes { out.new.bytes ≡ out.old.bytes ++ cell_line_of cell }
+    ensures length_bound { array_string_len out.new ≤ array_string_len out.old + 23 }
 {
     match cell {
         Cell::Quiet(minutes) => {
             out.push_str("q ");
             push_number(i64::from(minutes), out);
         }
-        Cell::Still => out.push('s'),
+        Cell::Still => out.push_str("s"),
         Cell::Turn(kind, level) => {
             out.push_str(prefix_of(kind));
             push_number(level, out);
@@ -143,15 +143,25 @@ fn push_cell(cell: Cell, out: &mut ArrayString<24>)
     }
 }
 
-/// Writes the line of `cell`, such as `q 1024`, `s` or `t low -1000000`. Quiet minutes are 2 to
-/// 1,024, and a level is at most 99,999,999,999,999 millionths in size.
+/// Appends the line of `cell`, such as `q 1024`, `s` or `t low -1000000`, of at most 24 bytes with its LF.
+/// Quiet minutes are 2 to 1,024, and a level is at most 99,999,999,999,999 millionths in size.
+pub fn push_cell_line<const N: usize>(cell: &Cell, out: &mut ArrayString<N>)
+    requires cell { IsCell cell.now }
+    requires room { array_string_len out.old + 24 ≤ N }
+    ensures bytes { out.new.bytes ≡ out.old.bytes ++ ended (cell_line_of cell.now) }
+    ensures length_bound { array_string_len out.new ≤ array_string_len out.old + 24 }
+{
+    push_cell(*cell, out);
+    out.push_str("\n");
+}
+
+/// Writes the line of `cell`, as [`push_cell_line`] does.
 pub fn cell_line(cell: &Cell, out: &mut ArrayString<24>)
     requires cell { IsCell cell.now }
     requires empty { out.old.bytes ≡ [] }
     ensures { out.new.bytes ≡ ended (cell_line_of cell.now) }
 {
-    push_cell(*cell, out);
-    out.push('\n');
+    push_cell_line(cell, out);
 }
 
 /// Writes the last line, `done`.

@@ -1,13 +1,12 @@
 -- Cells that approximate values decide.
-use Rattle.std.proofs.Common.{◌≡◌, ℕ, ◌*◌, ◌^◌, ◌≤◌, ◌<◌, ℤ, pos, ◌+ℤ◌, ◌-ℤ◌, ◌*ℤ◌, ◌≤ℤ◌, ◌<ℤ◌, unsigned_abs, int_lt, Bool, true, false, not, inl, Option, Some, None, IfSome, refl, sym, ◌∙◌, to_z, of_z, FitsSigned, arith}
+use Rattle.std.proofs.Common.{◌≡◌, ℕ, ◌*◌, ◌^◌, ◌≤◌, ◌<◌, ℤ, pos, ◌+ℤ◌, ◌-ℤ◌, ◌*ℤ◌, ◌≤ℤ◌, ◌<ℤ◌, unsigned_abs, int_lt, int_le, neg_ℤ, negsuc, ◌&&◌, ◌||◌, Bool, true, false, inl, Option, Some, None, IfSome, sym, ◌∙◌, to_z, of_z, FitsSigned, arith}
 use mir.Syntax.{w128}
-use mathlib.Core.Bool.{beq}
 use Rattle.std.proofs.lemmas.Int.{ints}
-use Rattle.curve_law.specs.Meaning.{Meaning, IsMinute, IsApproximateValue, IsSpan, IsLawful}
+use Rattle.curve_law.specs.Meaning.{Meaning, IsMinute, IsApproximateValue, IsSpan, IsRate, IsLawful}
 use Rattle.curve_law.specs.declared.quiet.TheConstants.{MOST_MINUTES}
 use Rattle.curve_law.specs.Cover.{keeps_side, is_quiet}
 use Rattle.curve_law.specs.Workings.Approximate.{IsFar}
-use Rattle.curve_law.proofs.QuietLemmas.{crossed-loud, is_quiet-length, is_quiet-rate, begin-minute, end-minute, begin-small, end-small}
+use Rattle.curve_law.proofs.QuietLemmas.{drift_up, drift_down, quiet_cell, is_quiet-length, is_quiet-rate, begin-minute, end-minute, begin-small, end-small}
 
 -- a sum of approximate values is within the sum of the errors
 pub sum-approximate : (approximate approximate_end v w : ℤ) (error : ℕ) → unsigned_abs (approximate -ℤ v) ≤ error
@@ -15,19 +14,41 @@ pub sum-approximate : (approximate approximate_end v w : ℤ) (error : ℕ) → 
     → unsigned_abs ((approximate +ℤ approximate_end) -ℤ (v +ℤ w)) ≤ 2 * error
 sum-approximate approximate approximate_end v w error first second = omega (arith, ints, first, second)
 
--- a sum of two values on one side of 0 is far enough from 0, or not
-pub far-keeps : (v w rate : ℤ) (n : ℕ) (far : Bool) → int_lt (pos 0) v ≡ int_lt (pos 0) w
+-- two values that differ by at most `most`, and whose sum is far enough from 0 or not
+far-keeps : (v w most : ℤ) (far : Bool) → w ≤ℤ (v +ℤ most) → v ≤ℤ (w +ℤ most) → IsFar most (v +ℤ w) far
+    → ((int_lt (pos 0) v && int_lt (pos 0) w && int_lt most (v +ℤ w))
+    || (int_le v (pos 0) && int_le w (pos 0) && int_le most (neg_ℤ (v +ℤ w)))) ≡ far
+far-keeps v w most true up down far = grind (arith, ints)
+far-keeps v w most false up down far = grind (arith, ints)
+
+far-rate : (v w rate : ℤ) (n : ℕ) (far : Bool) → w ≤ℤ (v +ℤ (rate *ℤ pos n)) → v ≤ℤ (w +ℤ (rate *ℤ pos n))
     → IsFar (rate *ℤ pos n) (v +ℤ w) far → keeps_side (Some rate) n v w ≡ far
 unfolding keeps_side
-far-keeps v w rate n true side far = grind (arith, ints)
-far-keeps v w rate n false side far = grind (arith, ints)
+far-rate v w rate n far = far-keeps v w (rate *ℤ pos n) far
 
-pub far-quiet : (c : Meaning) (a : ℤ) (n : ℕ) (rate : ℤ) (side far : Bool) → 2 ≤ n → n ≤ MOST_MINUTES → Some rate
-    ≡ c.rate a n → int_lt (pos 0) (c.track.value a) ≡ side → int_lt (pos 0) (c.track.value (a +ℤ pos n)) ≡ side
-    → IsFar (rate *ℤ pos n) (c.track.value a +ℤ c.track.value (a +ℤ pos n)) far → is_quiet c a n ≡ far
-far-quiet c a n rate side far two most is first second sum =
+-- the values at the ends of a cell differ by at most its rate in each minute
+change-up : (c : Meaning) (a rate : ℤ) (n : ℕ) → 1 ≤ n → IsRate c a n rate
+    → c.track.value (a +ℤ pos n) ≤ℤ (c.track.value a +ℤ (rate *ℤ pos n))
+change-up c a (negsuc r) n some law = absurd (let step = law.steps 0 some in omega (arith, ints))
+change-up c a (pos r) n some law =
+    drift_up c.track.value a r n (λ k h. let step = law.steps k h in omega (arith, ints))
+
+change-down : (c : Meaning) (a rate : ℤ) (n : ℕ) → 1 ≤ n → IsRate c a n rate
+    → c.track.value a ≤ℤ (c.track.value (a +ℤ pos n) +ℤ (rate *ℤ pos n))
+change-down c a (negsuc r) n some law = absurd (let step = law.steps 0 some in omega (arith, ints))
+change-down c a (pos r) n some law =
+    drift_down c.track.value a r n (λ k h. let step = law.steps k h in omega (arith, ints))
+
+-- a sum of two values that is far enough from 0, or not
+far-quiet : (c : Meaning) (a : ℤ) (n : ℕ) (rate : ℤ) (far : Bool) → IsLawful c → IsSpan c a n → 2 ≤ n → n ≤ MOST_MINUTES
+    → Some rate ≡ c.rate a n → IsFar (rate *ℤ pos n) (c.track.value a +ℤ c.track.value (a +ℤ pos n)) far
+    → is_quiet c a n ≡ far
+far-quiet c a n rate far lawful span two most is sum =
+    let law = lawful.rates a n rate (quiet_cell c a n span two most) (sym is) in
+    let some : 1 ≤ n = omega arith in
     sym (is_quiet-rate c a n (Some rate) two most is)
-    ∙ far-keeps (c.track.value a) (c.track.value (a +ℤ pos n)) rate n far (first ∙ sym second) sum
+    ∙ far-rate (c.track.value a) (c.track.value (a +ℤ pos n)) rate n far (change-up c a rate n some law)
+    (change-down c a rate n some law) sum
 
 -- the side of all values within the error is the side of the value
 pub decided-side : (approximate e v : ℤ) (error : ℕ) (side : Bool) → e ≡ pos error
@@ -35,33 +56,28 @@ pub decided-side : (approximate e v : ℤ) (error : ℕ) (side : Bool) → e ≡
     → unsigned_abs (approximate -ℤ v) ≤ error → int_lt (pos 0) v ≡ side
 decided-side approximate e v error side is decided close = decided v (rw is close)
 
--- approximate values on two sides of 0, or too few minutes
-pub decided-crossed : (c : Meaning) (a : ℤ) (n : ℕ) (side end_side : Bool) → int_lt (pos 0) (c.track.value a) ≡ side
-    → int_lt (pos 0) (c.track.value (a +ℤ pos n)) ≡ end_side → not (beq side end_side) ≡ true → is_quiet c a n ≡ false
-decided-crossed c a n side end_side first second other = sym (crossed-loud c a n (rw (first, second) other))
-
+-- too few minutes
 pub too_short : (c : Meaning) (a : ℤ) (n : ℕ) → n < 2 → is_quiet c a n ≡ false
 too_short c a n few = sym (is_quiet-length c a n (inl few))
 
-same-side : (s t : Bool) → not (beq s t) ≡ false → t ≡ s
-same-side true true h = refl
-same-side true false h = cc
-same-side false true h = cc
-same-side false false h = refl
-
 -- approximate values whose sum decides
 pub decided-far :
-    (c : Meaning) (a : ℤ) (n : ℕ) (rate approximate approximate_end most e : ℤ) (error : ℕ) (side end_side far : Bool)
-    → 2 ≤ n → n ≤ MOST_MINUTES → Some rate ≡ c.rate a n → int_lt (pos 0) (c.track.value a) ≡ side
-    → int_lt (pos 0) (c.track.value (a +ℤ pos n)) ≡ end_side → not (beq side end_side) ≡ false
+    (c : Meaning) (a : ℤ) (n : ℕ) (rate approximate approximate_end most e : ℤ) (error : ℕ) (far : Bool)
+    → IsLawful c → IsSpan c a n → 2 ≤ n → n ≤ MOST_MINUTES → Some rate ≡ c.rate a n
     → most ≡ rate *ℤ pos n → e ≡ pos (2 * error) → unsigned_abs (approximate -ℤ c.track.value a) ≤ error
     → unsigned_abs (approximate_end -ℤ c.track.value (a +ℤ pos n)) ≤ error
     → ((sum : ℤ) → unsigned_abs ((approximate +ℤ approximate_end) -ℤ sum) ≤ unsigned_abs e → IsFar most sum far) → is_quiet c a n ≡ far
-decided-far c a n rate approximate approximate_end most e error side end_side far two few is first second same is_most
-    is_e close end_close decided =
+decided-far c a n rate approximate approximate_end most e error far lawful span two few is is_most is_e close end_close
+    decided =
     let sum = decided (c.track.value a +ℤ c.track.value (a +ℤ pos n))
     (rw is_e (sum-approximate approximate approximate_end _ _ error close end_close)) in
-    far-quiet c a n rate side far two few is first (second ∙ same-side side end_side same) (rw is_most at sum)
+    far-quiet c a n rate far lawful span two few is (rw is_most at sum)
+
+-- the approximate value at a minute is within the error
+pub minute-close : (c : Meaning) (approximate : ℤ → ℤ) (error : ℕ) (m v : ℤ)
+    → ((m : ℤ) → IsMinute c m → IsApproximateValue c error m (approximate m)) → IsMinute c m → v ≡ approximate m
+    → IsApproximateValue c error m v
+minute-close c approximate error m v close minute is = rw is (close m minute)
 
 -- the approximate values at both ends of a span are within the error
 pub begin-close : (c : Meaning) (approximate : ℤ → ℤ) (error : ℕ) (a : ℤ) (n : ℕ) (v : ℤ)
@@ -75,7 +91,7 @@ pub end-close : (c : Meaning) (approximate : ℤ → ℤ) (error : ℕ) (a : ℤ
 end-close c approximate error a n v close span is = rw is (close (a +ℤ pos n) (end-minute c a n span))
 
 -- approximate values of a lawful curve can be added without overflow
-approximate-size : (approximate v : ℤ) (error : ℕ) → unsigned_abs v < 10 ^ 37 → error ≤ 10 ^ 36
+pub approximate-size : (approximate v : ℤ) (error : ℕ) → unsigned_abs v < 10 ^ 37 → error ≤ 10 ^ 36
     → unsigned_abs (approximate -ℤ v) ≤ error → unsigned_abs approximate < 2 * 10 ^ 37
 approximate-size approximate v error small narrow close = omega (arith, ints, small, narrow, close)
 

@@ -1,17 +1,19 @@
 //! The cell between two approximate values. If these leave it open, the exact values are used.
 
 ghost use Rattle.std.specs.Prelude.{◌≡◌, ◌*◌, ◌^◌, ◌<◌, ◌≤◌, ℤ, pos, ◌+ℤ◌, ◌-ℤ◌, ◌≤ℤ◌, int_lt, unsigned_abs, IfSome};
-ghost use Rattle.curve_law.specs.Meaning.{IsApproximateValue, IsSpan};
+ghost use Rattle.curve_law.specs.Track.{side_at};
+ghost use Rattle.curve_law.specs.Meaning.{IsApproximateValue, IsMinute, IsSpan};
 ghost use Rattle.curve_law.specs.Cover.{is_quiet, unit_cell};
 ghost use Rattle.curve_law.specs.declared.quiet.TheConstants.{MOST_MINUTES};
 ghost use Rattle.curve_law.specs.Workings.Approximate.{IsFar};
 
 use crate::cell::Cell;
 use crate::curve::Curve;
-use crate::quiet::{MOST_MINUTES, cell_of_sides, is_quiet, most_change, unit_cell};
+use crate::quiet::{MOST_MINUTES, cell_of_sides, is_quiet, most_change};
 
 /// Returns true if the `n` minutes from `a` on are a quiet cell. `approximate` and `approximate_end` are the
 /// approximate values at its ends.
+#[inline(always)]
 pub fn is_quiet_from_approximate<C: Curve>(
     curve: &C,
     a: i64,
@@ -44,14 +46,15 @@ pub fn unit_cell_from_approximate<C: Curve>(
     requires approximate_next { approximate_next ≡ (C.state curve.now).facts.approximate (a +ℤ pos 1) }
     ensures { result ≡ unit_cell (C.state curve.now).facts.meaning.track a }
 {
-    match unit_cell_if_decided(curve, a, approximate, approximate_next) {
-        Some(cell) => cell,
-        None => unit_cell_exactly(curve, a, approximate, approximate_next),
-    }
+    let is_above = is_above_from_approximate(curve, a, approximate);
+    let is_above_next = is_above_from_approximate(curve, a + 1, approximate_next);
+    cell_of_sides(curve, a, is_above, is_above_next)
 }
 
 /// Returns whether the `n` minutes from `a` on are a quiet cell, or `None` if the approximate values at
-/// its ends leave it open.
+/// its ends leave it open. Values whose sum exceeds the most that they may differ are on one side of 0, so
+/// the sum decides.
+#[inline(always)]
 fn quiet_if_decided<C: Curve>(
     curve: &C,
     a: i64,
@@ -66,10 +69,10 @@ fn quiet_if_decided<C: Curve>(
         (a +ℤ pos n) approximate_end }
     ensures { IfSome result (λ quiet. is_quiet (C.state curve.now).facts.meaning a n ≡ quiet) }
 {
-    let error = curve.error();
-    if side_of(approximate, error)? != side_of(approximate_end, error)? || n < 2 {
+    if n < 2 {
         return Some(false);
     }
+    let error = curve.error();
     match curve.rate(a, n) {
         Some(rate) => passes(
             approximate + approximate_end,
@@ -77,32 +80,6 @@ fn quiet_if_decided<C: Curve>(
             most_change(rate, n),
         ),
         None => Some(false),
-    }
-}
-
-/// Returns the cell of the single minute `a`, or `None` if the approximate values at `a` and the next
-/// minute leave it open.
-fn unit_cell_if_decided<C: Curve>(
-    curve: &C,
-    a: i64,
-    approximate: i128,
-    approximate_next: i128,
-) -> Option<Cell>
-    requires span { IsSpan (C.state curve.now).facts.meaning a 1 }
-    requires approximate { IsApproximateValue (C.state curve.now).facts.meaning (C.state curve.now).facts.error a approximate }
-    requires approximate_next { IsApproximateValue (C.state curve.now).facts.meaning (C.state curve.now).facts.error
-        (a +ℤ pos 1) approximate_next }
-    ensures { IfSome result (λ cell. cell ≡ unit_cell (C.state curve.now).facts.meaning.track a) }
-{
-    let error = curve.error();
-    match (
-        side_of(approximate, error),
-        side_of(approximate_next, error),
-    ) {
-        (Some(is_above), Some(is_above_next)) => {
-            Some(cell_of_sides(curve, a, is_above, is_above_next))
-        }
-        _ => None,
     }
 }
 
@@ -126,17 +103,26 @@ fn is_quiet_exactly<C: Curve>(
     is_quiet(curve, a, n, value, end_value)
 }
 
+/// Returns true if the value at minute `m` is above 0; `approximate` is its approximate value.
+fn is_above_from_approximate<C: Curve>(curve: &C, m: i64, approximate: i128) -> bool
+    requires minute { IsMinute (C.state curve.now).facts.meaning m }
+    requires approximate { approximate ≡ (C.state curve.now).facts.approximate m }
+    ensures { result ≡ side_at (C.state curve.now).facts.meaning.track m }
+{
+    match side_of(approximate, curve.error()) {
+        Some(is_above) => is_above,
+        None => is_above_exactly(curve, m, approximate),
+    }
+}
+
 #[cold]
 #[inline(never)]
-fn unit_cell_exactly<C: Curve>(curve: &C, a: i64, approximate: i128, approximate_next: i128) -> Cell
-    requires span { IsSpan (C.state curve.now).facts.meaning a 1 }
-    requires approximate { approximate ≡ (C.state curve.now).facts.approximate a }
-    requires approximate_next { approximate_next ≡ (C.state curve.now).facts.approximate (a +ℤ pos 1) }
-    ensures { result ≡ unit_cell (C.state curve.now).facts.meaning.track a }
+fn is_above_exactly<C: Curve>(curve: &C, m: i64, approximate: i128) -> bool
+    requires minute { IsMinute (C.state curve.now).facts.meaning m }
+    requires approximate { approximate ≡ (C.state curve.now).facts.approximate m }
+    ensures { result ≡ side_at (C.state curve.now).facts.meaning.track m }
 {
-    let value = curve.exact_value(a, approximate);
-    let next_value = curve.exact_value(a + 1, approximate_next);
-    unit_cell(curve, a, value, next_value)
+    curve.exact_value(m, approximate) > 0
 }
 
 /// Returns true if each value within `error` of `approximate` is above 0, false if none is, and `None`

@@ -40,7 +40,7 @@ pub use laws::{
 };
 pub use passing::kind_after;
 pub use point::{Point, approximate_point_at, point_at};
-pub use quiet::{MOST_MINUTES, is_quiet, most_change, unit_cell};
+pub use quiet::{MOST_MINUTES, is_quiet, most_change};
 pub use tracks::Tracks;
 pub use verdict::Verdict;
 pub use worked::worked_rows;

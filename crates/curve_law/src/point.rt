@@ -27,6 +27,7 @@ pub fn point_at<C: Curve>(curve: &mut C, minute: i64) -> Point
 }
 
 /// Evaluates `curve` approximately at `minute`, and returns the point.
+#[inline(always)]
 pub fn approximate_point_at<C: Curve>(curve: &mut C, minute: i64) -> Point
     requires minute { IsMinute (C.state curve.old).facts.meaning minute }
     requires count_bound { (C.state curve.old).count < 2 ^ 63 }

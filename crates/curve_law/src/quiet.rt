@@ -41,17 +41,6 @@ fn is_quiet_by_rate<C: Curve>(curve: &C, a: i64, n: u32, value: i128, end_value:
     }
 }
 
-/// Returns the cell of the single minute `a`; `value` and `next_value` are the values at `a` and at the
-/// next minute.
-pub fn unit_cell<C: Curve>(curve: &C, a: i64, value: i128, next_value: i128) -> Cell
-    requires minute { IsMinute (C.state curve.now).facts.meaning a }
-    requires value { value ≡ (C.state curve.now).facts.meaning.track.value a }
-    requires next_value { next_value ≡ (C.state curve.now).facts.meaning.track.value (a +ℤ pos 1) }
-    ensures { result ≡ unit_cell (C.state curve.now).facts.meaning.track a }
-{
-    cell_of_sides(curve, a, value > 0, next_value > 0)
-}
-
 /// Returns the cell of the single minute `a`; `is_above` and `is_above_next` say whether the values at
 /// `a` and at the next minute are above 0.
 pub fn cell_of_sides<C: Curve>(curve: &C, a: i64, is_above: bool, is_above_next: bool) -> Cell

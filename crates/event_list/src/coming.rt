@@ -111,6 +111,7 @@ fn cells_are_few<C: Curve>(search: &Option<Search<C>>)
 }
 
 /// Returns the next event of `search`, and counts the cells up to it.
+#[inline(never)]
 fn next_event<C: Curve>(search: &mut Option<Search<C>>, given: &mut u64) -> Option<Event>
     requires { given.old + cells_ahead search.old < 2 ^ 64 }
     ensures event { ReturnsEvent search.old result search.new }
@@ -126,6 +127,7 @@ fn next_event<C: Curve>(search: &mut Option<Search<C>>, given: &mut u64) -> Opti
     None
 }
 
+#[inline(always)]
 fn next_found<C: Curve>(search: &mut Option<Search<C>>) -> Option<Found>
     ensures { FindsNext search.old result search.new }
 {

@@ -55,7 +55,7 @@ unwrap_or-position p xs =
 
 -- ---- the first token
 
-tokens_blank : (b : ℕ) (bs : List ℕ) → is_blank b ≡ true → tokens (b ∷ bs) ≡ tokens bs
+pub tokens_blank : (b : ℕ) (bs : List ℕ) → is_blank b ≡ true → tokens (b ∷ bs) ≡ tokens bs
 unfolding tokens
 tokens_blank b bs e = rw e refl
 

@@ -1,5 +1,6 @@
 pub mod Latin
 pub mod Cutting
+pub mod Padding
 pub mod Pieces
 pub mod Resume
 pub mod Steps

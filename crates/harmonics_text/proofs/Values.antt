@@ -129,13 +129,14 @@ pair_within b r c new text (Ok x) r_is lt one is =
 pair_within b r c new text (Err e) r_is lt one is = rw r_is is
 
 -- a line of a name and two numbers
-pub pair_is : (name text first rest second third : List ℕ) (a e : ℤ) → tokens text ≡ first ∷ tokens rest
-    → (is_absent first || is_name first name) ≡ true → IsFirstNumber Height rest a second
-    → IsFirstNumber Angle second e third → tokens third ≡ []
+pub pair_is : (name text first rest padless second third : List ℕ) (a e : ℤ) → tokens text ≡ first ∷ tokens rest
+    → tokens padless ≡ tokens rest → (is_absent first || is_name first name) ≡ true
+    → IsFirstNumber Height padless a second → IsFirstNumber Angle second e third → tokens third ≡ []
     → pair_of name text ≡ Ok (cond (is_absent first) (pos 0, pos 0) (a, e))
 unfolding pair_of pair_from
-pair_is name text first rest second third a e t known h k none =
-    rw (t, known, h.first, k.first, none, h.read, k.read) refl
+pair_is name text first rest padless second third a e t same known h k none =
+    let amplitude : tokens rest ≡ h.token ∷ tokens second = sym same ∙ h.first in
+    rw (t, known, amplitude, k.first, none, h.read, k.read) refl
 
 -- an element of a borrowed list
 pub element_is : {A : Type 0} (xs ys : List A) (i j : ℕ) (x d : A) → xs ≡ ys → i ≡ j → j < length ys → get_or xs i x ≡ get_or ys j d

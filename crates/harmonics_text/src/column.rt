@@ -67,10 +67,10 @@ impl Column {
     pub fn push_zeros(&mut self, count: usize) -> Result<(), AllocError>
         ensures { OnOk result (self.new ≡ self.old ++ replicate count (pos 0)) }
     {
-        for _i in 0..count {
-            self.push(0)?;
-        }
-        Ok(())
+        let Some(len) = self.items.len().checked_add(count) else {
+            return Err(AllocError);
+        };
+        self.items.resize(len, 0)
     }
 
     /// Returns the finished list.

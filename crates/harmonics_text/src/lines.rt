@@ -1,7 +1,7 @@
 //! The lines of a file and the tokens of a line.
 
-ghost use Rattle.std.specs.Prelude.{◌≡◌, ◌<◌, ◌∷◌, ◌++◌, [], length, false, MatchOption, IfSome, position, option_map};
-ghost use Rattle.std.specs.List.{list_all};
+ghost use Rattle.std.specs.Prelude.{◌≡◌, ◌<◌, ◌∷◌, ◌++◌, [], codes, length, nat_eq, false, MatchOption, IfSome, position, option_map};
+ghost use Rattle.std.specs.List.{list_all, starts_with};
 ghost use Rattle.std.specs.Option.{option_copied};
 ghost use Rattle.harmonics_text.specs.Workings.Readers.{has_lf};
 ghost use Rattle.harmonics_text.specs.Lines.{
@@ -87,6 +87,25 @@ fn blank_at(text: &[u8]) -> Option<usize>
     ensures { result ≡ position is_blank text.now }
 {
     text.iter().position(|b| is_blank(*b))
+}
+
+/// Returns true if `text` begins with four spaces.
+fn is_padded(text: &[u8]) -> bool
+    ensures { result ≡ starts_with nat_eq text.now (codes "    ") }
+{
+    text.starts_with(b"    ".as_slice())
+}
+
+/// Returns `text` without spaces that it begins with, four at a time. Names of constituents are padded with
+/// spaces, mostly twelve or more.
+pub fn without_padding(text: &[u8]) -> &[u8]
+    ensures { tokens result.now ≡ tokens text.now }
+{
+    let mut rest = text;
+    while is_padded(rest) {
+        rest = rest.split_at(4).1;
+    }
+    rest
 }
 
 /// Returns the first token of `text` and the bytes after it, or `None` if `text` has only white space.

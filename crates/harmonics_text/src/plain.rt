@@ -61,6 +61,7 @@ fn is_short(digits: usize, places: usize, most: u32) -> bool
 }
 
 /// Returns 10 to the power of `exponent`, from a table.
+#[inline(always)]
 fn power_of_ten(exponent: u32) -> u64
     requires { exponent ≤ 7 }
     ensures { result ≡ 10 ^ exponent }
@@ -79,6 +80,7 @@ fn power_of_ten(exponent: u32) -> u64
 }
 
 /// Returns `number` in a unit of which `10^missing` are one.
+#[inline(always)]
 fn in_units(number: u64, missing: u32) -> u64
     requires small { number < 10 ^ 11 }
     requires count_bound { missing ≤ 7 }

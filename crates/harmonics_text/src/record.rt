@@ -7,7 +7,7 @@ ghost use Rattle.harmonics_text.specs.Workings.BookParsing.{station_of};
 use crate::column::Column;
 use crate::fault::Why;
 use crate::heading::is_absent;
-use crate::lines::{next_token, only_two_tokens};
+use crate::lines::{next_token, only_two_tokens, without_padding};
 use crate::local_time::LocalTime;
 use crate::names::is_name;
 use crate::numbers::number;
@@ -115,7 +115,7 @@ fn plain_pair(name: &Text, text: &[u8]) -> Option<(i64, i64)>
     if !is_for(first, name) {
         return None;
     }
-    let (amplitude, second) = plain_number(rest, Scale::Height)?;
+    let (amplitude, second) = plain_number(without_padding(rest), Scale::Height)?;
     let (epoch, third) = plain_number(second, Scale::Angle)?;
     match next_token(third) {
         Some(_) => None,

@@ -183,6 +183,9 @@ pub fn add_absent<'a>(
     };
     let left = book.constituents.as_slice().len() - station.amplitude.len();
     let (count, rest) = absent_lines(bytes, left - 1);
+    if count == 0 {
+        return Ok((0, bytes));
+    }
     push_absent(station, count)?;
     Ok((count, rest))
 }

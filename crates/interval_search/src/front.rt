@@ -11,6 +11,7 @@ use crate::waiting::Waiting;
 use curve_law::{Curve, Point};
 
 /// Returns the end of the nearest piece, which is removed from `waiting`, or else of the next block.
+#[inline(always)]
 fn nearest_end<C: Curve, R: PieceRule>(
     curve: &mut C,
     rule: &R,
@@ -33,6 +34,7 @@ fn nearest_end<C: Curve, R: PieceRule>(
 }
 
 /// Returns the first piece from `at` to `next_end` that isn't halved.
+#[inline(always)]
 fn nearest_piece<C: Curve, R: PieceRule>(
     curve: &mut C,
     rule: &R,
@@ -92,6 +94,7 @@ pub fn front_at<C: Curve, R: PieceRule>(curve: &mut C, rule: &R, begin: i64, end
 }
 
 /// Returns the next piece that isn't halved, or `None` if the search has reached the end.
+#[inline(always)]
 pub fn next_piece<C: Curve, R: PieceRule>(
     curve: &mut C,
     rule: &R,

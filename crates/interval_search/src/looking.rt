@@ -60,6 +60,7 @@ impl<C: Curve> Search<C> {
     }
 
     /// Returns the next cell and the minute at which it begins, or `None` if no cell is left.
+    #[inline(always)]
     pub fn next(&mut self) -> Option<Found>
         ensures found { StepsOn self.old result self.new }
         ensures unchanged { (C.state self.new.curve).facts ≡ (C.state self.old.curve).facts }

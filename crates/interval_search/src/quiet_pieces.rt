@@ -56,6 +56,7 @@ fn cell_of<C: Curve>(curve: &C, piece: Piece) -> Cell
 }
 
 /// Returns the next cell and the minute at which it begins, or `None` if the search has reached the end.
+#[inline(always)]
 pub fn next_found<C: Curve>(curve: &mut C, front: &mut Front) -> Option<Found>
     requires { IsFront (C.state curve.old).facts.approximate (C.state curve.old) front.old }
     ensures unchanged { (C.state curve.new).facts ≡ (C.state curve.old).facts }

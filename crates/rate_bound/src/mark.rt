@@ -137,6 +137,7 @@ impl<'a> Curve for MarkCurve<'a> {
         self.error
     }
 
+    #[inline(always)]
     fn rate(&self, a: i64, n: u32) -> Option<i128> {
         match stretch_of(self.station, a, n) {
             Stretch::Within { year } => {

@@ -52,6 +52,8 @@ pub fn plain_level_rate(year: &Sums) -> i128
 }
 
 /// Returns the most that the slope changes in a minute across the new year between two years.
+#[cold]
+#[inline(never)]
 pub fn blended_slope_rate(earlier: &Sums, later: &Sums) -> i128
     requires earlier { AreWithinLimits earlier.now }
     requires later { AreWithinLimits later.now }
@@ -64,6 +66,8 @@ pub fn blended_slope_rate(earlier: &Sums, later: &Sums) -> i128
 }
 
 /// Returns the most that the level changes in a minute across the new year between two years.
+#[cold]
+#[inline(never)]
 pub fn blended_level_rate(earlier: &Sums, later: &Sums) -> i128
     requires earlier { AreWithinLimits earlier.now }
     requires later { AreWithinLimits later.now }

@@ -10,6 +10,7 @@ use station_curve::StationCurve;
 use year_blend::Stretch;
 
 /// Returns the stretch of the `n` minutes of a station from `a` on, at most `LONGEST_SPAN`.
+#[inline(always)]
 pub fn stretch_of(station: &StationCurve, a: i64, n: u32) -> Stretch
     requires first { InDomain station.now.first_year (length station.now.years) a }
     requires last { InDomain station.now.first_year (length station.now.years) (a +ℤ pos n) }

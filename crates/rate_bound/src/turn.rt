@@ -101,6 +101,7 @@ impl<'a> Curve for TurnCurve<'a> {
         self.error
     }
 
+    #[inline(always)]
     fn rate(&self, a: i64, n: u32) -> Option<i128> {
         match stretch_of(self.station, a, n) {
             Stretch::Within { year } => Some(plain_slope_rate(&self.station.sums(year))),

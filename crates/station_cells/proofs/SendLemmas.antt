@@ -68,6 +68,11 @@ same_state s = sym (put_none s)
 pub sends_none : (before : SinkState) (sent : Sent) → Sends before before sent [] 0 (Ok sent)
 sends_none before sent = (omega arith, omega arith, same_state before)
 
+-- a cell whose line stays in a buffer
+pub sends_held : (state : SinkState) (sent : Sent) (gone : List ℕ) → gone ≡ []
+    → Sends state state sent gone 1 (Ok (record { bytes = sent.bytes; cells = sent.cells + 1 }))
+sends_held state sent gone none = rw none (omega arith, omega arith, same_state state)
+
 -- ---- lines in a buffer
 
 by_room : (fits : Bool) (held line : List ℕ) → (if fits then [] else held) ++ (if fits then held ++ line else line) ≡ held ++ line

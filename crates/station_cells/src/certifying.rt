@@ -97,6 +97,33 @@ fn put_cell<S: Sink>(
     ensures holds { OnOk result (buffer.new.text.bytes ≡ held_after buffer.old.text.bytes (ended (cell_line_of cell.now))) }
     ensures length_bound { length (ended (cell_line_of cell.now)) ≤ 24 }
 {
+    if buffer.has_room_for_cell() {
+        buffer.put_cell(cell);
+        return Ok(Sent {
+            bytes: sent.bytes,
+            cells: sent.cells + 1,
+        });
+    }
+    put_cell_at_end(buffer, out, sent, cell)
+}
+
+// Does the same if the buffer may have to be written first.
+#[cold]
+#[inline(never)]
+fn put_cell_at_end<S: Sink>(
+    buffer: &mut LineBuffer,
+    out: &mut S,
+    sent: Sent,
+    cell: &Cell,
+) -> Result<Sent, WriteFailed>
+    requires cell { IsCell cell.now }
+    requires count_bound { sent.bytes + length buffer.old.text.bytes < 2 ^ 64 }
+    requires count { sent.cells + 1 < 2 ^ 64 }
+    ensures sends { Sends (S.state out.old) (S.state out.new) sent
+        (gone_for buffer.old.text.bytes (ended (cell_line_of cell.now))) 1 result }
+    ensures holds { OnOk result (buffer.new.text.bytes ≡ held_after buffer.old.text.bytes (ended (cell_line_of cell.now))) }
+    ensures length_bound { length (ended (cell_line_of cell.now)) ≤ 24 }
+{
     let mut line = ArrayString::<24>::new();
     cell_line(cell, &mut line);
     let sent = buffer.put(out, sent, line.as_str())?;

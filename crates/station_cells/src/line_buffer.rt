@@ -1,11 +1,18 @@
 //! A buffer of lines, which saves a system call for each line.
 
-ghost use Rattle.std.specs.Prelude.{◌≡◌, ◌+◌, ◌<◌, ◌≤◌, ◌^◌, [], length, OnErr, OnOk};
+ghost use Rattle.std.specs.Prelude.{◌≡◌, ◌+◌, ◌<◌, ◌≤◌, ◌^◌, ◌↔◌, IsTrue, [], length, OnErr, OnOk};
+ghost use Rattle.cert_text.specs.Certificates.{IsCell};
+ghost use Rattle.cert_text.specs.Lines.{cell_line_of, ended};
 ghost use Rattle.station_cells.specs.Sending.{Sends, gone_for, held_after};
 
 use crate::sending::{Sent, send};
 use arrayvec::ArrayString;
+use cert_text::push_cell_line;
+use curve_law::Cell;
 use tide_edge::{Sink, WriteFailed};
+
+/// The most bytes of a cell's line with its LF.
+const MOST_CELL_BYTES: usize = 24;
 
 /// A buffer of the end of a text that isn't written yet, at most 4,096 bytes. It doesn't allocate.
 #[derive(Drop)]
@@ -21,6 +28,24 @@ impl LineBuffer {
         LineBuffer {
             text: ArrayString::new(),
         }
+    }
+
+    /// Returns true if there is room for the line of any cell.
+    pub fn has_room_for_cell(&self) -> bool
+        ensures { IsTrue result ↔ (length self.now.text.bytes + MOST_CELL_BYTES ≤ 4096) }
+    {
+        self.text.len() + MOST_CELL_BYTES <= self.text.capacity()
+    }
+
+    /// Appends the line of `cell`, for which there is room.
+    pub fn put_cell(&mut self, cell: &Cell)
+        requires cell { IsCell cell.now }
+        requires room { length self.old.text.bytes + MOST_CELL_BYTES ≤ 4096 }
+        ensures holds { self.new.text.bytes ≡ held_after self.old.text.bytes (ended (cell_line_of cell.now)) }
+        ensures nothing_gone { gone_for self.old.text.bytes (ended (cell_line_of cell.now)) ≡ [] }
+        ensures length_bound { length (ended (cell_line_of cell.now)) ≤ 24 }
+    {
+        push_cell_line(cell, &mut self.text);
     }
 
     /// Appends `line`, of at most 4,096 bytes, to the buffer. If there is no room for it the buffer

@@ -269,6 +269,7 @@ impl StationCurve {
     /// Returns an approximation of [`level`](StationCurve::level) at minute `m`, within
     /// [`level_error`](StationCurve::level_error) of it. It is faster than the level: by the approximate
     /// sine outside blends, and exact in a blend.
+    #[inline(always)]
     pub fn approximate_level(&self, m: i64) -> i128
         requires { InDomain self.now.first_year (length self.now.years) m }
         ensures value { result ≡ approximate_level_of self.now m }
@@ -284,6 +285,7 @@ impl StationCurve {
     /// Returns an approximation of [`slope`](StationCurve::slope) at minute `m`, within
     /// [`slope_error`](StationCurve::slope_error) of it. It is faster than the slope: by the approximate
     /// sine outside blends, and exact in a blend.
+    #[inline(always)]
     pub fn approximate_slope(&self, m: i64) -> i128
         requires { InDomain self.now.first_year (length self.now.years) m }
         ensures value { result ≡ approximate_slope_of self.now m }
@@ -325,6 +327,7 @@ impl StationCurve {
     /// Returns the stretch of the minutes from `m` to `m + n`, both included: the plain part of one year,
     /// or across one new year. The minutes are of the book's years, and `n` is at most
     /// [`LONGEST_SPAN`](year_blend::LONGEST_SPAN).
+    #[inline(always)]
     pub fn stretch(&self, m: i64, n: u32) -> Stretch
         requires first { InDomain self.now.first_year (length self.now.years) m }
         requires last { InDomain self.now.first_year (length self.now.years) (m +ℤ pos n) }
@@ -351,6 +354,7 @@ impl StationCurve {
     }
 
     /// Returns the year whose plain part contains minute `m`, or `None` in a blend.
+    #[inline(always)]
     fn plain_year(&self, m: i64) -> Option<u32>
         requires { InDomain self.now.first_year (length self.now.years) m }
         ensures { IsPlainYear self.now.first_year (length self.now.years) m result }
@@ -363,6 +367,7 @@ impl StationCurve {
 
     /// Returns the likely year of the minutes from `first` to `last`, if they are all at least an hour
     /// from both its ends.
+    #[inline(always)]
     fn year_around(&self, first: i64, last: i64) -> Option<u32>
         requires first { InDomain self.now.first_year (length self.now.years) first }
         requires last { InDomain self.now.first_year (length self.now.years) last }
@@ -377,6 +382,7 @@ impl StationCurve {
     }
 
     /// Returns the year that would contain minute `m` if all years had the same length.
+    #[inline(always)]
     fn likely_year(&self, m: i64) -> u32
         ensures { result < length self.now.years }
     {

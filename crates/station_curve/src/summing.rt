@@ -45,6 +45,7 @@ pub fn falls(waves: &[Wave], minutes: u64) -> i128
 
 /// Returns the sum of the waves' approximate heights, `minutes` after an hour before the year, in 2^15
 /// billionths of a millionth.
+#[inline(never)]
 pub fn approximate_heights(waves: &[Wave], minutes: u64) -> i64
     requires time { minutes ≤ 600000 }
     requires amount { amount_of waves.now ≤ 10 ^ 9 }
@@ -60,6 +61,7 @@ pub fn approximate_heights(waves: &[Wave], minutes: u64) -> i64
 
 /// Returns the sum of the waves' approximate falls, `minutes` after an hour before the year, in 2^24 of a
 /// fall's unit.
+#[inline(never)]
 pub fn approximate_falls(waves: &[Wave], minutes: u64) -> i64
     requires time { minutes ≤ 600000 }
     requires steepness { steepness_of waves.now ≤ 10 ^ 17 }

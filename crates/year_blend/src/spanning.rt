@@ -14,6 +14,8 @@ pub const LONGEST_SPAN: u32 = 1024;
 /// Returns the stretch of the minutes from `m` to `m + n`, both included and of the domain, among `years`
 /// years from `first_year` on: the plain part of one year, or across one new year. `n` is at most
 /// [`LONGEST_SPAN`].
+#[cold]
+#[inline(never)]
 pub fn stretch(first_year: i32, years: u32, m: i64, n: u32) -> Stretch
     requires years { AreYears first_year years }
     requires first { InDomain first_year years m }

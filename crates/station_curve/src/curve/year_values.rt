@@ -25,6 +25,7 @@ impl StationCurve {
     }
 
     /// Returns the approximate level by the constants of year `year`.
+    #[inline(always)]
     pub(super) fn approximate_year_level(&self, year: u32, m: i64) -> i128
         requires year { year < length self.now.years }
         requires in_range { IsWithinHourOfYear self.now.first_year year m }
@@ -37,6 +38,7 @@ impl StationCurve {
     }
 
     /// Returns the approximate slope by the constants of year `year`.
+    #[inline(always)]
     pub(super) fn approximate_year_slope(&self, year: u32, m: i64) -> i128
         requires year { year < length self.now.years }
         requires in_range { IsWithinHourOfYear self.now.first_year year m }

@@ -1,64 +1,12 @@
-use Rattle.std.proofs.Common.{◌*◌, ◌^◌, pos, ◌+ℤ◌, inl, inr, refl, sym, w64, FitsSigned, rules}
+use Rattle.std.proofs.Common.{◌*◌, ◌^◌, pos, refl, sym, w64, FitsSigned, rules}
 use Rattle.std.proofs.lemmas.Int.{to_z-of_z}
 use mir.Syntax.{w128}
-use Rattle.curve_law.proofs.ApproximateLemmas.{some-decided, decided-side, decided-crossed, too_short, decided-far, approximate-sizes, error-positive, error-narrow, twice-narrow, twice-fits, twice-value, sum-fits, sum-value, sum-size}
+use Rattle.curve_law.proofs.ApproximateLemmas.{some-decided, too_short, decided-far, approximate-sizes, error-positive, error-narrow, twice-narrow, twice-fits, twice-value, sum-fits, sum-value, sum-size}
 use Rattle.curve_law.proofs.QuietLemmas.{no_rate-quiet, quiet_cell, rate-positive, rate-small}
 use Rattle.curve_law.proofs.approximate.quiet_if_decided.Goals as goal
 
-pub returns-then-branch : goal.returns-then-branch
-returns-then-branch g c =
-    let meaning = (g.C.Curve.state c.args.curve.now).facts.meaning in
-    let error_fits : FitsSigned w128 c.error-error.result = search rules in
-    let error = to_z-of_z w128 c.error-error.result error_fits in
-    let approximate = to_z-of_z w128 c.args.approximate c.ranges.approximate in
-    let approximate_end = to_z-of_z w128 c.args.approximate_end c.ranges.approximate_end in
-    let decided = simp (approximate, error) at c.in_ok-side_of.ensures in
-    let decided_end = simp (approximate_end, error) at c.in_ok-side_of-2.ensures in
-    let first = decided-side c.args.approximate c.error-error.result (meaning.track.value c.args.a)
-    (g.C.Curve.state c.args.curve.now).facts.error c.in_ok-side_of.field-0 c.error-error.ensures decided c.requires.approximate in
-    let second = decided-side c.args.approximate_end c.error-error.result
-    (meaning.track.value (c.args.a +ℤ pos c.args.n)) (g.C.Curve.state c.args.curve.now).facts.error
-    c.in_ok-side_of-2.field-0 c.error-error.ensures decided_end c.requires.approximate_end in
-    elim c.then-branch.either [
-      | inl other ↦ decided-crossed meaning c.args.a c.args.n c.in_ok-side_of.field-0 c.in_ok-side_of-2.field-0 first second other
-      | inr short ↦ too_short meaning c.args.a c.args.n short.1
-    ]
-
-pub side_of-requires-clause-approximate : goal.side_of-requires-clause-approximate
-side_of-requires-clause-approximate g c =
-    let sizes = approximate-sizes (g.C.Curve.state c.args.curve.now).facts.meaning c.args.a c.args.n _
-    c.args.approximate c.args.approximate_end (g.met.C.Curve.lawful c.args.curve.now)
-    (g.met.C.Curve.narrow c.args.curve.now) c.requires.span c.requires.approximate c.requires.approximate_end in
-    rw (to_z-of_z w128 c.args.approximate c.ranges.approximate) sizes.0
-
-pub side_of-requires-clause-least : goal.side_of-requires-clause-least
-side_of-requires-clause-least g c =
-    let fits : FitsSigned w128 c.error-error.result = search rules in
-    rw (to_z-of_z w128 c.error-error.result fits) (error-positive c.error-error.result _ c.error-error.ensures)
-
-pub side_of-requires-clause-most : goal.side_of-requires-clause-most
-side_of-requires-clause-most g c =
-    let fits : FitsSigned w128 c.error-error.result = search rules in
-    rw (to_z-of_z w128 c.error-error.result fits)
-    (error-narrow c.error-error.result _ (10 ^ 36) c.error-error.ensures (g.met.C.Curve.narrow c.args.curve.now))
-
-pub side_of-requires-2-clause-approximate : goal.side_of-requires-2-clause-approximate
-side_of-requires-2-clause-approximate g c =
-    let sizes = approximate-sizes (g.C.Curve.state c.args.curve.now).facts.meaning c.args.a c.args.n _
-    c.args.approximate c.args.approximate_end (g.met.C.Curve.lawful c.args.curve.now)
-    (g.met.C.Curve.narrow c.args.curve.now) c.requires.span c.requires.approximate c.requires.approximate_end in
-    rw (to_z-of_z w128 c.args.approximate_end c.ranges.approximate_end) sizes.1
-
-pub side_of-requires-2-clause-least : goal.side_of-requires-2-clause-least
-side_of-requires-2-clause-least g c =
-    let fits : FitsSigned w128 c.error-error.result = search rules in
-    rw (to_z-of_z w128 c.error-error.result fits) (error-positive c.error-error.result _ c.error-error.ensures)
-
-pub side_of-requires-2-clause-most : goal.side_of-requires-2-clause-most
-side_of-requires-2-clause-most g c =
-    let fits : FitsSigned w128 c.error-error.result = search rules in
-    rw (to_z-of_z w128 c.error-error.result fits)
-    (error-narrow c.error-error.result _ (10 ^ 36) c.error-error.ensures (g.met.C.Curve.narrow c.args.curve.now))
+pub returns-then-n-lt2 : goal.returns-then-n-lt2
+returns-then-n-lt2 g c = too_short (g.C.Curve.state c.args.curve.now).facts.meaning c.args.a c.args.n c.if-n-lt2.true
 
 pub rate-requires : goal.rate-requires
 rate-requires g c =
@@ -126,31 +74,21 @@ returns-in-Some g c =
     let meaning = (g.C.Curve.state c.args.curve.now).facts.meaning in
     let bound = (g.C.Curve.state c.args.curve.now).facts.error in
     let fits : FitsSigned w64 c.args.a = c.ranges.a in
-    let error_fits : FitsSigned w128 c.error-error.result = search rules in
     let rate_fits : FitsSigned w128 c.in-Some.rate = search rules in
-    let error = to_z-of_z w128 c.error-error.result error_fits in
-    let approximate = to_z-of_z w128 c.args.approximate c.ranges.approximate in
-    let approximate_end = to_z-of_z w128 c.args.approximate_end c.ranges.approximate_end in
-    let decided = simp (approximate, error) at c.in_ok-side_of.ensures in
-    let decided_end = simp (approximate_end, error) at c.in_ok-side_of-2.ensures in
-    let first = decided-side c.args.approximate c.error-error.result (meaning.track.value c.args.a) bound
-    c.in_ok-side_of.field-0 c.error-error.ensures decided c.requires.approximate in
-    let second =
-    decided-side c.args.approximate_end c.error-error.result (meaning.track.value (c.args.a +ℤ pos c.args.n)) bound
-    c.in_ok-side_of-2.field-0 c.error-error.ensures decided_end c.requires.approximate_end in
     let rate = simp to_z-of_z at c.in-Some.ensures in
     let most = rw (to_z-of_z w128 c.in-Some.rate rate_fits) at c.most_change.ensures.value in
+    let lawful = g.met.C.Curve.lawful c.args.curve.now in
     let narrow = g.met.C.Curve.narrow c.args.curve.now in
     let sizes = approximate-sizes meaning c.args.a c.args.n bound c.args.approximate c.args.approximate_end
-    (g.met.C.Curve.lawful c.args.curve.now) narrow c.requires.span c.requires.approximate c.requires.approximate_end in
+    lawful narrow c.requires.span c.requires.approximate c.requires.approximate_end in
     let change_fits : FitsSigned w128 c.most_change.result = search rules in
     let sum = sum-value c.args.approximate c.args.approximate_end sizes.0 sizes.1 in
     let twice = twice-value c.error-error.result bound c.error-error.ensures narrow in
     let change = to_z-of_z w128 c.most_change.result change_fits in
     some-decided c.passes.result c.passes.ensures
     (λ far sure. decided-far meaning c.args.a c.args.n c.in-Some.rate c.args.approximate c.args.approximate_end
-    c.most_change.result (pos (2 * bound)) bound c.in_ok-side_of.field-0 c.in_ok-side_of-2.field-0 far
-    c.if-n-lt2.false c.requires.count_bound rate first second c.if-branch.false most refl c.requires.approximate
+    c.most_change.result (pos (2 * bound)) bound far lawful c.requires.span
+    c.if-n-lt2.false c.requires.count_bound rate most refl c.requires.approximate
     c.requires.approximate_end (rw (sum, twice, change) at sure))
 
 pub returns-in-None : goal.returns-in-None

@@ -17,6 +17,6 @@ returns-in-None c =
     let same : c.pair.result ≡ cond (is_absent first) (pos 0, pos 0) (a, e) =
     pair ∙ ap (λ (b : Bool). cond b (pos 0, pos 0) (a, e)) c.is_absent.ensures in
     let known : (is_absent first || is_name first c.args.name.now) ≡ true = sym c.is_for.ensures ∙ c.if-not-is_for.false in
-    rw same (pair_is c.args.name.now c.args.text.now first c.in_ok-first.rest.now c.in_ok-amplitude.second.now
-    c.in_ok-epoch.third.now a e c.in_ok-first.ensures.exact known c.in_ok-amplitude.ensures c.in_ok-epoch.ensures
-    c.in-None.ensures.exact)
+    rw same (pair_is c.args.name.now c.args.text.now first c.in_ok-first.rest.now c.without_padding.result.now
+    c.in_ok-amplitude.second.now c.in_ok-epoch.third.now a e c.in_ok-first.ensures.exact c.without_padding.ensures known
+    c.in_ok-amplitude.ensures c.in_ok-epoch.ensures c.in-None.ensures.exact)
