@@ -29,8 +29,7 @@ use Rattle.station_curve.proofs.Steps.{product_gap}
 use Rattle.station_curve.proofs.Turning.{sine_after, cosine_ahead, binary_angle_after-below, binary_angle_ahead-below}
 use Rattle.station_curve.proofs.YearChanges.{same_mean}
 use Rattle.harmonics_book.specs.declared.book.Book.{Book}
-use Rattle.harmonics_book.specs.Books.{IsBook}
-use Rattle.station_curve.specs.Curves.{IsPredicted, IsPrediction, Prediction, waves_for, waves_of}
+use Rattle.station_curve.specs.Curves.{IsPredicted, IsPrediction, Prediction, waves_for, waves_of, AreTimes}
 use Rattle.harmonics_book.specs.declared.book.Station.{Station}
 use Rattle.station_curve.specs.Schureman.{predicted_level, predicted_slope, predicted_year_level, predicted_year_slope}
 use Rattle.station_curve.proofs.WithinLimits.{over-touched}
@@ -111,26 +110,26 @@ approximate_fall_gap t few h =
 few_minutes : (b : Book) (m : ℤ) (year : ℕ) → IsWithinHourOfYear b.first_year year m → minutes_into b.first_year year m ≤ 600000
 few_minutes b m year approximate = abs_below ((m -ℤ start_of b.first_year year) +ℤ pos 60) 600000 approximate.least approximate.most
 
-year_level_approximate : (b : Book) (s : Station) (m : ℤ) (year : ℕ) → IsBook b → IsWithinHourOfYear b.first_year year m
+year_level_approximate : (b : Book) (s : Station) (m : ℤ) (year : ℕ) → AreTimes b → IsWithinHourOfYear b.first_year year m
     → unsigned_abs (approximate_year_level b s m year -ℤ predicted_year_level b s m year) ≤ approximate_error * amount_of (waves_of b s year)
 unfolding approximate_year_level
-year_level_approximate b s m year book approximate =
+year_level_approximate b s m year times approximate =
     let t = minutes_into b.first_year year m in
     let hs = waves_of b s year in
     let sums : unsigned_abs ((pos 32768 *ℤ approximate_heights_of t hs) -ℤ heights_of t hs)
     ≤ approximate_error * amount_of hs + 0 * sum_by (λ h. 0) hs =
     sums_approximate (pos 32768) approximate_error 0 (approximate_height_at t) (height_at t) (λ h. unsigned_abs h.amplitude) (λ h. 0)
     (approximate_height_gap t (few_minutes b m year approximate)) hs (pos 0) (pos 0) 0 0 (omega arith) in
-    rw (year_level_is b s m year book approximate.least, same_mean (pos (10 ^ 9) *ℤ s.datum) (pos 32768 *ℤ approximate_heights_of t hs) (heights_of t hs)) (omega (arith, sums))
+    rw (year_level_is b s m year times approximate.least, same_mean (pos (10 ^ 9) *ℤ s.datum) (pos 32768 *ℤ approximate_heights_of t hs) (heights_of t hs)) (omega (arith, sums))
 
-year_slope_approximate : (b : Book) (s : Station) (m : ℤ) (year : ℕ) → IsBook b → IsWithinHourOfYear b.first_year year m
+year_slope_approximate : (b : Book) (s : Station) (m : ℤ) (year : ℕ) → AreTimes b → IsWithinHourOfYear b.first_year year m
     → unsigned_abs (approximate_year_slope b s m year -ℤ predicted_year_slope b s m year)
     ≤ approximate_error * steepness_of (waves_of b s year) + speed_error * amount_of (waves_of b s year)
 unfolding approximate_year_slope
-year_slope_approximate b s m year book approximate =
+year_slope_approximate b s m year times approximate =
     let t = minutes_into b.first_year year m in
     let hs = waves_of b s year in
-    rw (year_slope_is b s m year book approximate.least)
+    rw (year_slope_is b s m year times approximate.least)
     (turned_gap (pos 16777216 *ℤ approximate_falls_of t hs) (falls_of t hs) (approximate_error * steepness_of hs + speed_error * amount_of hs)
     (sums_approximate (pos 16777216) approximate_error speed_error (approximate_fall_at t) (fall_at t)
     (λ h. unsigned_abs h.amplitude * h.speed) (λ h. unsigned_abs h.amplitude)
@@ -168,10 +167,10 @@ in_error approximate exact error most close small =
 pub no_gap : (value exact : ℤ) (n : ℕ) → value ≡ exact → unsigned_abs (value -ℤ exact) ≤ n
 no_gap value exact n same = omega (arith, ints, same)
 
-level_at_place : (c : Prediction) (m : ℤ) (p : Place) → IsBook c.book → p ≡ place_of c.book.first_year c.book.years m → IsPlaceUsed c m p
+level_at_place : (c : Prediction) (m : ℤ) (p : Place) → AreTimes c.book → p ≡ place_of c.book.first_year c.book.years m → IsPlaceUsed c m p
     → unsigned_abs (approximate_level_of c.book c.station m -ℤ predicted_level c.book c.station m) ≤ level_error_of c
 unfolding level_error_of
-level_at_place c m (Plain year) book at used =
+level_at_place c m (Plain year) times at used =
     let b = c.book in
     let s = c.station in
     let greatest = greatest-each (λ year. amount_of (waves_for c year)) b.years year used.below in
@@ -179,20 +178,20 @@ level_at_place c m (Plain year) book at used =
       approximate_level_of-plain b s m year at,
       ← level_plain b s m year (predicted_year_level b s m year) (pos total_weight *ℤ predicted_year_level b s m year) at refl refl,
     )
-    (in_error (approximate_year_level b s m year) (predicted_year_level b s m year) _ _ (year_level_approximate b s m year book used.hour)
+    (in_error (approximate_year_level b s m year) (predicted_year_level b s m year) _ _ (year_level_approximate b s m year times used.hour)
     (omega (arith, rw (over-touched b s c.first c.last year used.touched) at greatest)))
-level_at_place c m (Blend year x) book at used =
+level_at_place c m (Blend year x) times at used =
     no_gap (approximate_level_of c.book c.station m) (predicted_level c.book c.station m) _
     (approximate_level_of-blend c.book c.station m year x at)
 
 pub level_approximate : (c : Prediction) (m : ℤ) → IsPrediction c → IsPredicted c m
     → unsigned_abs (approximate_level_of c.book c.station m -ℤ predicted_level c.book c.station m) ≤ level_error_of c
-level_approximate c m valid at = level_at_place c m _ valid.limits.book refl (place_used c m valid at)
+level_approximate c m valid at = level_at_place c m _ valid.limits.times refl (place_used c m valid at)
 
-slope_at_place : (c : Prediction) (m : ℤ) (p : Place) → IsBook c.book → p ≡ place_of c.book.first_year c.book.years m → IsPlaceUsed c m p
+slope_at_place : (c : Prediction) (m : ℤ) (p : Place) → AreTimes c.book → p ≡ place_of c.book.first_year c.book.years m → IsPlaceUsed c m p
     → unsigned_abs (approximate_slope_of c.book c.station m -ℤ predicted_slope c.book c.station m) ≤ slope_error_of c
 unfolding slope_error_of
-slope_at_place c m (Plain year) book at used =
+slope_at_place c m (Plain year) times at used =
     let b = c.book in
     let s = c.station in
     let amount = greatest-each (λ year. amount_of (waves_for c year)) b.years year used.below in
@@ -202,15 +201,15 @@ slope_at_place c m (Plain year) book at used =
       approximate_slope_of-plain b s m year at,
       ← slope_plain b s m year (predicted_year_slope b s m year) (pos total_weight *ℤ predicted_year_slope b s m year) at refl refl,
     )
-    (in_error (approximate_year_slope b s m year) (predicted_year_slope b s m year) _ _ (year_slope_approximate b s m year book used.hour)
+    (in_error (approximate_year_slope b s m year) (predicted_year_slope b s m year) _ _ (year_slope_approximate b s m year times used.hour)
     (omega (arith, rw touched at steepness, rw touched at amount)))
-slope_at_place c m (Blend year x) book at used =
+slope_at_place c m (Blend year x) times at used =
     no_gap (approximate_slope_of c.book c.station m) (predicted_slope c.book c.station m) _
     (approximate_slope_of-blend c.book c.station m year x at)
 
 pub slope_approximate : (c : Prediction) (m : ℤ) → IsPrediction c → IsPredicted c m
     → unsigned_abs (approximate_slope_of c.book c.station m -ℤ predicted_slope c.book c.station m) ≤ slope_error_of c
-slope_approximate c m valid at = slope_at_place c m _ valid.limits.book refl (place_used c m valid at)
+slope_approximate c m valid at = slope_at_place c m _ valid.limits.times refl (place_used c m valid at)
 
 -- an approximate value of a year times the total weight
 pub full_weight : (approximate stated : ℤ) → unsigned_abs approximate ≤ 2 * 10 ^ 26

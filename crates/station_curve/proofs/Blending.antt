@@ -12,8 +12,7 @@ use Rattle.harmonics_book.specs.declared.book.Book.{Book}
 use Rattle.harmonics_book.specs.declared.book.Station.{Station}
 use Rattle.year_blend.specs.Places.{place_of}
 use Rattle.station_curve.specs.Schureman.{predicted_level, predicted_slope, predicted_year_level, predicted_year_slope}
-use Rattle.station_curve.specs.Curves.{waves_of}
-use Rattle.harmonics_book.specs.Books.{IsBook}
+use Rattle.station_curve.specs.Curves.{waves_of, AreTimes}
 use Rattle.station_curve.proofs.Circling.{IsSince}
 use Rattle.station_curve.proofs.Predicting.{year_level_is}
 
@@ -44,13 +43,13 @@ slope_plain b s m year slope value at is_slope is_value =
 cancels : (d a b : ℤ) → a -ℤ b ≡ (d +ℤ a) -ℤ (d +ℤ b)
 cancels d a b = omega (arith, ints)
 
-pub level_change : (b : Book) (s : Station) (m : ℤ) (year : ℕ) (later earlier : ℤ) → IsBook b
+pub level_change : (b : Book) (s : Station) (m : ℤ) (year : ℕ) (later earlier : ℤ) → AreTimes b
     → IsSince b.first_year year m → IsSince b.first_year (year - 1) m
     → later ≡ heights_of (minutes_into b.first_year year m) (waves_of b s year)
     → earlier ≡ heights_of (minutes_into b.first_year (year - 1) m) (waves_of b s (year - 1))
     → later -ℤ earlier ≡ predicted_year_level b s m year -ℤ predicted_year_level b s m (year - 1)
-level_change b s m year later earlier book later_since earlier_since is_later is_earlier =
-    rw (year_level_is b s m year book later_since, year_level_is b s m (year - 1) book earlier_since, ← is_later, ← is_earlier)
+level_change b s m year later earlier times later_since earlier_since is_later is_earlier =
+    rw (year_level_is b s m year times later_since, year_level_is b s m (year - 1) times earlier_since, ← is_later, ← is_earlier)
     (cancels (pos (10 ^ 9) *ℤ s.datum) later earlier)
 
 pub slope_blend : (b : Book) (s : Station) (m : ℤ) (year : ℕ) (x earlier later weight change value drifted : ℤ)

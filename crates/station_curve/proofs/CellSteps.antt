@@ -19,16 +19,14 @@ use Rattle.year_blend.proofs.WeightLemmas.{weight_within, slope_within, weight_s
 use Rattle.station_curve.proofs.HourOfNewYear.{mixed_at, drift_at, IsAround, level_around, slope_around}
 use Rattle.station_curve.proofs.Steps.{mixed_gap, product_gap, sum_gap, difference_gap}
 use Rattle.harmonics_book.specs.declared.book.Book.{Book}
-use Rattle.harmonics_book.specs.Books.{IsBook}
 use Rattle.station_curve.proofs.Circling.{IsSince}
 use Rattle.harmonics_book.specs.declared.book.Station.{Station}
-use Rattle.station_curve.proofs.Touched.{book_years}
 use Rattle.station_curve.specs.Schureman.{predicted_level, predicted_slope, predicted_year_level, predicted_year_slope}
-use Rattle.station_curve.specs.Curves.{waves_of}
+use Rattle.station_curve.specs.Curves.{waves_of, AreTimes}
 
 -- a step outside blends
 pub record IsPlainStep (b : Book) (m : ℤ) (year : ℕ) : Type 0 where
-  pub book : IsBook b
+  pub times : AreTimes b
   pub here : place_of b.first_year b.years m ≡ Plain year
   pub there : place_of b.first_year b.years (m +ℤ pos 1) ≡ Plain year
   pub since : IsSince b.first_year year m
@@ -52,14 +50,14 @@ pub plain_level_gap : (b : Book) (s : Station) (m : ℤ) (year : ℕ) → IsPlai
 plain_level_gap b s m year step =
     rw (level_plain b s (m +ℤ pos 1) year step.there, level_plain b s m year step.here)
     (scaled_gap (pos total_weight) (predicted_year_level b s (m +ℤ pos 1) year) (predicted_year_level b s m year)
-    (near_of (waves_of b s year)) (year_level_gap b s m year step.book step.since))
+    (near_of (waves_of b s year)) (year_level_gap b s m year step.times step.since))
 
 pub plain_slope_gap : (b : Book) (s : Station) (m : ℤ) (year : ℕ) → IsPlainStep b m year
     → unsigned_abs (predicted_slope b s (m +ℤ pos 1) -ℤ predicted_slope b s m) ≤ total_weight * far_of (waves_of b s year)
 plain_slope_gap b s m year step =
     rw (slope_plain b s (m +ℤ pos 1) year step.there, slope_plain b s m year step.here)
     (scaled_gap (pos total_weight) (predicted_year_slope b s (m +ℤ pos 1) year) (predicted_year_slope b s m year)
-    (far_of (waves_of b s year)) (year_slope_gap b s m year step.book step.since))
+    (far_of (waves_of b s year)) (year_slope_gap b s m year step.times step.since))
 
 -- a step within an hour of a new year
 pub record IsBlendStep (b : Book) (m : ℤ) (k : ℕ) (x : ℤ) : Type 0 where
@@ -93,8 +91,8 @@ blend_level_gap b s m k x step =
     let next = m +ℤ pos 1 in
     let in_range = step.here.in_range in
     let within = weight_within (x +ℤ pos 1) step.there.in_range in
-    let earlier = year_level_gap b s m k step.here.book step.earlier_since in
-    let later = year_level_gap b s m (suc k) step.here.book step.later_since in
+    let earlier = year_level_gap b s m k step.here.times step.earlier_since in
+    let later = year_level_gap b s m (suc k) step.here.times step.later_since in
     rw (level_around b s next k (x +ℤ pos 1) step.there, level_around b s m k x step.here)
     (mixed_gap (weight_of x) (weight_of (x +ℤ pos 1)) (predicted_year_level b s m k) (predicted_year_level b s m (suc k))
     (predicted_year_level b s next k) (predicted_year_level b s next (suc k))
@@ -123,7 +121,7 @@ drift_gap b s m k x step =
     (weight_turn (weight_slope_of (x +ℤ pos 1)) within.0 within.1)
     (difference_gap (predicted_year_level b s m (suc k)) (predicted_year_level b s m k) (predicted_year_level b s next (suc k))
     (predicted_year_level b s next k) (near_of (waves_of b s (suc k))) (near_of (waves_of b s k))
-    (year_level_gap b s m (suc k) step.here.book step.later_since) (year_level_gap b s m k step.here.book step.earlier_since))
+    (year_level_gap b s m (suc k) step.here.times step.later_since) (year_level_gap b s m k step.here.times step.earlier_since))
     (turn_change (weight_slope_of x) (weight_slope_of (x +ℤ pos 1)) (slope_step x step.here.in_range step.before))
     (level_difference b s m (suc k) k)
 
@@ -133,8 +131,8 @@ blend_slope_gap b s m k x step =
     let next = m +ℤ pos 1 in
     let in_range = step.here.in_range in
     let within = weight_within (x +ℤ pos 1) step.there.in_range in
-    let earlier = year_slope_gap b s m k step.here.book step.earlier_since in
-    let later = year_slope_gap b s m (suc k) step.here.book step.later_since in
+    let earlier = year_slope_gap b s m k step.here.times step.earlier_since in
+    let later = year_slope_gap b s m (suc k) step.here.times step.later_since in
     let apart =
     abs_minus (predicted_year_slope b s m (suc k)) (predicted_year_slope b s m k) (10 ^ 9 * steepness_of (waves_of b s (suc k)))
     (10 ^ 9 * steepness_of (waves_of b s k)) (year_slope_size b s m (suc k)) (year_slope_size b s m k) in
@@ -153,11 +151,11 @@ blend_slope_gap b s m k x step =
 abbrev pub IsStepOver : Book → ℤ → ℕ → Type 0
 IsStepOver b m k = IsPlainStep b m k ⊎ (IsPlainStep b m (suc k) ⊎ ((x : ℤ) × IsBlendStep b m k x))
 
-pub step_over : (b : Book) (a : ℤ) (n k i : ℕ) → IsBook b
+pub step_over : (b : Book) (a : ℤ) (n k i : ℕ) → AreTimes b
     → InDomain b.first_year b.years a → InDomain b.first_year b.years (a +ℤ pos n)
     → n ≤ LONGEST_SPAN → IsOver b.first_year b.years a n (suc k) → i < n → IsStepOver b (a +ℤ pos i) k
-step_over b a n k i book first last short over inside =
-    let are = book_years b book in
+step_over b a n k i times first last short over inside =
+    let are = times.years in
     let year = b.first_year in
     let years = b.years in
     let low = are.least in
@@ -172,7 +170,7 @@ step_over b a n k i book first last short over inside =
     let x = m -ℤ start_of year (suc k) in
     by_lt_z x (negsuc 59)
     (λ before. inl (record {
-      book = book;
+      times = times;
       here = plain_inside year years m k low (omega arith) (omega (arith, ints)) (omega (arith, ints));
       there = plain_inside year years (m +ℤ pos 1) k low (omega arith) (omega (arith, ints)) (omega (arith, ints));
       since = omega (arith, ints);
@@ -182,14 +180,14 @@ step_over b a n k i book first last short over inside =
       x,
       record {
         here = record {
-          book = book;
+          times = times;
           domain = record { least = omega (arith, ints); most = omega (arith, ints) };
           inner = inner;
           distance = refl;
           in_range = record { least = in_range; most = omega (arith, ints) };
         };
         there = record {
-          book = book;
+          times = times;
           domain = record { least = omega (arith, ints); most = omega (arith, ints) };
           inner = inner;
           distance = moved m (start_of year (suc k));
@@ -201,7 +199,7 @@ step_over b a n k i book first last short over inside =
       },
     )))
     (λ after. inr (inl (record {
-      book = book;
+      times = times;
       here = plain_inside year years m (suc k) low inner (omega (arith, ints)) (omega (arith, ints));
       there = plain_inside year years (m +ℤ pos 1) (suc k) low inner (omega (arith, ints)) (omega (arith, ints));
       since = omega (arith, ints);

@@ -9,10 +9,9 @@ use Rattle.year_blend.specs.Weights.{total_weight, weight_of, weight_slope_of, I
 use Rattle.year_blend.proofs.PlaceLemmas.{start_of-later, place_of-only}
 use Rattle.year_blend.proofs.StretchLemmas.{plain_inside}
 use Rattle.harmonics_book.specs.declared.book.Book.{Book}
-use Rattle.harmonics_book.specs.Books.{IsBook}
 use Rattle.harmonics_book.specs.declared.book.Station.{Station}
-use Rattle.station_curve.proofs.Touched.{book_years}
 use Rattle.station_curve.specs.Schureman.{predicted_level, predicted_slope, predicted_year_level, predicted_year_slope}
+use Rattle.station_curve.specs.Curves.{AreTimes}
 
 -- two values by their weights, and the part that comes from the moving weight
 abbrev pub mixed_at : ℤ → ℤ → ℤ → ℤ
@@ -40,7 +39,7 @@ drift_at-begin c = omega (arith, ints)
 
 -- a minute at most an hour from the start of a year other than the first
 pub record IsAround (b : Book) (m : ℤ) (k : ℕ) (x : ℤ) : Type 0 where
-  pub book : IsBook b
+  pub times : AreTimes b
   pub domain : InDomain b.first_year b.years m
   pub inner : suc k < b.years
   pub distance : x ≡ m -ℤ start_of b.first_year (suc k)
@@ -56,7 +55,7 @@ placed_around : (b : Book) (m : ℤ) (k : ℕ) (x : ℤ) → IsAround b m k x �
 placed_around b m k x around =
     let first = b.first_year in
     let years = b.years in
-    let low = around.book.first_year.least in
+    let low = around.times.years.least in
     let distance = around.distance in
     let least = around.in_range.least in
     let most = around.in_range.most in
@@ -65,7 +64,7 @@ placed_around b m k x around =
     let next = start_of-later first (suc k) (suc (suc k)) low (omega arith) in
     by_lt_z (negsuc 59) x
     (λ after. by_lt_z x (pos 60)
-    (λ before. inl (sym (place_of-only first years m (book_years b around.book) around.domain (Blend (suc k) x) (record {
+    (λ before. inl (sym (place_of-only first years m around.times.years around.domain (Blend (suc k) x) (record {
       later = omega arith;
       inner = inner;
       distance = distance;

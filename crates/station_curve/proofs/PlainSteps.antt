@@ -7,12 +7,11 @@ use Rattle.year_blend.proofs.PlaceLemmas.{place_of-rule}
 use Rattle.year_blend.proofs.StretchLemmas.{IsPlainStretch, plain_stretch, domain_between}
 use Rattle.station_curve.proofs.CellSteps.{IsPlainStep}
 use Rattle.harmonics_book.specs.declared.book.Book.{Book}
-use Rattle.harmonics_book.specs.Books.{IsBook}
-use Rattle.station_curve.proofs.Touched.{book_years}
+use Rattle.station_curve.specs.Curves.{AreTimes}
 
 -- a cell of the years of a book
 pub record IsSpan (b : Book) (a : ℤ) (n : ℕ) : Type 0 where
-  pub book : IsBook b
+  pub times : AreTimes b
   pub first : InDomain b.first_year b.years a
   pub last : InDomain b.first_year b.years (a +ℤ pos n)
   pub short : n ≤ LONGEST_SPAN
@@ -28,13 +27,13 @@ pub plain_step : (b : Book) (a : ℤ) (n year k : ℕ) → IsSpan b a n
 plain_step b a n year k span found below =
     let first = b.first_year in
     let years = b.years in
-    let are = book_years b span.book in
+    let are = span.times.years in
     let plain = plain_stretch first years a n year are span.first found in
     let here = plain k (omega arith) in
     let rule = rw here
     at (place_of-rule first years (a +ℤ pos k) are (domain_between first years a n k span.first span.last (omega arith))) in
     record {
-      book = span.book;
+      times = span.times;
       here = here;
       there = rw (next_minute a k) at (plain (suc k) (omega arith));
       since = begun_since (a +ℤ pos k) (start_of first year) rule.0.begun;

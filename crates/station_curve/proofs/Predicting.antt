@@ -8,12 +8,11 @@ use Rattle.std.proofs.lemmas.List.FromFn.{get_or-range_with_len, length-range_wi
 use Rattle.fixed_sine.specs.Sine.{isin_of, icos_of}
 use Rattle.harmonics_book.specs.declared.book.Station.{Station}
 use Rattle.harmonics_book.specs.declared.book.Book.{Book}
-use Rattle.harmonics_book.specs.Books.{IsBook}
 use Rattle.station_curve.specs.Waves.{height_at, fall_at, heights_of, falls_of}
 use Rattle.station_curve.specs.Levels.{minutes_into}
 use Rattle.station_curve.specs.Schureman.{constituents_of, amplitude_of, speed_of, phase_of, predicted_year_level, predicted_year_slope}
-use Rattle.station_curve.specs.Curves.{wave_of, waves_of}
-use Rattle.station_curve.proofs.BookValues.{speed_pos}
+use Rattle.station_curve.specs.Curves.{wave_of, waves_of, AreTimes}
+use Rattle.station_curve.proofs.Products.{pos_abs}
 use Rattle.station_curve.proofs.Circling.{IsSince, phase_onward}
 
 -- sums of equal terms
@@ -30,53 +29,53 @@ each_below u v n same k d h =
     rw (get_or-range_with_len 0 n k d below, zero-add k) (same k below)
 
 -- a constituent's part is that of its wave
-part_of_level : (b : Book) (s : Station) (year k : ℕ) (m : ℤ) → IsBook b → k < length b.constituents
+part_of_level : (b : Book) (s : Station) (year k : ℕ) (m : ℤ) → AreTimes b → k < length b.constituents
     → IsSince b.first_year year m → height_at (minutes_into b.first_year year m) (wave_of b s year k)
     ≡ amplitude_of b s year k *ℤ icos_of (phase_of b s year m k)
-part_of_level b s year k m book in_list since =
+part_of_level b s year k m times in_list since =
     ap (λ p. amplitude_of b s year k *ℤ icos_of p)
-    (phase_onward b s year m k (unsigned_abs (speed_of b k)) (speed_pos b k book in_list) since)
+    (phase_onward b s year m k (unsigned_abs (speed_of b k)) (pos_abs (speed_of b k) (times.speeds k in_list).0) since)
 
-part_of_slope : (b : Book) (s : Station) (year k : ℕ) (m : ℤ) → IsBook b → k < length b.constituents
+part_of_slope : (b : Book) (s : Station) (year k : ℕ) (m : ℤ) → AreTimes b → k < length b.constituents
     → IsSince b.first_year year m → fall_at (minutes_into b.first_year year m) (wave_of b s year k)
     ≡ (amplitude_of b s year k *ℤ speed_of b k) *ℤ isin_of (phase_of b s year m k)
-part_of_slope b s year k m book in_list since =
+part_of_slope b s year k m times in_list since =
     ap (λ p. (amplitude_of b s year k *ℤ pos (unsigned_abs (speed_of b k))) *ℤ isin_of p)
-    (phase_onward b s year m k (unsigned_abs (speed_of b k)) (speed_pos b k book in_list) since)
-    ∙ ap (λ w. (amplitude_of b s year k *ℤ w) *ℤ isin_of (phase_of b s year m k)) (speed_pos b k book in_list)
+    (phase_onward b s year m k (unsigned_abs (speed_of b k)) (pos_abs (speed_of b k) (times.speeds k in_list).0) since)
+    ∙ ap (λ w. (amplitude_of b s year k *ℤ w) *ℤ isin_of (phase_of b s year m k)) (pos_abs (speed_of b k) (times.speeds k in_list).0)
 
 -- the sums over the waves of a year are those over all constituents
-heights_same : (b : Book) (s : Station) (year : ℕ) (m : ℤ) → IsBook b → IsSince b.first_year year m
+heights_same : (b : Book) (s : Station) (year : ℕ) (m : ℤ) → AreTimes b → IsSince b.first_year year m
     → heights_of (minutes_into b.first_year year m) (waves_of b s year)
     ≡ fold (λ sum k. sum +ℤ (amplitude_of b s year k *ℤ icos_of (phase_of b s year m k))) (pos 0) (constituents_of b)
 unfolding waves_of
-heights_same b s year m book since =
+heights_same b s year m times since =
     let t = minutes_into b.first_year year m in
     fold-map (λ sum h. sum +ℤ height_at t h) (wave_of b s year) (pos 0) (constituents_of b)
     ∙ sums_same (λ k. height_at t (wave_of b s year k))
     (λ k. amplitude_of b s year k *ℤ icos_of (phase_of b s year m k)) (constituents_of b)
     (each_below (λ k. height_at t (wave_of b s year k)) (λ k. amplitude_of b s year k *ℤ icos_of (phase_of b s year m k))
-    (length b.constituents) (λ k h. part_of_level b s year k m book h since)) (pos 0)
+    (length b.constituents) (λ k h. part_of_level b s year k m times h since)) (pos 0)
 
-falls_same : (b : Book) (s : Station) (year : ℕ) (m : ℤ) → IsBook b → IsSince b.first_year year m
+falls_same : (b : Book) (s : Station) (year : ℕ) (m : ℤ) → AreTimes b → IsSince b.first_year year m
     → falls_of (minutes_into b.first_year year m) (waves_of b s year) ≡ fold (λ sum k.
     sum +ℤ ((amplitude_of b s year k *ℤ speed_of b k) *ℤ isin_of (phase_of b s year m k))) (pos 0) (constituents_of b)
 unfolding waves_of
-falls_same b s year m book since =
+falls_same b s year m times since =
     let t = minutes_into b.first_year year m in
     fold-map (λ sum h. sum +ℤ fall_at t h) (wave_of b s year) (pos 0) (constituents_of b)
     ∙ sums_same (λ k. fall_at t (wave_of b s year k))
     (λ k. (amplitude_of b s year k *ℤ speed_of b k) *ℤ isin_of (phase_of b s year m k)) (constituents_of b)
     (each_below (λ k. fall_at t (wave_of b s year k)) (λ k. (amplitude_of b s year k *ℤ speed_of b k) *ℤ isin_of (phase_of b s year m k))
-    (length b.constituents) (λ k h. part_of_slope b s year k m book h since)) (pos 0)
+    (length b.constituents) (λ k h. part_of_slope b s year k m times h since)) (pos 0)
 
-pub year_level_is : (b : Book) (s : Station) (m : ℤ) (year : ℕ) → IsBook b → IsSince b.first_year year m
+pub year_level_is : (b : Book) (s : Station) (m : ℤ) (year : ℕ) → AreTimes b → IsSince b.first_year year m
     → predicted_year_level b s m year
     ≡ (pos (10 ^ 9) *ℤ s.datum) +ℤ heights_of (minutes_into b.first_year year m) (waves_of b s year)
 unfolding predicted_year_level
-year_level_is b s m year book since = ap (λ h. (pos (10 ^ 9) *ℤ s.datum) +ℤ h) (sym (heights_same b s year m book since))
+year_level_is b s m year times since = ap (λ h. (pos (10 ^ 9) *ℤ s.datum) +ℤ h) (sym (heights_same b s year m times since))
 
-pub year_slope_is : (b : Book) (s : Station) (m : ℤ) (year : ℕ) → IsBook b → IsSince b.first_year year m
+pub year_slope_is : (b : Book) (s : Station) (m : ℤ) (year : ℕ) → AreTimes b → IsSince b.first_year year m
     → predicted_year_slope b s m year ≡ neg_ℤ (falls_of (minutes_into b.first_year year m) (waves_of b s year))
 unfolding predicted_year_slope
-year_slope_is b s m year book since = ap neg_ℤ (sym (falls_same b s year m book since))
+year_slope_is b s m year times since = ap neg_ℤ (sym (falls_same b s year m times since))

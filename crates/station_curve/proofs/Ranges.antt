@@ -7,7 +7,7 @@ use Rattle.station_curve.specs.Levels.{blended, drift}
 use Rattle.station_curve.specs.Workings.NumberRanges.{IsPlaceInRange, IsPlaceUsed}
 use Rattle.station_curve.proofs.Blending.{mixed_size}
 use Rattle.station_curve.proofs.InRange.{in_range_place}
-use Rattle.station_curve.proofs.Products.{abs_times, abs_below, abs_plus, abs_span}
+use Rattle.station_curve.proofs.Products.{abs_times, abs_below, abs_plus}
 use Rattle.station_curve.proofs.YearChanges.{year_level_size, year_slope_size, level_difference}
 use Rattle.year_blend.specs.declared.parts.Place.{Place}
 use Rattle.year_blend.specs.declared.parts.Place.TheVariants.{Plain, Blend}
@@ -18,10 +18,9 @@ use Rattle.year_blend.specs.Years.{year_start_of}
 use Rattle.year_blend.proofs.WeightLemmas.{weight_within, slope_within}
 use Rattle.year_blend.proofs.YearLemmas.{year_start_of_low, year_start_of_high, year_start_of_mono}
 use Rattle.harmonics_book.specs.declared.book.Book.{Book}
-use Rattle.harmonics_book.specs.Books.{IsBook}
-use Rattle.station_curve.specs.Curves.{IsPredicted, IsPrediction, IsWithinLimits, Prediction, prediction_of}
+use Rattle.station_curve.specs.Curves.{IsPredicted, IsPrediction, IsWithinLimits, Prediction, prediction_of, AreTimes}
 use Rattle.harmonics_book.specs.declared.book.Station.{Station}
-use Rattle.station_curve.proofs.Touched.{book_years, AreTouched, touched_place, touched}
+use Rattle.station_curve.proofs.Touched.{AreTouched, touched_place, touched}
 use Rattle.station_curve.specs.Schureman.{predicted_level, predicted_slope, predicted_year_level, predicted_year_slope}
 use Rattle.station_curve.proofs.WithinLimits.{year_within}
 
@@ -46,14 +45,11 @@ are_ends first_year years are =
     }
 
 -- bounds on level and slope by one year's constants
-pub station_datum : (b : Book) (s : Station) → IsWithinLimits b s → unsigned_abs s.datum ≤ 10 ^ 10
-station_datum b s within_limits = abs_span s.datum 9999999999 within_limits.station.datum.least within_limits.station.datum.most
-
 year_level_small : (b : Book) (s : Station) (m : ℤ) (year : ℕ) → IsWithinLimits b s → year < b.years → unsigned_abs (predicted_year_level b s m year) ≤ 11 * 10 ^ 18
 year_level_small b s m year within_limits below =
     let size = year_level_size b s m year in
     let amount = (year_within b s year within_limits below).0 in
-    let datum = station_datum b s within_limits in
+    let datum = within_limits.datum in
     omega (arith, size, amount, datum)
 
 year_slope_small : (b : Book) (s : Station) (m : ℤ) (year : ℕ) → IsWithinLimits b s → year < b.years → unsigned_abs (predicted_year_slope b s m year) ≤ 10 ^ 26
@@ -92,24 +88,24 @@ drift_small level first_year years m (Blend year x) small in_range =
     (abs_below (weight_slope_of x) 64800000 within.0 within.1) (omega arith))
     (small year (year - 1) in_range.1 (omega (arith, in_range.0, in_range.1)))
 
-pub in_range_of_place : (b : Book) (m : ℤ) → IsBook b → InDomain b.first_year b.years m
+pub in_range_of_place : (b : Book) (m : ℤ) → AreTimes b → InDomain b.first_year b.years m
     → IsPlaceInRange b.first_year b.years m (place_of b.first_year b.years m)
-in_range_of_place b m book domain =
-    in_range_place b.first_year b.years m (place_of b.first_year b.years m) book.first_year.least
-    (place_of-rule b.first_year b.years m (book_years b book) domain)
+in_range_of_place b m times domain =
+    in_range_place b.first_year b.years m (place_of b.first_year b.years m) times.years.least
+    (place_of-rule b.first_year b.years m times.years domain)
 
 pub level_small : (b : Book) (s : Station) (m : ℤ) → IsWithinLimits b s → InDomain b.first_year b.years m
     → unsigned_abs (predicted_level b s m) ≤ total_weight * (11 * 10 ^ 18)
 unfolding predicted_level
 level_small b s m within_limits domain =
     blended_small (predicted_year_level b s m) b.first_year b.years m (place_of b.first_year b.years m) (11 * 10 ^ 18)
-    (λ year below. year_level_small b s m year within_limits below) (in_range_of_place b m within_limits.book domain)
+    (λ year below. year_level_small b s m year within_limits below) (in_range_of_place b m within_limits.times domain)
 
 pub slope_small : (b : Book) (s : Station) (m : ℤ) → IsWithinLimits b s → InDomain b.first_year b.years m
     → unsigned_abs (predicted_slope b s m) < 10 ^ 37
 unfolding predicted_slope
 slope_small b s m within_limits domain =
-    let in_range = in_range_of_place b m within_limits.book domain in
+    let in_range = in_range_of_place b m within_limits.times domain in
     let value = blended_small (predicted_year_slope b s m) b.first_year b.years m (place_of b.first_year b.years m) (10 ^ 26)
     (λ year below. year_slope_small b s m year within_limits below) in_range in
     let moved = drift_small (predicted_year_level b s m) b.first_year b.years m (place_of b.first_year b.years m)
@@ -126,16 +122,16 @@ pub record AreAll (b : Book) : Type 0 where
   pub forward : year_start_of b.first_year ≤ℤ year_start_of (b.first_year +ℤ pos b.years)
   pub most : year_start_of (b.first_year +ℤ pos b.years) ≤ℤ year_start_of (b.first_year +ℤ pos b.years)
 
-pub all_in_domain : (b : Book) → IsBook b → AreAll b
-all_in_domain b book = record {
+pub all_in_domain : (b : Book) → AreTimes b → AreAll b
+all_in_domain b times = record {
   least = omega (arith, ints);
-  forward = (are_ends b.first_year b.years (book_years b book)).forward;
+  forward = (are_ends b.first_year b.years times.years).forward;
   most = omega (arith, ints);
 }
 
 pub all_minutes_valid : (b : Book) (s : Station) → IsWithinLimits b s → IsPrediction (prediction_of b s)
 all_minutes_valid b s limits =
-    let all = all_in_domain b limits.book in
+    let all = all_in_domain b limits.times in
     record { limits = limits; forward = all.forward; begins = all.least; ends = all.most }
 
 pub in_domain : (c : Prediction) (m : ℤ) → IsPrediction c → IsPredicted c m → InDomain c.book.first_year c.book.years m
@@ -148,7 +144,7 @@ in_domain c m valid at =
 
 pub minute_small : (c : Prediction) (m : ℤ) → IsPrediction c → IsPredicted c m → unsigned_abs m ≤ 4000000000
 minute_small c m valid at =
-    domain_small c.book.first_year c.book.years m (book_years c.book valid.limits.book) (in_domain c m valid at)
+    domain_small c.book.first_year c.book.years m valid.limits.times.years (in_domain c m valid at)
 
 -- the years of a minute's position are used there
 used_by : (c : Prediction) (m : ℤ) (p : Place) → IsPlaceInRange c.book.first_year c.book.years m p
@@ -165,5 +161,5 @@ pub place_used : (c : Prediction) (m : ℤ) → IsPrediction c → IsPredicted c
     → IsPlaceUsed c m (place_of c.book.first_year c.book.years m)
 place_used c m valid at =
     let domain = in_domain c m valid at in
-    used_by c m _ (in_range_of_place c.book m valid.limits.book domain)
-    (touched_place c.book c.first c.last m valid.limits.book domain at.least at.most)
+    used_by c m _ (in_range_of_place c.book m valid.limits.times domain)
+    (touched_place c.book c.first c.last m valid.limits.times domain at.least at.most)

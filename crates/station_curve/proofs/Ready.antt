@@ -13,10 +13,9 @@ use Rattle.station_curve.specs.Limits.{most_amount, most_steepness}
 use Rattle.station_curve.specs.Curves.{Prediction, IsPrediction, waves_for, sums_for, IsPredicted, is_touched, waves_of}
 use Rattle.station_curve.specs.Workings.Inside.{prediction_in, IsReady}
 use Rattle.station_curve.specs.Workings.Prepared.{stored_over, is_present}
-use Rattle.station_curve.proofs.Products.{cast_small, abs_within}
-use Rattle.station_curve.proofs.Touched.{book_years}
+use Rattle.station_curve.proofs.Products.{cast_small, abs_within, times}
 use Rattle.station_curve.proofs.WithinLimits.{amount-present, steepness-present, waves_for_within, over-touched}
-use Rattle.station_curve.proofs.Ranges.{station_datum, in_domain, place_used}
+use Rattle.station_curve.proofs.Ranges.{in_domain, place_used}
 use Rattle.station_curve.specs.Workings.NumberRanges.{IsPlaceUsed}
 
 -- a stored year is one of the prediction
@@ -53,7 +52,7 @@ pub valid_of : (s : Inside) (c : Prediction) → IsReady s → prediction_in s �
 valid_of s c ready is = subst IsPrediction is ready.valid
 
 pub years_of : (s : Inside) (c : Prediction) → IsReady s → prediction_in s ≡ c → AreYears c.book.first_year c.book.years
-years_of s c ready is = book_years c.book (valid_of s c ready is).limits.book
+years_of s c ready is = (valid_of s c ready is).limits.times.years
 
 -- the stored waves of a year whose constants are used
 pub used_waves : (c : Prediction) (year : ℕ) (y : Year) → IsYearOf c year y → is_touched c.book c.first c.last year ≡ true
@@ -70,7 +69,7 @@ pub stored : (s : Inside) (c : Prediction) → IsReady s → prediction_in s ≡
 stored s c ready is = stored_length s ready ∙ ap (λ (c : Prediction). c.book.years) is
 
 pub are_years : (s : Inside) → IsReady s → AreYears s.first_year (vec_len s.years)
-are_years s ready = rw (ready.first_year, stored_length s ready) (book_years s.origin.book ready.valid.limits.book)
+are_years s ready = rw (ready.first_year, stored_length s ready) ready.valid.limits.times.years
 
 pub first_year_of : (s : Inside) (c : Prediction) → IsReady s → prediction_in s ≡ c → to_z w32 (of_z w32 s.first_year) ≡ c.book.first_year
 first_year_of s c ready is =
@@ -79,7 +78,7 @@ first_year_of s c ready is =
     ∙ ap (λ (c : Prediction). c.book.first_year) is
 
 pub datum_small : (s : Inside) → IsReady s → unsigned_abs s.datum ≤ 10 ^ 10
-datum_small s ready = rw ready.datum (station_datum s.origin.book s.origin.station ready.valid.limits)
+datum_small s ready = rw ready.datum ready.valid.limits.datum
 
 pub datum_of : (s : Inside) (c : Prediction) → IsReady s → prediction_in s ≡ c → to_z w64 (of_z w64 s.datum) ≡ c.station.datum
 datum_of s c ready is =

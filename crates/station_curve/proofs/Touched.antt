@@ -3,15 +3,11 @@ use Rattle.std.proofs.Common.{◌≡◌, ℕ, zero, suc, ◌-◌, Bool, true, �
 use Rattle.std.proofs.lemmas.Int.{ints}
 use Rattle.std.proofs.lemmas.Bool.{and_from}
 use Rattle.harmonics_book.specs.declared.book.Book.{Book}
-use Rattle.harmonics_book.specs.Books.{IsBook}
 use Rattle.year_blend.specs.declared.parts.Place.{Place}
 use Rattle.year_blend.specs.declared.parts.Place.TheVariants.{Plain, Blend}
-use Rattle.year_blend.specs.Places.{start_of, AreYears, InDomain, IsInYear, IsInBlend, IsPlaceOf, place_of}
+use Rattle.year_blend.specs.Places.{start_of, InDomain, IsInYear, IsInBlend, IsPlaceOf, place_of}
 use Rattle.year_blend.proofs.PlaceLemmas.{le_test, start_of-later, place_of-rule}
-use Rattle.station_curve.specs.Curves.{is_touched}
-
-pub book_years : (b : Book) → IsBook b → AreYears b.first_year b.years
-book_years b book = record { least = book.first_year.least; most = book.first_year.most; some = book.some_years; few = book.few_years }
+use Rattle.station_curve.specs.Curves.{is_touched, AreTimes}
 
 pub touched : (b : Book) (first last : ℤ) (year : ℕ) → start_of b.first_year year ≤ℤ (last +ℤ pos 60)
     → first ≤ℤ (start_of b.first_year (suc year) +ℤ pos 60) → is_touched b first last year ≡ true
@@ -70,7 +66,7 @@ touched_by_rule b first last m (Blend (suc year) x) low from until rule =
     let before : suc year - 1 ≡ year = omega arith in
     (touched_after b first last m (suc year) x low from until rule, rw before (touched_before b first last m year x low from until rule))
 
-pub touched_place : (b : Book) (first last m : ℤ) → IsBook b → InDomain b.first_year b.years m → first ≤ℤ m → m ≤ℤ last
+pub touched_place : (b : Book) (first last m : ℤ) → AreTimes b → InDomain b.first_year b.years m → first ≤ℤ m → m ≤ℤ last
     → AreTouched b first last (place_of b.first_year b.years m)
-touched_place b first last m book within from until =
-    touched_by_rule b first last m _ book.first_year.least from until (place_of-rule b.first_year b.years m (book_years b book) within)
+touched_place b first last m times within from until =
+    touched_by_rule b first last m _ times.years.least from until (place_of-rule b.first_year b.years m times.years within)

@@ -10,18 +10,20 @@ use Rattle.fixed_sine.specs.Approximate.{approximate_sine_of}
 use Rattle.station_curve.specs.Approximate.{binary_angle_after, binary_angle_ahead, approximate_height_at, approximate_fall_at, approximate_heights_of, approximate_falls_of}
 use Rattle.harmonics_book.specs.declared.book.Station.{Station}
 use Rattle.harmonics_book.specs.declared.book.Book.{Book}
-use Rattle.harmonics_book.specs.Books.{IsBook}
+use Rattle.harmonics_book.specs.Books.{IsBook, IsStation}
 use Rattle.station_curve.specs.declared.fault.CurveFault.{CurveFault}
 use Rattle.station_curve.specs.Waves.{Harmonic, phase_at, height_at, fall_at, heights_of, falls_of, amount_of, steepness_of}
 use Rattle.station_curve.specs.Sums.{height_rate_of, fall_rate_of, near_of, far_of, sums_of}
 use Rattle.station_curve.specs.Limits.{most_amount, most_steepness, AreWithinLimits}
-use Rattle.station_curve.specs.Curves.{Prediction, IsWithinLimits, sums_for, waves_for, waves_of, is_touched, waves_over, year_fault, first_fault}
+use Rattle.station_curve.specs.Curves.{Prediction, IsWithinLimits, sums_for, waves_for, waves_of, is_touched, waves_over, year_fault, first_fault, AreTimes}
 use Rattle.station_curve.specs.Workings.Prepared.{is_present, stored_over}
-use Rattle.station_curve.proofs.BookValues.{speed_small}
+use Rattle.station_curve.proofs.BookValues.{speed_range}
+use Rattle.station_curve.proofs.Products.{abs_span, abs_within}
 use Rattle.station_curve.proofs.WavesOf.{none_fault, length-waves_of, get_or-waves_of}
 use Rattle.station_curve.proofs.GreatestYear.{greatest-most}
 use Rattle.station_curve.proofs.YearChanges.{near_bound, far_bound}
 use Rattle.station_curve.specs.Errors.{greatest_amount, greatest_steepness}
+use Rattle.station_curve.specs.Schureman.{speed_of}
 
 -- a sum over the present waves is that over all, if absent ones add nothing
 with_first : {B : Type 0} (add : B → Harmonic → B) → ((a : B) (h : Harmonic) → h.amplitude ≡ pos 0 → add a h ≡ a)
@@ -145,15 +147,32 @@ pub over-touched : (b : Book) (s : Station) (first last : ℤ) (year : ℕ) → 
 unfolding waves_over
 over-touched b s first last year touched = rw touched refl
 
-slow : (b : Book) (s : Station) (year : ℕ) → IsBook b → All (λ h. h.speed ≤ 3600000000) (waves_of b s year)
-slow b s year book k d below =
+slow : (b : Book) (s : Station) (year : ℕ) → AreTimes b → All (λ h. h.speed ≤ 3600000000) (waves_of b s year)
+slow b s year times k d below =
     let in_list : k < length b.constituents = omega (arith, below, length-waves_of b s year) in
-    rw (get_or-waves_of b s year k d in_list) (speed_small b k book in_list)
+    rw (get_or-waves_of b s year k d in_list) (abs_within (speed_of b k) 0 3600000000 (times.speeds k in_list).0 (times.speeds k in_list).1)
+
+-- a station of a book is within the limits, if no year is beyond one
+pub times_of : (b : Book) → IsBook b → AreTimes b
+times_of b book = record {
+  years = record { least = book.first_year.least; most = book.first_year.most; some = book.some_years; few = book.few_years };
+  speeds = λ k in_list. speed_range b k book in_list;
+}
+
+pub limits_of : (b : Book) (s : Station) → IsBook b → IsStation (length b.constituents) s → first_fault b s b.years ≡ None → IsWithinLimits b s
+limits_of b s book station none =
+    let within = λ (year : ℕ) (below : year < b.years). none_fault b s year (no_fault b s b.years year none below) in
+    record {
+      times = times_of b book;
+      datum = abs_span s.datum 9999999999 station.datum.least station.datum.most;
+      amounts = λ year below. (within year below).0;
+      steepnesses = λ year below. (within year below).1;
+    }
 
 -- the waves of a year of a station within the limits
 pub year_within : (b : Book) (s : Station) (year : ℕ) → IsWithinLimits b s → year < b.years
     → (amount_of (waves_of b s year) ≤ most_amount) × (steepness_of (waves_of b s year) ≤ most_steepness)
-year_within b s year limits below = none_fault b s year (no_fault b s b.years year limits.none below)
+year_within b s year limits below = (limits.amounts year below, limits.steepnesses year below)
 
 near_small : (near steep amount : ℕ) → 600000000 * near ≤ 17454000 * steep + 600000000 * amount → steep ≤ 10 ^ 17
     → amount ≤ 10 ^ 9 → near ≤ 3 * 10 ^ 15
@@ -168,7 +187,7 @@ sums_within_limits b s year limits below =
       amount = within.0;
       steep = within.1;
       near = near_small (near_of hs) (steepness_of hs) (amount_of hs) (near_bound hs) within.1 within.0;
-      far = omega (arith, far_bound hs (slow b s year limits.book), within.1);
+      far = omega (arith, far_bound hs (slow b s year limits.times), within.1);
     }
 
 pub sums_for_within : (c : Prediction) (year : ℕ) → IsWithinLimits c.book c.station → year < c.book.years → AreWithinLimits (sums_for c year)

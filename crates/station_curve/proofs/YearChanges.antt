@@ -6,7 +6,6 @@ use Rattle.std.proofs.lemmas.List.Elements.{All-head, All-tail}
 use Rattle.std.proofs.lemmas.Nat.{mul-le, mod_below, div-add-mod'}
 use Rattle.harmonics_book.specs.declared.book.Station.{Station}
 use Rattle.harmonics_book.specs.declared.book.Book.{Book}
-use Rattle.harmonics_book.specs.Books.{IsBook}
 use Rattle.std.specs.Int.{int_rem_euclid}
 use Rattle.std.proofs.lemmas.List.Folds.{fold-map}
 use Rattle.fixed_sine.specs.Circle.{degree, circle}
@@ -19,7 +18,7 @@ use Rattle.station_curve.specs.Waves.{Harmonic, phase_at, height_at, fall_at, he
 use Rattle.station_curve.specs.Sums.{height_rate_of, fall_rate_of, near_of, far_of}
 use Rattle.station_curve.specs.Levels.{minutes_into}
 use Rattle.station_curve.specs.Schureman.{constituents_of, amplitude_of, speed_of, angle_of, phase_of, predicted_year_level, predicted_year_slope}
-use Rattle.station_curve.specs.Curves.{wave_of, waves_of}
+use Rattle.station_curve.specs.Curves.{wave_of, waves_of, AreTimes}
 use Rattle.station_curve.proofs.Circling.{IsSince}
 use Rattle.station_curve.proofs.Predicting.{year_level_is, year_slope_is}
 use Rattle.station_curve.proofs.Gaps.{turned_gap, scaled_gap, sums_gap, sums_size}
@@ -68,30 +67,30 @@ minutes_onward : (start m : ℤ) → pos 0 ≤ℤ ((m -ℤ start) +ℤ pos 60)
     → unsigned_abs (((m +ℤ pos 1) -ℤ start) +ℤ pos 60) ≡ unsigned_abs ((m -ℤ start) +ℤ pos 60) + 1
 minutes_onward start m least = omega (arith, ints)
 
-pub year_slope_gap : (b : Book) (s : Station) (m : ℤ) (year : ℕ) → IsBook b → IsSince b.first_year year m
+pub year_slope_gap : (b : Book) (s : Station) (m : ℤ) (year : ℕ) → AreTimes b → IsSince b.first_year year m
     → unsigned_abs (predicted_year_slope b s (m +ℤ pos 1) year -ℤ predicted_year_slope b s m year) ≤ far_of (waves_of b s year)
-year_slope_gap b s m year book since =
+year_slope_gap b s m year times since =
     let t = minutes_into b.first_year year m in
     let hs = waves_of b s year in
     let next : IsSince b.first_year year (m +ℤ pos 1) = omega (arith, ints, since) in
     rw (
-      year_slope_is b s (m +ℤ pos 1) year book next,
-      year_slope_is b s m year book since,
+      year_slope_is b s (m +ℤ pos 1) year times next,
+      year_slope_is b s m year times since,
       minutes_onward (start_of b.first_year year) m since,
     ) (turned_gap (falls_of (t + 1) hs) (falls_of t hs) (far_of hs) (falls_gap t hs))
 
 pub same_mean : (d a b : ℤ) → (d +ℤ a) -ℤ (d +ℤ b) ≡ a -ℤ b
 same_mean d a b = omega (arith, ints)
 
-pub year_level_gap : (b : Book) (s : Station) (m : ℤ) (year : ℕ) → IsBook b → IsSince b.first_year year m
+pub year_level_gap : (b : Book) (s : Station) (m : ℤ) (year : ℕ) → AreTimes b → IsSince b.first_year year m
     → unsigned_abs (predicted_year_level b s (m +ℤ pos 1) year -ℤ predicted_year_level b s m year) ≤ near_of (waves_of b s year)
-year_level_gap b s m year book since =
+year_level_gap b s m year times since =
     let t = minutes_into b.first_year year m in
     let hs = waves_of b s year in
     let next : IsSince b.first_year year (m +ℤ pos 1) = omega (arith, ints, since) in
     rw (
-      year_level_is b s (m +ℤ pos 1) year book next,
-      year_level_is b s m year book since,
+      year_level_is b s (m +ℤ pos 1) year times next,
+      year_level_is b s m year times since,
       minutes_onward (start_of b.first_year year) m since,
       same_mean (pos (10 ^ 9) *ℤ s.datum) (heights_of (t + 1) hs) (heights_of t hs),
     ) (heights_gap t hs)

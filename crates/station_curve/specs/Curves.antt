@@ -1,12 +1,11 @@
 -- The curve of a station, and the reasons why it may have none (this project).
-use Rattle.std.specs.Prelude.{◌≡◌, ℕ, zero, suc, nat_lt, Bool, true, false, ◌&&◌, if◌then◌else◌, List, [], length, map, Option, Some, None, Result, Ok, Err, ℤ, pos, ◌+ℤ◌, ◌-ℤ◌, ◌≤ℤ◌, int_le, unsigned_abs}
+use Rattle.std.specs.Prelude.{◌<◌, ◌≤◌, ◌^◌, ◌≡◌, ℕ, zero, suc, nat_lt, Bool, true, false, ◌&&◌, if◌then◌else◌, List, [], length, map, Option, Some, None, Result, Ok, Err, ℤ, pos, ◌+ℤ◌, ◌-ℤ◌, ◌≤ℤ◌, int_le, unsigned_abs}
 use Rattle.std.specs.Option.{option_or}
 use Rattle.harmonics_book.specs.declared.book.Units.{Units}
 use Rattle.harmonics_book.specs.declared.book.Units.TheVariants.{Feet, Meters, Knots, KnotsSquared}
 use Rattle.harmonics_book.specs.declared.book.Station.{Station}
 use Rattle.harmonics_book.specs.declared.book.Book.{Book}
-use Rattle.harmonics_book.specs.Books.{IsBook, IsStation}
-use Rattle.year_blend.specs.Places.{start_of}
+use Rattle.year_blend.specs.Places.{start_of, AreYears}
 use Rattle.year_blend.specs.Years.{year_start_of}
 use Rattle.station_curve.specs.declared.fault.CurveFault.{CurveFault}
 use Rattle.station_curve.specs.declared.fault.CurveFault.TheVariants.{Hydraulic, TooLarge, TooSteep, NoMemory}
@@ -104,11 +103,17 @@ abbrev pub is_out_of_memory : CurveFault → Bool
 is_out_of_memory NoMemory = true
 is_out_of_memory _ = false
 
+-- the years of a book and the speeds of its constituents are in their ranges
+pub record AreTimes (b : Book) : Type 0 where
+  pub years : AreYears b.first_year b.years
+  pub speeds : (k : ℕ) → k < length b.constituents → (pos 0 ≤ℤ speed_of b k) × (speed_of b k ≤ℤ pos 3600000000)
+
 -- a station of which no year is beyond a limit
 pub record IsWithinLimits (b : Book) (s : Station) : Type 0 where
-  pub book : IsBook b
-  pub station : IsStation (length b.constituents) s
-  pub none : first_fault b s b.years ≡ None
+  pub times : AreTimes b
+  pub datum : unsigned_abs s.datum ≤ 10 ^ 10
+  pub amounts : (year : ℕ) → year < b.years → amount_of (waves_of b s year) ≤ most_amount
+  pub steepnesses : (year : ℕ) → year < b.years → steepness_of (waves_of b s year) ≤ most_steepness
 
 -- a prediction that a curve can have: of a station within the limits, at minutes of the book's years
 pub record IsPrediction (c : Prediction) : Type 0 where

@@ -4,13 +4,13 @@ use Rattle.harmonics_book.specs.declared.book.Book.{Book}
 use Rattle.harmonics_book.specs.Books.{IsBook}
 use Rattle.year_blend.specs.Places.{InDomain}
 use Rattle.year_blend.proofs.PlaceLemmas.{domain_small}
-use Rattle.station_curve.proofs.Touched.{book_years}
+use Rattle.station_curve.proofs.WithinLimits.{times_of}
 use Rattle.station_curve.proofs.Answering.{hydraulic_answer, ok_answer, fault_answer}
 use Rattle.station_curve.proofs.curve.StationCurve.of_station.Goals as goal
 
 -- minutes of a book's years are small
 small : (b : Book) (m : ℤ) → IsBook b → InDomain b.first_year b.years m → unsigned_abs m ≤ 10 ^ 12
-small b m book domain = omega (arith, domain_small b.first_year b.years m (book_years b book) domain)
+small b m book domain = omega (arith, domain_small b.first_year b.years m (times_of b book).years domain)
 
 pub years_of-requires-clause-first : goal.years_of-requires-clause-first
 years_of-requires-clause-first c = small c.args.book.now c.args.minute_range.first c.requires.book c.requires.first

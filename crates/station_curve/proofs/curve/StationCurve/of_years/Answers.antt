@@ -4,6 +4,7 @@ use Rattle.station_curve.proofs.Products.{abs_span, abs_within, cast_small}
 use Rattle.station_curve.specs.Waves.{amount_of, steepness_of}
 use Rattle.station_curve.specs.Errors.{greatest_of}
 use Rattle.station_curve.specs.Curves.{waves_over}
+use Rattle.station_curve.proofs.WithinLimits.{limits_of}
 use Rattle.station_curve.proofs.curve.StationCurve.of_years.Goals as goal
 
 pub invariant_of-result : goal.invariant_of-result
@@ -17,7 +18,7 @@ invariant_of-result c =
     let years = rw c.as_slice.ensures.value at c.greatest_of_years-greatest.ensures in
     rw (c.of.ensures.0, c.of.ensures.1, c.get.ensures.exact, c.get-2.ensures.exact) record {
       valid = record {
-        limits = record { book = valid; station = c.requires.station; none = ready.within };
+        limits = limits_of b s valid c.requires.station ready.within;
         forward = c.requires.forward;
         begins = c.requires.first.least;
         ends = c.requires.last.most;

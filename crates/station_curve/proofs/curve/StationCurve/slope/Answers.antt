@@ -4,7 +4,7 @@ use mir.Syntax.{w64, w128}
 use Rattle.fixed_sine.specs.Circle.{radian}
 use Rattle.year_blend.specs.Weights.{total_weight}
 use Rattle.station_curve.proofs.Blending.{slope_plain, slope_blend, level_change}
-use Rattle.station_curve.proofs.Products.{cast_small, kept_small, abs_below, abs_span, abs_plus, abs_minus, plus, plus_fits, minus, minus_fits, under}
+use Rattle.station_curve.proofs.Products.{cast_small, kept_small, abs_below, abs_span, abs_plus, abs_minus, plus, plus_fits, minus, minus_fits, under, times}
 use Rattle.station_curve.specs.Levels.{drift}
 use Rattle.station_curve.proofs.curve.StationCurve.slope.Goals as goal
 
@@ -85,7 +85,7 @@ returns-in-Blend-clause-value c =
     let low = c.year_heights-in-Blend.result in
     let apart = minus w64 high low (10 ^ 18) (10 ^ 18) c.year_heights.ensures.size c.year_heights-in-Blend.ensures.size (lit< tt) in
     let change = level_change b s c.args.m c.in-Blend.year high low
-    c.in-Blend.ensures.valid.limits.book used.1.hour.least used.2.hour.least (rw same at c.year_heights.ensures.value)
+    c.in-Blend.ensures.valid.limits.times used.1.hour.least used.2.hour.least (rw same at c.year_heights.ensures.value)
     (rw same at c.year_heights-in-Blend.ensures.value) in
     plus w128 c.mixed.result c.drift.result (2 * (total_weight * 10 ^ 26)) ((64800000 * radian) * (2 * 10 ^ 18))
     c.mixed.ensures.size c.drift.ensures.size (lit< tt)

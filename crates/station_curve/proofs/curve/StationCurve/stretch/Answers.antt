@@ -4,8 +4,8 @@ use mir.Syntax.{w64}
 use mir.Val.{to_z, of_z}
 use Rattle.station_curve.proofs.Around.{around_within}
 use Rattle.station_curve.proofs.Ready.{first_year_of}
-use Rattle.station_curve.proofs.Touched.{book_years}
 use Rattle.station_curve.proofs.Ranges.{in_domain, minute_small}
+use Rattle.station_curve.proofs.Products.{times}
 use Rattle.station_curve.proofs.curve.StationCurve.stretch.Goals as goal
 
 pub overflow_add-m : goal.overflow_add-m
@@ -28,7 +28,7 @@ returns-in-Some c =
     let same = to_z-of_z w64 c.args.m c.ranges.m in
     let end : to_z w64 (of_z w64 (c.args.m +ℤ to_z w64 (of_z w64 c.from.result))) ≡ c.args.m +ℤ pos c.args.n =
     omega (arith, ints, small, c.requires.length_bound, c.from.ensures) in
-    around_within b.first_year b.years c.args.m c.args.n c.in-Some.year c.limits_hold.ensures.limits.book.first_year.least
+    around_within b.first_year b.years c.args.m c.args.n c.in-Some.year c.limits_hold.ensures.limits.times.years.least
     (rw (same, end) at c.in-Some.ensures)
 
 pub returns-in-None : goal.returns-in-None
@@ -41,7 +41,7 @@ year_around-requires-clause-first c = rw (to_z-of_z w64 c.args.m c.ranges.m) c.r
 
 pub stretch-requires-clause-years : goal.stretch-requires-clause-years
 stretch-requires-clause-years c =
-    rw (first_year_of c.self.inside c.args.self.now c.self.invariant c.self.view_is, c.years.ensures) (book_years c.args.self.now.book c.limits_hold.ensures.limits.book)
+    rw (first_year_of c.self.inside c.args.self.now c.self.invariant c.self.view_is, c.years.ensures) c.limits_hold.ensures.limits.times.years
 
 pub stretch-requires-clause-first : goal.stretch-requires-clause-first
 stretch-requires-clause-first c =

@@ -2,7 +2,7 @@ use Rattle.std.proofs.Common.{◌≡◌, ◌^◌, pos, ◌+ℤ◌, ◌*ℤ◌, a
 use Rattle.std.proofs.lemmas.Int.{ints, to_z-of_z}
 use mir.Syntax.{w64, w128}
 use mir.Val.{to_z, of_z}
-use Rattle.station_curve.proofs.Products.{cast_small, kept_small}
+use Rattle.station_curve.proofs.Products.{cast_small, kept_small, times}
 use Rattle.station_curve.proofs.Ready.{datum_of, datum_small, valid_of}
 use Rattle.station_curve.proofs.Predicting.{year_level_is}
 use Rattle.station_curve.proofs.curve.StationCurve.year_level.Goals as goal
@@ -28,7 +28,7 @@ returns-clause-value c =
     sum ∙ ap (λ x. x +ℤ c.from.result) (c.mean_level.ensures.value ∙ ap (λ d. pos (10 ^ 9) *ℤ d) datum)
     ∙ ap (λ y. (pos (10 ^ 9) *ℤ c.args.self.now.station.datum) +ℤ y) (heights ∙ rw same at c.year_heights.ensures.value)
     ∙ sym (year_level_is c.args.self.now.book c.args.self.now.station c.args.m c.args.year
-    (valid_of c.self.inside c.args.self.now c.self.invariant c.self.view_is).limits.book c.requires.hour.least)
+    (valid_of c.self.inside c.args.self.now c.self.invariant c.self.view_is).limits.times c.requires.hour.least)
 
 pub returns-clause-size : goal.returns-clause-size
 returns-clause-size c =

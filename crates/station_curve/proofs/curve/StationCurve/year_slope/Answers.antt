@@ -3,7 +3,7 @@ use Rattle.std.proofs.lemmas.Int.{to_z-of_z}
 use mir.Syntax.{w64, w128}
 use Rattle.station_curve.specs.Waves.{falls_of}
 use Rattle.station_curve.specs.Levels.{minutes_into}
-use Rattle.station_curve.proofs.Products.{abs_minus, minus, minus_fits, zero_minus}
+use Rattle.station_curve.proofs.Products.{abs_minus, minus, minus_fits, zero_minus, times}
 use Rattle.station_curve.proofs.Ready.{stored, year_of, used_waves, valid_of}
 use Rattle.station_curve.proofs.WithinLimits.{falls-present}
 use Rattle.station_curve.proofs.Touched.{touched}
@@ -58,4 +58,4 @@ returns-clause-value c =
     (waves_of c.args.self.now.book c.args.self.now.station c.args.year) in
     minus w128 (pos 0) c.falls.result 0 (10 ^ 26) (lit≤ tt) c.falls.ensures.size (lit< tt) ∙ zero_minus c.falls.result ∙ ap neg_ℤ falls
     ∙ sym (year_slope_is c.args.self.now.book c.args.self.now.station c.args.m c.args.year
-    (valid_of c.self.inside c.args.self.now c.self.invariant c.self.view_is).limits.book c.requires.hour.least)
+    (valid_of c.self.inside c.args.self.now c.self.invariant c.self.view_is).limits.times c.requires.hour.least)
