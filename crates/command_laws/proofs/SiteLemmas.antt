@@ -12,7 +12,7 @@ use Rattle.station_curve.specs.Waves.{Tide}
 use Rattle.station_span.specs.declared.asked.Asked.{Asked}
 use Rattle.station_span.specs.declared.reach.Reach.{Reach}
 use Rattle.station_span.specs.declared.reach.Reach.TheVariants.{Events}
-use Rattle.station_span.specs.Sites.{Site, basis_from, has_minute, has_span, lacks_minute, level_unit, length_in, mark_in, site_at, site_in, span_in, tide_from}
+use Rattle.station_span.specs.Sites.{Site, basis_from, has_minute, has_span, lacks_minute, level_unit, length_in, mark_in, site_at, site_in, span_in, curve_from}
 use Rattle.station_span.proofs.FoundLemmas.{HasCurve}
 use Rattle.decimal_text.proofs.ExpectedLemmas.{then_ok}
 use Rattle.station_table.specs.declared.basis.Basis.{Basis}
@@ -54,7 +54,7 @@ has_passed reach book table name asked site ok =
     let station = then_ok (ok_or (slice_get book.stations basis.0.station) NoStation) _ site basis.2 in
     let unit = then_ok (level_unit station.0.units) _ site station.2 in
     let span = then_ok (span_in reach book basis.0 asked.begin asked.end) _ site unit.2 in
-    let curve = then_ok (tide_from (curve_of book station.0)) _ site span.2 in
+    let curve = then_ok (curve_from (curve_of book station.0)) _ site span.2 in
     let few = then_ok (length_in asked.begin asked.end) _ site curve.2 in
     let mark = then_ok (mark_in basis.0 asked.mark) _ site few.2 in
     let found : Site = record { basis = basis.0; station = station.0 } in

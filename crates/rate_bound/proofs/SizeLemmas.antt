@@ -8,6 +8,7 @@ use Rattle.station_curve.specs.declared.fault.CurveFault.{CurveFault}
 use Rattle.station_curve.specs.declared.fault.CurveFault.TheVariants.{Hydraulic}
 use Rattle.station_curve.specs.Curves.{Prediction, IsPrediction, curve_of, curve_over, first_fault, is_hydraulic, prediction_of, unless_fault}
 use Rattle.station_curve.specs.Schureman.{predicted_level}
+use Rattle.station_curve.proofs.WithinLimits.{limits_of}
 use Rattle.station_curve.proofs.Ranges.{level_small, slope_small, in_domain, all_minutes_valid}
 use Rattle.rate_bound.specs.declared.version.Version.{Version}
 use Rattle.rate_bound.specs.Scale.{IsScale}
@@ -38,7 +39,7 @@ limits-kept b s c is = no_fault (is_hydraulic s.units) (prediction_of b s) c (fi
 
 valid_station : (b : Book) (s : Station) (c : Prediction) → IsBook b → IsStation (length b.constituents) s → curve_of b s ≡ Ok c
     → IsPrediction (prediction_of b s)
-valid_station b s c book station is = all_minutes_valid b s (record { book = book; station = station; none = limits-kept b s c is })
+valid_station b s c book station is = all_minutes_valid b s (limits_of b s book station (limits-kept b s c is))
 
 pub station_turn_small : (version : Version) (b : Book) (s : Station) (c : Prediction) → IsBook b
     → IsStation (length b.constituents) s → curve_of b s ≡ Ok c

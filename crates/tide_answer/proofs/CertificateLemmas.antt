@@ -49,7 +49,7 @@ pub tracks_few : (asked : Asked) (found : SiteTide) (tracks : Tracks) → IsRead
     → cells_in tracks < 2 ^ 64
 tracks_few asked found tracks ready same = rw same (few_cells asked found ready)
 
-pub few_for : (f : FoundStation) → f.reach ≡ Events → cells_in (tracks_of f.origin.book (site_of f) f.asked) < 2 ^ 64
+pub few_for : (f : FoundStation) → f.reach ≡ Events → cells_in (tracks_of f.curve.book (site_of f) f.asked) < 2 ^ 64
 few_for f is = tracks_few f.asked (tide_of_found f) _ (ready_for f is) (tracks_tide f is)
 
 -- ---- the parts are within their ranges

@@ -20,11 +20,12 @@ use Rattle.rate_bound.specs.Meanings.{over_mark, mark_meaning}
 use Rattle.rate_bound.specs.Scale.{IsScale}
 use Rattle.station_curve.proofs.CellSteps.{level_bound, plain_level_gap, step_over, over_level_gap}
 use Rattle.station_curve.proofs.PlainSteps.{IsSpan, plain_step}
+use Rattle.rate_bound.specs.Workings.TurnLaw.{within_below}
 use Rattle.rate_bound.specs.Workings.RateForms.{blended_level_rate-pos, some-same}
 use Rattle.station_curve.proofs.Ranges.{are_ends, level_small, in_domain}
 use Rattle.station_curve.specs.Curves.{IsPrediction, Prediction, waves_of}
-use Rattle.station_curve.proofs.Touched.{book_years}
 use Rattle.station_curve.specs.Schureman.{predicted_level}
+use Rattle.station_curve.proofs.WithinLimits.{sums_within_limits}
 
 -- the mark and the added level cancel in a step
 pub same_mark : (x y c : ℤ) → (x +ℤ c) -ℤ (y +ℤ c) ≡ x -ℤ y
@@ -62,7 +63,8 @@ rate_within : (version : Version) (c : Prediction) (times plus mark : ℤ) (slac
     → times *ℤ (pos total_weight *ℤ (book_sums c.book c.station year).near) ≡ rate
     → IsRate (mark_meaning version c times plus mark slack) a n rate
 rate_within version c times plus mark slack a n year rate valid scale span found is =
-    let near : near_of (waves_of c.book c.station year) ≤ 3 * 10 ^ 15 = (sums_valid c year valid).near in
+    let near : near_of (waves_of c.book c.station year) ≤ 3 * 10 ^ 15 = 
+    (sums_within_limits c.book c.station year valid.limits (within_below c.book a n year span found)).near in
     let t = times_of times plus mark scale in
     let most = total_weight * near_of (waves_of c.book c.station year) in
     record {
@@ -83,8 +85,9 @@ rate_across : (version : Version) (c : Prediction) (times plus mark : ℤ) (slac
 rate_across version c times plus mark slack a n zero rate valid scale span found is = absurd (omega (arith, found.later))
 rate_across version c times plus mark slack a n (suc k) rate valid scale span found is =
     let before : suc k - 1 ≡ k = omega arith in
-    let earlier = sums_valid c k valid in
-    let later = sums_valid c (suc k) valid in
+    let inner = found.inner in
+    let earlier = sums_within_limits c.book c.station k valid.limits (omega (arith, inner)) in
+    let later = sums_within_limits c.book c.station (suc k) valid.limits inner in
     let near : near_of (waves_of c.book c.station k) ≤ 3 * 10 ^ 15 = earlier.near in
     let next : near_of (waves_of c.book c.station (suc k)) ≤ 3 * 10 ^ 15 = later.near in
     let t = times_of times plus mark scale in
@@ -95,7 +98,7 @@ rate_across version c times plus mark slack a n (suc k) rate valid scale span fo
           (amount_of (waves_of c.book c.station k)) _ (omega (arith, near, next)) later.amount earlier.amount) same;
       steps = λ i below. mark_step times plus mark (predicted_level c.book c.station (a +ℤ pos i)) (predicted_level c.book c.station ((a +ℤ pos i) +ℤ pos 1))
           (level_bound c.book c.station k) rate t
-          (over_level_gap c.book c.station (a +ℤ pos i) k (step_over c.book a n k i span.book span.first span.last span.short found below)) same;
+          (over_level_gap c.book c.station (a +ℤ pos i) k (step_over c.book a n k i span.times span.first span.last span.short found below)) same;
     }
 
 rate_in : (version : Version) (c : Prediction) (times plus mark : ℤ) (slack : Bool) (a : ℤ) (n : ℕ) (rate : ℤ)
@@ -119,13 +122,13 @@ mark_rate version c times plus mark slack a n rate valid scale cell is =
     let begins = valid.begins in
     let ends = valid.ends in
     let span : IsSpan c.book a n = record {
-      book = valid.limits.book;
+      times = valid.limits.times;
       first = record { least = omega (arith, ints); most = omega (arith, ints) };
       last = record { least = omega (arith, ints); most = omega (arith, ints) };
       short = cell.few;
     } in
     rate_in version c times plus mark slack a n rate _ valid scale span
-    (stretch_of-found c.book.first_year c.book.years a n (book_years c.book span.book) span.first span.last) is
+    (stretch_of-found c.book.first_year c.book.years a n span.times.years span.first span.last) is
 
 -- a level less a mark is below its limit
 pub mark_small : (times plus mark level : ℤ) → IsScale times plus mark
@@ -146,7 +149,7 @@ mark_small times plus mark level scale small =
 pub mark_lawful : (version : Version) (c : Prediction) (times plus mark : ℤ) (slack : Bool) → IsPrediction c
     → IsScale times plus mark → IsLawful (mark_meaning version c times plus mark slack)
 mark_lawful version c times plus mark slack valid scale =
-    let all = are_ends c.book.first_year c.book.years (book_years c.book valid.limits.book) in
+    let all = are_ends c.book.first_year c.book.years valid.limits.times.years in
     let begins = valid.begins in
     let ends = valid.ends in
     let early = all.early in

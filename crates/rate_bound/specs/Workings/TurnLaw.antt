@@ -1,5 +1,5 @@
 -- The curve of the slope is lawful.
-use Rattle.std.proofs.Common.{◌≡◌, ℕ, zero, suc, ◌-◌, ◌*◌, ◌^◌, ◌≤◌, Some, sym, ◌∙◌, arith, ℤ, pos, ◌+ℤ◌, ◌*ℤ◌, ◌≤ℤ◌, ◌<ℤ◌}
+use Rattle.std.proofs.Common.{◌<◌, ◌≡◌, ℕ, zero, suc, ◌-◌, ◌*◌, ◌^◌, ◌≤◌, Some, sym, ◌∙◌, arith, ℤ, pos, ◌+ℤ◌, ◌*ℤ◌, ◌≤ℤ◌, ◌<ℤ◌}
 use Rattle.std.proofs.lemmas.Int.{ints}
 use Rattle.curve_law.specs.Meaning.{IsCell, IsRate, IsLawful}
 use Rattle.curve_law.specs.declared.quiet.TheConstants.{MOST_MINUTES}
@@ -7,6 +7,7 @@ use Rattle.station_curve.specs.Sums.{far_of}
 use Rattle.year_blend.specs.declared.parts.Stretch.{Stretch}
 use Rattle.year_blend.specs.declared.parts.Stretch.TheVariants.{Within, Across}
 use Rattle.year_blend.specs.Weights.{total_weight}
+use Rattle.year_blend.proofs.PlaceLemmas.{place_of-rule}
 use Rattle.year_blend.proofs.StretchLemmas.{IsFound, stretch_of-found}
 use Rattle.rate_bound.specs.declared.version.Version.{Version}
 use Rattle.rate_bound.specs.declared.version.Version.TheVariants.{First, Second}
@@ -18,7 +19,8 @@ use Rattle.rate_bound.specs.Workings.RateForms.{blended_slope_rate-pos, IsLimite
 use Rattle.station_curve.proofs.Ranges.{are_ends, slope_small, in_domain}
 use Rattle.harmonics_book.specs.declared.book.Book.{Book}
 use Rattle.station_curve.specs.Curves.{IsPrediction, Prediction, waves_of}
-use Rattle.station_curve.proofs.Touched.{book_years}
+use Rattle.station_curve.proofs.WithinLimits.{sums_within_limits}
+use Rattle.station_curve.proofs.Products.{times}
 
 plain_small : (far : ℕ) (rate : ℤ) → pos (total_weight * far) ≡ rate → far ≤ 104724001 * 10 ^ 17
     → (rate *ℤ pos MOST_MINUTES) <ℤ pos (5 * 10 ^ 37)
@@ -30,13 +32,14 @@ limited_small rate small = omega (arith, ints, small)
 -- the year of a span outside blends is one of the book's
 pub within_below : (b : Book) (a : ℤ) (n year : ℕ) → IsSpan b a n → IsFound b.first_year b.years a n (Within year) → year < b.years
 within_below b a n year span found =
-    (rw found.plain at (place_of-rule b.first_year b.years a (book_years b span.book) span.first)).0.one_of
+    (rw found.plain at (place_of-rule b.first_year b.years a span.times.years span.first)).0.one_of
 
 rate_within : (version : Version) (c : Prediction) (a : ℤ) (n year : ℕ) (rate : ℤ) → IsPrediction c → IsSpan c.book a n
     → IsFound c.book.first_year c.book.years a n (Within year)
     → pos total_weight *ℤ (book_sums c.book c.station year).far ≡ rate → IsRate (turn_meaning version c) a n rate
 rate_within version c a n year rate valid span found is = record {
-  small = plain_small (far_of (waves_of c.book c.station year)) rate is (sums_valid c year valid).far;
+  small = plain_small (far_of (waves_of c.book c.station year)) rate is 
+      (sums_within_limits c.book c.station year valid.limits (within_below c.book a n year span found)).far;
   steps = λ k below. step-within _ (total_weight * far_of (waves_of c.book c.station year)) rate is
       (plain_slope_gap c.book c.station (a +ℤ pos k) year (plain_step c.book a n year k span found below));
 }
@@ -53,7 +56,7 @@ rate_across version c a n (suc k) rate valid span found limited =
     record {
       small = limited_small rate limited.small;
       steps = λ i below. step-within _ (slope_bound c.book c.station k) rate is
-          (over_slope_gap c.book c.station (a +ℤ pos i) k (step_over c.book a n k i span.book span.first span.last span.short found below));
+          (over_slope_gap c.book c.station (a +ℤ pos i) k (step_over c.book a n k i span.times span.first span.last span.short found below));
     }
 
 rate_in : (version : Version) (c : Prediction) (a : ℤ) (n : ℕ) (rate : ℤ) (s : Stretch) → IsPrediction c
@@ -75,18 +78,18 @@ turn_rate version c a n rate valid cell is =
     let begins = valid.begins in
     let ends = valid.ends in
     let span : IsSpan c.book a n = record {
-      book = valid.limits.book;
+      times = valid.limits.times;
       first = record { least = omega (arith, ints); most = omega (arith, ints) };
       last = record { least = omega (arith, ints); most = omega (arith, ints) };
       short = cell.few;
     } in
     rate_in version c a n rate _ valid span
-    (stretch_of-found c.book.first_year c.book.years a n (book_years c.book span.book) span.first span.last) is
+    (stretch_of-found c.book.first_year c.book.years a n span.times.years span.first span.last) is
 
 -- the curve of the slope meets the law of a curve
 pub turn_lawful : (version : Version) (c : Prediction) → IsPrediction c → IsLawful (turn_meaning version c)
 turn_lawful version c valid =
-    let all = are_ends c.book.first_year c.book.years (book_years c.book valid.limits.book) in
+    let all = are_ends c.book.first_year c.book.years valid.limits.times.years in
     let begins = valid.begins in
     let ends = valid.ends in
     let early = all.early in
