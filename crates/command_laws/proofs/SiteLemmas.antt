@@ -7,8 +7,7 @@ use Rattle.curve_law.proofs.CoverLemmas.{by_test}
 use Rattle.event_list.specs.Shifts.{widened_of}
 use Rattle.harmonics_book.specs.declared.book.Book.{Book}
 use Rattle.harmonics_book.specs.declared.book.Units.{Units}
-use Rattle.station_curve.specs.Curves.{curve_of}
-use Rattle.station_curve.specs.Waves.{Tide}
+use Rattle.station_curve.specs.Curves.{Prediction, curve_of}
 use Rattle.station_span.specs.declared.asked.Asked.{Asked}
 use Rattle.station_span.specs.declared.reach.Reach.{Reach}
 use Rattle.station_span.specs.declared.reach.Reach.TheVariants.{Events}
@@ -41,8 +40,8 @@ pub record HasPassed (reach : Reach) (book : Book) (table : List Offsets) (name 
   pub basis : basis_of book table name ≡ Ok site.basis
   pub station : slice_get book.stations site.basis.station ≡ Some site.station
   pub units : Units
-  pub tide : Tide
-  pub curve : HasCurve reach book site asked units tide
+  pub whole : Prediction
+  pub curve : HasCurve reach book site asked units whole
   pub few : length_in asked.begin asked.end ≡ Ok tt
   pub mark : mark_in site.basis asked.mark ≡ Ok tt
 
@@ -63,7 +62,7 @@ has_passed reach book table name asked site ok =
       basis = basis_ok _ basis.0 basis.1;
       station = some_of _ NoStation station.0 station.1;
       units = unit.0;
-      tide = curve.0;
+      whole = curve.0;
       curve = record { unit = unit.1; span = span.1; curve = curve.1 };
       few = few.1;
       mark = mark.1;

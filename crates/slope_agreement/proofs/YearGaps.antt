@@ -1,5 +1,5 @@
 -- The difference between the rise of a station's level in a minute outside blends and its slope.
-use Rattle.std.proofs.Common.{◌≡◌, ℕ, zero, suc, None, ◌+◌, ◌*◌, ◌^◌, ◌<◌, ◌≤◌, length, inl, inr, refl, ap, ◌∙◌, arith, ℤ, pos, neg_ℤ, ◌+ℤ◌, ◌-ℤ◌, ◌*ℤ◌, ◌≤ℤ◌}
+use Rattle.std.proofs.Common.{List, ◌≡◌, ℕ, zero, suc, None, ◌+◌, ◌*◌, ◌^◌, ◌<◌, ◌≤◌, length, inl, inr, refl, ap, ◌∙◌, arith, ℤ, pos, neg_ℤ, ◌+ℤ◌, ◌-ℤ◌, ◌*ℤ◌, ◌≤ℤ◌}
 use Rattle.std.specs.Prelude.{unsigned_abs}
 use Rattle.std.specs.Int.{int_max}
 use Rattle.std.proofs.lemmas.Bool.{cases_lt}
@@ -14,13 +14,13 @@ use Rattle.year_blend.proofs.PlaceLemmas.{place_of-rule}
 use Rattle.station_curve.specs.Waves.{heights_of, falls_of, amount_of, steepness_of, Harmonic}
 use Rattle.station_curve.specs.Sums.{far_of, sums_of}
 use Rattle.station_curve.specs.Levels.{minutes_into}
-use Rattle.station_curve.specs.Curves.{first_fault, AreTimes, IsPredicted, Prediction, prediction_of, sums_for, waves_of}
+use Rattle.station_curve.specs.Curves.{first_fault, AreTimes, IsPredicted, IsPrediction, Prediction, prediction_of, sums_for, waves_of}
 use Rattle.rate_bound.specs.Rates.{book_sums}
 use Rattle.slope_agreement.specs.Agreements.{predicted_gap, predicted_gap_before, IsPlainMinute, year_agreement, greatest, agreement_of, predicted_agreement}
 use Rattle.slope_agreement.proofs.WaveGaps.{heights_gap, heights_gap_before}
 use Rattle.station_curve.proofs.Ranges.{all_minutes_valid, place_used}
 use Rattle.station_curve.proofs.Touched.{all_touched, touched}
-use Rattle.station_curve.proofs.WithinLimits.{limits_of, over-touched, times_of}
+use Rattle.station_curve.proofs.WithinLimits.{limits_of, over-touched}
 use Rattle.station_curve.specs.Schureman.{predicted_level, predicted_slope, predicted_year_level, predicted_year_slope}
 use Rattle.station_curve.proofs.Predicting.{year_level_is, year_slope_is}
 
@@ -162,10 +162,10 @@ greatest-same f g (suc n) same =
     ap (λ z. int_max z (f n)) (greatest-same f g n (λ year below. same year (omega (arith, below))))
     ∙ ap (int_max (greatest g n)) (same n (omega arith))
 
-pub agreement_same : (b : Book) (s : Station) → IsBook b → agreement_of (prediction_of b s) ≡ predicted_agreement b s
-agreement_same b s book =
+pub agreement_same : (b : Book) (s : Station) → IsPrediction (prediction_of b s) → agreement_of (prediction_of b s) ≡ predicted_agreement b s
+agreement_same b s valid =
     greatest-same (λ year. year_agreement (sums_for (prediction_of b s) year)) (λ year. year_agreement (book_sums b s year)) b.years
-    (λ year below. ap (λ (hs : List Harmonic). year_agreement (sums_of hs)) (over-touched b s _ _ year (all_touched b year (times_of b book) below)))
+    (λ year below. ap (λ (hs : List Harmonic). year_agreement (sums_of hs)) (over-touched b s _ _ year (all_touched b year valid.limits.times below)))
 
 -- all minutes of a station of a book
 IsWhole : Book → Station → ℤ → ℕ → Type 0
@@ -187,7 +187,7 @@ pub book_gap : (b : Book) (s : Station) (m : ℤ) (year : ℕ) → IsBook b → 
 unfolding IsWhole
 book_gap b s m year book station none plain =
     let all = whole b s m year book station none plain in
-    rw (agreement_same b s book) at (station_gap (prediction_of b s) m year all.0 all.1 all.2)
+    rw (agreement_same b s all.0) at (station_gap (prediction_of b s) m year all.0 all.1 all.2)
 
 pub book_gap_before : (b : Book) (s : Station) (m : ℤ) (year : ℕ) → IsBook b → IsStation (length b.constituents) s
     → first_fault b s b.years ≡ None → IsPlainMinute b.first_year b.years m year
@@ -195,4 +195,4 @@ pub book_gap_before : (b : Book) (s : Station) (m : ℤ) (year : ℕ) → IsBook
 unfolding IsWhole
 book_gap_before b s m year book station none plain =
     let all = whole b s m year book station none plain in
-    rw (agreement_same b s book) at (station_gap_before (prediction_of b s) m year all.0 all.1 all.2)
+    rw (agreement_same b s all.0) at (station_gap_before (prediction_of b s) m year all.0 all.1 all.2)

@@ -6,7 +6,7 @@ ghost use Rattle.fixed_sine.specs.Table.{sine_at, rise, correction};
 ghost use Rattle.harmonics_book.specs.declared.book.Station.{Station};
 ghost use Rattle.harmonics_book.specs.declared.book.Book.{Book};
 ghost use Rattle.harmonics_book.specs.Books.{IsBook, IsStation};
-ghost use Rattle.station_curve.specs.Curves.{first_fault, prediction_of};
+ghost use Rattle.station_curve.specs.Curves.{first_fault, prediction_of, IsPrediction};
 ghost use Rattle.slope_agreement.specs.Agreements.{predicted_gap, predicted_gap_before, IsPlainMinute, agreement_of, predicted_agreement};
 
 /// Proves two checks of the whole table: at the begin and at the end of each degree the slope of the
@@ -25,7 +25,7 @@ pub fn table_checks()
 /// the next minute is within the bound of the slope at the begin of the minute, and of the slope at its
 /// end.
 pub fn predicted_agreements()
-    ensures value { (b : Book) (s : Station) → IsBook b → agreement_of (prediction_of b s) ≡ predicted_agreement b s }
+    ensures value { (b : Book) (s : Station) → IsPrediction (prediction_of b s) → agreement_of (prediction_of b s) ≡ predicted_agreement b s }
     ensures law { (b : Book) (s : Station) (m : ℤ) (year : ℕ) → IsBook b → IsStation (length b.constituents) s
         → first_fault b s b.years ≡ None
         → IsPlainMinute b.first_year b.years m year → pos (predicted_gap b s m) ≤ℤ predicted_agreement b s }

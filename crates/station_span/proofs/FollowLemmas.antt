@@ -92,8 +92,8 @@ alike_if_marked s None f g agree = tt
 pub record IsSame (book : Book) (site : Site) (found : SiteTide) : Type 0 where
   pub basis : found.basis ≡ site.basis
   pub units : found.units ≡ site.station.units
-  pub book : found.curve.book ≡ book
-  pub station : found.curve.station ≡ site.station
+  pub of_book : found.curve.book ≡ book
+  pub of_station : found.curve.station ≡ site.station
 
 last_minute : (s : Span) → s.begin ≤ℤ s.end → s.begin +ℤ pos (span_minutes s) ≡ s.end
 last_minute s forward = omega (arith, ints)
@@ -107,7 +107,7 @@ followed_alike version book site found mark s same =
     let turn = predicted_turn version book site.station in
     let slack = predicted_mark version book site.station (slack_times site.basis) (slack_plus site.basis) (pos 0) true in
     let marked = λ (level : ℤ). predicted_mark version book site.station site.basis.high.times site.basis.high.plus level false in
-    rw (same.basis, same.units, same.book, same.station) (record {
+    rw (same.basis, same.units, same.of_book, same.of_station) (record {
       turn = fewer_minutes first last turn s.begin (span_minutes s);
       slack = alike_if_asked s (asks_slack site.station.units site.basis) (record slack { first = first; last = last }) slack
           (fewer_minutes first last slack s.begin (span_minutes s));
@@ -341,7 +341,7 @@ tide_lines asked found ready =
 
 same_site : (book : Book) (asked : Asked) (site : Site) (found : SiteTide) → IsFound Events book asked site found → IsSame book site found
 same_site book asked site found is =
-    record { basis = is.basis; units = is.units; book = is.predicts.book; station = is.predicts.station }
+    record { basis = is.basis; units = is.units; of_book = is.predicts.of_book; of_station = is.predicts.of_station }
 
 pub found_alike : (version : Version) (book : Book) (asked : Asked) (site : Site) (found : SiteTide) (mark : Option ℤ)
     → IsFound Events book asked site found → AllAgree (followed_tide version found mark)

@@ -44,6 +44,15 @@ pub curve_allowed : (book : Book) (station : Station) (first last : ℤ) (curve 
     → curve_from (curve_of book station) ≡ Ok (prediction_of book station)
 curve_allowed book station first last curve ok = (over_ok _ book station first last curve refl ok).0
 
+pub curve_alone : (book : Book) (station : Station) (first last : ℤ) (curve : Prediction)
+    → curve_from (curve_over book station first last) ≡ Ok curve → curve ≡ prediction_over book station first last
+curve_alone book station first last curve ok = (over_ok _ book station first last curve refl ok).1
+
+pub whole_alone : (book : Book) (station : Station) (curve : Prediction)
+    → curve_from (curve_of book station) ≡ Ok curve → curve ≡ prediction_of book station
+unfolding curve_of
+whole_alone book station curve ok = curve_alone book station _ _ curve ok
+
 both_refused : (over whole : Prediction) (fault : Option CurveFault) (refusal : Refusal)
     → curve_from (unless_fault over fault) ≡ Err refusal → curve_from (unless_fault whole fault) ≡ Err refusal
 both_refused over whole None refusal refused = absurd cc
@@ -67,10 +76,10 @@ curve_excused false book station first last refusal excused = over_refused _ boo
 -- ---- the steps after the curve
 
 -- the steps of a station up to its curve
-pub record HasCurve (reach : Reach) (book : Book) (site : Site) (asked : Asked) (units : Units) (curve : Prediction) : Type 0 where
+pub record HasCurve (reach : Reach) (book : Book) (site : Site) (asked : Asked) (units : Units) (whole : Prediction) : Type 0 where
   pub unit : level_unit site.station.units ≡ Ok units
   pub span : span_in reach book site.basis asked.begin asked.end ≡ Ok tt
-  pub curve : curve_from (curve_of book site.station) ≡ Ok curve
+  pub curve : curve_from (curve_of book site.station) ≡ Ok whole
 
 -- the span is refused
 pub refused_span : (memory : Bool) (reach : Reach) (book : Book) (site : Site) (asked : Asked) (units : Units)

@@ -14,11 +14,10 @@ use Rattle.station_span.specs.declared.found_station.FoundStation.{FoundStation}
 use Rattle.station_span.specs.declared.reach.Reach.{Reach}
 use Rattle.station_span.specs.declared.reach.Reach.TheVariants.{Events, Levels, Highest}
 use Rattle.station_span.specs.Following.{cells_of, events_of, tracks_of}
-use Rattle.station_span.specs.Levels.{is_rising_at, level_at}
 use Rattle.station_span.specs.Sites.{moved, reached}
 use Rattle.station_span.specs.Workings.Curves.{AreMerged, HasMinutes, IsReady, followed_tide}
 use Rattle.station_span.specs.Workings.Finds.{AreLooked, AreReferences, HasPeak, IsLooked, IsSiteList, site_of, tide_of_found}
-use Rattle.station_span.specs.Workings.Levels.{HasLevel, is_tide_rising, source_of, tide_level}
+use Rattle.station_span.specs.Workings.Levels.{HasLevel, source_of}
 use Rattle.station_span.specs.Workings.Spans.{IsFound, IsCurveOf}
 use Rattle.station_span.proofs.FollowLemmas.{asked_minute, counted_cells, found_cells, found_events, merged_can_move, plain_is_whole, ready_minutes, ready_of_found, shifted_is_whole, tide_lines, tracks_alike}
 use Rattle.station_span.proofs.LevelLemmas.{within_adds}
@@ -129,14 +128,6 @@ looked_level f minute looked =
     let least = curve.from in
     let most = curve.until in
     record { offset = is.valid.high; valid = is.within_limits; inside = record { least = omega (arith, ints); most = omega (arith, ints) } }
-
-pub level_for : (f : FoundStation) (minute : ℤ)
-    → tide_level (tide_of_found f) minute ≡ level_at f.curve.book (site_of f) minute
-level_for f minute = refl
-
-pub rising_for : (f : FoundStation) (minute : ℤ)
-    → is_tide_rising (tide_of_found f) minute ≡ is_rising_at f.curve.book (site_of f) minute
-rising_for f minute = refl
 
 -- the first minute has a level, if the station was found for events
 pub first_looked : (f : FoundStation) → f.reach ≡ Events → IsLooked f f.asked.begin

@@ -89,7 +89,7 @@ last_source begin end add forward = omega (arith, ints)
 pub levels_alike : (book : Book) (asked : Asked) (site : Site) (found : SiteTide) → IsFound Highest book asked site found
     → AgreeOnValues (tide_levels found) (level_curve book site) (source_of found asked.begin) (minute_count asked)
 levels_alike book asked site found is =
-    rw (is.predicts.book, is.predicts.station) (record { values = λ k few. refl; rates = λ k l inside some most. refl })
+    rw (is.predicts.of_book, is.predicts.of_station) (record { values = λ k few. refl; rates = λ k l inside some most. refl })
 
 -- ---- its minutes
 

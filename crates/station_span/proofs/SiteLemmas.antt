@@ -96,7 +96,7 @@ no_fault : (whole same : Prediction) (fault : Option CurveFault) → curve_from 
 no_fault whole same None ok = refl
 no_fault whole same (Some fault) ok = absurd cc
 
-curve_none : (book : Book) (station : Station) (hydraulic : Bool) (curve : Prediction) → is_hydraulic station.units ≡ hydraulic
+pub curve_none : (book : Book) (station : Station) (hydraulic : Bool) (curve : Prediction) → is_hydraulic station.units ≡ hydraulic
     → curve_from (curve_of book station) ≡ Ok curve → first_fault book station book.years ≡ None
 unfolding curve_of curve_over
 curve_none book station true curve is ok = absurd (let none = rw is at ok in cc)
@@ -279,7 +279,7 @@ found_of_site reach book table name asked site is rows in_range ok =
       valid = valid;
       units = refl;
       levels = unit_levels site.station.units steps.units steps.curve.unit;
-      predicts = record { book = refl; station = refl; from = span.begins.least; until = span.ends.most };
+      predicts = record { of_book = refl; of_station = refl; from = span.begins.least; until = span.ends.most };
       within_limits = all_minutes_valid book site.station
           (limits_of book site.station is station (curve_none book site.station _ steps.whole refl steps.curve.curve));
       span = span;

@@ -1,6 +1,7 @@
 -- The minutes of a span.
 use Rattle.std.proofs.Common.{◌≡◌, ℕ, ℤ, pos, ◌+ℤ◌, int_lt, Bool, true, false, ◌&&◌, refl, arith}
 use Rattle.std.proofs.lemmas.Int.{ints}
+use Rattle.event_list.specs.declared.span.Span.{Span}
 use Rattle.event_list.specs.Shifts.{HasOffsets}
 use Rattle.jiff_core.proofs.SignedLemmas.{signed_arith}
 use Rattle.harmonics_book.specs.declared.book.Book.{Book}

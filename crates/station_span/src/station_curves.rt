@@ -54,10 +54,14 @@ pub fn whole_curve(
     requires place { slice_get book.now.stations place ≡ Some station.now }
     ensures exact { ReturnsUnless refusal_is_out_of_memory (curve_from (curve_of book.now station.now)) result }
     ensures predicts { IfOk result (λ curve. curve ≡ prediction_of book.now station.now) }
+    ensures valid { IfOk result IsPrediction }
     ensures printable { IfErr result (IsPrintableRefusal []) }
 {
     match StationCurve::new(alloc, book.get(), place) {
-        Ok(curve) => Ok(curve),
+        Ok(curve) => {
+            curve.limits_hold();
+            Ok(curve)
+        }
         Err(fault) => Err(Refusal::from(fault)),
     }
 }

@@ -5,7 +5,7 @@ use Rattle.decimal_text.specs.Expected.{Excused}
 use Rattle.event_list.specs.Events.{merged_of}
 use Rattle.event_text.specs.Lines.{IsListed}
 use Rattle.harmonics_book.specs.declared.book.Book.{Book}
-use Rattle.station_curve.specs.Curves.{prediction_of}
+use Rattle.station_curve.specs.Curves.{IsPrediction, prediction_of}
 use Rattle.station_table.specs.Bases.{is_equal}
 use Rattle.station_span.specs.declared.asked.Asked.{Asked}
 use Rattle.station_span.specs.declared.following.FoundEvents.{FoundEvents}
@@ -52,6 +52,7 @@ pub record IsReferenceFound (book : Book) (expected : Result Site Refusal) (refe
   pub station : reference.station.now ≡ site.station
   pub levels : HasLevels site.station.units
   pub curve : reference.curve ≡ prediction_of book site.station
+  pub valid : IsPrediction reference.curve
 
 -- the expected station was found, or the expected refusal returned
 abbrev pub FindsReference : Book → Result Site Refusal → Result ReferenceStation Refusal → Type 0

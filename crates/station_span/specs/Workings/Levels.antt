@@ -1,23 +1,13 @@
 -- The levels of a station.
-use Rattle.std.specs.Prelude.{ℤ, pos, ◌-ℤ◌, ◌≤ℤ◌, int_lt, Bool}
-use Rattle.event_list.specs.Shifts.{scaled}
+use Rattle.std.specs.Prelude.{ℤ, ◌-ℤ◌, ◌≤ℤ◌}
 use Rattle.station_table.specs.Offsets.{IsOffset}
 use Rattle.station_span.specs.declared.asked.Asked.{Asked}
 use Rattle.station_span.specs.Workings.Tides.{SiteTide}
 use Rattle.station_curve.specs.Curves.{IsPredicted, IsPrediction}
-use Rattle.station_curve.specs.Schureman.{predicted_millionths, predicted_slope}
 
 -- the reference's minute that the offset moves to a minute
 abbrev pub source_of : SiteTide → ℤ → ℤ
 source_of found minute = minute -ℤ found.basis.high.add
-
--- the station's level at a minute, as by every constituent of the harmonics file
-abbrev pub tide_level : SiteTide → ℤ → ℤ
-tide_level found minute = scaled found.basis.high (predicted_millionths found.curve.book found.curve.station (source_of found minute))
-
--- the station's level rises at a minute
-abbrev pub is_tide_rising : SiteTide → ℤ → Bool
-is_tide_rising found minute = int_lt (pos 0) (predicted_slope found.curve.book found.curve.station (source_of found minute))
 
 -- a minute whose level the curve has
 pub record HasLevel (found : SiteTide) (minute : ℤ) : Type 0 where

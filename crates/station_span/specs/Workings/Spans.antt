@@ -65,8 +65,8 @@ pub record IsFileMinute (minute : ℤ) : Type 0 where
 
 -- a curve of a station that has the minutes of a span
 pub record IsCurveOf (book : Book) (station : Station) (s : Span) (c : Prediction) : Type 0 where
-  pub book : c.book ≡ book
-  pub station : c.station ≡ station
+  pub of_book : c.book ≡ book
+  pub of_station : c.station ≡ station
   pub from : c.first ≤ℤ s.begin
   pub until : s.end ≤ℤ c.last
 

@@ -1,3 +1,4 @@
+use Rattle.std.proofs.lemmas.Int.{ints}
 use Rattle.std.proofs.Common.{refl, sym, ◌∙◌, ap, arith}
 use Rattle.std.proofs.lemmas.Result.{err_from_is_err_and}
 use Rattle.station_curve.specs.Curves.{Prediction, prediction_of}
@@ -81,7 +82,7 @@ invariant_of-result c =
       valid = c.requires.basis;
       units = refl;
       levels = c.in_ok-level_units.ensures.levels;
-      predicts = rw (is, looked) (record { book = refl; station = refl; from = omega (arith, ints); until = omega (arith, ints) });
+      predicts = rw (is, looked) (record { of_book = refl; of_station = refl; from = omega (arith, ints); until = omega (arith, ints) });
       within_limits = c.in_ok-curve.ensures.valid;
       span = span;
       few = c.in_ok-check_length.ensures.count_bound;
