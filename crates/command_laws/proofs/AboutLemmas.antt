@@ -32,7 +32,7 @@ use Rattle.station_curve.specs.Schureman.{predicted_slope}
 use Rattle.station_span.specs.declared.asked.Asked.{Asked}
 use Rattle.station_span.specs.declared.reach.Reach.TheVariants.{Events}
 use Rattle.station_span.specs.Following.{asks_slack, events_of as site_events, followed, followed_by, if_asked, slack_plus, slack_times}
-use Rattle.station_span.specs.Sites.{Site, basis_from, level_unit, site_in, station_in, tide_from}
+use Rattle.station_span.specs.Sites.{Site, basis_from, level_unit, site_in, station_in, curve_from}
 use Rattle.decimal_text.proofs.ExpectedLemmas.{then_ok}
 use Rattle.station_table.specs.declared.basis.Basis.{Basis}
 use Rattle.station_table.specs.declared.offsets.Offsets.{Offsets}
@@ -227,7 +227,7 @@ known_station book table name site ok =
     let basis = then_ok (basis_from (basis_of book table name)) _ site ok in
     let station = then_ok (ok_or (slice_get book.stations basis.0.station) NoStation) _ site basis.2 in
     let unit = then_ok (level_unit station.0.units) _ site station.2 in
-    let tide = then_ok (tide_from (curve_of book station.0)) _ site unit.2 in
+    let tide = then_ok (curve_from (curve_of book station.0)) _ site unit.2 in
     let same : record { basis = basis.0; station = station.0 } ≡ site = (let last = tide.2 in cc) in
     subst (λ (s : Site). (basis_from (basis_of book table name) ≡ Ok s.basis)
     × (slice_get book.stations s.basis.station ≡ Some s.station)) same

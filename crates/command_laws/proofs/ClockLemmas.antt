@@ -65,7 +65,7 @@ level_site book table name now site ok equal =
     let inside = minute_between book _ source _ reaches.begins reaches.ends (omega (arith, ints, greatest)) (omega (arith, ints, least)) in
     let asked : Asked = record { begin = now; end = now; mark = None } in
     found_by Levels book table name asked site.basis site.station (rw was.basis refl) was.station
-    ∙ found_whole Levels book site asked was.units was.tide
+    ∙ found_whole Levels book site asked was.units was.whole
     (record { unit = was.curve.unit; span = level_span book site.basis now equal inside; curve = was.curve.curve })
     (level_length now) refl
 

@@ -18,12 +18,11 @@ use Rattle.question.specs.Words.{asks_to_serve, pairs_of}
 use Rattle.question.proofs.FormLemmas.{step_of-range}
 use Rattle.report_sheets.specs.Pages.{missing_of}
 use Rattle.report_sheets.specs.Sheets.{SheetMeaning}
-use Rattle.station_curve.specs.declared.fault.CurveFault.{CurveFault}
-use Rattle.station_curve.specs.Curves.{curve_of, first_fault, is_hydraulic, tide_of, tide_or}
-use Rattle.station_curve.specs.Waves.{Tide}
+use Rattle.station_curve.specs.Curves.{curve_of, first_fault}
+use Rattle.station_span.proofs.SiteLemmas.{curve_none}
 use Rattle.station_span.specs.declared.asked.Asked.{Asked}
 use Rattle.station_span.specs.declared.reach.Reach.{Reach}
-use Rattle.station_span.specs.Sites.{Site, basis_from, length_in, level_unit, mark_in, site_at, site_in, span_in, tide_from}
+use Rattle.station_span.specs.Sites.{Site, basis_from, length_in, level_unit, mark_in, site_at, site_in, span_in, curve_from}
 use Rattle.decimal_text.proofs.ExpectedLemmas.{then_ok}
 use Rattle.station_table.specs.declared.offsets.Offsets.{Offsets}
 use Rattle.station_table.specs.Bases.{basis_of}
@@ -140,16 +139,6 @@ forward_span reach book site asked ok = by_test (int_lt asked.end asked.begin)
     (λ backward. absurd (let none = rw backward at ok in cc))
     (λ forward. grind (arith, ints))
 
-no_fault : (tide : Tide) (fault : Option CurveFault) (same : Tide) → tide_from (tide_or tide fault) ≡ Ok same → fault ≡ None
-no_fault tide None same ok = refl
-no_fault tide (Some fault) same ok = absurd cc
-
-pub curve_none : (book : Book) (station : Station) (hydraulic : Bool) (tide : Tide) → is_hydraulic station.units
-    ≡ hydraulic → tide_from (curve_of book station) ≡ Ok tide → first_fault book station book.years ≡ None
-unfolding curve_of
-curve_none book station true tide is ok = absurd (let none = rw is at ok in cc)
-curve_none book station false tide is ok = no_fault (tide_of book station) _ tide (rw is at ok)
-
 pub record WasFound (book : Book) (table : List Offsets) (name : List ℕ) (asked : Asked) (site : Site) : Type 0 where
   pub basis : basis_from (basis_of book table name) ≡ Ok site.basis
   pub station : slice_get book.stations site.basis.station ≡ Some site.station
@@ -162,11 +151,11 @@ unfolding site_at
 site_steps reach book site result asked ok =
     let unit = then_ok (level_unit site.station.units) _ result ok in
     let span = then_ok (span_in reach book site.basis asked.begin asked.end) _ result unit.2 in
-    let curve = then_ok (tide_from (curve_of book site.station)) _ result span.2 in
+    let curve = then_ok (curve_from (curve_of book site.station)) _ result span.2 in
     let few = then_ok (length_in asked.begin asked.end) _ result curve.2 in
     let mark = then_ok (mark_in site.basis asked.mark) _ result few.2 in (
       forward_span reach book site asked span.1,
-      curve_none book site.station (is_hydraulic site.station.units) curve.0 refl curve.1,
+      curve_none book site.station _ curve.0 refl curve.1,
       (let last = mark.2 in cc),
     )
 

@@ -7,12 +7,11 @@ use Rattle.curve_law.proofs.CoverLemmas.{by_test}
 use Rattle.event_list.specs.Shifts.{widened_of}
 use Rattle.harmonics_book.specs.declared.book.Book.{Book}
 use Rattle.harmonics_book.specs.declared.book.Units.{Units}
-use Rattle.station_curve.specs.Curves.{curve_of}
-use Rattle.station_curve.specs.Waves.{Tide}
+use Rattle.station_curve.specs.Curves.{Prediction, curve_of}
 use Rattle.station_span.specs.declared.asked.Asked.{Asked}
 use Rattle.station_span.specs.declared.reach.Reach.{Reach}
 use Rattle.station_span.specs.declared.reach.Reach.TheVariants.{Events}
-use Rattle.station_span.specs.Sites.{Site, basis_from, has_minute, has_span, lacks_minute, level_unit, length_in, mark_in, site_at, site_in, span_in, tide_from}
+use Rattle.station_span.specs.Sites.{Site, basis_from, has_minute, has_span, lacks_minute, level_unit, length_in, mark_in, site_at, site_in, span_in, curve_from}
 use Rattle.station_span.proofs.FoundLemmas.{HasCurve}
 use Rattle.decimal_text.proofs.ExpectedLemmas.{then_ok}
 use Rattle.station_table.specs.declared.basis.Basis.{Basis}
@@ -41,8 +40,8 @@ pub record HasPassed (reach : Reach) (book : Book) (table : List Offsets) (name 
   pub basis : basis_of book table name ≡ Ok site.basis
   pub station : slice_get book.stations site.basis.station ≡ Some site.station
   pub units : Units
-  pub tide : Tide
-  pub curve : HasCurve reach book site asked units tide
+  pub whole : Prediction
+  pub curve : HasCurve reach book site asked units whole
   pub few : length_in asked.begin asked.end ≡ Ok tt
   pub mark : mark_in site.basis asked.mark ≡ Ok tt
 
@@ -54,7 +53,7 @@ has_passed reach book table name asked site ok =
     let station = then_ok (ok_or (slice_get book.stations basis.0.station) NoStation) _ site basis.2 in
     let unit = then_ok (level_unit station.0.units) _ site station.2 in
     let span = then_ok (span_in reach book basis.0 asked.begin asked.end) _ site unit.2 in
-    let curve = then_ok (tide_from (curve_of book station.0)) _ site span.2 in
+    let curve = then_ok (curve_from (curve_of book station.0)) _ site span.2 in
     let few = then_ok (length_in asked.begin asked.end) _ site curve.2 in
     let mark = then_ok (mark_in basis.0 asked.mark) _ site few.2 in
     let found : Site = record { basis = basis.0; station = station.0 } in
@@ -63,7 +62,7 @@ has_passed reach book table name asked site ok =
       basis = basis_ok _ basis.0 basis.1;
       station = some_of _ NoStation station.0 station.1;
       units = unit.0;
-      tide = curve.0;
+      whole = curve.0;
       curve = record { unit = unit.1; span = span.1; curve = curve.1 };
       few = few.1;
       mark = mark.1;

@@ -170,7 +170,7 @@ reference_site book table name reference asked mark site ok is short =
     let b = reference_basis site.basis.station in
     let over = over_span s mark in
     found_by Events book table reference over b site.station (rw is refl) here.station
-    ∙ found_whole Events book (reference_of site) over here.units here.tide (record {
+    ∙ found_whole Events book (reference_of site) over here.units here.whole (record {
       unit = here.curve.unit;
       span = reference_span book site.basis asked.begin asked.end here.curve.span;
       curve = here.curve.curve;

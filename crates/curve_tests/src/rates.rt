@@ -143,7 +143,6 @@ fn marks_and_their_rates(rt: HostRuntime) -> Result<(), CurveFault> {
 #[test]
 fn laws_and_rows_stand(_rt: HostRuntime) {
     curves_are_lawful();
-    predicted_curves();
     worked_rates();
     worked_turns();
     worked_marks();

@@ -1,7 +1,8 @@
 //! Levels and slopes of a station.
 
-ghost use Rattle.std.specs.Prelude.{◌≡◌, length, IsTrue, IfSome};
+ghost use Rattle.std.specs.Prelude.{◌≡◌, ◌≤ℤ◌, length, IsTrue, IfSome};
 ghost use Rattle.harmonics_book.specs.Books.{IsBook};
+ghost use Rattle.station_curve.specs.Curves.{IsPredicted};
 ghost use Rattle.year_blend.specs.Places.{InDomain};
 
 use crate::asserts::assert_holds;
@@ -51,6 +52,17 @@ pub fn curve_of(alloc: Global, file: &[u8]) -> Result<StationCurve, CurveFault> 
     }
 }
 
+// Returns true if the minutes from `first` to `last` are of the book's years, or the first one after them.
+fn has_minutes(book: &Book, first: i64, last: i64) -> bool
+    requires { IsBook book.now }
+    ensures first { IsTrue result → InDomain book.now.first_year book.now.years first }
+    ensures last { IsTrue result → InDomain book.now.first_year book.now.years last }
+    ensures forward { IsTrue result → first ≤ℤ last }
+{
+    let end = year_start(book.first_year + book.years as i32);
+    year_start(book.first_year) <= first && first <= last && last <= end
+}
+
 // Returns the same curve for the minutes from `first` to `last`.
 fn curve_over(
     alloc: Global,
@@ -58,12 +70,11 @@ fn curve_over(
     first: i64,
     last: i64,
 ) -> Result<StationCurve, CurveFault> {
-    if first.unsigned_abs() > 1_000_000_000 || last.unsigned_abs() > 1_000_000_000 {
-        return Err(CurveFault::NoMemory);
-    }
     match small_book(alloc, file) {
-        Some(book) => StationCurve::over(alloc, &book, 0, first, last),
-        None => Err(CurveFault::NoMemory),
+        Some(book) if has_minutes(&book, first, last) => {
+            StationCurve::over(alloc, &book, 0, first, last)
+        }
+        _ => Err(CurveFault::NoMemory),
     }
 }
 
@@ -76,7 +87,7 @@ pub fn pier(alloc: Global, argument: &str, amplitude: &str) -> Result<StationCur
 }
 
 fn is_in_years(curve: &StationCurve, m: i64) -> bool
-    ensures { IsTrue result → InDomain curve.now.first_year (length curve.now.years) m }
+    ensures { IsTrue result → IsPredicted curve.now m }
 {
     curve.first() <= m && m <= curve.last()
 }
@@ -293,9 +304,9 @@ const LIMITS: &[(&str, &str, &str, Option<CurveFault>)] = &[
     ("10", "1000.000001", "knots^2", Some(CurveFault::Hydraulic)),
 ];
 
-// Returns true if both the curve of a file and that for no minute of its years have this fault.
+// Returns true if both the curve of a file and that for the first minute of its years have this fault.
 fn has_fault(alloc: Global, file: &[u8], want: Option<CurveFault>) -> bool {
-    curve_of(alloc, file).err() == want && curve_over(alloc, file, 0, 0).err() == want
+    curve_of(alloc, file).err() == want && curve_over(alloc, file, 15_252_480, 15_252_480).err() == want
 }
 
 fn is_limit(

@@ -1,5 +1,4 @@
 mod Parts
 mod Naming
 mod RateCases
-pub mod Predicted
 mod SizeLemmas

@@ -12,7 +12,7 @@ abbrev pub turn_state : TurnCurve → CurveState
 turn_state c = record {
   facts = record {
     meaning = turn_meaning c.version c.station.now;
-    approximate = approximate_slope_of c.station.now;
+    approximate = approximate_slope_of c.station.now.book c.station.now.station;
     error = slope_error_of c.station.now;
   };
   count = c.evaluations;
@@ -23,7 +23,7 @@ abbrev pub mark_state : MarkCurve → CurveState
 mark_state c = record {
   facts = record {
     meaning = mark_meaning c.version c.station.now c.times c.plus c.mark c.slack;
-    approximate = λ m. over_mark c.times c.plus c.mark (approximate_level_of c.station.now m);
+    approximate = λ m. over_mark c.times c.plus c.mark (approximate_level_of c.station.now.book c.station.now.station m);
     error = unsigned_abs c.times * level_error_of c.station.now;
   };
   count = c.evaluations;

@@ -1,25 +1,24 @@
 -- The curves of a station (this project): its slope, whose changes of sign are high and low waters, and
 -- its level less a mark.
-use Rattle.std.specs.Prelude.{◌*◌, ◌^◌, length, Bool, if◌then◌else◌, ℤ, pos, ◌+ℤ◌, ◌-ℤ◌, ◌*ℤ◌}
+use Rattle.std.specs.Prelude.{◌*◌, ◌^◌, Bool, if◌then◌else◌, ℤ, pos, ◌+ℤ◌, ◌-ℤ◌, ◌*ℤ◌}
 use Rattle.curve_law.specs.declared.kind.Kind.TheVariants.{High, Low, FloodBegins, EbbBegins, MarkRising, MarkFalling}
 use Rattle.curve_law.specs.Meaning.{Meaning}
 use Rattle.harmonics_book.specs.declared.book.Station.{Station}
 use Rattle.harmonics_book.specs.declared.book.Book.{Book}
-use Rattle.station_curve.specs.Levels.{level_of, slope_of, millionths_of}
+use Rattle.station_curve.specs.Curves.{Prediction}
 use Rattle.station_curve.specs.Schureman.{predicted_level, predicted_slope, predicted_millionths}
-use Rattle.station_curve.specs.Waves.{Tide}
 use Rattle.year_blend.specs.Weights.{total_weight}
 use Rattle.year_blend.specs.Years.{year_start_of}
 use Rattle.rate_bound.specs.declared.version.Version.{Version}
-use Rattle.rate_bound.specs.Rates.{slope_rate_of, level_rate_of, predicted_slope_rate, predicted_level_rate}
+use Rattle.rate_bound.specs.Rates.{predicted_slope_rate, predicted_level_rate}
 
--- the slope: it rises past 0 at a low water, and falls to 0 at a high water
-abbrev pub turn_meaning : Version → Tide → Meaning
-turn_meaning version tide = record {
-  first = year_start_of tide.first_year;
-  last = year_start_of (tide.first_year +ℤ pos (length tide.years));
-  track = record { value = slope_of tide; note = millionths_of tide; rising = Low; falling = High };
-  rate = slope_rate_of version tide;
+-- the slope by every constituent of the book: it rises past 0 at a low water, and falls to 0 at a high water
+abbrev pub predicted_turn : Version → Book → Station → Meaning
+predicted_turn version b s = record {
+  first = year_start_of b.first_year;
+  last = year_start_of (b.first_year +ℤ pos b.years);
+  track = record { value = predicted_slope b s; note = predicted_millionths b s; rising = Low; falling = High };
+  rate = predicted_slope_rate version b s;
 }
 
 -- `times` millionths of the level, plus `plus` millionths of the unit, less `mark` millionths
@@ -29,29 +28,6 @@ over_mark times plus mark level =
 
 -- the level less a mark, which changes sign at each crossing of the mark; for slacks the level of a
 -- current less 0
-abbrev pub mark_meaning : Version → Tide → ℤ → ℤ → ℤ → Bool → Meaning
-mark_meaning version tide times plus mark slack = record {
-  first = year_start_of tide.first_year;
-  last = year_start_of (tide.first_year +ℤ pos (length tide.years));
-  track = record {
-    value = λ m. over_mark times plus mark (level_of tide m);
-    note = millionths_of tide;
-    rising = if slack then FloodBegins else MarkRising;
-    falling = if slack then EbbBegins else MarkFalling;
-  };
-  rate = level_rate_of version times tide;
-}
-
--- the slope by every constituent of a book
-abbrev pub predicted_turn : Version → Book → Station → Meaning
-predicted_turn version b s = record {
-  first = year_start_of b.first_year;
-  last = year_start_of (b.first_year +ℤ pos b.years);
-  track = record { value = predicted_slope b s; note = predicted_millionths b s; rising = Low; falling = High };
-  rate = predicted_slope_rate version b s;
-}
-
--- the level less a mark by every constituent of a book
 abbrev pub predicted_mark : Version → Book → Station → ℤ → ℤ → ℤ → Bool → Meaning
 predicted_mark version b s times plus mark slack = record {
   first = year_start_of b.first_year;
@@ -64,3 +40,12 @@ predicted_mark version b s times plus mark slack = record {
   };
   rate = predicted_level_rate version times b s;
 }
+
+-- the slope, at the minutes that a curve predicts
+abbrev pub turn_meaning : Version → Prediction → Meaning
+turn_meaning version c = record (predicted_turn version c.book c.station) { first = c.first; last = c.last }
+
+-- the level less a mark, at the minutes that a curve predicts
+abbrev pub mark_meaning : Version → Prediction → ℤ → ℤ → ℤ → Bool → Meaning
+mark_meaning version c times plus mark slack =
+    record (predicted_mark version c.book c.station times plus mark slack) { first = c.first; last = c.last }

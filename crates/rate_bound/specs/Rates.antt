@@ -1,16 +1,14 @@
 -- Bounds on the change of the slope and the level of a station in a minute (this project): outside blends
 -- by the year's sums, and across a new year by those of both years and by how fast the weight moves from
 -- one to the other.
-use Rattle.std.specs.Prelude.{ℕ, ◌-◌, ◌*◌, ◌^◌, length, Option, Some, None, ℤ, pos, ◌+ℤ◌, ◌*ℤ◌, int_le, if◌then◌else◌}
+use Rattle.std.specs.Prelude.{ℕ, ◌-◌, ◌*◌, ◌^◌, Option, Some, None, ℤ, pos, ◌+ℤ◌, ◌*ℤ◌, int_le, if◌then◌else◌}
 use Rattle.std.specs.Int.{int_max}
 use Rattle.fixed_sine.specs.Circle.{radian}
 use Rattle.harmonics_book.specs.declared.book.Station.{Station}
 use Rattle.harmonics_book.specs.declared.book.Book.{Book}
 use Rattle.station_curve.specs.declared.year_sums.Sums.{Sums}
 use Rattle.station_curve.specs.Curves.{waves_of}
-use Rattle.station_curve.specs.Levels.{waves_in}
 use Rattle.station_curve.specs.Sums.{sums_of}
-use Rattle.station_curve.specs.Waves.{Tide}
 use Rattle.year_blend.specs.declared.parts.Stretch.{Stretch}
 use Rattle.year_blend.specs.declared.parts.Stretch.TheVariants.{Within, Across}
 use Rattle.year_blend.specs.Stretches.{stretch_of}
@@ -65,32 +63,16 @@ level_rate_in version times sums (Within year) = Some (times *ℤ plain_level_ra
 level_rate_in First times sums (Across year) = None
 level_rate_in Second times sums (Across year) = Some (times *ℤ blended_level_rate (sums (year - 1)) (sums year))
 
--- the sums of each year of a tide
-abbrev pub tide_sums : Tide → ℕ → Sums
-tide_sums tide year = sums_of (waves_in tide year)
-
 -- the sums of each year of a station, over every constituent of the book
 abbrev pub book_sums : Book → Station → ℕ → Sums
 book_sums b s year = sums_of (waves_of b s year)
 
--- the stretch of the n minutes of a tide from `a` on
-abbrev pub tide_stretch : Tide → ℤ → ℕ → Stretch
-tide_stretch tide a n = stretch_of tide.first_year (length tide.years) a n
-
--- the rate of the slope over the cell of n minutes from `a` on
-unfoldable pub slope_rate_of : Version → Tide → ℤ → ℕ → Option ℤ
-slope_rate_of version tide a n = slope_rate_in version (tide_sums tide) (tide_stretch tide a n)
-
--- the rate of `times` times the level over the cell of n minutes from `a` on
-unfoldable pub level_rate_of : Version → ℤ → Tide → ℤ → ℕ → Option ℤ
-level_rate_of version times tide a n = level_rate_in version times (tide_sums tide) (tide_stretch tide a n)
-
--- the rate of the slope by every constituent of the book
+-- the rate of the slope over the cell of n minutes from `a` on, by every constituent of the book
 unfoldable pub predicted_slope_rate : Version → Book → Station → ℤ → ℕ → Option ℤ
 predicted_slope_rate version b s a n =
     slope_rate_in version (book_sums b s) (stretch_of b.first_year b.years a n)
 
--- the rate of `times` times the level by every constituent of the book
+-- the rate of `times` times the level over that cell
 unfoldable pub predicted_level_rate : Version → ℤ → Book → Station → ℤ → ℕ → Option ℤ
 predicted_level_rate version times b s a n =
     level_rate_in version times (book_sums b s) (stretch_of b.first_year b.years a n)

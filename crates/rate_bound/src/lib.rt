@@ -15,7 +15,7 @@ mod turn;
 mod version;
 mod worked;
 
-pub use laws::{curves_are_lawful, predicted_curves, values_are_small};
+pub use laws::{curves_are_lawful, values_are_small};
 pub use mark::MarkCurve;
 pub use turn::TurnCurve;
 pub use version::Version;

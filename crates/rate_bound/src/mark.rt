@@ -3,7 +3,7 @@
 ghost use Rattle.std.specs.Prelude.{◌≡◌, ◌*◌, pos, true, unsigned_abs};
 ghost use Rattle.std.specs.Bool.{OnTrue};
 ghost use Rattle.station_curve.specs.Errors.{level_error_of};
-ghost use Rattle.station_curve.specs.Limits.{IsWithinLimits};
+ghost use Rattle.station_curve.specs.Curves.{IsPrediction};
 ghost use Rattle.rate_bound.specs.Scale.{IsScale};
 ghost use Rattle.rate_bound.specs.declared.version.Version.TheVariants.{First, Second};
 
@@ -27,7 +27,7 @@ pub struct MarkCurve<'a> {
     slack: bool,
     error: i128,
     evaluations: u64,
-    ghost within_limits: { IsWithinLimits station.now },
+    ghost valid: { IsPrediction station.now },
     ghost scale: { IsScale times plus mark },
     ghost bound: { error ≡ pos (unsigned_abs times * level_error_of station.now) },
 }
@@ -100,11 +100,11 @@ impl<'a> Curve for MarkCurve<'a> {
 
     ghost state = { λ c. mark_state c };
 
-    ghost lawful = { λ c. mark_lawful c.version c.station.now c.times c.plus c.mark c.slack c.within_limits c.scale };
+    ghost lawful = { λ c. mark_lawful c.version c.station.now c.times c.plus c.mark c.slack c.valid c.scale };
 
-    ghost narrow = { λ c. level_narrow c.station.now c.times c.plus c.mark c.within_limits c.scale };
+    ghost narrow = { λ c. level_narrow c.station.now c.times c.plus c.mark c.valid c.scale };
 
-    ghost close = { λ c m at. level_close c.version c.station.now c.times c.plus c.mark c.slack m c.within_limits at };
+    ghost close = { λ c m at. level_close c.version c.station.now c.times c.plus c.mark c.slack m c.valid at };
 
     fn first(&self) -> i64 {
         self.station.first()

@@ -2,7 +2,7 @@
 
 ghost use Rattle.std.specs.Prelude.{◌≡◌, pos};
 ghost use Rattle.station_curve.specs.Errors.{slope_error_of};
-ghost use Rattle.station_curve.specs.Limits.{IsWithinLimits};
+ghost use Rattle.station_curve.specs.Curves.{IsPrediction};
 ghost use Rattle.rate_bound.specs.declared.version.Version.TheVariants.{First, Second};
 
 use crate::rates::{blended_slope_rate, limited, plain_slope_rate};
@@ -20,7 +20,7 @@ pub struct TurnCurve<'a> {
     version: Version,
     error: i128,
     evaluations: u64,
-    ghost within_limits: { IsWithinLimits station.now },
+    ghost valid: { IsPrediction station.now },
     ghost bound: { error ≡ pos (slope_error_of station.now) },
 }
 
@@ -69,11 +69,11 @@ impl<'a> Curve for TurnCurve<'a> {
 
     ghost state = { λ c. turn_state c };
 
-    ghost lawful = { λ c. turn_lawful c.version c.station.now c.within_limits };
+    ghost lawful = { λ c. turn_lawful c.version c.station.now c.valid };
 
-    ghost narrow = { λ c. slope_narrow c.station.now c.within_limits };
+    ghost narrow = { λ c. slope_narrow c.station.now c.valid };
 
-    ghost close = { λ c m at. slope_close c.version c.station.now m c.within_limits at };
+    ghost close = { λ c m at. slope_close c.version c.station.now m c.valid at };
 
     fn first(&self) -> i64 {
         self.station.first()

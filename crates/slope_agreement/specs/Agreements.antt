@@ -1,6 +1,6 @@
 -- The slope error bound of a station: the difference between the rise of its level in a minute and its
 -- slope (this project).
-use Rattle.std.specs.Prelude.{◌≡◌, ℕ, zero, suc, length, ℤ, pos, ◌+ℤ◌, ◌-ℤ◌, ◌*ℤ◌, unsigned_abs}
+use Rattle.std.specs.Prelude.{◌≡◌, ℕ, zero, suc, ℤ, pos, ◌+ℤ◌, ◌-ℤ◌, ◌*ℤ◌, unsigned_abs}
 use Rattle.std.specs.Int.{int_max}
 use Rattle.fixed_sine.specs.Circle.{radian}
 use Rattle.harmonics_book.specs.declared.book.Station.{Station}
@@ -9,10 +9,9 @@ use Rattle.year_blend.specs.declared.parts.Place.TheVariants.{Plain}
 use Rattle.year_blend.specs.Places.{InDomain, place_of}
 use Rattle.year_blend.specs.Weights.{total_weight}
 use Rattle.station_curve.specs.declared.year_sums.Sums.{Sums}
-use Rattle.station_curve.specs.Levels.{level_of, slope_of}
+use Rattle.station_curve.specs.Curves.{Prediction, sums_for}
 use Rattle.station_curve.specs.Schureman.{predicted_level, predicted_slope}
-use Rattle.station_curve.specs.Waves.{Tide}
-use Rattle.rate_bound.specs.Rates.{tide_sums, book_sums}
+use Rattle.rate_bound.specs.Rates.{book_sums}
 use Rattle.slope_agreement.specs.UnitGaps.{each_unit, two_cuts}
 
 -- the difference between the level's rise over the minute from m on, times the units of a radian, and the
@@ -23,10 +22,6 @@ gap_between level slope m = unsigned_abs ((pos radian *ℤ (level (m +ℤ pos 1)
 -- the difference between the rise over the minute from m on and the slope at the next minute
 abbrev pub gap_before : (ℤ → ℤ) → (ℤ → ℤ) → ℤ → ℕ
 gap_before level slope m = unsigned_abs ((pos radian *ℤ (level (m +ℤ pos 1) -ℤ level m)) -ℤ slope (m +ℤ pos 1))
-
--- the difference for a tide
-abbrev pub gap_of : Tide → ℤ → ℕ
-gap_of tide m = gap_between (level_of tide) (slope_of tide) m
 
 -- the difference for a station, by every constituent of the book
 abbrev pub predicted_gap : Book → Station → ℤ → ℕ
@@ -53,9 +48,9 @@ unfoldable pub greatest : (ℕ → ℤ) → ℕ → ℤ
 greatest value zero = pos 0
 greatest value (suc year) = int_max (greatest value year) (value year)
 
--- the greatest bound of any of a tide's years
-abbrev pub agreement_of : Tide → ℤ
-agreement_of tide = greatest (λ year. year_agreement (tide_sums tide year)) (length tide.years)
+-- the greatest bound of any year that a prediction needs
+abbrev pub agreement_of : Prediction → ℤ
+agreement_of c = greatest (λ year. year_agreement (sums_for c year)) c.book.years
 
 -- the greatest bound of a station's years, by every constituent of the book
 abbrev pub predicted_agreement : Book → Station → ℤ

@@ -1,4 +1,4 @@
-//! Theorems about the table of sines, and about the tide of every station.
+//! Theorems about the table of sines, and about every station.
 
 ghost use Rattle.std.specs.Prelude.{◌≡◌, ℕ, ◌-◌, ◌*◌, ◌<◌, ◌≤◌, length, None, ℤ, pos, ◌+ℤ◌, ◌-ℤ◌, ◌*ℤ◌, ◌≤ℤ◌, unsigned_abs};
 ghost use Rattle.fixed_sine.specs.Circle.{degree, radian};
@@ -6,8 +6,7 @@ ghost use Rattle.fixed_sine.specs.Table.{sine_at, rise, correction};
 ghost use Rattle.harmonics_book.specs.declared.book.Station.{Station};
 ghost use Rattle.harmonics_book.specs.declared.book.Book.{Book};
 ghost use Rattle.harmonics_book.specs.Books.{IsBook, IsStation};
-ghost use Rattle.station_curve.specs.Curves.{first_fault, Predicts};
-ghost use Rattle.station_curve.specs.Waves.{Tide};
+ghost use Rattle.station_curve.specs.Curves.{first_fault, prediction_of, IsPrediction};
 ghost use Rattle.slope_agreement.specs.Agreements.{predicted_gap, predicted_gap_before, IsPlainMinute, agreement_of, predicted_agreement};
 
 /// Proves two checks of the whole table: at the begin and at the end of each degree the slope of the
@@ -21,12 +20,12 @@ pub fn table_checks()
         ≤ 4 * degree * 30000 }
 {}
 
-/// Proves that a tide that predicts a station has the bound by every constituent of the book, and that
-/// the station's level keeps to it at each minute outside blends, if no year exceeds a limit: the rise to
+/// Proves that the curve of all minutes has the bound by every constituent of the book, and that the
+/// station's level keeps to it at each minute outside blends, if no year exceeds a limit: the rise to
 /// the next minute is within the bound of the slope at the begin of the minute, and of the slope at its
 /// end.
 pub fn predicted_agreements()
-    ensures value { (b : Book) (s : Station) (tide : Tide) → Predicts b s tide → agreement_of tide ≡ predicted_agreement b s }
+    ensures value { (b : Book) (s : Station) → IsPrediction (prediction_of b s) → agreement_of (prediction_of b s) ≡ predicted_agreement b s }
     ensures law { (b : Book) (s : Station) (m : ℤ) (year : ℕ) → IsBook b → IsStation (length b.constituents) s
         → first_fault b s b.years ≡ None
         → IsPlainMinute b.first_year b.years m year → pos (predicted_gap b s m) ≤ℤ predicted_agreement b s }

@@ -1,8 +1,9 @@
 //! The slope error bound of a station.
 
-ghost use Rattle.std.specs.Prelude.{◌≡◌, ℕ, ◌*◌, ◌^◌, ◌≤◌, length, ℤ, pos, ◌≤ℤ◌, unsigned_abs};
+ghost use Rattle.std.specs.Prelude.{◌≡◌, ℕ, ◌*◌, ◌^◌, ◌≤◌, ℤ, pos, ◌≤ℤ◌, unsigned_abs};
 ghost use Rattle.station_curve.specs.Limits.{AreWithinLimits};
-ghost use Rattle.slope_agreement.specs.Agreements.{gap_of, IsPlainMinute, year_agreement, agreement_of};
+ghost use Rattle.station_curve.specs.Curves.{IsPredicted};
+ghost use Rattle.slope_agreement.specs.Agreements.{predicted_gap, IsPlainMinute, year_agreement, agreement_of};
 
 use crate::unit_gaps::{EACH_UNIT, TWO_CUTS};
 use station_curve::{StationCurve, Sums};
@@ -12,12 +13,13 @@ use year_blend::TOTAL_WEIGHT;
 const WEIGHT: i128 = TOTAL_WEIGHT as i128;
 
 /// Returns a bound on the difference between the rise of the level of `station` in a minute and the slope
-/// at the begin of that minute, over all minutes that are outside blends together with the next one: the
-/// greatest bound of the years, in the slope's unit.
+/// at the begin of that minute, over all its minutes that are outside blends together with the next one:
+/// the greatest bound of the years, in the slope's unit.
 pub fn agreement(station: &StationCurve) -> i128
     ensures value { result ≡ agreement_of station.now }
-    ensures law { (m : ℤ) (year : ℕ) → IsPlainMinute station.now.first_year (length station.now.years) m year
-        → pos (gap_of station.now m) ≤ℤ result }
+    ensures law { (m : ℤ) (year : ℕ) → IsPredicted station.now m
+        → IsPlainMinute station.now.book.first_year station.now.book.years m year
+        → pos (predicted_gap station.now.book station.now.station m) ≤ℤ result }
     ensures least { pos 0 ≤ℤ result }
     ensures most { result ≤ℤ pos (5 * 10 ^ 34) }
 {

@@ -2,9 +2,9 @@
 
 ghost use Rattle.std.specs.Prelude.{◌≡◌, ◌*◌, [], ◌∷◌, pos};
 ghost use Rattle.harmonics_book.specs.declared.book.Units.TheVariants.{Feet};
-ghost use Rattle.station_curve.specs.Curves.{tide_of};
+ghost use Rattle.station_curve.specs.Curves.{prediction_of};
 ghost use Rattle.station_curve.specs.Worked.{small_station, pier_book, pier, harbour_book, harbour};
-ghost use Rattle.slope_agreement.specs.Agreements.{gap_of, predicted_gap, predicted_gap_before, agreement_of, predicted_agreement};
+ghost use Rattle.slope_agreement.specs.Agreements.{predicted_gap, predicted_gap_before, agreement_of, predicted_agreement};
 ghost use Rattle.slope_agreement.specs.UnitGaps.{unit_gap_of};
 
 /// Proves the bounds for waves of speed 0, of one unit, of M2's speed, of half a degree and of six
@@ -22,7 +22,7 @@ pub fn worked_unit_gaps()
 /// is greatest in the second of three years; a tide of two constituents, larger in the first of two
 /// years; and no tide.
 pub fn worked_agreements()
-    ensures tide { agreement_of (tide_of pier_book pier) ≡ pos 10982486704628157235200000000000 }
+    ensures tide { agreement_of (prediction_of pier_book pier) ≡ pos 10982486704628157235200000000000 }
     ensures one_wave { predicted_agreement pier_book pier ≡ pos 10982486704628157235200000000000 }
     ensures second_year { predicted_agreement (record pier_book { factors = pos 1000000 ∷ pos 1200000 ∷ pos 900000 ∷ [] }) pier
         ≡ pos 13178984045553788682240000000000 }
@@ -33,7 +33,6 @@ pub fn worked_agreements()
 /// Proves the gaps of these tides at single minutes, the first at a high water, and the gap of the minute
 /// before it.
 pub fn worked_gaps()
-    ensures tide { gap_of (tide_of pier_book pier) (pos 15791040) ≡ 4147200000 * 1000000 * 1309093970320640 }
     ensures midnight { predicted_gap pier_book pier (pos 15791040) ≡ 4147200000 * 1000000 * 1309093970320640 }
     ensures before { predicted_gap_before pier_book pier (pos 15791039) ≡ 4147200000 * 1000000 * 1309093970320640 }
     ensures harbour_2000 { predicted_gap harbour_book harbour (pos 15778380) ≡ 2604381509775785907188736000000 }

@@ -1,5 +1,5 @@
 -- The errors of approximate levels and slopes.
-use Rattle.std.proofs.Common.{◌≡◌, ℕ, ◌*◌, ◌/◌, ◌<◌, ◌≤◌, List, [], ◌∷◌, length, ◌+◌, sym, ap, ◌∙◌, ◌^◌, ℤ, pos, ◌+ℤ◌, ◌-ℤ◌, ◌*ℤ◌, arith, refl, lit<}
+use Rattle.std.proofs.Common.{◌≡◌, ℕ, ◌*◌, ◌/◌, ◌<◌, ◌≤◌, List, [], ◌∷◌, ◌+◌, sym, ap, ◌∙◌, ◌^◌, ℤ, pos, ◌+ℤ◌, ◌-ℤ◌, ◌*ℤ◌, arith, refl, lit<}
 use Rattle.std.specs.Prelude.{unsigned_abs, fold, sum_by}
 use Rattle.std.proofs.lemmas.Int.{ints}
 use Rattle.std.proofs.lemmas.Nat.{mod_below}
@@ -14,13 +14,13 @@ use Rattle.fixed_sine.proofs.CircleLemmas.{isin_of_size}
 use Rattle.fixed_sine.proofs.PartLemmas.{sine-approximate}
 use Rattle.year_blend.specs.declared.parts.Place.{Place}
 use Rattle.year_blend.specs.declared.parts.Place.TheVariants.{Plain, Blend}
-use Rattle.year_blend.specs.Places.{start_of}
+use Rattle.year_blend.specs.Places.{start_of, place_of}
 use Rattle.year_blend.specs.Weights.{total_weight}
-use Rattle.station_curve.specs.Waves.{Harmonic, Tide, phase_at, height_at, fall_at, heights_of, falls_of, amount_of, steepness_of}
-use Rattle.station_curve.specs.Levels.{minutes_into, waves_in, place_in_tide, year_level, year_slope, level_of, slope_of}
+use Rattle.station_curve.specs.Waves.{Harmonic, phase_at, height_at, fall_at, heights_of, falls_of, amount_of, steepness_of}
+use Rattle.station_curve.specs.Levels.{minutes_into}
 use Rattle.station_curve.specs.Approximate.{binary_angle_after, binary_angle_ahead, approximate_height_at, approximate_fall_at, approximate_heights_of, approximate_falls_of, approximate_year_level, approximate_year_slope, approximate_or_exact, approximate_level_of, approximate_slope_of}
 use Rattle.station_curve.specs.Errors.{speed_error, level_error_of, slope_error_of}
-use Rattle.station_curve.specs.Workings.NumberRanges.{IsWithinHourOfYear, IsPlaceInRange}
+use Rattle.station_curve.specs.Workings.NumberRanges.{IsWithinHourOfYear, IsPlaceUsed}
 use Rattle.station_curve.proofs.Blending.{level_plain, slope_plain}
 use Rattle.station_curve.proofs.Gaps.{scaled_gap, turned_gap, regrouped, times_sum, product_is}
 use Rattle.station_curve.proofs.GreatestYear.{greatest-each}
@@ -28,6 +28,13 @@ use Rattle.station_curve.proofs.Products.{cast_small, abs_below, abs_plus, abs_t
 use Rattle.station_curve.proofs.Steps.{product_gap}
 use Rattle.station_curve.proofs.Turning.{sine_after, cosine_ahead, binary_angle_after-below, binary_angle_ahead-below}
 use Rattle.station_curve.proofs.YearChanges.{same_mean}
+use Rattle.harmonics_book.specs.declared.book.Book.{Book}
+use Rattle.station_curve.specs.Curves.{IsPredicted, IsPrediction, Prediction, waves_for, waves_of, AreTimes}
+use Rattle.harmonics_book.specs.declared.book.Station.{Station}
+use Rattle.station_curve.specs.Schureman.{predicted_level, predicted_slope, predicted_year_level, predicted_year_slope}
+use Rattle.station_curve.proofs.WithinLimits.{over-touched}
+use Rattle.station_curve.proofs.Ranges.{place_used}
+use Rattle.station_curve.proofs.Predicting.{year_level_is, year_slope_is}
 
 -- the error of approximate sums over waves, whose parts are in units of k: each part's error is `most` times one
 -- size and `more` times another
@@ -100,53 +107,54 @@ approximate_fall_gap t few h =
     (sine_gap angle sine (binary_angle_after-below h t) (sine_after h t few))
     (isin_of_size (phase_at h t) (mod_below (h.phase + h.speed * t) circle (lit< tt))))
 
-few_minutes : (tide : Tide) (m : ℤ) (year : ℕ) → IsWithinHourOfYear tide.first_year year m → minutes_into tide.first_year year m ≤ 600000
-few_minutes tide m year approximate = abs_below ((m -ℤ start_of tide.first_year year) +ℤ pos 60) 600000 approximate.least approximate.most
+few_minutes : (b : Book) (m : ℤ) (year : ℕ) → IsWithinHourOfYear b.first_year year m → minutes_into b.first_year year m ≤ 600000
+few_minutes b m year approximate = abs_below ((m -ℤ start_of b.first_year year) +ℤ pos 60) 600000 approximate.least approximate.most
 
-year_level_approximate : (tide : Tide) (m : ℤ) (year : ℕ) → IsWithinHourOfYear tide.first_year year m
-    → unsigned_abs (approximate_year_level tide m year -ℤ year_level tide m year) ≤ approximate_error * amount_of (waves_in tide year)
-unfolding approximate_year_level year_level
-year_level_approximate tide m year approximate =
-    let t = minutes_into tide.first_year year m in
-    let hs = waves_in tide year in
+year_level_approximate : (b : Book) (s : Station) (m : ℤ) (year : ℕ) → AreTimes b → IsWithinHourOfYear b.first_year year m
+    → unsigned_abs (approximate_year_level b s m year -ℤ predicted_year_level b s m year) ≤ approximate_error * amount_of (waves_of b s year)
+unfolding approximate_year_level
+year_level_approximate b s m year times approximate =
+    let t = minutes_into b.first_year year m in
+    let hs = waves_of b s year in
     let sums : unsigned_abs ((pos 32768 *ℤ approximate_heights_of t hs) -ℤ heights_of t hs)
     ≤ approximate_error * amount_of hs + 0 * sum_by (λ h. 0) hs =
     sums_approximate (pos 32768) approximate_error 0 (approximate_height_at t) (height_at t) (λ h. unsigned_abs h.amplitude) (λ h. 0)
-    (approximate_height_gap t (few_minutes tide m year approximate)) hs (pos 0) (pos 0) 0 0 (omega arith) in
-    rw (same_mean (pos (10 ^ 9) *ℤ tide.datum) (pos 32768 *ℤ approximate_heights_of t hs) (heights_of t hs)) (omega (arith, sums))
+    (approximate_height_gap t (few_minutes b m year approximate)) hs (pos 0) (pos 0) 0 0 (omega arith) in
+    rw (year_level_is b s m year times approximate.least, same_mean (pos (10 ^ 9) *ℤ s.datum) (pos 32768 *ℤ approximate_heights_of t hs) (heights_of t hs)) (omega (arith, sums))
 
-year_slope_approximate : (tide : Tide) (m : ℤ) (year : ℕ) → IsWithinHourOfYear tide.first_year year m
-    → unsigned_abs (approximate_year_slope tide m year -ℤ year_slope tide m year)
-    ≤ approximate_error * steepness_of (waves_in tide year) + speed_error * amount_of (waves_in tide year)
-unfolding approximate_year_slope year_slope
-year_slope_approximate tide m year approximate =
-    let t = minutes_into tide.first_year year m in
-    let hs = waves_in tide year in
-    turned_gap (pos 16777216 *ℤ approximate_falls_of t hs) (falls_of t hs) (approximate_error * steepness_of hs + speed_error * amount_of hs)
+year_slope_approximate : (b : Book) (s : Station) (m : ℤ) (year : ℕ) → AreTimes b → IsWithinHourOfYear b.first_year year m
+    → unsigned_abs (approximate_year_slope b s m year -ℤ predicted_year_slope b s m year)
+    ≤ approximate_error * steepness_of (waves_of b s year) + speed_error * amount_of (waves_of b s year)
+unfolding approximate_year_slope
+year_slope_approximate b s m year times approximate =
+    let t = minutes_into b.first_year year m in
+    let hs = waves_of b s year in
+    rw (year_slope_is b s m year times approximate.least)
+    (turned_gap (pos 16777216 *ℤ approximate_falls_of t hs) (falls_of t hs) (approximate_error * steepness_of hs + speed_error * amount_of hs)
     (sums_approximate (pos 16777216) approximate_error speed_error (approximate_fall_at t) (fall_at t)
     (λ h. unsigned_abs h.amplitude * h.speed) (λ h. unsigned_abs h.amplitude)
-    (approximate_fall_gap t (few_minutes tide m year approximate)) hs (pos 0) (pos 0) 0 0 (omega arith))
+    (approximate_fall_gap t (few_minutes b m year approximate)) hs (pos 0) (pos 0) 0 0 (omega arith)))
 
 -- approximate level and slope by the position of a minute
-pub approximate_level_of-plain : (tide : Tide) (m : ℤ) (year : ℕ) → Plain year ≡ place_in_tide tide m
-    → approximate_level_of tide m ≡ pos total_weight *ℤ approximate_year_level tide m year
+pub approximate_level_of-plain : (b : Book) (s : Station) (m : ℤ) (year : ℕ) → Plain year ≡ place_of b.first_year b.years m
+    → approximate_level_of b s m ≡ pos total_weight *ℤ approximate_year_level b s m year
 unfolding approximate_level_of
-approximate_level_of-plain tide m year at = ap (approximate_or_exact (approximate_year_level tide m) (level_of tide m)) (sym at)
+approximate_level_of-plain b s m year at = ap (approximate_or_exact (approximate_year_level b s m) (predicted_level b s m)) (sym at)
 
-pub approximate_level_of-blend : (tide : Tide) (m : ℤ) (year : ℕ) (x : ℤ) → Blend year x ≡ place_in_tide tide m
-    → approximate_level_of tide m ≡ level_of tide m
+pub approximate_level_of-blend : (b : Book) (s : Station) (m : ℤ) (year : ℕ) (x : ℤ) → Blend year x ≡ place_of b.first_year b.years m
+    → approximate_level_of b s m ≡ predicted_level b s m
 unfolding approximate_level_of
-approximate_level_of-blend tide m year x at = ap (approximate_or_exact (approximate_year_level tide m) (level_of tide m)) (sym at)
+approximate_level_of-blend b s m year x at = ap (approximate_or_exact (approximate_year_level b s m) (predicted_level b s m)) (sym at)
 
-pub approximate_slope_of-plain : (tide : Tide) (m : ℤ) (year : ℕ) → Plain year ≡ place_in_tide tide m
-    → approximate_slope_of tide m ≡ pos total_weight *ℤ approximate_year_slope tide m year
+pub approximate_slope_of-plain : (b : Book) (s : Station) (m : ℤ) (year : ℕ) → Plain year ≡ place_of b.first_year b.years m
+    → approximate_slope_of b s m ≡ pos total_weight *ℤ approximate_year_slope b s m year
 unfolding approximate_slope_of
-approximate_slope_of-plain tide m year at = ap (approximate_or_exact (approximate_year_slope tide m) (slope_of tide m)) (sym at)
+approximate_slope_of-plain b s m year at = ap (approximate_or_exact (approximate_year_slope b s m) (predicted_slope b s m)) (sym at)
 
-pub approximate_slope_of-blend : (tide : Tide) (m : ℤ) (year : ℕ) (x : ℤ) → Blend year x ≡ place_in_tide tide m
-    → approximate_slope_of tide m ≡ slope_of tide m
+pub approximate_slope_of-blend : (b : Book) (s : Station) (m : ℤ) (year : ℕ) (x : ℤ) → Blend year x ≡ place_of b.first_year b.years m
+    → approximate_slope_of b s m ≡ predicted_slope b s m
 unfolding approximate_slope_of
-approximate_slope_of-blend tide m year x at = ap (approximate_or_exact (approximate_year_slope tide m) (slope_of tide m)) (sym at)
+approximate_slope_of-blend b s m year x at = ap (approximate_or_exact (approximate_year_slope b s m) (predicted_slope b s m)) (sym at)
 
 -- an error of a year is at most the greatest one, times the total weight
 in_error : (approximate exact : ℤ) (error most : ℕ) → unsigned_abs (approximate -ℤ exact) ≤ error → error ≤ most
@@ -159,37 +167,49 @@ in_error approximate exact error most close small =
 pub no_gap : (value exact : ℤ) (n : ℕ) → value ≡ exact → unsigned_abs (value -ℤ exact) ≤ n
 no_gap value exact n same = omega (arith, ints, same)
 
-pub level_approximate : (tide : Tide) (m : ℤ) (p : Place) → p ≡ place_in_tide tide m
-    → IsPlaceInRange tide.first_year (length tide.years) m p
-    → unsigned_abs (approximate_level_of tide m -ℤ level_of tide m) ≤ level_error_of tide
+level_at_place : (c : Prediction) (m : ℤ) (p : Place) → AreTimes c.book → p ≡ place_of c.book.first_year c.book.years m → IsPlaceUsed c m p
+    → unsigned_abs (approximate_level_of c.book c.station m -ℤ predicted_level c.book c.station m) ≤ level_error_of c
 unfolding level_error_of
-level_approximate tide m (Plain year) at approximate =
+level_at_place c m (Plain year) times at used =
+    let b = c.book in
+    let s = c.station in
+    let greatest = greatest-each (λ year. amount_of (waves_for c year)) b.years year used.below in
     rw (
-      approximate_level_of-plain tide m year at,
-      ← level_plain tide m year (year_level tide m year) (pos total_weight *ℤ year_level tide m year) at refl refl,
+      approximate_level_of-plain b s m year at,
+      ← level_plain b s m year (predicted_year_level b s m year) (pos total_weight *ℤ predicted_year_level b s m year) at refl refl,
     )
-    (in_error (approximate_year_level tide m year) (year_level tide m year) _ _ (year_level_approximate tide m year approximate.1)
-    (omega (arith, greatest-each amount_of tide.years year [] approximate.0)))
-level_approximate tide m (Blend year x) at approximate =
-    no_gap (approximate_level_of tide m) (level_of tide m) _ (approximate_level_of-blend tide m year x at)
+    (in_error (approximate_year_level b s m year) (predicted_year_level b s m year) _ _ (year_level_approximate b s m year times used.hour)
+    (omega (arith, rw (over-touched b s c.first c.last year used.touched) at greatest)))
+level_at_place c m (Blend year x) times at used =
+    no_gap (approximate_level_of c.book c.station m) (predicted_level c.book c.station m) _
+    (approximate_level_of-blend c.book c.station m year x at)
 
-pub slope_approximate : (tide : Tide) (m : ℤ) (p : Place) → p ≡ place_in_tide tide m
-    → IsPlaceInRange tide.first_year (length tide.years) m p
-    → unsigned_abs (approximate_slope_of tide m -ℤ slope_of tide m) ≤ slope_error_of tide
+pub level_approximate : (c : Prediction) (m : ℤ) → IsPrediction c → IsPredicted c m
+    → unsigned_abs (approximate_level_of c.book c.station m -ℤ predicted_level c.book c.station m) ≤ level_error_of c
+level_approximate c m valid at = level_at_place c m _ valid.limits.times refl (place_used c m valid at)
+
+slope_at_place : (c : Prediction) (m : ℤ) (p : Place) → AreTimes c.book → p ≡ place_of c.book.first_year c.book.years m → IsPlaceUsed c m p
+    → unsigned_abs (approximate_slope_of c.book c.station m -ℤ predicted_slope c.book c.station m) ≤ slope_error_of c
 unfolding slope_error_of
-slope_approximate tide m (Plain year) at approximate =
+slope_at_place c m (Plain year) times at used =
+    let b = c.book in
+    let s = c.station in
+    let amount = greatest-each (λ year. amount_of (waves_for c year)) b.years year used.below in
+    let steepness = greatest-each (λ year. steepness_of (waves_for c year)) b.years year used.below in
+    let touched = over-touched b s c.first c.last year used.touched in
     rw (
-      approximate_slope_of-plain tide m year at,
-      ← slope_plain tide m year (year_slope tide m year) (pos total_weight *ℤ year_slope tide m year) at refl refl,
+      approximate_slope_of-plain b s m year at,
+      ← slope_plain b s m year (predicted_year_slope b s m year) (pos total_weight *ℤ predicted_year_slope b s m year) at refl refl,
     )
-    (in_error (approximate_year_slope tide m year) (year_slope tide m year) _ _ (year_slope_approximate tide m year approximate.1)
-    (omega (
-      arith,
-      greatest-each steepness_of tide.years year [] approximate.0,
-      greatest-each amount_of tide.years year [] approximate.0,
-    )))
-slope_approximate tide m (Blend year x) at approximate =
-    no_gap (approximate_slope_of tide m) (slope_of tide m) _ (approximate_slope_of-blend tide m year x at)
+    (in_error (approximate_year_slope b s m year) (predicted_year_slope b s m year) _ _ (year_slope_approximate b s m year times used.hour)
+    (omega (arith, rw touched at steepness, rw touched at amount)))
+slope_at_place c m (Blend year x) times at used =
+    no_gap (approximate_slope_of c.book c.station m) (predicted_slope c.book c.station m) _
+    (approximate_slope_of-blend c.book c.station m year x at)
+
+pub slope_approximate : (c : Prediction) (m : ℤ) → IsPrediction c → IsPredicted c m
+    → unsigned_abs (approximate_slope_of c.book c.station m -ℤ predicted_slope c.book c.station m) ≤ slope_error_of c
+slope_approximate c m valid at = slope_at_place c m _ valid.limits.times refl (place_used c m valid at)
 
 -- an approximate value of a year times the total weight
 pub full_weight : (approximate stated : ℤ) → unsigned_abs approximate ≤ 2 * 10 ^ 26

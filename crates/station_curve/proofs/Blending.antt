@@ -6,53 +6,61 @@ use Rattle.fixed_sine.specs.Circle.{radian}
 use Rattle.year_blend.specs.declared.parts.Place.TheVariants.{Plain, Blend}
 use Rattle.year_blend.specs.Weights.{total_weight, weight_of, weight_slope_of}
 use Rattle.station_curve.proofs.Products.{abs_times}
-use Rattle.station_curve.specs.Waves.{Tide, heights_of}
-use Rattle.station_curve.specs.Levels.{minutes_into, waves_in, blended, drift, place_in_tide, year_level, year_slope, level_of, slope_of}
+use Rattle.station_curve.specs.Waves.{heights_of}
+use Rattle.station_curve.specs.Levels.{minutes_into, blended, drift}
+use Rattle.harmonics_book.specs.declared.book.Book.{Book}
+use Rattle.harmonics_book.specs.declared.book.Station.{Station}
+use Rattle.year_blend.specs.Places.{place_of}
+use Rattle.station_curve.specs.Schureman.{predicted_level, predicted_slope, predicted_year_level, predicted_year_slope}
+use Rattle.station_curve.specs.Curves.{waves_of, AreTimes}
+use Rattle.station_curve.proofs.Circling.{IsSince}
+use Rattle.station_curve.proofs.Predicting.{year_level_is}
 
-pub level_plain : (tide : Tide) (m : ℤ) (year : ℕ) (level value : ℤ) → Plain year ≡ place_in_tide tide m
-    → level ≡ year_level tide m year → value ≡ pos total_weight *ℤ level → value ≡ level_of tide m
-unfolding level_of
-level_plain tide m year level value at is_level is_value =
-    is_value ∙ ap (λ l. pos total_weight *ℤ l) is_level ∙ ap (blended (year_level tide m)) at
+pub level_plain : (b : Book) (s : Station) (m : ℤ) (year : ℕ) (level value : ℤ) → Plain year ≡ place_of b.first_year b.years m
+    → level ≡ predicted_year_level b s m year → value ≡ pos total_weight *ℤ level → value ≡ predicted_level b s m
+unfolding predicted_level
+level_plain b s m year level value at is_level is_value =
+    is_value ∙ ap (λ l. pos total_weight *ℤ l) is_level ∙ ap (blended (predicted_year_level b s m)) at
 
-pub level_blend : (tide : Tide) (m : ℤ) (year : ℕ) (x earlier later weight value : ℤ) → Blend year x
-    ≡ place_in_tide tide m → earlier ≡ year_level tide m (year - 1) → later ≡ year_level tide m year → weight
-    ≡ weight_of x → value ≡ ((pos total_weight -ℤ weight) *ℤ earlier) +ℤ (weight *ℤ later) → value ≡ level_of tide m
-unfolding level_of
-level_blend tide m year x earlier later weight value at is_earlier is_later is_weight is_value =
-    is_value ∙ simp (is_earlier, is_later, is_weight) (ap (blended (year_level tide m)) at)
+pub level_blend : (b : Book) (s : Station) (m : ℤ) (year : ℕ) (x earlier later weight value : ℤ) → Blend year x
+    ≡ place_of b.first_year b.years m → earlier ≡ predicted_year_level b s m (year - 1) → later ≡ predicted_year_level b s m year → weight
+    ≡ weight_of x → value ≡ ((pos total_weight -ℤ weight) *ℤ earlier) +ℤ (weight *ℤ later) → value ≡ predicted_level b s m
+unfolding predicted_level
+level_blend b s m year x earlier later weight value at is_earlier is_later is_weight is_value =
+    is_value ∙ simp (is_earlier, is_later, is_weight) (ap (blended (predicted_year_level b s m)) at)
 
 no_drift : (z : ℤ) → z ≡ z +ℤ pos 0
 no_drift z = omega (arith, ints)
 
-pub slope_plain : (tide : Tide) (m : ℤ) (year : ℕ) (slope value : ℤ) → Plain year ≡ place_in_tide tide m
-    → slope ≡ year_slope tide m year → value ≡ pos total_weight *ℤ slope → value ≡ slope_of tide m
-unfolding slope_of
-slope_plain tide m year slope value at is_slope is_value =
-    is_value ∙ ap (λ l. pos total_weight *ℤ l) is_slope ∙ no_drift (pos total_weight *ℤ year_slope tide m year)
-    ∙ ap (λ p. blended (year_slope tide m) p +ℤ drift (year_level tide m) p) at
+pub slope_plain : (b : Book) (s : Station) (m : ℤ) (year : ℕ) (slope value : ℤ) → Plain year ≡ place_of b.first_year b.years m
+    → slope ≡ predicted_year_slope b s m year → value ≡ pos total_weight *ℤ slope → value ≡ predicted_slope b s m
+unfolding predicted_slope
+slope_plain b s m year slope value at is_slope is_value =
+    is_value ∙ ap (λ l. pos total_weight *ℤ l) is_slope ∙ no_drift (pos total_weight *ℤ predicted_year_slope b s m year)
+    ∙ ap (λ p. blended (predicted_year_slope b s m) p +ℤ drift (predicted_year_level b s m) p) at
 
 -- the mean level cancels in the difference of two years' levels
 cancels : (d a b : ℤ) → a -ℤ b ≡ (d +ℤ a) -ℤ (d +ℤ b)
 cancels d a b = omega (arith, ints)
 
-pub level_change : (tide : Tide) (m : ℤ) (year : ℕ) (later earlier : ℤ)
-    → later ≡ heights_of (minutes_into tide.first_year year m) (waves_in tide year)
-    → earlier ≡ heights_of (minutes_into tide.first_year (year - 1) m) (waves_in tide (year - 1))
-    → later -ℤ earlier ≡ year_level tide m year -ℤ year_level tide m (year - 1)
-unfolding year_level
-level_change tide m year later earlier is_later is_earlier =
-    rw (← is_later, ← is_earlier) (cancels (pos (10 ^ 9) *ℤ tide.datum) later earlier)
+pub level_change : (b : Book) (s : Station) (m : ℤ) (year : ℕ) (later earlier : ℤ) → AreTimes b
+    → IsSince b.first_year year m → IsSince b.first_year (year - 1) m
+    → later ≡ heights_of (minutes_into b.first_year year m) (waves_of b s year)
+    → earlier ≡ heights_of (minutes_into b.first_year (year - 1) m) (waves_of b s (year - 1))
+    → later -ℤ earlier ≡ predicted_year_level b s m year -ℤ predicted_year_level b s m (year - 1)
+level_change b s m year later earlier times later_since earlier_since is_later is_earlier =
+    rw (year_level_is b s m year times later_since, year_level_is b s m (year - 1) times earlier_since, ← is_later, ← is_earlier)
+    (cancels (pos (10 ^ 9) *ℤ s.datum) later earlier)
 
-pub slope_blend : (tide : Tide) (m : ℤ) (year : ℕ) (x earlier later weight change value drifted : ℤ)
-    → Blend year x ≡ place_in_tide tide m → earlier ≡ year_slope tide m (year - 1) → later ≡ year_slope tide m year
-    → weight ≡ weight_of x → change ≡ year_level tide m year -ℤ year_level tide m (year - 1)
+pub slope_blend : (b : Book) (s : Station) (m : ℤ) (year : ℕ) (x earlier later weight change value drifted : ℤ)
+    → Blend year x ≡ place_of b.first_year b.years m → earlier ≡ predicted_year_slope b s m (year - 1) → later ≡ predicted_year_slope b s m year
+    → weight ≡ weight_of x → change ≡ predicted_year_level b s m year -ℤ predicted_year_level b s m (year - 1)
     → drifted ≡ (weight_slope_of x *ℤ pos radian) *ℤ change
-    → value ≡ ((pos total_weight -ℤ weight) *ℤ earlier) +ℤ (weight *ℤ later) → value +ℤ drifted ≡ slope_of tide m
-unfolding slope_of
-slope_blend tide m year x earlier later weight change value drifted at is_earlier is_later is_weight is_change is_drifted is_value =
+    → value ≡ ((pos total_weight -ℤ weight) *ℤ earlier) +ℤ (weight *ℤ later) → value +ℤ drifted ≡ predicted_slope b s m
+unfolding predicted_slope
+slope_blend b s m year x earlier later weight change value drifted at is_earlier is_later is_weight is_change is_drifted is_value =
     simp (is_value, is_drifted, is_earlier, is_later, is_weight, is_change)
-    (ap (λ p. blended (year_slope tide m) p +ℤ drift (year_level tide m) p) at)
+    (ap (λ p. blended (predicted_year_slope b s m) p +ℤ drift (predicted_year_level b s m) p) at)
 
 -- bounds on the size of sums and products
 abs_plus : (x y : ℤ) → unsigned_abs (x +ℤ y) ≤ unsigned_abs x + unsigned_abs y

@@ -1,5 +1,5 @@
 -- A book's constants at the indices of its lists.
-use Rattle.std.proofs.Common.{◌≡◌, ℕ, suc, ◌+◌, ◌*◌, ◌^◌, ◌<◌, ◌≤◌, List, [], ◌∷◌, length, get_or, ℤ, pos, negsuc, ◌+ℤ◌, ◌-ℤ◌, ◌*ℤ◌, refl, sym, ap, ◌∙◌, arith}
+use Rattle.std.proofs.Common.{◌≤ℤ◌, ◌≡◌, ℕ, suc, ◌+◌, ◌*◌, ◌^◌, ◌<◌, ◌≤◌, List, [], ◌∷◌, length, get_or, ℤ, pos, negsuc, ◌+ℤ◌, ◌-ℤ◌, ◌*ℤ◌, refl, sym, ap, ◌∙◌, arith}
 use Rattle.std.specs.Prelude.{unsigned_abs, All}
 use Rattle.std.proofs.lemmas.Int.{ints}
 use Rattle.std.proofs.lemmas.List.{get_or-map}
@@ -10,7 +10,7 @@ use Rattle.harmonics_book.specs.declared.book.Book.{Book}
 use Rattle.harmonics_book.specs.Books.{IsBook, IsStation, IsWithin}
 use Rattle.year_blend.specs.Places.{start_of}
 use Rattle.station_curve.specs.Schureman.{amplitude_of, speed_of, angle_of}
-use Rattle.station_curve.proofs.Products.{abs_span, abs_within, pos_abs}
+use Rattle.station_curve.proofs.Products.{abs_span, abs_within}
 
 within_size : (n : ℕ) (xs : List ℤ) (k : ℕ) → All (IsWithin (negsuc n) (pos (suc n))) xs → k < length xs
     → unsigned_abs (get_or xs k (pos 0)) ≤ suc n
@@ -67,21 +67,12 @@ angle_an_hour_before b s year k speed minutes argument epoch is_speed is_minutes
     let hour = is_minutes ∙ hour_before (start_of b.first_year year) s.meridian in
     simp (is_speed, hour, is_argument, is_epoch)
 
-pub speed_small : (b : Book) (k : ℕ) → IsBook b → k < length b.constituents → unsigned_abs (speed_of b k) ≤ 3600000000
-speed_small b k book in_list = with_one b.constituents refl
+pub speed_range : (b : Book) (k : ℕ) → IsBook b → k < length b.constituents
+    → (pos 0 ≤ℤ speed_of b k) × (speed_of b k ≤ℤ pos 3600000000)
+speed_range b k book in_list = with_one b.constituents refl
   where
-    with_one : (cs : List Constituent) → cs ≡ b.constituents → unsigned_abs (speed_of b k) ≤ 3600000000
+    with_one : (cs : List Constituent) → cs ≡ b.constituents → (pos 0 ≤ℤ speed_of b k) × (speed_of b k ≤ℤ pos 3600000000)
     with_one [] e = absurd (omega (arith, in_list, ap length e))
     with_one (c ∷ cs) e =
         let w = (book.constituents k c in_list).speed in
-        rw (get_or-map (λ c. c.speed) b.constituents k c (pos 0) in_list)
-        (abs_within (get_or b.constituents k c).speed 0 3600000000 w.least w.most)
-
-pub speed_pos : (b : Book) (k : ℕ) → IsBook b → k < length b.constituents → pos (unsigned_abs (speed_of b k)) ≡ speed_of b k
-speed_pos b k book in_list = with_one b.constituents refl
-  where
-    with_one : (cs : List Constituent) → cs ≡ b.constituents → pos (unsigned_abs (speed_of b k)) ≡ speed_of b k
-    with_one [] e = absurd (omega (arith, in_list, ap length e))
-    with_one (c ∷ cs) e =
-        let w = (book.constituents k c in_list).speed in
-        rw (get_or-map (λ c. c.speed) b.constituents k c (pos 0) in_list) (pos_abs (get_or b.constituents k c).speed w.least)
+        rw (get_or-map (λ c. c.speed) b.constituents k c (pos 0) in_list) (w.least, w.most)

@@ -10,7 +10,6 @@ use Rattle.fixed_sine.specs.Circle.{circle}
 use Rattle.harmonics_book.specs.declared.book.Station.{Station}
 use Rattle.harmonics_book.specs.declared.book.Book.{Book}
 use Rattle.year_blend.specs.Places.{start_of}
-use Rattle.station_curve.specs.Workings.NumberRanges.{IsWithinHourOfYear}
 use Rattle.station_curve.specs.Levels.{minutes_into}
 use Rattle.station_curve.specs.Schureman.{speed_of, angle_of, phase_of}
 use Rattle.station_curve.proofs.Products.{pos_abs}
@@ -79,13 +78,17 @@ angle_onward b s year m k speed t is_speed is_t =
     moved : (x y z : ℤ) → (x +ℤ y) +ℤ z ≡ (x +ℤ z) +ℤ y
     moved x y z = omega (arith, ints)
 
+-- a minute of the year or later, or of the hour before it
+abbrev pub IsSince : ℤ → ℕ → ℤ → Type 0
+IsSince first_year year m = pos 0 ≤ℤ ((m -ℤ start_of first_year year) +ℤ pos 60)
+
 pub phase_onward : (b : Book) (s : Station) (year : ℕ) (m : ℤ) (k speed : ℕ) → pos speed ≡ speed_of b k
-    → IsWithinHourOfYear b.first_year year m
+    → IsSince b.first_year year m
     → (phase_of b s year (start_of b.first_year year -ℤ pos 60) k + speed * minutes_into b.first_year year m) % circle
     ≡ phase_of b s year m k
-phase_onward b s year m k speed is_speed in_range =
+phase_onward b s year m k speed is_speed since =
     let t = minutes_into b.first_year year m in
-    let is_t : pos t ≡ (m -ℤ start_of b.first_year year) +ℤ pos 60 = pos_abs ((m -ℤ start_of b.first_year year) +ℤ pos 60) in_range.least in
+    let is_t : pos t ≡ (m -ℤ start_of b.first_year year) +ℤ pos 60 = pos_abs ((m -ℤ start_of b.first_year year) +ℤ pos 60) since in
     let angle = angle_of b s year (start_of b.first_year year -ℤ pos 60) k in
     rem_onward angle circle (speed * t) (lit< tt)
     ∙ ap (λ z. unsigned_abs (int_rem_euclid z (pos circle))) (sym (angle_onward b s year m k speed t is_speed is_t))

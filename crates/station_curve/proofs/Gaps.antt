@@ -75,8 +75,8 @@ sums_gap f g rate each (h ∷ hs) a b c approximate =
     (rw (regrouped a (f h) b (g h)) (abs_plus (a -ℤ b) (f h -ℤ g h) c (rate h) approximate (each h)))
 
 -- a sum is at most a multiple of the sum of its parts' sizes, if each part is
-pub sums_size : (most : ℕ) (f : Harmonic → ℤ) (size : Harmonic → ℕ)
-    → ((h : Harmonic) → unsigned_abs (f h) ≤ most * size h) → (hs : List Harmonic) (a : ℤ) (c : ℕ) → unsigned_abs a
+pub sums_size : {T : Type 0} (most : ℕ) (f : T → ℤ) (size : T → ℕ)
+    → ((h : T) → unsigned_abs (f h) ≤ most * size h) → (hs : List T) (a : ℤ) (c : ℕ) → unsigned_abs a
     ≤ most * c → unsigned_abs (fold (λ sum h. sum +ℤ f h) a hs) ≤ most * fold (λ sum h. sum + size h) c hs
 sums_size most f size each [] a c small = small
 sums_size most f size each (h ∷ hs) a c small =

@@ -9,7 +9,6 @@ mod Circling
 pub mod WithinLimits
 pub mod Touched
 pub mod Predicting
-pub mod Whole
 mod Around
 mod Answering
 pub mod Gaps

@@ -13,8 +13,8 @@ use Rattle.harmonics_book.specs.declared.book.Station.{Station}
 use Rattle.harmonics_book.specs.declared.book.Book.{Book}
 use Rattle.station_curve.specs.Waves.{Harmonic, amount_of, steepness_of}
 use Rattle.station_curve.specs.Schureman.{constituents_of, amplitude_of, speed_of}
-use Rattle.station_curve.specs.Curves.{wave_of, waves_of, is_present}
-use Rattle.station_curve.specs.Workings.Prepared.{has_amplitude, present_in}
+use Rattle.station_curve.specs.Curves.{wave_of, waves_of}
+use Rattle.station_curve.specs.Workings.Prepared.{has_amplitude, present_in, is_present}
 use Rattle.station_curve.proofs.BookValues.{no_amplitude}
 use Rattle.station_curve.proofs.WithinLimits.{amount-present, steepness-present}
 

@@ -1,64 +1,94 @@
--- Facts about the tide that follow from a curve's invariant.
-use Rattle.std.proofs.Common.{◌≡◌, ℕ, suc, ◌<◌, ◌≤◌, [], length, get_or, sym, ap, subst, ◌∙◌, arith, lit<}
+-- Facts about a curve's prediction that follow from its invariant.
+use Rattle.std.proofs.Common.{◌≡◌, ℕ, suc, ◌^◌, ◌<◌, ◌≤◌, length, get_or, ap, subst, ◌∙◌, arith, lit<, sym, true, ℤ}
+use Rattle.std.specs.Prelude.{unsigned_abs, filter}
 use Rattle.std.specs.Vec.{vec_len}
-use Rattle.std.proofs.lemmas.List.{get_or-map, length-map}
-use mir.Syntax.{w32}
+use mir.Syntax.{w32, w64}
 use mir.Val.{to_z, of_z}
-use Rattle.year_blend.specs.Places.{start_of, AreYears}
+use Rattle.year_blend.specs.declared.parts.Place.{Place}
+use Rattle.year_blend.specs.Places.{start_of, AreYears, InDomain, place_of}
 use Rattle.station_curve.specs.declared.years.Year.{Year}
 use Rattle.station_curve.specs.declared.curve.StationCurve.TheInside.{Inside}
-use Rattle.station_curve.specs.Waves.{Tide, amount_of, steepness_of}
-use Rattle.station_curve.specs.Limits.{IsWithinLimits, most_amount, most_steepness}
-use Rattle.station_curve.specs.Workings.Inside.{tide_in, IsReady}
-use Rattle.station_curve.specs.Levels.{waves_in}
-use Rattle.station_curve.specs.Sums.{sums_of}
-use Rattle.station_curve.proofs.Products.{cast_small, abs_within}
+use Rattle.station_curve.specs.Waves.{amount_of, steepness_of}
+use Rattle.station_curve.specs.Limits.{most_amount, most_steepness}
+use Rattle.station_curve.specs.Curves.{Prediction, IsPrediction, waves_for, sums_for, IsPredicted, is_touched, waves_of}
+use Rattle.station_curve.specs.Workings.Inside.{prediction_in, IsReady}
+use Rattle.station_curve.specs.Workings.Prepared.{stored_over, is_present}
+use Rattle.station_curve.proofs.Products.{cast_small, abs_within, times}
+use Rattle.station_curve.proofs.WithinLimits.{amount-present, steepness-present, waves_for_within, over-touched}
+use Rattle.station_curve.proofs.Ranges.{in_domain, place_used}
+use Rattle.station_curve.specs.Workings.NumberRanges.{IsPlaceUsed}
 
--- a stored year is that of the tide
-pub record IsYearOf (tide : Tide) (year : ℕ) (y : Year) : Type 0 where
-  pub start : y.start ≡ start_of tide.first_year year
-  pub end : y.end ≡ start_of tide.first_year (suc year)
-  pub waves : y.waves.items ≡ waves_in tide year
+-- a stored year is one of the prediction
+pub record IsYearOf (c : Prediction) (year : ℕ) (y : Year) : Type 0 where
+  pub start : y.start ≡ start_of c.book.first_year year
+  pub end : y.end ≡ start_of c.book.first_year (suc year)
+  pub waves : y.waves.items ≡ stored_over c.book c.station c.first c.last year
   pub amount : amount_of y.waves.items ≤ most_amount
   pub steepness : steepness_of y.waves.items ≤ most_steepness
-  pub sums : y.sums ≡ sums_of (waves_in tide year)
+  pub sums : y.sums ≡ sums_for c year
 
-inside_year : (s : Inside) (year : ℕ) (y : Year) → IsReady s → year < length (tide_in s).years
-    → y ≡ get_or s.years.items year y → IsYearOf (tide_in s) year y
-inside_year s year y ready in_list is =
-    let in_years : year < length s.years.items = omega (arith, length-map s.years.items (λ y. y.waves.items)) in
-    let waves : y.waves.items ≡ waves_in (tide_in s) year =
-    ap (λ y. y.waves.items) is ∙ sym (get_or-map (λ y. y.waves.items) s.years.items year y [] in_years) in
+inside_year : (s : Inside) (year : ℕ) (y : Year) → IsReady s → year < s.origin.book.years
+    → y ≡ get_or s.years.items year y → IsYearOf (prediction_in s) year y
+inside_year s year y ready below is =
+    let c = prediction_in s in
+    let within = waves_for_within c year ready.valid.limits below in
+    let waves : y.waves.items ≡ stored_over c.book c.station c.first c.last year =
+    ap (λ (y : Year). y.waves.items) is ∙ ready.years.waves year y below in
     record {
-      start = ap (λ y. y.start) is ∙ ready.starts year y in_years;
-      end = ap (λ y. y.end) is ∙ ready.ends year y in_years;
+      start = ap (λ (y : Year). y.start) is ∙ ready.years.starts year y below;
+      end = ap (λ (y : Year). y.end) is ∙ ready.years.ends year y below;
       waves = waves;
-      amount = rw waves (ready.within_limits.amounts year [] in_list);
-      steepness = rw waves (ready.within_limits.steepnesses year [] in_list);
-      sums = ap (λ y. y.sums) is ∙ ready.sums year y in_years ∙ ap sums_of (ap (λ y. y.waves.items) (sym is) ∙ waves);
+      amount = rw (waves, amount-present (waves_for c year)) within.0;
+      steepness = rw (waves, steepness-present (waves_for c year)) within.1;
+      sums = ap (λ (y : Year). y.sums) is ∙ ready.years.sums year y below;
     }
 
-pub year_of : (s : Inside) (tide : Tide) (year : ℕ) (y : Year) → IsReady s → tide_in s ≡ tide → year < length tide.years
-    → y ≡ get_or s.years.items year y → IsYearOf tide year y
-year_of s tide year y ready is in_list at =
-    subst (λ (t : Tide). year < length t.years → IsYearOf t year y) is (λ h. inside_year s year y ready h at) in_list
+pub year_of : (s : Inside) (c : Prediction) (year : ℕ) (y : Year) → IsReady s → prediction_in s ≡ c → year < c.book.years
+    → y ≡ get_or s.years.items year y → IsYearOf c year y
+year_of s c year y ready is below at =
+    subst (λ (c : Prediction). year < c.book.years → IsYearOf c year y) is (λ h. inside_year s year y ready h at) below
 
-pub within_limits_of : (s : Inside) (tide : Tide) → IsReady s → tide_in s ≡ tide → IsWithinLimits tide
-within_limits_of s tide ready is = subst IsWithinLimits is ready.within_limits
+pub valid_of : (s : Inside) (c : Prediction) → IsReady s → prediction_in s ≡ c → IsPrediction c
+valid_of s c ready is = subst IsPrediction is ready.valid
+
+pub years_of : (s : Inside) (c : Prediction) → IsReady s → prediction_in s ≡ c → AreYears c.book.first_year c.book.years
+years_of s c ready is = (valid_of s c ready is).limits.times.years
+
+-- the stored waves of a year whose constants are used
+pub used_waves : (c : Prediction) (year : ℕ) (y : Year) → IsYearOf c year y → is_touched c.book c.first c.last year ≡ true
+    → y.waves.items ≡ filter is_present (waves_of c.book c.station year)
+used_waves c year y is touched = is.waves ∙ ap (filter is_present) (over-touched c.book c.station c.first c.last year touched)
 
 -- the years are as many as are stored
-stored_length : (s : Inside) → vec_len s.years ≡ length (tide_in s).years
-stored_length s =
+stored_length : (s : Inside) → IsReady s → vec_len s.years ≡ s.origin.book.years
+stored_length s ready =
     let length : vec_len s.years ≡ length s.years.items = omega (arith, s.years.ok.0) in
-    length ∙ sym (length-map s.years.items (λ y. y.waves.items))
+    length ∙ ready.years.counted
 
-pub stored : (s : Inside) (tide : Tide) → tide_in s ≡ tide → vec_len s.years ≡ length tide.years
-stored s tide is = stored_length s ∙ ap (λ (t : Tide). length t.years) is
+pub stored : (s : Inside) (c : Prediction) → IsReady s → prediction_in s ≡ c → vec_len s.years ≡ c.book.years
+stored s c ready is = stored_length s ready ∙ ap (λ (c : Prediction). c.book.years) is
 
 pub are_years : (s : Inside) → IsReady s → AreYears s.first_year (vec_len s.years)
-are_years s ready = rw (stored_length s) ready.within_limits.years
+are_years s ready = rw (ready.first_year, stored_length s ready) ready.valid.limits.times.years
 
-pub first_year_of : (s : Inside) (tide : Tide) → IsReady s → tide_in s ≡ tide → to_z w32 (of_z w32 s.first_year) ≡ tide.first_year
-first_year_of s tide ready is =
-    let years = ready.within_limits.years in
-    cast_small w32 s.first_year 8800 (abs_within s.first_year 2 8800 years.least years.most) (lit< tt) ∙ ap (λ (t : Tide). t.first_year) is
+pub first_year_of : (s : Inside) (c : Prediction) → IsReady s → prediction_in s ≡ c → to_z w32 (of_z w32 s.first_year) ≡ c.book.first_year
+first_year_of s c ready is =
+    let years = are_years s ready in
+    cast_small w32 s.first_year 8800 (abs_within s.first_year 2 8800 years.least years.most) (lit< tt) ∙ ready.first_year
+    ∙ ap (λ (c : Prediction). c.book.first_year) is
+
+pub datum_small : (s : Inside) → IsReady s → unsigned_abs s.datum ≤ 10 ^ 10
+datum_small s ready = rw ready.datum ready.valid.limits.datum
+
+pub datum_of : (s : Inside) (c : Prediction) → IsReady s → prediction_in s ≡ c → to_z w64 (of_z w64 s.datum) ≡ c.station.datum
+datum_of s c ready is =
+    cast_small w64 s.datum (10 ^ 10) (datum_small s ready) (lit< tt) ∙ ready.datum ∙ ap (λ (c : Prediction). c.station.datum) is
+
+-- a minute that is predicted is one of the book's years, and the years of its position are used there
+pub domain_of : (s : Inside) (c : Prediction) (m : ℤ) → IsReady s → prediction_in s ≡ c → IsPredicted c m
+    → InDomain c.book.first_year c.book.years m
+domain_of s c m ready is at = in_domain c m (valid_of s c ready is) at
+
+pub used_at : (s : Inside) (c : Prediction) (m : ℤ) (p : Place) → IsReady s → prediction_in s ≡ c → IsPredicted c m
+    → p ≡ place_of c.book.first_year c.book.years m → IsPlaceUsed c m p
+used_at s c m p ready is at place = subst (IsPlaceUsed c m) (sym place) (place_used c m (valid_of s c ready is) at)

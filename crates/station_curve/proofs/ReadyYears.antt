@@ -11,7 +11,7 @@ use Rattle.year_blend.proofs.YearLemmas.{year_start_of_size}
 use Rattle.station_curve.specs.declared.years.Year.{Year}
 use Rattle.station_curve.specs.declared.fault.CurveFault.{CurveFault}
 use Rattle.station_curve.specs.Curves.{waves_over, year_fault, first_fault}
-use Rattle.station_curve.specs.Workings.Prepared.{IsReadyYear, AreReady}
+use Rattle.station_curve.specs.Workings.Prepared.{IsReadyYear, AreReady, stored_over}
 use Rattle.station_curve.specs.Sums.{sums_of}
 use Rattle.station_curve.proofs.Products.{cast_small, abs_within}
 use mir.Syntax.{w32, w64}
@@ -84,9 +84,9 @@ pub ready_more : (b : Book) (s : Station) (first last : ℤ) (year : ℕ) (years
     → AreReady b s first last year years → IsReadyYear b s first last year y → AreReady b s first last (year + 1) (years ++ y ∷ [])
 ready_more b s first last year years y ready last_one = record {
   counted = length-append years (y ∷ []) ∙ ap (λ n. n + 1) ready.counted;
-  waves = last_too (λ k y. y.waves.items ≡ waves_over b s first last k) years y year ready.counted ready.waves last_one.waves;
+  waves = last_too (λ k y. y.waves.items ≡ stored_over b s first last k) years y year ready.counted ready.waves last_one.waves;
   starts = last_too (λ k y. y.start ≡ start_of b.first_year k) years y year ready.counted ready.starts last_one.start;
   ends = last_too (λ k y. y.end ≡ start_of b.first_year (suc k)) years y year ready.counted ready.ends last_one.end;
-  sums = last_too (λ k y. y.sums ≡ sums_of y.waves.items) years y year ready.counted ready.sums last_one.sums;
+  sums = last_too (λ k y. y.sums ≡ sums_of (waves_over b s first last k)) years y year ready.counted ready.sums last_one.sums;
   within = none_more b s year ready.within last_one.within;
 }

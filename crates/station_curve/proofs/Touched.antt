@@ -1,17 +1,14 @@
 -- The years that are needed for a minute are at most an hour from it.
-use Rattle.std.proofs.Common.{◌≡◌, ℕ, zero, suc, ◌-◌, Bool, true, ◌&&◌, int_le, sym, ℤ, pos, ◌+ℤ◌, ◌≤ℤ◌, inl, inr, arith}
+use Rattle.std.proofs.Common.{◌<◌, ◌≡◌, ℕ, zero, suc, ◌-◌, Bool, true, ◌&&◌, int_le, sym, ℤ, pos, ◌+ℤ◌, ◌≤ℤ◌, inl, inr, arith}
 use Rattle.std.proofs.lemmas.Int.{ints}
 use Rattle.std.proofs.lemmas.Bool.{and_from}
 use Rattle.harmonics_book.specs.declared.book.Book.{Book}
-use Rattle.harmonics_book.specs.Books.{IsBook}
 use Rattle.year_blend.specs.declared.parts.Place.{Place}
 use Rattle.year_blend.specs.declared.parts.Place.TheVariants.{Plain, Blend}
-use Rattle.year_blend.specs.Places.{start_of, AreYears, InDomain, IsInYear, IsInBlend, IsPlaceOf, place_of}
+use Rattle.year_blend.specs.Places.{start_of, InDomain, IsInYear, IsInBlend, IsPlaceOf, place_of}
 use Rattle.year_blend.proofs.PlaceLemmas.{le_test, start_of-later, place_of-rule}
-use Rattle.station_curve.specs.Curves.{is_touched}
-
-pub book_years : (b : Book) → IsBook b → AreYears b.first_year b.years
-book_years b book = record { least = book.first_year.least; most = book.first_year.most; some = book.some_years; few = book.few_years }
+use Rattle.station_curve.specs.Curves.{is_touched, AreTimes}
+use Rattle.year_blend.specs.Years.{year_start_of}
 
 pub touched : (b : Book) (first last : ℤ) (year : ℕ) → start_of b.first_year year ≤ℤ (last +ℤ pos 60)
     → first ≤ℤ (start_of b.first_year (suc year) +ℤ pos 60) → is_touched b first last year ≡ true
@@ -70,7 +67,17 @@ touched_by_rule b first last m (Blend (suc year) x) low from until rule =
     let before : suc year - 1 ≡ year = omega arith in
     (touched_after b first last m (suc year) x low from until rule, rw before (touched_before b first last m year x low from until rule))
 
-pub touched_place : (b : Book) (first last m : ℤ) → IsBook b → InDomain b.first_year b.years m → first ≤ℤ m → m ≤ℤ last
+pub touched_place : (b : Book) (first last m : ℤ) → AreTimes b → InDomain b.first_year b.years m → first ≤ℤ m → m ≤ℤ last
     → AreTouched b first last (place_of b.first_year b.years m)
-touched_place b first last m book within from until =
-    touched_by_rule b first last m _ book.first_year.least from until (place_of-rule b.first_year b.years m (book_years b book) within)
+touched_place b first last m times within from until =
+    touched_by_rule b first last m _ times.years.least from until (place_of-rule b.first_year b.years m times.years within)
+
+-- all minutes of a book's years need each year
+pub all_touched : (b : Book) (year : ℕ) → AreTimes b → year < b.years
+    → is_touched b (year_start_of b.first_year) (year_start_of (b.first_year +ℤ pos b.years)) year ≡ true
+all_touched b year times below =
+    let low = times.years.least in
+    let before_end = start_of-later b.first_year year b.years low below in
+    let after_start = start_of-later b.first_year 0 (suc year) low (omega arith) in
+    let start : b.first_year +ℤ pos 0 ≡ b.first_year = omega (arith, ints) in
+    touched b _ _ year (omega (arith, ints)) (let from = rw start at after_start in omega (arith, ints))

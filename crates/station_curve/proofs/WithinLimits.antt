@@ -1,28 +1,29 @@
--- The tide of a station within the limits.
-use Rattle.std.proofs.Common.{◌≡◌, ℕ, zero, suc, ◌+◌, ◌*◌, ◌^◌, ◌<◌, ◌≤◌, Bool, true, false, cond, List, [], ◌∷◌, length, get_or, Option, Some, None, ℤ, pos, inl, inr, refl, sym, ap, ◌∙◌, add-zero, arith}
-use Rattle.std.specs.Prelude.{unsigned_abs, filter, map, fold, nat_eq, All}
+-- A station within the limits, and its present waves.
+use Rattle.std.proofs.Common.{◌≡◌, ℕ, zero, suc, ◌+◌, ◌*◌, ◌^◌, ◌<◌, ◌≤◌, Bool, true, false, cond, List, [], ◌∷◌, length, Option, Some, None, ℤ, pos, negsuc, ◌+ℤ◌, ◌*ℤ◌, ◌/◌, inl, inr, refl, sym, ap, ◌∙◌, add-zero, arith}
+use Rattle.std.specs.Prelude.{unsigned_abs, filter, fold, nat_eq, All}
 use Rattle.std.specs.Option.{option_or}
 use Rattle.std.proofs.lemmas.Bool.{eqb-true, cases_lt}
 use Rattle.std.proofs.lemmas.Int.{ints}
-use Rattle.std.proofs.lemmas.List.{get_or-map, length-map}
-use Rattle.std.proofs.lemmas.List.Elements.{All-filter}
-use Rattle.std.proofs.lemmas.List.FromFn.{get_or-map-range_with_len, length-map-range_with_len}
 use Rattle.fixed_sine.specs.Rate.{step_of}
+use Rattle.fixed_sine.specs.Sine.{isin_of, icos_of}
+use Rattle.fixed_sine.specs.Approximate.{approximate_sine_of}
+use Rattle.station_curve.specs.Approximate.{binary_angle_after, binary_angle_ahead, approximate_height_at, approximate_fall_at, approximate_heights_of, approximate_falls_of}
 use Rattle.harmonics_book.specs.declared.book.Station.{Station}
 use Rattle.harmonics_book.specs.declared.book.Book.{Book}
 use Rattle.harmonics_book.specs.Books.{IsBook, IsStation}
 use Rattle.station_curve.specs.declared.fault.CurveFault.{CurveFault}
-use Rattle.station_curve.specs.declared.years.Year.{Year}
-use Rattle.station_curve.specs.Waves.{Harmonic, Tide, amount_of, steepness_of}
+use Rattle.station_curve.specs.Waves.{Harmonic, phase_at, height_at, fall_at, heights_of, falls_of, amount_of, steepness_of}
 use Rattle.station_curve.specs.Sums.{height_rate_of, fall_rate_of, near_of, far_of, sums_of}
-use Rattle.station_curve.specs.Limits.{most_amount, most_steepness, IsWithinLimits, AreWithinLimits}
-use Rattle.station_curve.specs.Curves.{waves_of, is_present, is_touched, waves_over, tide_over, year_fault, first_fault}
-use Rattle.station_curve.specs.Levels.{waves_in}
-use Rattle.station_curve.specs.Workings.Prepared.{AreReady}
-use Rattle.station_curve.proofs.Products.{abs_span}
-use Rattle.station_curve.proofs.BookValues.{speed_small}
+use Rattle.station_curve.specs.Limits.{most_amount, most_steepness, AreWithinLimits}
+use Rattle.station_curve.specs.Curves.{Prediction, IsWithinLimits, sums_for, waves_for, waves_of, is_touched, waves_over, year_fault, first_fault, AreTimes}
+use Rattle.station_curve.specs.Workings.Prepared.{is_present, stored_over}
+use Rattle.station_curve.proofs.BookValues.{speed_range}
+use Rattle.station_curve.proofs.Products.{abs_span, abs_within}
 use Rattle.station_curve.proofs.WavesOf.{none_fault, length-waves_of, get_or-waves_of}
+use Rattle.station_curve.proofs.GreatestYear.{greatest-most}
 use Rattle.station_curve.proofs.YearChanges.{near_bound, far_bound}
+use Rattle.station_curve.specs.Errors.{greatest_amount, greatest_steepness}
+use Rattle.station_curve.specs.Schureman.{speed_of}
 
 -- a sum over the present waves is that over all, if absent ones add nothing
 with_first : {B : Type 0} (add : B → Harmonic → B) → ((a : B) (h : Harmonic) → h.amplitude ≡ pos 0 → add a h ≡ a)
@@ -57,6 +58,47 @@ far-present hs = fold-present (λ a h. a + fall_rate_of h)
 pub sums-present : (hs : List Harmonic) → sums_of (filter is_present hs) ≡ sums_of hs
 sums-present hs = simp (amount-present hs, steepness-present hs, near-present hs, far-present hs)
 
+-- absent waves add nothing to level and slope
+zero_times : (z : ℤ) → pos 0 *ℤ z ≡ pos 0
+zero_times (pos n) = ap pos (omega arith)
+zero_times (negsuc n) = omega (arith, ints)
+
+-- a sum of products by the amplitude
+with_amplitude : (f : Harmonic → ℤ) (sine : Harmonic → ℤ) → ((h : Harmonic) → f h ≡ h.amplitude *ℤ sine h) → (hs : List Harmonic)
+    → fold (λ sum h. sum +ℤ f h) (pos 0) (filter is_present hs) ≡ fold (λ sum h. sum +ℤ f h) (pos 0) hs
+with_amplitude f sine is hs =
+    fold-present (λ sum h. sum +ℤ f h)
+    (λ a h e. ap (λ z. a +ℤ z) (is h ∙ ap (λ z. z *ℤ sine h) e ∙ zero_times (sine h)) ∙ add_none a) (pos 0) hs
+  where
+    add_none : (a : ℤ) → a +ℤ pos 0 ≡ a
+    add_none a = omega (arith, ints)
+
+-- a sum of products by the amplitude and another factor
+with_factor : (f : Harmonic → ℤ) (factor sine : Harmonic → ℤ) → ((h : Harmonic) → f h ≡ (h.amplitude *ℤ factor h) *ℤ sine h)
+    → (hs : List Harmonic) → fold (λ sum h. sum +ℤ f h) (pos 0) (filter is_present hs) ≡ fold (λ sum h. sum +ℤ f h) (pos 0) hs
+with_factor f factor sine is hs =
+    fold-present (λ sum h. sum +ℤ f h)
+    (λ a h e. ap (λ z. a +ℤ z) (is h ∙ ap (λ z. (z *ℤ factor h) *ℤ sine h) e ∙ ap (λ z. z *ℤ sine h) (zero_times (factor h))
+    ∙ zero_times (sine h)) ∙ add_none a) (pos 0) hs
+  where
+    add_none : (a : ℤ) → a +ℤ pos 0 ≡ a
+    add_none a = omega (arith, ints)
+
+pub heights-present : (t : ℕ) (hs : List Harmonic) → heights_of t (filter is_present hs) ≡ heights_of t hs
+heights-present t hs = with_amplitude (height_at t) (λ h. icos_of (phase_at h t)) (λ h. refl) hs
+
+pub falls-present : (t : ℕ) (hs : List Harmonic) → falls_of t (filter is_present hs) ≡ falls_of t hs
+falls-present t hs = with_factor (fall_at t) (λ h. pos h.speed) (λ h. isin_of (phase_at h t)) (λ h. refl) hs
+
+pub approximate_heights-present : (t : ℕ) (hs : List Harmonic)
+    → approximate_heights_of t (filter is_present hs) ≡ approximate_heights_of t hs
+approximate_heights-present t hs =
+    with_amplitude (approximate_height_at t) (λ h. approximate_sine_of (binary_angle_ahead h t)) (λ h. refl) hs
+
+pub approximate_falls-present : (t : ℕ) (hs : List Harmonic) → approximate_falls_of t (filter is_present hs) ≡ approximate_falls_of t hs
+approximate_falls-present t hs =
+    with_factor (approximate_fall_at t) (λ h. pos (h.speed / 2 ^ 9)) (λ h. approximate_sine_of (binary_angle_after h t)) (λ h. refl) hs
+
 -- no year before the last is beyond a limit
 both_none : (a b : Option CurveFault) → option_or a b ≡ None → (a ≡ None) × (b ≡ None)
 both_none None b h = (refl, h)
@@ -74,31 +116,21 @@ no_fault b s (suc years) k h below =
           rw (← same) parts.1
     ]
 
--- the number of a tide's years, and the waves of each
-pub length-tide_over : (b : Book) (s : Station) (first last : ℤ) → length (tide_over b s first last).years ≡ b.years
-unfolding tide_over
-length-tide_over b s first last = length-map-range_with_len (waves_over b s first last) 0 b.years
-
-pub waves_in-tide_over : (b : Book) (s : Station) (first last : ℤ) (k : ℕ) (d : List Harmonic) → k < b.years
-    → get_or (tide_over b s first last).years k d ≡ waves_over b s first last k
-unfolding tide_over
-waves_in-tide_over b s first last k d below = get_or-map-range_with_len (waves_over b s first last) 0 b.years k k d below (omega arith)
-
--- a property of a year's waves and of no waves
+-- the waves of a year that is needed or isn't
 by_touch : (P : List Harmonic → Type 0) (touched : Bool) (hs : List Harmonic) → P [] → P hs → P (cond touched hs [])
 by_touch P true hs none all = all
 by_touch P false hs none all = none
 
 pub over-either : (P : List Harmonic → Type 0) (b : Book) (s : Station) (first last : ℤ) (year : ℕ) → P []
-    → P (filter is_present (waves_of b s year)) → P (waves_over b s first last year)
+    → P (waves_of b s year) → P (waves_over b s first last year)
 unfolding waves_over
-over-either P b s first last year none all = by_touch P (is_touched b first last year) (filter is_present (waves_of b s year)) none all
+over-either P b s first last year none all = by_touch P (is_touched b first last year) (waves_of b s year) none all
 
--- the property of a year that is needed or isn't
 pub asked-over : (b : Book) (s : Station) (first last : ℤ) (year : ℕ) (asked : Bool) → is_touched b first last year
-    ≡ asked → cond asked (filter is_present (waves_of b s year)) [] ≡ waves_over b s first last year
+    ≡ asked → cond asked (filter is_present (waves_of b s year)) [] ≡ stored_over b s first last year
 unfolding waves_over
-asked-over b s first last year asked is = rw is refl
+asked-over b s first last year true is = rw is refl
+asked-over b s first last year false is = rw is refl
 
 pub asked-amount : (b : Book) (s : Station) (year : ℕ) (asked : Bool) → amount_of (waves_of b s year) ≤ most_amount
     → amount_of (cond asked (filter is_present (waves_of b s year)) []) ≤ most_amount
@@ -111,108 +143,69 @@ asked-steepness b s year asked small =
     by_touch (λ hs. steepness_of hs ≤ most_steepness) asked _ (omega arith) (rw (steepness-present (waves_of b s year)) small)
 
 pub over-touched : (b : Book) (s : Station) (first last : ℤ) (year : ℕ) → is_touched b first last year ≡ true
-    → waves_over b s first last year ≡ filter is_present (waves_of b s year)
+    → waves_over b s first last year ≡ waves_of b s year
 unfolding waves_over
 over-touched b s first last year touched = rw touched refl
 
-slow : (b : Book) (s : Station) (year : ℕ) → IsBook b → All (λ h. h.speed ≤ 3600000000) (waves_of b s year)
-slow b s year book k d below =
+slow : (b : Book) (s : Station) (year : ℕ) → AreTimes b → All (λ h. h.speed ≤ 3600000000) (waves_of b s year)
+slow b s year times k d below =
     let in_list : k < length b.constituents = omega (arith, below, length-waves_of b s year) in
-    rw (get_or-waves_of b s year k d in_list) (speed_small b k book in_list)
+    rw (get_or-waves_of b s year k d in_list) (abs_within (speed_of b k) 0 3600000000 (times.speeds k in_list).0 (times.speeds k in_list).1)
 
--- the tide's first year and mean level, and the properties of the waves of each year
-pub first-tide_over : (b : Book) (s : Station) (first last : ℤ) → (tide_over b s first last).first_year ≡ b.first_year
-unfolding tide_over
-first-tide_over b s first last = refl
+-- a station of a book is within the limits, if no year is beyond one
+pub times_of : (b : Book) → IsBook b → AreTimes b
+times_of b book = record {
+  years = record { least = book.first_year.least; most = book.first_year.most; some = book.some_years; few = book.few_years };
+  speeds = λ k in_list. speed_range b k book in_list;
+}
 
-datum-tide_over : (b : Book) (s : Station) (first last : ℤ) → (tide_over b s first last).datum ≡ s.datum
-unfolding tide_over
-datum-tide_over b s first last = refl
-
-each_year : (P : List Harmonic → Type 0) (b : Book) (s : Station) (first last : ℤ) → P []
-    → ((k : ℕ) → k < b.years → P (filter is_present (waves_of b s k))) → All P (tide_over b s first last).years
-each_year P b s first last none all k d h =
-    let below : k < b.years = omega (arith, h, length-tide_over b s first last) in
-    rw (waves_in-tide_over b s first last k d below) (over-either P b s first last k none (all k below))
-
-pub within_limits_over : (b : Book) (s : Station) (first last : ℤ) → IsBook b → IsStation (length b.constituents) s
-    → first_fault b s b.years ≡ None → IsWithinLimits (tide_over b s first last)
-within_limits_over b s first last book station none =
-    let within = λ (k : ℕ) (below : k < b.years). none_fault b s k (no_fault b s b.years k none below) in
+pub limits_of : (b : Book) (s : Station) → IsBook b → IsStation (length b.constituents) s → first_fault b s b.years ≡ None → IsWithinLimits b s
+limits_of b s book station none =
+    let within = λ (year : ℕ) (below : year < b.years). none_fault b s year (no_fault b s b.years year none below) in
     record {
-      years = rw (first-tide_over b s first last, length-tide_over b s first last)
-          (record { least = book.first_year.least; most = book.first_year.most; some = book.some_years; few = book.few_years });
-      datum = rw (datum-tide_over b s first last) (abs_span s.datum 9999999999 station.datum.least station.datum.most);
-      amounts = each_year (λ hs. amount_of hs ≤ most_amount) b s first last (omega arith)
-          (λ k below. rw (amount-present (waves_of b s k)) (within k below).0);
-      steepnesses = each_year (λ hs. steepness_of hs ≤ most_steepness) b s first last (omega arith)
-          (λ k below. rw (steepness-present (waves_of b s k)) (within k below).1);
-      speeds = each_year (All (λ h. h.speed ≤ 3600000000)) b s first last (λ k d h. absurd (omega (arith, h)))
-          (λ k below. All-filter is_present (λ h. h.speed ≤ 3600000000) (waves_of b s k) (slow b s k book));
+      times = times_of b book;
+      datum = abs_span s.datum 9999999999 station.datum.least station.datum.most;
+      amounts = λ year below. (within year below).0;
+      steepnesses = λ year below. (within year below).1;
     }
 
--- the waves of a year of a tide within the limits; no waves beyond its years
-pub waves_small : (P : List Harmonic → Type 0) → P [] → (years : List (List Harmonic)) → All P years → (k : ℕ) → P (get_or years k [])
-waves_small P none years all k =
-    elim (cases_lt k (length years)) [
-      | inl inside ↦ all k [] inside
-      | inr past ↦ rw (get_or-past years k past) none
-    ]
-  where
-    get_or-past : (years : List (List Harmonic)) (k : ℕ) → length years ≤ k → get_or years k [] ≡ []
-    get_or-past [] k past = refl
-    get_or-past (y ∷ ys) zero past = absurd (omega (arith, past))
-    get_or-past (y ∷ ys) (suc k) past = get_or-past ys k (omega (arith, past))
+-- the waves of a year of a station within the limits
+pub year_within : (b : Book) (s : Station) (year : ℕ) → IsWithinLimits b s → year < b.years
+    → (amount_of (waves_of b s year) ≤ most_amount) × (steepness_of (waves_of b s year) ≤ most_steepness)
+year_within b s year limits below = (limits.amounts year below, limits.steepnesses year below)
 
 near_small : (near steep amount : ℕ) → 600000000 * near ≤ 17454000 * steep + 600000000 * amount → steep ≤ 10 ^ 17
     → amount ≤ 10 ^ 9 → near ≤ 3 * 10 ^ 15
 near_small near steep amount bound flat small = omega arith
 
-pub sums_within_limits : (tide : Tide) (year : ℕ) → IsWithinLimits tide → AreWithinLimits (sums_of (waves_in tide year))
-sums_within_limits tide year within_limits =
-    let hs = waves_in tide year in
-    let amount = waves_small (λ hs. amount_of hs ≤ 10 ^ 9) (omega arith) tide.years within_limits.amounts year in
-    let steep = waves_small (λ hs. steepness_of hs ≤ 10 ^ 17) (omega arith) tide.years within_limits.steepnesses year in
-    let quick = waves_small (All (λ h. h.speed ≤ 3600000000)) (λ k d h. absurd (omega (arith, h))) tide.years within_limits.speeds year in
+pub sums_within_limits : (b : Book) (s : Station) (year : ℕ) → IsWithinLimits b s → year < b.years
+    → AreWithinLimits (sums_of (waves_of b s year))
+sums_within_limits b s year limits below =
+    let hs = waves_of b s year in
+    let within = year_within b s year limits below in
     record {
-      amount = amount;
-      steep = steep;
-      near = near_small (near_of hs) (steepness_of hs) (amount_of hs) (near_bound hs) steep amount;
-      far = omega (arith, far_bound hs quick, steep);
+      amount = within.0;
+      steep = within.1;
+      near = near_small (near_of hs) (steepness_of hs) (amount_of hs) (near_bound hs) within.1 within.0;
+      far = omega (arith, far_bound hs (slow b s year limits.times), within.1);
     }
 
--- the tide of the stored years
-pub same_list : (xs ys : List (List Harmonic)) → length xs ≡ length ys
-    → ((k : ℕ) (d : List Harmonic) → k < length xs → get_or xs k d ≡ get_or ys k d) → xs ≡ ys
-same_list [] [] e h = refl
-same_list [] (y ∷ ys) e h = absurd (omega (arith, e))
-same_list (x ∷ xs) [] e h = absurd (omega (arith, e))
-same_list (x ∷ xs) (y ∷ ys) e h =
-    let first : x ≡ y = h 0 x (omega arith) in
-    let rest : xs ≡ ys = same_list xs ys (omega (arith, e)) (λ k d below. h (suc k) d (omega (arith, below))) in
-    rw (first, rest) refl
+pub sums_for_within : (c : Prediction) (year : ℕ) → IsWithinLimits c.book c.station → year < c.book.years → AreWithinLimits (sums_for c year)
+sums_for_within c year limits below =
+    over-either (λ hs. AreWithinLimits (sums_of hs)) c.book c.station c.first c.last year
+    (record { amount = omega arith; steep = omega arith; near = omega arith; far = omega arith })
+    (sums_within_limits c.book c.station year limits below)
 
-pub kept_years : (b : Book) (s : Station) (first last : ℤ) (years : List Year) → AreReady b s first last b.years years
-    → map (λ y. y.waves.items) years ≡ (tide_over b s first last).years
-kept_years b s first last years ready =
-    same_list (map (λ y. y.waves.items) years) (tide_over b s first last).years
-    (length-map years (λ y. y.waves.items) ∙ ready.counted ∙ sym (length-tide_over b s first last))
-    (λ k d h. kept b s first last years ready k d (omega (arith, h, length-map years (λ y. y.waves.items), ready.counted)))
-  where
-    kept : (b : Book) (s : Station) (first last : ℤ) (years : List Year) → AreReady b s first last b.years years
-        → (k : ℕ) (d : List Harmonic) → k < b.years
-        → get_or (map (λ y. y.waves.items) years) k d ≡ get_or (tide_over b s first last).years k d
-    kept b s first last [] ready k d below = absurd (omega (arith, below, ready.counted))
-    kept b s first last (y ∷ ys) ready k d below =
-        get_or-map (λ y. y.waves.items) (y ∷ ys) k y d (omega (arith, below, ready.counted)) ∙ ready.waves k y below
-        ∙ sym (waves_in-tide_over b s first last k d below)
+pub waves_for_within : (c : Prediction) (year : ℕ) → IsWithinLimits c.book c.station → year < c.book.years
+    → (amount_of (waves_for c year) ≤ most_amount) × (steepness_of (waves_for c year) ≤ most_steepness)
+waves_for_within c year limits below =
+    over-either (λ hs. (amount_of hs ≤ most_amount) × (steepness_of hs ≤ most_steepness)) c.book c.station c.first c.last year
+    (omega arith, omega arith) (year_within c.book c.station year limits below)
 
-pub kept_over : (b : Book) (s : Station) (first last : ℤ) (years : List Year) (first_year datum : ℤ)
-    → AreReady b s first last b.years years → first_year ≡ b.first_year → datum ≡ s.datum
-    → record { first_year = first_year; datum = datum; years = map (λ y. y.waves.items) years }
-    ≡ tide_over b s first last
-unfolding tide_over
-kept_over b s first last years first_year datum ready is_first is_datum =
-    ap (λ f. record { first_year = f; datum = datum; years = map (λ y. y.waves.items) years }) is_first
-    ∙ ap (λ d. record { first_year = b.first_year; datum = d; years = map (λ y. y.waves.items) years }) is_datum
-    ∙ ap (λ ys. record { first_year = b.first_year; datum = s.datum; years = ys }) (kept_years b s first last years ready)
+pub amount_small : (c : Prediction) → IsWithinLimits c.book c.station → greatest_amount c ≤ 10 ^ 9
+amount_small c limits =
+    greatest-most (λ year. amount_of (waves_for c year)) c.book.years (10 ^ 9) (λ year below. (waves_for_within c year limits below).0)
+
+pub steepness_small : (c : Prediction) → IsWithinLimits c.book c.station → greatest_steepness c ≤ 10 ^ 17
+steepness_small c limits =
+    greatest-most (λ year. steepness_of (waves_for c year)) c.book.years (10 ^ 17) (λ year below. (waves_for_within c year limits below).1)

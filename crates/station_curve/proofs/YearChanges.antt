@@ -1,18 +1,26 @@
 -- The size of level and slope by one year's constants, and their change in a minute.
-use Rattle.std.proofs.Common.{◌≡◌, ℕ, ◌+◌, ◌*◌, ◌/◌, ◌%◌, ◌^◌, ◌≤◌, List, [], ◌∷◌, ℤ, pos, neg_ℤ, ◌+ℤ◌, ◌-ℤ◌, ◌*ℤ◌, ◌≤ℤ◌, ap, ◌∙◌, arith, lit<}
+use Rattle.std.proofs.Common.{◌≡◌, ℕ, ◌+◌, ◌*◌, ◌/◌, ◌%◌, ◌^◌, ◌<◌, ◌≤◌, List, [], ◌∷◌, ℤ, pos, negsuc, neg_ℤ, ◌+ℤ◌, ◌-ℤ◌, ◌*ℤ◌, ◌≤ℤ◌, ap, ◌∙◌, arith, lit<}
 use Rattle.std.specs.Prelude.{unsigned_abs, fold, All}
 use Rattle.std.proofs.lemmas.Int.{ints, unsigned_abs-mul}
 use Rattle.std.proofs.lemmas.List.Elements.{All-head, All-tail}
 use Rattle.std.proofs.lemmas.Nat.{mul-le, mod_below, div-add-mod'}
+use Rattle.harmonics_book.specs.declared.book.Station.{Station}
+use Rattle.harmonics_book.specs.declared.book.Book.{Book}
+use Rattle.std.specs.Int.{int_rem_euclid}
+use Rattle.std.proofs.lemmas.List.Folds.{fold-map}
 use Rattle.fixed_sine.specs.Circle.{degree, circle}
 use Rattle.fixed_sine.specs.Sine.{isin_of, icos_of}
 use Rattle.fixed_sine.specs.Rate.{step_of}
 use Rattle.fixed_sine.proofs.CircleLemmas.{isin_of_size, icos_of_size}
 use Rattle.fixed_sine.proofs.RateLemmas.{rate_law}
 use Rattle.year_blend.specs.Places.{start_of}
-use Rattle.station_curve.specs.Waves.{Harmonic, Tide, phase_at, height_at, fall_at, heights_of, falls_of, amount_of, steepness_of}
+use Rattle.station_curve.specs.Waves.{Harmonic, phase_at, height_at, fall_at, heights_of, falls_of, amount_of, steepness_of}
 use Rattle.station_curve.specs.Sums.{height_rate_of, fall_rate_of, near_of, far_of}
-use Rattle.station_curve.specs.Levels.{minutes_into, waves_in, year_level, year_slope}
+use Rattle.station_curve.specs.Levels.{minutes_into}
+use Rattle.station_curve.specs.Schureman.{constituents_of, amplitude_of, speed_of, angle_of, phase_of, predicted_year_level, predicted_year_slope}
+use Rattle.station_curve.specs.Curves.{wave_of, waves_of, AreTimes}
+use Rattle.station_curve.proofs.Circling.{IsSince}
+use Rattle.station_curve.proofs.Predicting.{year_level_is, year_slope_is}
 use Rattle.station_curve.proofs.Gaps.{turned_gap, scaled_gap, sums_gap, sums_size}
 use Rattle.station_curve.proofs.Products.{abs_times, abs_plus, abs_minus}
 
@@ -59,86 +67,100 @@ minutes_onward : (start m : ℤ) → pos 0 ≤ℤ ((m -ℤ start) +ℤ pos 60)
     → unsigned_abs (((m +ℤ pos 1) -ℤ start) +ℤ pos 60) ≡ unsigned_abs ((m -ℤ start) +ℤ pos 60) + 1
 minutes_onward start m least = omega (arith, ints)
 
--- a minute of the year, or of the hour before it
-abbrev pub IsSince : ℤ → ℕ → ℤ → Type 0
-IsSince first_year year m = pos 0 ≤ℤ ((m -ℤ start_of first_year year) +ℤ pos 60)
-
-pub year_slope_gap : (tide : Tide) (m : ℤ) (year : ℕ) → IsSince tide.first_year year m
-    → unsigned_abs (year_slope tide (m +ℤ pos 1) year -ℤ year_slope tide m year) ≤ far_of (waves_in tide year)
-unfolding year_slope
-year_slope_gap tide m year since =
-    let t = minutes_into tide.first_year year m in
-    let hs = waves_in tide year in
-    rw (minutes_onward (start_of tide.first_year year) m since)
-    (turned_gap (falls_of (t + 1) hs) (falls_of t hs) (far_of hs) (falls_gap t hs))
+pub year_slope_gap : (b : Book) (s : Station) (m : ℤ) (year : ℕ) → AreTimes b → IsSince b.first_year year m
+    → unsigned_abs (predicted_year_slope b s (m +ℤ pos 1) year -ℤ predicted_year_slope b s m year) ≤ far_of (waves_of b s year)
+year_slope_gap b s m year times since =
+    let t = minutes_into b.first_year year m in
+    let hs = waves_of b s year in
+    let next : IsSince b.first_year year (m +ℤ pos 1) = omega (arith, ints, since) in
+    rw (
+      year_slope_is b s (m +ℤ pos 1) year times next,
+      year_slope_is b s m year times since,
+      minutes_onward (start_of b.first_year year) m since,
+    ) (turned_gap (falls_of (t + 1) hs) (falls_of t hs) (far_of hs) (falls_gap t hs))
 
 pub same_mean : (d a b : ℤ) → (d +ℤ a) -ℤ (d +ℤ b) ≡ a -ℤ b
 same_mean d a b = omega (arith, ints)
 
-pub year_level_gap : (tide : Tide) (m : ℤ) (year : ℕ) → IsSince tide.first_year year m
-    → unsigned_abs (year_level tide (m +ℤ pos 1) year -ℤ year_level tide m year) ≤ near_of (waves_in tide year)
-unfolding year_level
-year_level_gap tide m year since =
-    let t = minutes_into tide.first_year year m in
-    let hs = waves_in tide year in
+pub year_level_gap : (b : Book) (s : Station) (m : ℤ) (year : ℕ) → AreTimes b → IsSince b.first_year year m
+    → unsigned_abs (predicted_year_level b s (m +ℤ pos 1) year -ℤ predicted_year_level b s m year) ≤ near_of (waves_of b s year)
+year_level_gap b s m year times since =
+    let t = minutes_into b.first_year year m in
+    let hs = waves_of b s year in
+    let next : IsSince b.first_year year (m +ℤ pos 1) = omega (arith, ints, since) in
     rw (
-      minutes_onward (start_of tide.first_year year) m since,
-      same_mean (pos (10 ^ 9) *ℤ tide.datum) (heights_of (t + 1) hs) (heights_of t hs),
+      year_level_is b s (m +ℤ pos 1) year times next,
+      year_level_is b s m year times since,
+      minutes_onward (start_of b.first_year year) m since,
+      same_mean (pos (10 ^ 9) *ℤ s.datum) (heights_of (t + 1) hs) (heights_of t hs),
     ) (heights_gap t hs)
 
--- bounds on the size of heights and falls
-height_size : (t : ℕ) (h : Harmonic) → unsigned_abs (height_at t h) ≤ 10 ^ 9 * unsigned_abs h.amplitude
-height_size t h =
-    let cosine = icos_of_size (phase_at h t) (mod_below (h.phase + h.speed * t) circle (lit< tt)) in
-    let most = abs_times h.amplitude (icos_of (phase_at h t)) (unsigned_abs h.amplitude) (10 ^ 9) (omega arith) cosine in
-    omega (arith, most)
+-- bounds on the sums over all constituents, at any minute
+phase_below : (b : Book) (s : Station) (year : ℕ) (m : ℤ) (k : ℕ) → phase_of b s year m k < circle
+phase_below b s year m k = below (angle_of b s year m k)
+  where
+    below : (z : ℤ) → unsigned_abs (int_rem_euclid z (pos circle)) < circle
+    below (pos n) = mod_below n circle (lit< tt)
+    below (negsuc n) = omega arith
 
-fall_size : (t : ℕ) (h : Harmonic) → unsigned_abs (fall_at t h) ≤ 10 ^ 9 * (unsigned_abs h.amplitude * h.speed)
-fall_size t h =
-    let sine = isin_of_size (phase_at h t) (mod_below (h.phase + h.speed * t) circle (lit< tt)) in
-    let steep : unsigned_abs (h.amplitude *ℤ pos h.speed) ≤ unsigned_abs h.amplitude * h.speed =
-    omega (arith, unsigned_abs-mul h.amplitude (pos h.speed)) in
-    let most = abs_times (h.amplitude *ℤ pos h.speed) (isin_of (phase_at h t)) (unsigned_abs h.amplitude * h.speed) (10 ^ 9) steep sine in
-    omega (arith, most)
+level_sum : Book → Station → ℤ → ℕ → ℤ
+level_sum b s m year = fold (λ sum k. sum +ℤ (amplitude_of b s year k *ℤ icos_of (phase_of b s year m k))) (pos 0) (constituents_of b)
 
-heights_size : (t : ℕ) (hs : List Harmonic) → unsigned_abs (heights_of t hs) ≤ 10 ^ 9 * amount_of hs
-heights_size t hs = sums_size (10 ^ 9) (height_at t) (λ h. unsigned_abs h.amplitude) (height_size t) hs (pos 0) 0 (omega arith)
-
-falls_size : (t : ℕ) (hs : List Harmonic) → unsigned_abs (falls_of t hs) ≤ 10 ^ 9 * steepness_of hs
-falls_size t hs = sums_size (10 ^ 9) (fall_at t) (λ h. unsigned_abs h.amplitude * h.speed) (fall_size t) hs (pos 0) 0 (omega arith)
+level_sum_size : (b : Book) (s : Station) (m : ℤ) (year : ℕ) → unsigned_abs (level_sum b s m year) ≤ 10 ^ 9 * amount_of (waves_of b s year)
+unfolding level_sum waves_of
+level_sum_size b s m year =
+    rw (fold-map (λ sum h. sum + unsigned_abs h.amplitude) (wave_of b s year) 0 (constituents_of b))
+    (sums_size (10 ^ 9) (λ k. amplitude_of b s year k *ℤ icos_of (phase_of b s year m k)) (λ k. unsigned_abs (amplitude_of b s year k))
+    (λ k. part (amplitude_of b s year k) (icos_of (phase_of b s year m k)) (icos_of_size (phase_of b s year m k) (phase_below b s year m k)))
+    (constituents_of b) (pos 0) 0 (omega arith))
+  where
+    part : (a z : ℤ) → unsigned_abs z ≤ 10 ^ 9 → unsigned_abs (a *ℤ z) ≤ 10 ^ 9 * unsigned_abs a
+    part a z small = let most = abs_times a z (unsigned_abs a) (10 ^ 9) (omega arith) small in omega (arith, most)
 
 same_size : (z : ℤ) → unsigned_abs (neg_ℤ z) ≡ unsigned_abs z
 same_size z = omega (arith, ints)
 
-pub year_slope_size : (tide : Tide) (m : ℤ) (year : ℕ) → unsigned_abs (year_slope tide m year) ≤ 10 ^ 9 * steepness_of (waves_in tide year)
-unfolding year_slope
-year_slope_size tide m year =
-    let t = minutes_into tide.first_year year m in
-    rw (same_size (falls_of t (waves_in tide year))) (falls_size t (waves_in tide year))
+pub year_slope_size : (b : Book) (s : Station) (m : ℤ) (year : ℕ)
+    → unsigned_abs (predicted_year_slope b s m year) ≤ 10 ^ 9 * steepness_of (waves_of b s year)
+unfolding predicted_year_slope waves_of
+year_slope_size b s m year =
+    rw (
+      same_size (fold (λ sum k. sum +ℤ ((amplitude_of b s year k *ℤ speed_of b k) *ℤ isin_of (phase_of b s year m k))) (pos 0)
+          (constituents_of b)),
+      fold-map (λ sum h. sum + unsigned_abs h.amplitude * h.speed) (wave_of b s year) 0 (constituents_of b),
+    )
+    (sums_size (10 ^ 9) (λ k. (amplitude_of b s year k *ℤ speed_of b k) *ℤ isin_of (phase_of b s year m k))
+    (λ k. unsigned_abs (amplitude_of b s year k) * unsigned_abs (speed_of b k))
+    (λ k. part (amplitude_of b s year k) (speed_of b k) (isin_of (phase_of b s year m k))
+    (isin_of_size (phase_of b s year m k) (phase_below b s year m k)))
+    (constituents_of b) (pos 0) 0 (omega arith))
+  where
+    part : (a v z : ℤ) → unsigned_abs z ≤ 10 ^ 9 → unsigned_abs ((a *ℤ v) *ℤ z) ≤ 10 ^ 9 * (unsigned_abs a * unsigned_abs v)
+    part a v z small =
+        let most = abs_times (a *ℤ v) z (unsigned_abs a * unsigned_abs v) (10 ^ 9) (omega (arith, unsigned_abs-mul a v)) small in
+        omega (arith, most)
 
-pub year_level_size : (tide : Tide) (m : ℤ) (year : ℕ)
-    → unsigned_abs (year_level tide m year) ≤ 10 ^ 9 * (unsigned_abs tide.datum + amount_of (waves_in tide year))
-unfolding year_level
-year_level_size tide m year =
-    let t = minutes_into tide.first_year year m in
-    let mean = abs_times (pos (10 ^ 9)) tide.datum (10 ^ 9) (unsigned_abs tide.datum) (omega arith) (omega arith) in
+pub year_level_size : (b : Book) (s : Station) (m : ℤ) (year : ℕ)
+    → unsigned_abs (predicted_year_level b s m year) ≤ 10 ^ 9 * (unsigned_abs s.datum + amount_of (waves_of b s year))
+unfolding predicted_year_level level_sum
+year_level_size b s m year =
+    let mean = abs_times (pos (10 ^ 9)) s.datum (10 ^ 9) (unsigned_abs s.datum) (omega arith) (omega arith) in
     let parts =
-    abs_plus (pos (10 ^ 9) *ℤ tide.datum) (heights_of t (waves_in tide year)) (10 ^ 9 * unsigned_abs tide.datum)
-    (10 ^ 9 * amount_of (waves_in tide year)) mean (heights_size t (waves_in tide year)) in
+    abs_plus (pos (10 ^ 9) *ℤ s.datum) (level_sum b s m year) (10 ^ 9 * unsigned_abs s.datum)
+    (10 ^ 9 * amount_of (waves_of b s year)) mean (level_sum_size b s m year) in
     omega (arith, parts)
 
 -- the difference of two years' levels at one minute: the mean level cancels
-pub level_difference : (tide : Tide) (m : ℤ) (year other : ℕ)
-    → unsigned_abs (year_level tide m year -ℤ year_level tide m other)
-    ≤ 10 ^ 9 * (amount_of (waves_in tide year) + amount_of (waves_in tide other))
-unfolding year_level
-level_difference tide m year other =
-    let high = heights_of (minutes_into tide.first_year year m) (waves_in tide year) in
-    let low = heights_of (minutes_into tide.first_year other m) (waves_in tide other) in
-    let apart = abs_minus high low (10 ^ 9 * amount_of (waves_in tide year)) (10 ^ 9 * amount_of (waves_in tide other))
-    (heights_size (minutes_into tide.first_year year m) (waves_in tide year))
-    (heights_size (minutes_into tide.first_year other m) (waves_in tide other)) in
-    rw (same_mean (pos (10 ^ 9) *ℤ tide.datum) high low) (omega (arith, apart))
+pub level_difference : (b : Book) (s : Station) (m : ℤ) (year other : ℕ)
+    → unsigned_abs (predicted_year_level b s m year -ℤ predicted_year_level b s m other)
+    ≤ 10 ^ 9 * (amount_of (waves_of b s year) + amount_of (waves_of b s other))
+unfolding predicted_year_level level_sum
+level_difference b s m year other =
+    let high = level_sum b s m year in
+    let low = level_sum b s m other in
+    let apart = abs_minus high low (10 ^ 9 * amount_of (waves_of b s year)) (10 ^ 9 * amount_of (waves_of b s other))
+    (level_sum_size b s m year) (level_sum_size b s m other) in
+    rw (same_mean (pos (10 ^ 9) *ℤ s.datum) high low) (omega (arith, apart))
 
 -- a wave's rates by its amplitude and its speed
 near_part : (a w : ℕ) → degree * (a * step_of w) ≤ 17454000 * (a * w) + degree * a

@@ -1,4 +1,4 @@
--- Approximate level and slope of a tide: by the approximate sine outside blends, and exact in a blend (this
+-- Approximate level and slope of a station: by the approximate sine outside blends, and exact in a blend (this
 -- project).
 use Rattle.std.specs.Prelude.{ℕ, ◌+◌, ◌*◌, ◌/◌, ◌%◌, ◌^◌, List, ℤ, pos, neg_ℤ, ◌+ℤ◌, ◌*ℤ◌, fold}
 use Rattle.fixed_sine.specs.BinaryAngle.{binary_angle_of}
@@ -6,8 +6,13 @@ use Rattle.fixed_sine.specs.Approximate.{approximate_sine_of}
 use Rattle.year_blend.specs.declared.parts.Place.{Place}
 use Rattle.year_blend.specs.declared.parts.Place.TheVariants.{Plain, Blend}
 use Rattle.year_blend.specs.Weights.{total_weight}
-use Rattle.station_curve.specs.Waves.{Harmonic, Tide}
-use Rattle.station_curve.specs.Levels.{minutes_into, waves_in, place_in_tide, level_of, slope_of}
+use Rattle.year_blend.specs.Places.{place_of}
+use Rattle.harmonics_book.specs.declared.book.Station.{Station}
+use Rattle.harmonics_book.specs.declared.book.Book.{Book}
+use Rattle.station_curve.specs.Waves.{Harmonic}
+use Rattle.station_curve.specs.Levels.{minutes_into}
+use Rattle.station_curve.specs.Schureman.{predicted_level, predicted_slope}
+use Rattle.station_curve.specs.Curves.{waves_of}
 
 -- the phase of a wave t minutes later, as a fraction of a turn
 abbrev pub binary_angle_after : Harmonic → ℕ → ℕ
@@ -34,16 +39,16 @@ approximate_heights_of t hs = fold (λ sum h. sum +ℤ approximate_height_at t h
 abbrev pub approximate_falls_of : ℕ → List Harmonic → ℤ
 approximate_falls_of t hs = fold (λ sum h. sum +ℤ approximate_fall_at t h) (pos 0) hs
 
--- the approximate level by the constants of one year, in the unit of year_level
-unfoldable pub approximate_year_level : Tide → ℤ → ℕ → ℤ
-approximate_year_level tide m year =
-    (pos (10 ^ 9) *ℤ tide.datum)
-    +ℤ (pos (2 ^ 15) *ℤ approximate_heights_of (minutes_into tide.first_year year m) (waves_in tide year))
+-- the approximate level by the constants of one year, in the unit of predicted_year_level
+unfoldable pub approximate_year_level : Book → Station → ℤ → ℕ → ℤ
+approximate_year_level b s m year =
+    (pos (10 ^ 9) *ℤ s.datum)
+    +ℤ (pos (2 ^ 15) *ℤ approximate_heights_of (minutes_into b.first_year year m) (waves_of b s year))
 
--- the approximate slope by the constants of one year, in the unit of year_slope
-unfoldable pub approximate_year_slope : Tide → ℤ → ℕ → ℤ
-approximate_year_slope tide m year =
-    neg_ℤ (pos (2 ^ 24) *ℤ approximate_falls_of (minutes_into tide.first_year year m) (waves_in tide year))
+-- the approximate slope by the constants of one year, in the unit of predicted_year_slope
+unfoldable pub approximate_year_slope : Book → Station → ℤ → ℕ → ℤ
+approximate_year_slope b s m year =
+    neg_ℤ (pos (2 ^ 24) *ℤ approximate_falls_of (minutes_into b.first_year year m) (waves_of b s year))
 
 -- an approximate value outside blends, and the exact one in a blend
 abbrev pub approximate_or_exact : (ℕ → ℤ) → ℤ → Place → ℤ
@@ -51,9 +56,11 @@ approximate_or_exact approximate exact (Plain year) = pos total_weight *ℤ appr
 approximate_or_exact approximate exact (Blend year x) = exact
 
 -- the approximate level at minute m
-unfoldable pub approximate_level_of : Tide → ℤ → ℤ
-approximate_level_of tide m = approximate_or_exact (approximate_year_level tide m) (level_of tide m) (place_in_tide tide m)
+unfoldable pub approximate_level_of : Book → Station → ℤ → ℤ
+approximate_level_of b s m =
+    approximate_or_exact (approximate_year_level b s m) (predicted_level b s m) (place_of b.first_year b.years m)
 
 -- the approximate slope at minute m
-unfoldable pub approximate_slope_of : Tide → ℤ → ℤ
-approximate_slope_of tide m = approximate_or_exact (approximate_year_slope tide m) (slope_of tide m) (place_in_tide tide m)
+unfoldable pub approximate_slope_of : Book → Station → ℤ → ℤ
+approximate_slope_of b s m =
+    approximate_or_exact (approximate_year_slope b s m) (predicted_slope b s m) (place_of b.first_year b.years m)

@@ -1,59 +1,19 @@
 -- The curve of a station, and the reasons why it may have none (this project).
-use Rattle.std.specs.Prelude.{
-  ◌≡◌,
-  ℕ,
-  zero,
-  suc,
-  ◌<◌,
-  ◌==◌,
-  nat_lt,
-  not,
-  Bool,
-  true,
-  false,
-  ◌&&◌,
-  if◌then◌else◌,
-  List,
-  [],
-  length,
-  map,
-  filter,
-  Option,
-  Some,
-  None,
-  Result,
-  Ok,
-  Err,
-  ℤ,
-  pos,
-  ◌+ℤ◌,
-  ◌-ℤ◌,
-  ◌≤ℤ◌,
-  int_le,
-  unsigned_abs,
-}
-use Rattle.std.specs.List.{range_with_len}
+use Rattle.std.specs.Prelude.{◌<◌, ◌≤◌, ◌^◌, ◌≡◌, ℕ, zero, suc, nat_lt, Bool, true, false, ◌&&◌, if◌then◌else◌, List, [], length, map, Option, Some, None, Result, Ok, Err, ℤ, pos, ◌+ℤ◌, ◌-ℤ◌, ◌≤ℤ◌, int_le, unsigned_abs}
 use Rattle.std.specs.Option.{option_or}
 use Rattle.harmonics_book.specs.declared.book.Units.{Units}
 use Rattle.harmonics_book.specs.declared.book.Units.TheVariants.{Feet, Meters, Knots, KnotsSquared}
 use Rattle.harmonics_book.specs.declared.book.Station.{Station}
 use Rattle.harmonics_book.specs.declared.book.Book.{Book}
-use Rattle.year_blend.specs.Places.{start_of, InDomain}
+use Rattle.year_blend.specs.Places.{start_of, AreYears}
+use Rattle.year_blend.specs.Years.{year_start_of}
 use Rattle.station_curve.specs.declared.fault.CurveFault.{CurveFault}
 use Rattle.station_curve.specs.declared.fault.CurveFault.TheVariants.{Hydraulic, TooLarge, TooSteep, NoMemory}
-use Rattle.station_curve.specs.Waves.{Harmonic, Tide, amount_of, steepness_of}
-use Rattle.station_curve.specs.Levels.{waves_in, level_of, slope_of, millionths_of}
+use Rattle.station_curve.specs.Waves.{Harmonic, amount_of, steepness_of}
+use Rattle.station_curve.specs.declared.year_sums.Sums.{Sums}
 use Rattle.station_curve.specs.Sums.{sums_of}
 use Rattle.station_curve.specs.Limits.{most_amount, most_steepness}
-use Rattle.station_curve.specs.Schureman.{
-  constituents_of,
-  speed_of,
-  amplitude_of,
-  phase_of,
-  predicted_level,
-  predicted_slope,
-  predicted_millionths,
-}
+use Rattle.station_curve.specs.Schureman.{constituents_of, speed_of, amplitude_of, phase_of}
 
 -- the wave of constituent k in a year
 abbrev pub wave_of : Book → Station → ℕ → ℕ → Harmonic
@@ -67,18 +27,6 @@ wave_of b s year k = record {
 unfoldable pub waves_of : Book → Station → ℕ → List Harmonic
 waves_of b s year = map (wave_of b s year) (constituents_of b)
 
--- a wave has an amplitude
-abbrev pub is_present : Harmonic → Bool
-is_present h = not (unsigned_abs h.amplitude == 0)
-
--- the tide of all years, without waves of no amplitude
-unfoldable pub tide_of : Book → Station → Tide
-tide_of b s = record {
-  first_year = b.first_year;
-  datum = s.datum;
-  years = map (λ year. filter is_present (waves_of b s year)) (range_with_len 0 b.years);
-}
-
 -- the year is at most an hour from the minutes from `first` to `last`: only such years are needed for
 -- these minutes
 unfoldable pub is_touched : Book → ℤ → ℤ → ℕ → Bool
@@ -87,15 +35,35 @@ is_touched b first last year =
 
 -- the waves of a year for these minutes: none if the year isn't needed
 unfoldable pub waves_over : Book → Station → ℤ → ℤ → ℕ → List Harmonic
-waves_over b s first last year = if is_touched b first last year then filter is_present (waves_of b s year) else []
+waves_over b s first last year = if is_touched b first last year then waves_of b s year else []
 
--- the tide for these minutes
-unfoldable pub tide_over : Book → Station → ℤ → ℤ → Tide
-tide_over b s first last = record {
-  first_year = b.first_year;
-  datum = s.datum;
-  years = map (waves_over b s first last) (range_with_len 0 b.years);
-}
+-- what a curve predicts: a station of a book, at the minutes from `first` to `last`
+pub record Prediction : Type 0 where
+  pub book : Book
+  pub station : Station
+  pub first : ℤ
+  pub last : ℤ
+
+-- a minute that is predicted
+pub record IsPredicted (c : Prediction) (m : ℤ) : Type 0 where
+  pub least : c.first ≤ℤ m
+  pub most : m ≤ℤ c.last
+
+-- the prediction of a station at these minutes
+abbrev pub prediction_over : Book → Station → ℤ → ℤ → Prediction
+prediction_over b s first last = record { book = b; station = s; first = first; last = last }
+
+-- the prediction of a station at all minutes of the book's years
+abbrev pub prediction_of : Book → Station → Prediction
+prediction_of b s = prediction_over b s (year_start_of b.first_year) (year_start_of (b.first_year +ℤ pos b.years))
+
+-- the waves of a year that a prediction needs
+abbrev pub waves_for : Prediction → ℕ → List Harmonic
+waves_for c year = waves_over c.book c.station c.first c.last year
+
+-- the sums of a year that a prediction needs
+abbrev pub sums_for : Prediction → ℕ → Sums
+sums_for c year = sums_of (waves_for c year)
 
 -- the limit that a year exceeds, if any
 unfoldable pub year_fault : Book → Station → ℕ → Option CurveFault
@@ -116,41 +84,40 @@ is_hydraulic Feet = false
 is_hydraulic Meters = false
 is_hydraulic Knots = false
 
--- the tide, or the fault if there is one
-abbrev pub tide_or : Tide → Option CurveFault → Result Tide CurveFault
-tide_or tide None = Ok tide
-tide_or tide (Some fault) = Err fault
+-- the prediction, or the fault if there is one
+abbrev pub unless_fault : Prediction → Option CurveFault → Result Prediction CurveFault
+unless_fault c None = Ok c
+unless_fault c (Some fault) = Err fault
 
--- the curve of a station: its tide, if each year of the book is within the limits
-unfoldable pub curve_of : Book → Station → Result Tide CurveFault
-curve_of b s = if is_hydraulic s.units then Err Hydraulic else tide_or (tide_of b s) (first_fault b s b.years)
-
--- the curve for these minutes; the limits are tested for each year of the book
-unfoldable pub curve_over : Book → Station → ℤ → ℤ → Result Tide CurveFault
+-- the curve for these minutes, if each year of the book is within the limits
+unfoldable pub curve_over : Book → Station → ℤ → ℤ → Result Prediction CurveFault
 curve_over b s first last =
-    if is_hydraulic s.units then Err Hydraulic else tide_or (tide_over b s first last) (first_fault b s b.years)
+    if is_hydraulic s.units then Err Hydraulic else unless_fault (prediction_over b s first last) (first_fault b s b.years)
+
+-- the curve of a station for all minutes
+unfoldable pub curve_of : Book → Station → Result Prediction CurveFault
+curve_of b s = curve_over b s (year_start_of b.first_year) (year_start_of (b.first_year +ℤ pos b.years))
 
 -- a fault is out of memory
 abbrev pub is_out_of_memory : CurveFault → Bool
 is_out_of_memory NoMemory = true
 is_out_of_memory _ = false
 
--- The tide predicts a station: it has the book's years, and at each minute the station's level and slope
--- by every constituent of the book, and the sums of each year over every constituent.
-pub record Predicts (b : Book) (s : Station) (tide : Tide) : Type 0 where
-  pub first_year : tide.first_year ≡ b.first_year
-  pub years : length tide.years ≡ b.years
-  pub level : (m : ℤ) → InDomain b.first_year b.years m → level_of tide m ≡ predicted_level b s m
-  pub slope : (m : ℤ) → InDomain b.first_year b.years m → slope_of tide m ≡ predicted_slope b s m
-  pub millionths : (m : ℤ) → InDomain b.first_year b.years m → millionths_of tide m ≡ predicted_millionths b s m
-  pub sums : (year : ℕ) → year < b.years → sums_of (waves_in tide year) ≡ sums_of (waves_of b s year)
+-- the years of a book and the speeds of its constituents are in their ranges
+pub record AreTimes (b : Book) : Type 0 where
+  pub years : AreYears b.first_year b.years
+  pub speeds : (k : ℕ) → k < length b.constituents → (pos 0 ≤ℤ speed_of b k) × (speed_of b k ≤ℤ pos 3600000000)
 
--- the tide predicts a station at the minutes from `first` to `last`, and has the sums of the years that
--- are needed for them
-pub record PredictsOver (b : Book) (s : Station) (first last : ℤ) (tide : Tide) : Type 0 where
-  pub first_year : tide.first_year ≡ b.first_year
-  pub years : length tide.years ≡ b.years
-  pub level : (m : ℤ) → InDomain b.first_year b.years m → first ≤ℤ m → m ≤ℤ last → level_of tide m ≡ predicted_level b s m
-  pub slope : (m : ℤ) → InDomain b.first_year b.years m → first ≤ℤ m → m ≤ℤ last → slope_of tide m ≡ predicted_slope b s m
-  pub millionths : (m : ℤ) → InDomain b.first_year b.years m → first ≤ℤ m → m ≤ℤ last → millionths_of tide m ≡ predicted_millionths b s m
-  pub sums : (year : ℕ) → year < b.years → is_touched b first last year ≡ true → sums_of (waves_in tide year) ≡ sums_of (waves_of b s year)
+-- a station of which no year is beyond a limit
+pub record IsWithinLimits (b : Book) (s : Station) : Type 0 where
+  pub times : AreTimes b
+  pub datum : unsigned_abs s.datum ≤ 10 ^ 10
+  pub amounts : (year : ℕ) → year < b.years → amount_of (waves_of b s year) ≤ most_amount
+  pub steepnesses : (year : ℕ) → year < b.years → steepness_of (waves_of b s year) ≤ most_steepness
+
+-- a prediction that a curve can have: of a station within the limits, at minutes of the book's years
+pub record IsPrediction (c : Prediction) : Type 0 where
+  pub limits : IsWithinLimits c.book c.station
+  pub forward : c.first ≤ℤ c.last
+  pub begins : year_start_of c.book.first_year ≤ℤ c.first
+  pub ends : c.last ≤ℤ year_start_of (c.book.first_year +ℤ pos c.book.years)

@@ -39,9 +39,3 @@ amount_of hs = sum_by (λ h. unsigned_abs h.amplitude) hs
 -- the sum of each size times the speed
 abbrev pub steepness_of : List Harmonic → ℕ
 steepness_of hs = sum_by (λ h. unsigned_abs h.amplitude * h.speed) hs
-
--- a tide: the waves of each year from the first on, and the mean level in millionths of the unit
-pub record Tide : Type 0 where
-  pub first_year : ℤ
-  pub datum : ℤ
-  pub years : List (List Harmonic)

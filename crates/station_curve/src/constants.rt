@@ -29,8 +29,8 @@ ghost use Rattle.year_blend.specs.Years.{IsYearInReach};
 ghost use Rattle.station_curve.specs.Waves.{amount_of, steepness_of};
 ghost use Rattle.station_curve.specs.Limits.{most_amount, most_steepness};
 ghost use Rattle.station_curve.specs.Schureman.{speed_of, amplitude_of, phase_of};
-ghost use Rattle.station_curve.specs.Curves.{waves_of, is_present, year_fault};
-ghost use Rattle.station_curve.specs.Workings.Prepared.{present_in};
+ghost use Rattle.station_curve.specs.Curves.{waves_of, year_fault};
+ghost use Rattle.station_curve.specs.Workings.Prepared.{is_present, present_in};
 
 use crate::fault::CurveFault;
 use crate::wave::Wave;

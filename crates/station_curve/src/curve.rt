@@ -12,18 +12,15 @@ ghost use Rattle.std.specs.Prelude.{
   pos,
   ◌+ℤ◌,
   ◌-ℤ◌,
-  ◌*ℤ◌,
-  int_lt,
+  ◌≤ℤ◌,
   unsigned_abs,
-  IfOk,
   IfSome,
   slice_get,
 };
 ghost use Rattle.harmonics_book.specs.Books.{IsBook, IsStation};
-ghost use Rattle.year_blend.specs.Years.{year_start_of};
 ghost use Rattle.year_blend.specs.declared.parts.Place.TheVariants.{Plain};
 ghost use Rattle.year_blend.specs.declared.spanning.TheConstants.{LONGEST_SPAN};
-ghost use Rattle.year_blend.specs.Places.{InDomain};
+ghost use Rattle.year_blend.specs.Places.{InDomain, place_of};
 ghost use Rattle.year_blend.specs.Stretches.{stretch_of};
 ghost use Rattle.year_blend.specs.Weights.{total_weight};
 
@@ -34,21 +31,25 @@ use crate::calendar::calendar_year_of;
 use crate::fault::{CurveFault, is_hydraulic};
 use crate::greatest::{Greatest, greatest_of_years};
 use crate::minute_range::{MinuteRange, all_minutes};
+use crate::origin::Origin;
 use crate::year_sums::Sums;
 use crate::years::{Year, years_of};
 use decimal_text::rounded;
 use harmonics_book::{Book, Station, ValidBook};
 use std::alloc::{AllocError, Global};
 use std::marker::Model;
-use year_blend::{Place, Stretch, TOTAL_WEIGHT, place, stretch, weight, year_start};
+use year_blend::{Place, Stretch, TOTAL_WEIGHT, place, stretch, weight};
 
-/// The predicted tide of a station: its level and slope at each minute of a book's years.
+/// The predicted tide of a station: its level and slope at each minute of a book's years, or of a part of
+/// them.
 ///
 /// Minutes are counted from 1970-01-01T00:00Z. Levels are in billionths of a millionth of the station's
 /// unit, times the total weight of a blend ([`TOTAL_WEIGHT`]); slopes are the change of such a level in a
 /// minute, times the units of a radian. Only `new` and `over` allocate.
 #[derive(Drop)]
 pub struct StationCurve {
+    origin: Origin,
+    minutes: MinuteRange,
     first_year: i32,
     datum: i64,
     years: Vec<Year>,
@@ -59,27 +60,26 @@ pub struct StationCurve {
 const MEAN_YEAR: u64 = 525_949;
 
 impl Model for StationCurve {
-    ghost use Rattle.station_curve.specs.Waves.{Tide};
+    ghost use Rattle.station_curve.specs.Curves.{Prediction};
 
-    ghost Value = { Tide };
+    ghost Value = { Prediction };
 
-    ghost use Rattle.station_curve.specs.Workings.Inside.{tide_in, IsReady};
+    ghost use Rattle.station_curve.specs.Workings.Inside.{prediction_in, IsReady};
 
-    ghost view = { tide_in };
+    ghost view = { prediction_in };
 
     ghost invariant = { IsReady };
 }
 
 impl StationCurve {
     ghost use Rattle.decimal_text.specs.Expected.{ReturnsUnless};
-    ghost use Rattle.station_curve.specs.Curves.{tide_over, curve_of, curve_over, is_out_of_memory, Predicts, PredictsOver};
+    ghost use Rattle.station_curve.specs.Curves.{curve_of, curve_over, is_out_of_memory, prediction_over, sums_for, IsPredicted, IsPrediction};
+    ghost use Rattle.station_curve.specs.Schureman.{predicted_level, predicted_slope, predicted_millionths};
     ghost use Rattle.station_curve.specs.Workings.Prepared.{AreReady};
     ghost use Rattle.station_curve.specs.Approximate.{approximate_level_of, approximate_slope_of};
     ghost use Rattle.station_curve.specs.Errors.{level_error_of, slope_error_of};
-    ghost use Rattle.station_curve.specs.Limits.{IsWithinLimits, AreWithinLimits};
-    ghost use Rattle.station_curve.specs.Workings.NumberRanges.{IsPlaceInRange, IsPlainYear, IsAround};
-    ghost use Rattle.station_curve.specs.Sums.{sums_of};
-    ghost use Rattle.station_curve.specs.Levels.{waves_in, place_in_tide, level_of, slope_of, millionths_of};
+    ghost use Rattle.station_curve.specs.Limits.{AreWithinLimits};
+    ghost use Rattle.station_curve.specs.Workings.NumberRanges.{IsPlaceUsed, IsPlainYearOf, IsAround};
 
     /// Returns the curve of the station with index `station` in the book's list.
     ///
@@ -102,20 +102,18 @@ impl StationCurve {
     pub fn new(alloc: Global, book: &Book, station: u32) -> Result<StationCurve, CurveFault>
         requires book { IsBook book.now }
         requires station { station < length book.now.stations }
-        ensures exact { IfSome (slice_get book.now.stations station) (λ s. ReturnsUnless is_out_of_memory (curve_of book.now s) result) }
-        ensures predicts { IfSome (slice_get book.now.stations station) (λ s.
-            IfOk result (λ tide. Predicts book.now s tide)) }
+        ensures { IfSome (slice_get book.now.stations station) (λ s. ReturnsUnless is_out_of_memory (curve_of book.now s) result) }
     {
         let station = &book.stations.as_slice()[station as usize];
         let book = ValidBook::new(book);
         StationCurve::of_station(alloc, &book, station, all_minutes(&book))
     }
 
-    /// Returns the curve of the station with index `station` for the minutes from `first` to `last`,
-    /// which are at most 10^12 in size.
+    /// Returns the curve of the station with index `station` for the minutes from `first` to `last`, which
+    /// are of the book's years or the first one after them.
     ///
-    /// A year that is more than an hour from these minutes has no waves, so the curve predicts nothing at
-    /// other minutes. It is made faster than the curve of all minutes.
+    /// A year that is more than an hour from these minutes has no waves, so the curve has no other minutes.
+    /// It is made faster than the curve of all minutes.
     ///
     /// # Errors
     /// As of [`StationCurve::new`]: each year of the book counts.
@@ -128,12 +126,11 @@ impl StationCurve {
     ) -> Result<StationCurve, CurveFault>
         requires book { IsBook book.now }
         requires station { station < length book.now.stations }
-        requires first { unsigned_abs first ≤ 10 ^ 12 }
-        requires last { unsigned_abs last ≤ 10 ^ 12 }
-        ensures exact { IfSome (slice_get book.now.stations station)
+        requires first { InDomain book.now.first_year book.now.years first }
+        requires last { InDomain book.now.first_year book.now.years last }
+        requires forward { first ≤ℤ last }
+        ensures { IfSome (slice_get book.now.stations station)
             (λ s. ReturnsUnless is_out_of_memory (curve_over book.now s first last) result) }
-        ensures predicts { IfSome (slice_get book.now.stations station) (λ s.
-            IfOk result (λ tide. PredictsOver book.now s first last tide)) }
     {
         let station = &book.stations.as_slice()[station as usize];
         StationCurve::of_station(
@@ -151,11 +148,12 @@ impl StationCurve {
         station: &Station,
         minute_range: MinuteRange,
     ) -> Result<StationCurve, CurveFault>
+        requires book { IsBook book.now }
         requires station { IsStation (length book.now.constituents) station.now }
-        requires first { unsigned_abs minute_range.first ≤ 10 ^ 12 }
-        requires last { unsigned_abs minute_range.last ≤ 10 ^ 12 }
-        ensures exact { ReturnsUnless is_out_of_memory (curve_over book.now station.now minute_range.first minute_range.last) result }
-        ensures predicts { IfOk result (λ tide. PredictsOver book.now station.now minute_range.first minute_range.last tide) }
+        requires first { InDomain book.now.first_year book.now.years minute_range.first }
+        requires last { InDomain book.now.first_year book.now.years minute_range.last }
+        requires forward { minute_range.first ≤ℤ minute_range.last }
+        ensures { ReturnsUnless is_out_of_memory (curve_over book.now station.now minute_range.first minute_range.last) result }
     {
         if is_hydraulic(station.units) {
             return Err(CurveFault::Hydraulic);
@@ -175,11 +173,15 @@ impl StationCurve {
     ) -> StationCurve
         requires station { IsStation (length book.now.constituents) station.now }
         requires years { AreReady book.now station.now minute_range.first minute_range.last book.now.years years.items }
-        ensures exact { result ≡ tide_over book.now station.now minute_range.first minute_range.last }
-        ensures predicts { PredictsOver book.now station.now minute_range.first minute_range.last result }
+        requires first { InDomain book.now.first_year book.now.years minute_range.first }
+        requires last { InDomain book.now.first_year book.now.years minute_range.last }
+        requires forward { minute_range.first ≤ℤ minute_range.last }
+        ensures { result ≡ prediction_over book.now station.now minute_range.first minute_range.last }
     {
         let greatest = greatest_of_years(years.as_slice());
         StationCurve {
+            origin: Origin::of(book.get(), station),
+            minutes: minute_range,
             first_year: book.get().first_year,
             datum: station.datum,
             years,
@@ -187,54 +189,56 @@ impl StationCurve {
         }
     }
 
-    /// Returns the first minute of the book's years.
+    /// Returns the first minute that has a level: for all minutes that of the book's years.
     pub fn first(&self) -> i64
-        ensures { result ≡ year_start_of self.now.first_year }
+        ensures { result ≡ self.now.first }
     {
-        year_start(self.first_year)
+        self.minutes.first
     }
 
-    /// Returns the first minute after the book's years, which is the last one that has a level.
+    /// Returns the last minute that has a level: for all minutes the first one after the book's years.
     pub fn last(&self) -> i64
-        ensures { result ≡ year_start_of (self.now.first_year +ℤ pos (length self.now.years)) }
+        ensures { result ≡ self.now.last }
     {
-        year_start(self.first_year + self.years.len() as i32)
+        self.minutes.last
     }
 
     /// Returns the first year of the book.
     pub fn first_year(&self) -> i32
-        ensures { result ≡ self.now.first_year }
+        ensures { result ≡ self.now.book.first_year }
     {
         self.first_year
     }
 
     /// Returns the number of years of the book.
     pub fn years(&self) -> u32
-        ensures { result ≡ length self.now.years }
+        ensures { result ≡ self.now.book.years }
     {
         self.years.len() as u32
     }
 
-    /// Returns the sums over the waves of year `year`, counted from 0.
+    /// Returns the sums over the waves of year `year`, counted from 0: 0 if the year is more than an hour from
+    /// the curve's minutes.
     pub fn sums(&self, year: u32) -> Sums
-        requires { year < length self.now.years }
-        ensures value { result ≡ sums_of (waves_in self.now year) }
+        requires { year < self.now.book.years }
+        ensures value { result ≡ sums_for self.now year }
         ensures size { AreWithinLimits result }
     {
         self.years[year as usize].sums
     }
 
-    /// Does nothing; its contract shows a proof that the curve is within the limits.
+    /// Does nothing; its contract shows a proof that the station is within the limits, and the minutes are of
+    /// the book's years.
     pub fn limits_hold(&self)
-        ensures { IsWithinLimits self.now }
+        ensures { IsPrediction self.now }
     {
         let _first_year = self.first_year;
     }
 
     /// Returns the level at minute `m`, from [`first`](StationCurve::first) to [`last`](StationCurve::last).
     pub fn level(&self, m: i64) -> i128
-        requires { InDomain self.now.first_year (length self.now.years) m }
-        ensures value { result ≡ level_of self.now m }
+        requires { IsPredicted self.now m }
+        ensures value { result ≡ predicted_level self.now.book self.now.station m }
         ensures size { unsigned_abs result ≤ total_weight * (11 * 10 ^ 18) }
     {
         match self.place(m) {
@@ -249,8 +253,8 @@ impl StationCurve {
 
     /// Returns the slope at minute `m`, from [`first`](StationCurve::first) to [`last`](StationCurve::last).
     pub fn slope(&self, m: i64) -> i128
-        requires { InDomain self.now.first_year (length self.now.years) m }
-        ensures value { result ≡ slope_of self.now m }
+        requires { IsPredicted self.now m }
+        ensures value { result ≡ predicted_slope self.now.book self.now.station m }
         ensures size { unsigned_abs result < 10 ^ 37 }
     {
         match self.place(m) {
@@ -271,9 +275,9 @@ impl StationCurve {
     /// sine outside blends, and exact in a blend.
     #[inline(always)]
     pub fn approximate_level(&self, m: i64) -> i128
-        requires { InDomain self.now.first_year (length self.now.years) m }
-        ensures value { result ≡ approximate_level_of self.now m }
-        ensures approximate { unsigned_abs (result -ℤ level_of self.now m) ≤ level_error_of self.now }
+        requires { IsPredicted self.now m }
+        ensures value { result ≡ approximate_level_of self.now.book self.now.station m }
+        ensures approximate { unsigned_abs (result -ℤ predicted_level self.now.book self.now.station m) ≤ level_error_of self.now }
         ensures size { unsigned_abs result ≤ total_weight * (12 * 10 ^ 18) }
     {
         match self.plain_year(m) {
@@ -287,9 +291,9 @@ impl StationCurve {
     /// sine outside blends, and exact in a blend.
     #[inline(always)]
     pub fn approximate_slope(&self, m: i64) -> i128
-        requires { InDomain self.now.first_year (length self.now.years) m }
-        ensures value { result ≡ approximate_slope_of self.now m }
-        ensures approximate { unsigned_abs (result -ℤ slope_of self.now m) ≤ slope_error_of self.now }
+        requires { IsPredicted self.now m }
+        ensures value { result ≡ approximate_slope_of self.now.book self.now.station m }
+        ensures approximate { unsigned_abs (result -ℤ predicted_slope self.now.book self.now.station m) ≤ slope_error_of self.now }
         ensures size { unsigned_abs result < 2 * 10 ^ 37 }
     {
         match self.plain_year(m) {
@@ -317,22 +321,22 @@ impl StationCurve {
     /// Returns the level at minute `m` in whole millionths of the station's unit, a half rounded away
     /// from 0.
     pub fn millionths(&self, m: i64) -> i64
-        requires { InDomain self.now.first_year (length self.now.years) m }
-        ensures value { result ≡ millionths_of self.now m }
+        requires { IsPredicted self.now m }
+        ensures value { result ≡ predicted_millionths self.now.book self.now.station m }
         ensures size { unsigned_abs result ≤ 11 * 10 ^ 9 }
     {
         rounded(self.level(m), TOTAL_WEIGHT as u64 * 1_000_000_000) as i64
     }
 
     /// Returns the stretch of the minutes from `m` to `m + n`, both included: the plain part of one year,
-    /// or across one new year. The minutes are of the book's years, and `n` is at most
+    /// or across one new year. Both are minutes of the curve, and `n` is at most
     /// [`LONGEST_SPAN`](year_blend::LONGEST_SPAN).
     #[inline(always)]
     pub fn stretch(&self, m: i64, n: u32) -> Stretch
-        requires first { InDomain self.now.first_year (length self.now.years) m }
-        requires last { InDomain self.now.first_year (length self.now.years) (m +ℤ pos n) }
+        requires first { IsPredicted self.now m }
+        requires last { IsPredicted self.now (m +ℤ pos n) }
         requires length_bound { n ≤ LONGEST_SPAN }
-        ensures { result ≡ stretch_of self.now.first_year (length self.now.years) m n }
+        ensures { result ≡ stretch_of self.now.book.first_year self.now.book.years m n }
     {
         self.limits_hold();
         match self.year_around(m, m + i64::from(n)) {
@@ -343,9 +347,10 @@ impl StationCurve {
 
     /// Returns the position of minute `m` among the years.
     fn place(&self, m: i64) -> Place
-        requires { InDomain self.now.first_year (length self.now.years) m }
-        ensures value { result ≡ place_in_tide self.now m }
-        ensures in_range { IsPlaceInRange self.now.first_year (length self.now.years) m result }
+        requires { IsPredicted self.now m }
+        ensures value { result ≡ place_of self.now.book.first_year self.now.book.years m }
+        ensures used { IsPlaceUsed self.now m result }
+        ensures valid { IsPrediction self.now }
     {
         match self.year_around(m, m) {
             Some(year) => Place::Plain { year },
@@ -356,8 +361,9 @@ impl StationCurve {
     /// Returns the year whose plain part contains minute `m`, or `None` in a blend.
     #[inline(always)]
     fn plain_year(&self, m: i64) -> Option<u32>
-        requires { InDomain self.now.first_year (length self.now.years) m }
-        ensures { IsPlainYear self.now.first_year (length self.now.years) m result }
+        requires { IsPredicted self.now m }
+        ensures year { IsPlainYearOf self.now m result }
+        ensures valid { IsPrediction self.now }
     {
         match self.year_around(m, m) {
             Some(year) => Some(year),
@@ -369,9 +375,9 @@ impl StationCurve {
     /// from both its ends.
     #[inline(always)]
     fn year_around(&self, first: i64, last: i64) -> Option<u32>
-        requires first { InDomain self.now.first_year (length self.now.years) first }
-        requires last { InDomain self.now.first_year (length self.now.years) last }
-        ensures { IfSome result (λ year. IsAround self.now.first_year (length self.now.years) first last year) }
+        requires first { IsPredicted self.now first }
+        requires last { IsPredicted self.now last }
+        ensures { IfSome result (λ year. IsAround self.now.book.first_year self.now.book.years first last year) }
     {
         let year = self.likely_year(first);
         if self.years[year as usize].surrounds(first, last) {
@@ -384,7 +390,7 @@ impl StationCurve {
     /// Returns the year that would contain minute `m` if all years had the same length.
     #[inline(always)]
     fn likely_year(&self, m: i64) -> u32
-        ensures { result < length self.now.years }
+        ensures { result < self.now.book.years }
     {
         let ended = m.abs_diff(self.years[0].start) / MEAN_YEAR;
         ended.min(self.years.len() as u64 - 1) as u32

@@ -1,10 +1,8 @@
 //! The greatest sums of any year.
 
-ghost use Rattle.std.specs.Prelude.{◌≡◌, ℕ, ◌<◌, length, map, pos, slice_index_or};
+ghost use Rattle.std.specs.Prelude.{◌≡◌, ℕ, ◌<◌, length, pos, slice_index_or};
 ghost use Rattle.station_curve.specs.declared.years.Year.{Year};
-ghost use Rattle.station_curve.specs.Waves.{amount_of, steepness_of};
 ghost use Rattle.station_curve.specs.Errors.{greatest_of};
-ghost use Rattle.station_curve.specs.Sums.{sums_of};
 
 use crate::years::Year;
 
@@ -19,10 +17,12 @@ pub struct Greatest {
 
 /// Returns the greatest sums of `years`.
 pub fn greatest_of_years(years: &[Year]) -> Greatest
-    requires { (k : ℕ) (d : Year) → k < length years.now
-        → (slice_index_or years.now k d).sums ≡ sums_of (slice_index_or years.now k d).waves.items }
-    ensures amount { result.amount ≡ pos (greatest_of amount_of (map (λ y. y.waves.items) years.now)) }
-    ensures steepness { result.steepness ≡ pos (greatest_of steepness_of (map (λ y. y.waves.items) years.now)) }
+    ensures amount { (value : ℕ → ℕ)
+        → ((k : ℕ) (d : Year) → k < length years.now → (slice_index_or years.now k d).sums.amount ≡ pos (value k))
+        → result.amount ≡ pos (greatest_of value (length years.now)) }
+    ensures steepness { (value : ℕ → ℕ)
+        → ((k : ℕ) (d : Year) → k < length years.now → (slice_index_or years.now k d).sums.steep ≡ pos (value k))
+        → result.steepness ≡ pos (greatest_of value (length years.now)) }
 {
     let mut amount = 0_i128;
     let mut steepness = 0_i128;

@@ -3,7 +3,7 @@
 ghost use Rattle.std.specs.Prelude.{◌≡◌, ◌-◌, ◌*◌, ◌^◌, true, false, [], ◌∷◌, Ok, Err, pos, negsuc};
 ghost use Rattle.harmonics_book.specs.declared.book.Units.TheVariants.{Feet, KnotsSquared};
 ghost use Rattle.station_curve.specs.declared.fault.CurveFault.TheVariants.{Hydraulic, TooLarge, TooSteep};
-ghost use Rattle.station_curve.specs.Curves.{waves_of, is_touched, waves_over, tide_of, curve_of};
+ghost use Rattle.station_curve.specs.Curves.{waves_of, is_touched, waves_over, prediction_of, curve_of};
 ghost use Rattle.station_curve.specs.Schureman.{amplitude_of, phase_of, predicted_level, predicted_slope, predicted_millionths};
 ghost use Rattle.station_curve.specs.Waves.{heights_of, falls_of};
 ghost use Rattle.station_curve.specs.Approximate.{approximate_level_of, approximate_slope_of};
@@ -24,11 +24,11 @@ pub fn worked_waves()
 /// Proves examples of stations that have a curve, and of each fault.
 pub fn worked_limits()
     ensures steepest { curve_of (small_book (pos 300000000) (pos 0)) (small_station (pos 333333333) Feet)
-        ≡ Ok (tide_of (small_book (pos 300000000) (pos 0)) (small_station (pos 333333333) Feet)) }
+        ≡ Ok (prediction_of (small_book (pos 300000000) (pos 0)) (small_station (pos 333333333) Feet)) }
     ensures too_steep { curve_of (small_book (pos 300000000) (pos 0)) (small_station (pos 333333334) Feet)
         ≡ Err (TooSteep (pos 1999)) }
     ensures largest { curve_of (small_book (pos 100000000) (pos 0)) (small_station (pos 1000000000) Feet)
-        ≡ Ok (tide_of (small_book (pos 100000000) (pos 0)) (small_station (pos 1000000000) Feet)) }
+        ≡ Ok (prediction_of (small_book (pos 100000000) (pos 0)) (small_station (pos 1000000000) Feet)) }
     ensures too_large { curve_of (small_book (pos 100000000) (pos 0)) (small_station (pos 1000000001) Feet)
         ≡ Err (TooLarge (pos 1999)) }
     ensures hydraulic_first { curve_of (small_book (pos 100000000) (pos 0)) (small_station (pos 1000000001) KnotsSquared)
@@ -95,29 +95,29 @@ pub fn worked_sums()
 /// Proves approximate levels: a minute before noon and at noon, one in a blend, which is exact, and
 /// levels of two waves, below and above the exact ones.
 pub fn worked_approximate_levels()
-    ensures before_noon { approximate_level_of (tide_of pier_book pier) (pos 15791759) ≡ pos 4146985539993600000000000 }
-    ensures noon { approximate_level_of (tide_of pier_book pier) (pos 15791760) ≡ pos 4147257330892800000000000 }
-    ensures first_blended { approximate_level_of (tide_of shifted_book pier) (pos 15778021) ≡ pos 3609538927329170264000000 }
-    ensures harbour_2000 { approximate_level_of (tide_of harbour_book harbour) (pos 15778380) ≡ pos 12457719256080973824000000 }
-    ensures harbour_2001 { approximate_level_of (tide_of harbour_book harbour) (pos 16390080) ≡ pos 5407510534932765081600000 }
+    ensures before_noon { approximate_level_of pier_book pier (pos 15791759) ≡ pos 4146985539993600000000000 }
+    ensures noon { approximate_level_of pier_book pier (pos 15791760) ≡ pos 4147257330892800000000000 }
+    ensures first_blended { approximate_level_of shifted_book pier (pos 15778021) ≡ pos 3609538927329170264000000 }
+    ensures harbour_2000 { approximate_level_of harbour_book harbour (pos 15778380) ≡ pos 12457719256080973824000000 }
+    ensures harbour_2001 { approximate_level_of harbour_book harbour (pos 16390080) ≡ pos 5407510534932765081600000 }
 {}
 
 /// Proves approximate slopes: a minute before noon and at noon, one in a blend, which is exact, and
 /// slopes of two waves.
 pub fn worked_approximate_slopes()
-    ensures before_noon { approximate_slope_of (tide_of pier_book pier) (pos 15791759) ≡ pos 10966753424415758745600000000000 }
-    ensures noon { approximate_slope_of (tide_of pier_book pier) (pos 15791760) ≡ negsuc 489223201089178828799999999999 }
-    ensures harbour_new_year { approximate_slope_of (tide_of harbour_book harbour) (pos 16305140)
+    ensures before_noon { approximate_slope_of pier_book pier (pos 15791759) ≡ pos 10966753424415758745600000000000 }
+    ensures noon { approximate_slope_of pier_book pier (pos 15791760) ≡ negsuc 489223201089178828799999999999 }
+    ensures harbour_new_year { approximate_slope_of harbour_book harbour (pos 16305140)
         ≡ negsuc 3274988533158132834799953510399999 }
-    ensures harbour_2000 { approximate_slope_of (tide_of harbour_book harbour) (pos 15778380) ≡ negsuc 1845654590730777639392378879999999 }
-    ensures harbour_2001 { approximate_slope_of (tide_of harbour_book harbour) (pos 16390080) ≡ pos 802807544580466355289980928000000 }
+    ensures harbour_2000 { approximate_slope_of harbour_book harbour (pos 15778380) ≡ negsuc 1845654590730777639392378879999999 }
+    ensures harbour_2001 { approximate_slope_of harbour_book harbour (pos 16390080) ≡ pos 802807544580466355289980928000000 }
 {}
 
 /// Proves the errors of approximate levels and slopes: for one wave, and for two waves by the year with
 /// the larger ones.
 pub fn worked_errors()
-    ensures pier_level { level_error_of (tide_of pier_book pier) ≡ 1658880000000000000000 }
-    ensures pier_slope { slope_error_of (tide_of pier_book pier) ≡ 499787366400000000000000000000 }
-    ensures harbour_level { level_error_of (tide_of harbour_book harbour) ≡ 2679904051200000000000 }
-    ensures harbour_slope { slope_error_of (tide_of harbour_book harbour) ≡ 786917456744181350400000000000 }
+    ensures pier_level { level_error_of (prediction_of pier_book pier) ≡ 1658880000000000000000 }
+    ensures pier_slope { slope_error_of (prediction_of pier_book pier) ≡ 499787366400000000000000000000 }
+    ensures harbour_level { level_error_of (prediction_of harbour_book harbour) ≡ 2679904051200000000000 }
+    ensures harbour_slope { slope_error_of (prediction_of harbour_book harbour) ≡ 786917456744181350400000000000 }
 {}

@@ -16,6 +16,7 @@ mod fault;
 mod greatest;
 mod laws;
 mod minute_range;
+mod origin;
 mod summing;
 mod wave;
 mod year_limits;

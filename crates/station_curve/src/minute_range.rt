@@ -9,7 +9,7 @@ use harmonics_book::ValidBook;
 use year_blend::year_start;
 
 /// The minutes from `first` to `last` for which a curve is requested.
-#[derive(Clone, Copy)]
+#[derive(Clone, Copy, Debug)]
 pub struct MinuteRange {
     pub first: i64,
     pub last: i64,

@@ -1,5 +1,5 @@
 -- The curves that are followed at a station, by its tide and by every constituent of the harmonics file.
-use Rattle.std.proofs.Common.{◌≡◌, ◌^◌, ◌<◌, ◌≤◌, ℤ, pos, ◌+ℤ◌, ◌≤ℤ◌, ◌<ℤ◌, unsigned_abs, Bool, true, false, Option, Some, None, option_map, IsTrue, List, All, subst, ap, refl, sym, ◌∙◌, arith}
+use Rattle.std.proofs.Common.{◌≡◌, ◌^◌, ◌<◌, ◌≤◌, ℤ, pos, ◌+ℤ◌, ◌≤ℤ◌, ◌<ℤ◌, unsigned_abs, Bool, true, false, Option, Some, None, option_map, IsTrue, List, All, subst, ap, refl, sym, ◌∙◌, arith, ℕ}
 use Rattle.std.proofs.lemmas.Int.{ints}
 use Rattle.std.specs.Option.{ForSome}
 use Rattle.curve_law.specs.declared.cell.Cell.{Cell}
@@ -21,19 +21,14 @@ use Rattle.harmonics_book.specs.declared.book.Units.TheVariants.{Feet, Meters, K
 use Rattle.event_text.specs.Lines.{IsListed}
 use Rattle.rate_bound.specs.declared.version.Version.{Version}
 use Rattle.rate_bound.specs.declared.version.Version.TheVariants.{Second}
-use Rattle.rate_bound.specs.Meanings.{turn_meaning, mark_meaning, predicted_mark}
+use Rattle.rate_bound.specs.Meanings.{turn_meaning, mark_meaning, predicted_mark, predicted_turn}
 use Rattle.rate_bound.specs.Scale.{IsScale}
 use Rattle.rate_bound.specs.Workings.TurnLaw.{turn_lawful}
 use Rattle.rate_bound.specs.Workings.MarkLaw.{mark_lawful}
-use Rattle.rate_bound.proofs.Predicted.{turn_agrees, mark_agrees}
-use Rattle.station_curve.specs.Curves.{PredictsOver}
-use Rattle.station_curve.specs.Levels.{millionths_of}
-use Rattle.station_curve.specs.Limits.{IsWithinLimits}
-use Rattle.station_curve.specs.Waves.{Tide}
+use Rattle.station_curve.specs.Curves.{IsPredicted, IsPrediction, Prediction}
 use Rattle.station_table.specs.declared.basis.Basis.{Basis}
 use Rattle.station_table.specs.declared.offset.Slack.{Slack}
 use Rattle.station_table.specs.Bases.{is_plain}
-use Rattle.year_blend.specs.Places.{AreYears, InDomain}
 use Rattle.zone_time.specs.Zones.{InZoneYears}
 use Rattle.station_span.specs.declared.asked.Asked.{Asked}
 use Rattle.station_span.specs.declared.reach.Reach.TheVariants.{Events}
@@ -41,9 +36,11 @@ use Rattle.station_span.specs.Workings.Tides.{SiteTide}
 use Rattle.station_span.specs.Following.{asks_slack, slack_times, slack_plus, if_asked, followed_by, events_of, cells_of, tracks_of}
 use Rattle.station_span.specs.Sites.{Site}
 use Rattle.station_span.specs.Workings.Curves.{followed_tide, tide_cells, tide_events, AreMerged, HasMinutes, IsReady}
-use Rattle.station_span.specs.Workings.Spans.{HasLevels, IsFound}
+use Rattle.station_span.specs.Workings.Spans.{HasLevels, IsFound, IsCurveOf}
 use Rattle.station_span.proofs.MovableLemmas.{AreSmall, HasSmallNotes, merged_movable, millionths_small}
-use Rattle.station_span.proofs.SpanLemmas.{file_minute, has_offsets}
+use Rattle.station_span.proofs.SpanLemmas.{has_offsets, curve_minute, ends_of}
+use Rattle.harmonics_book.specs.declared.book.Station.{Station}
+use Rattle.station_curve.specs.Schureman.{predicted_millionths}
 
 for_none : {T : Type 0} (P : T → Type 0) → ForSome None P
 for_none P x e = cc
@@ -59,17 +56,26 @@ ready_of_found book asked site found is = record {
   offsets = has_offsets _ found.basis is.valid;
   levels = is.levels;
   within_limits = is.within_limits;
-  years = rw (is.predicts.first_year, is.predicts.years) is.years;
   forward = is.span.forward;
   few = is.few;
-  begins = rw (is.predicts.first_year, is.predicts.years) is.span.begins;
-  ends = rw (is.predicts.first_year, is.predicts.years) is.span.ends;
+  begins = (ends_of _ _ _ found.curve is.predicts is.span.in_range.forward).0;
+  ends = (ends_of _ _ _ found.curve is.predicts is.span.in_range.forward).1;
   in_range = is.span.in_range;
   beside = is.span.beside;
   mark = is.in_range.mark;
 }
 
--- ---- the curves by the tide and by every constituent agree
+-- ---- the curves at the minutes of a span and at all minutes agree
+-- a curve is the same at fewer minutes
+fewer_minutes : (first last : ℤ) (c : Meaning) (a : ℤ) (n : ℕ) → AgreeOver (record c { first = first; last = last }) c a n
+fewer_minutes first last c a n = record {
+  rising = refl;
+  falling = refl;
+  values = λ k few. refl;
+  notes = λ k few. refl;
+  rates = λ k l inside some most. refl;
+}
+
 
 alike_if_asked : (s : Span) (asks : Bool) (c d : Meaning) → AgreeOver c d s.begin (span_minutes s)
     → AgreeIfFollowed s (if_asked asks c) (if_asked asks d)
@@ -82,42 +88,31 @@ alike_if_marked : (s : Span) (mark : Option ℤ) (f g : ℤ → Meaning)
 alike_if_marked s (Some level) f g agree = agree level
 alike_if_marked s None f g agree = tt
 
--- a station and its tide, for the minutes of a span
-pub record IsSame (book : Book) (site : Site) (found : SiteTide) (s : Span) : Type 0 where
+-- a station and its curve
+pub record IsSame (book : Book) (site : Site) (found : SiteTide) : Type 0 where
   pub basis : found.basis ≡ site.basis
   pub units : found.units ≡ site.station.units
-  pub predicts : PredictsOver book site.station s.begin s.end found.curve
-  pub years : AreYears book.first_year book.years
-
--- a span in the file's years
-pub record IsOf (book : Book) (s : Span) : Type 0 where
-  pub forward : s.begin ≤ℤ s.end
-  pub begins : InDomain book.first_year book.years s.begin
-  pub ends : InDomain book.first_year book.years s.end
+  pub of_book : found.curve.book ≡ book
+  pub of_station : found.curve.station ≡ site.station
 
 last_minute : (s : Span) → s.begin ≤ℤ s.end → s.begin +ℤ pos (span_minutes s) ≡ s.end
 last_minute s forward = omega (arith, ints)
 
 pub followed_alike : (version : Version) (book : Book) (site : Site) (found : SiteTide) (mark : Option ℤ) (s : Span)
-    → IsSame book site found s → IsOf book s
-    → AllAgree (followed_tide version found mark) (followed_by version book site mark) s
+    → IsSame book site found → AllAgree (followed_tide version found mark) (followed_by version book site mark) s
 unfolding followed_tide followed_by
-followed_alike version book site found mark s same of =
-    let end = last_minute s of.forward in
-    let ends : InDomain book.first_year book.years (s.begin +ℤ pos (span_minutes s)) = rw end of.ends in
-    let from : s.begin ≤ℤ s.begin = omega (arith, ints) in
-    let until : (s.begin +ℤ pos (span_minutes s)) ≤ℤ s.end = rw end (omega (arith, ints)) in
-    rw (same.basis, same.units) (record {
-      turn = turn_agrees version book site.station s.begin s.end found.curve s.begin
-          (span_minutes s) same.predicts same.years of.begins ends from until;
-      slack = alike_if_asked s (asks_slack site.station.units site.basis) _ _
-          (mark_agrees version book site.station s.begin s.end found.curve (slack_times site.basis) (slack_plus site.basis)
-          (pos 0) true s.begin (span_minutes s) same.predicts same.years of.begins ends from until);
-      mark = alike_if_marked s mark
-          (λ level. mark_meaning version found.curve site.basis.high.times site.basis.high.plus level false)
-          (λ level. predicted_mark version book site.station site.basis.high.times site.basis.high.plus level false)
-          (λ level. mark_agrees version book site.station s.begin s.end found.curve site.basis.high.times
-          site.basis.high.plus level false s.begin (span_minutes s) same.predicts same.years of.begins ends from until);
+followed_alike version book site found mark s same =
+    let first = found.curve.first in
+    let last = found.curve.last in
+    let turn = predicted_turn version book site.station in
+    let slack = predicted_mark version book site.station (slack_times site.basis) (slack_plus site.basis) (pos 0) true in
+    let marked = λ (level : ℤ). predicted_mark version book site.station site.basis.high.times site.basis.high.plus level false in
+    rw (same.basis, same.units, same.of_book, same.of_station) (record {
+      turn = fewer_minutes first last turn s.begin (span_minutes s);
+      slack = alike_if_asked s (asks_slack site.station.units site.basis) (record slack { first = first; last = last }) slack
+          (fewer_minutes first last slack s.begin (span_minutes s));
+      mark = alike_if_marked s mark (λ level. record (marked level) { first = first; last = last }) marked
+          (λ level. fewer_minutes first last (marked level) s.begin (span_minutes s));
     })
 
 -- ---- the curves are valid over the span
@@ -161,22 +156,22 @@ pub for_marked : (P : Meaning → Type 0) (mark : Option ℤ) (f : ℤ → Meani
 for_marked P (Some level) f has = for_some P (f level) (has level refl)
 for_marked P None f has = for_none P
 
-marks_valid_over : (s : Span) (version : Version) (tide : Tide) (basis : Basis) (mark : Option ℤ) → HasOffsets basis
-    → IsWithinLimits tide → ForSome mark (λ level. unsigned_abs level ≤ 10000000000) → ((c : Meaning) → IsLawful c
-    → c.first ≡ (turn_meaning version tide).first → c.last ≡ (turn_meaning version tide).last → IsValidOver s c)
-    → ForSome mark (λ level. IsValidOver s (mark_meaning version tide basis.high.times basis.high.plus level false))
-marks_valid_over s version tide basis mark has within_limits small valid_over level is =
-    valid_over _ (mark_lawful version tide basis.high.times basis.high.plus level false within_limits
+marks_valid_over : (s : Span) (version : Version) (curve : Prediction) (basis : Basis) (mark : Option ℤ) → HasOffsets basis
+    → IsPrediction curve → ForSome mark (λ level. unsigned_abs level ≤ 10000000000) → ((c : Meaning) → IsLawful c
+    → c.first ≡ (turn_meaning version curve).first → c.last ≡ (turn_meaning version curve).last → IsValidOver s c)
+    → ForSome mark (λ level. IsValidOver s (mark_meaning version curve basis.high.times basis.high.plus level false))
+marks_valid_over s version curve basis mark has within_limits small valid_over level is =
+    valid_over _ (mark_lawful version curve basis.high.times basis.high.plus level false within_limits
     (mark_scale basis level has (small level is))) refl refl
 
-in_valid_over : (version : Version) (tide : Tide) (s : Span) → HasMinutes tide s → (c : Meaning) → IsLawful c
-    → c.first ≡ (turn_meaning version tide).first → c.last ≡ (turn_meaning version tide).last → IsValidOver s c
-in_valid_over version tide s has c lawful first last =
+in_valid_over : (version : Version) (curve : Prediction) (s : Span) → HasMinutes curve s → (c : Meaning) → IsLawful c
+    → c.first ≡ (turn_meaning version curve).first → c.last ≡ (turn_meaning version curve).last → IsValidOver s c
+in_valid_over version curve s has c lawful first last =
     let end : s.begin +ℤ pos (span_minutes s) ≡ s.end = last_minute s has.forward in
     record { lawful = lawful; span = record { first = rw first has.begins.least; last = rw (end, last) has.ends.most } }
 
 pub followed_valid_over : (version : Version) (found : SiteTide) (mark : Option ℤ) (s : Span)
-    → IsWithinLimits found.curve → HasOffsets found.basis → ForSome mark (λ level. unsigned_abs level ≤ 10000000000)
+    → IsPrediction found.curve → HasOffsets found.basis → ForSome mark (λ level. unsigned_abs level ≤ 10000000000)
     → HasMinutes found.curve s → AreValidOver (followed_tide version found mark) s
 unfolding followed_tide
 followed_valid_over version found mark s within_limits has small minutes =
@@ -221,7 +216,7 @@ followed_named version found mark levels =
 
 pub ready_minutes : (asked : Asked) (found : SiteTide) → IsReady asked found
     → HasMinutes found.curve (widened_of found.basis asked.begin asked.end)
-ready_minutes asked found ready = record { years = ready.years; forward = ready.in_range.forward; begins = ready.begins; ends = ready.ends }
+ready_minutes asked found ready = record { forward = ready.in_range.forward; begins = ready.begins; ends = ready.ends }
 
 pub ready_valid_over : (version : Version) (asked : Asked) (found : SiteTide) → IsReady asked found
     → AreValidOver (followed_tide version found asked.mark) (widened_of found.basis asked.begin asked.end)
@@ -230,12 +225,12 @@ ready_valid_over version asked found ready =
     ready.offsets ready.mark (ready_minutes asked found ready)
 
 -- the levels of the tide's curves
-small_notes : (tide : Tide) (c : Meaning) → IsWithinLimits tide → c.first ≡ (turn_meaning Second tide).first
-    → c.last ≡ (turn_meaning Second tide).last → c.track.note ≡ millionths_of tide → HasSmallNotes c
-small_notes tide c within_limits first last note m minute =
-    rw note (millionths_small tide m within_limits (record { least = rw first at minute.first; most = rw last at minute.last }))
+small_notes : (curve : Prediction) (c : Meaning) → IsPrediction curve → c.first ≡ (turn_meaning Second curve).first
+    → c.last ≡ (turn_meaning Second curve).last → c.track.note ≡ predicted_millionths curve.book curve.station → HasSmallNotes c
+small_notes curve c within_limits first last note m minute =
+    rw note (millionths_small curve m within_limits (record { least = rw first at minute.first; most = rw last at minute.last }))
 
-pub followed_small : (version : Version) (found : SiteTide) (mark : Option ℤ) → IsWithinLimits found.curve
+pub followed_small : (version : Version) (found : SiteTide) (mark : Option ℤ) → IsPrediction found.curve
     → AreSmall (followed_tide version found mark)
 unfolding followed_tide
 followed_small version found mark within_limits = record {
@@ -318,8 +313,8 @@ counted_cells asked found = refl
 pub asked_minute : (asked : Asked) (found : SiteTide) (m : ℤ) → IsReady asked found → asked.begin ≤ℤ m → m ≤ℤ asked.end → InZoneYears m
 asked_minute asked found m ready from until =
     let span = widened_of found.basis asked.begin asked.end in
-    let first = file_minute _ _ span.begin ready.years ready.begins in
-    let last = file_minute _ _ span.end ready.years ready.ends in
+    let first = curve_minute found.curve span.begin ready.within_limits ready.begins in
+    let last = curve_minute found.curve span.end ready.within_limits ready.ends in
     let least = first.least in
     let most = last.most in
     let before = ready.beside.begins in
@@ -344,20 +339,15 @@ tide_lines asked found ready =
 
 -- ---- the events are those of the station
 
-same_site : (book : Book) (asked : Asked) (site : Site) (found : SiteTide) → IsFound Events book asked site found
-    → IsSame book site found (widened_of found.basis asked.begin asked.end)
-same_site book asked site found is = record { basis = is.basis; units = is.units; predicts = is.predicts; years = is.years }
-
-of_book : (book : Book) (asked : Asked) (site : Site) (found : SiteTide) → IsFound Events book asked site found
-    → IsOf book (widened_of found.basis asked.begin asked.end)
-of_book book asked site found is = record { forward = is.span.in_range.forward; begins = is.span.begins; ends = is.span.ends }
+same_site : (book : Book) (asked : Asked) (site : Site) (found : SiteTide) → IsFound Events book asked site found → IsSame book site found
+same_site book asked site found is =
+    record { basis = is.basis; units = is.units; of_book = is.predicts.of_book; of_station = is.predicts.of_station }
 
 pub found_alike : (version : Version) (book : Book) (asked : Asked) (site : Site) (found : SiteTide) (mark : Option ℤ)
     → IsFound Events book asked site found → AllAgree (followed_tide version found mark)
     (followed_by version book site mark) (widened_of found.basis asked.begin asked.end)
 found_alike version book asked site found mark is =
-    followed_alike version book site found mark (widened_of found.basis asked.begin asked.end)
-    (same_site book asked site found is) (of_book book asked site found is)
+    followed_alike version book site found mark (widened_of found.basis asked.begin asked.end) (same_site book asked site found is)
 
 pub found_events : (book : Book) (asked : Asked) (site : Site) (found : SiteTide) → IsFound Events book asked site found
     → tide_events found asked ≡ events_of book site asked

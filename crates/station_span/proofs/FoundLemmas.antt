@@ -5,8 +5,7 @@ use Rattle.harmonics_book.specs.declared.book.Book.{Book}
 use Rattle.harmonics_book.specs.declared.book.Station.{Station}
 use Rattle.harmonics_book.specs.declared.book.Units.{Units}
 use Rattle.station_curve.specs.declared.fault.CurveFault.{CurveFault}
-use Rattle.station_curve.specs.Curves.{first_fault, is_hydraulic, tide_of, tide_or, tide_over, curve_of, curve_over}
-use Rattle.station_curve.specs.Waves.{Tide}
+use Rattle.station_curve.specs.Curves.{first_fault, is_hydraulic, curve_of, curve_over, Prediction, prediction_of, prediction_over, unless_fault}
 use Rattle.station_table.specs.declared.basis.Basis.{Basis}
 use Rattle.station_table.specs.declared.offsets.Offsets.{Offsets}
 use Rattle.station_table.specs.Bases.{basis_of}
@@ -15,7 +14,7 @@ use Rattle.station_span.specs.declared.reach.Reach.{Reach}
 use Rattle.tide_fault.specs.declared.refusal.Refusal.{Refusal}
 use Rattle.tide_fault.specs.declared.refusal.Refusal.TheVariants.{NoReference, OutOfYears}
 use Rattle.tide_fault.specs.Faults.{IsPrintableRefusal}
-use Rattle.station_span.specs.Sites.{Site, basis_from, level_unit, span_in, tide_from, length_in, mark_in, site_at, site_in, station_in}
+use Rattle.station_span.specs.Sites.{Site, basis_from, level_unit, span_in, curve_from, length_in, mark_in, site_at, site_in, station_in}
 use Rattle.station_span.specs.declared.found_station.FoundStation.{FoundStation}
 use Rattle.station_span.specs.Workings.Finds.{FindsIn}
 
@@ -26,64 +25,61 @@ excused_then false step next refusal excused = rw excused refl
 
 -- ---- the curve for some minutes is refused if that for all is
 
-both_ok : (over whole same : Tide) (fault : Option CurveFault) → tide_from (tide_or over fault) ≡ Ok same
-    → tide_from (tide_or whole fault) ≡ Ok whole
-both_ok over whole same None ok = refl
+both_ok : (over whole same : Prediction) (fault : Option CurveFault) → curve_from (unless_fault over fault) ≡ Ok same
+    → (curve_from (unless_fault whole fault) ≡ Ok whole) × (same ≡ over)
+both_ok over whole same None ok = (refl, (let is : Ok over ≡ Ok same = ok in cc))
 both_ok over whole same (Some fault) ok = absurd cc
 
-over_ok : (hydraulic : Bool) (book : Book) (station : Station) (first last : ℤ) (tide : Tide)
-    → is_hydraulic station.units ≡ hydraulic → tide_from (curve_over book station first last) ≡ Ok tide
-    → tide_from (curve_of book station) ≡ Ok (tide_of book station)
+over_ok : (hydraulic : Bool) (book : Book) (station : Station) (first last : ℤ) (curve : Prediction)
+    → is_hydraulic station.units ≡ hydraulic → curve_from (curve_over book station first last) ≡ Ok curve
+    → (curve_from (curve_of book station) ≡ Ok (prediction_of book station)) × (curve ≡ prediction_over book station first last)
 unfolding curve_of curve_over
-over_ok true book station first last tide is ok = absurd (let none = rw is at ok in cc)
-over_ok false book station first last tide is ok =
-    rw is (both_ok (tide_over book station first last) (tide_of book station) tide (first_fault book station book.years) (rw is at ok))
+over_ok true book station first last curve is ok = absurd (let none = rw is at ok in cc)
+over_ok false book station first last curve is ok =
+    rw is (both_ok (prediction_over book station first last) (prediction_of book station) curve (first_fault book station book.years)
+    (rw is at ok))
 
-pub curve_allowed : (book : Book) (station : Station) (first last : ℤ) (tide : Tide)
-    → tide_from (curve_over book station first last) ≡ Ok tide
-    → tide_from (curve_of book station) ≡ Ok (tide_of book station)
-curve_allowed book station first last tide ok = over_ok _ book station first last tide refl ok
+pub curve_allowed : (book : Book) (station : Station) (first last : ℤ) (curve : Prediction)
+    → curve_from (curve_over book station first last) ≡ Ok curve
+    → curve_from (curve_of book station) ≡ Ok (prediction_of book station)
+curve_allowed book station first last curve ok = (over_ok _ book station first last curve refl ok).0
 
--- the curve for some minutes predicts these alone
-over_only : (hydraulic : Bool) (fault : Option CurveFault) (book : Book) (station : Station) (first last : ℤ)
-    (tide : Tide) → is_hydraulic station.units ≡ hydraulic → first_fault book station book.years ≡ fault
-    → tide_from (curve_over book station first last) ≡ Ok tide → tide ≡ tide_over book station first last
-unfolding curve_over
-over_only true fault book station first last tide is found ok = absurd (let none = rw is at ok in cc)
-over_only false (Some fault) book station first last tide is found ok = absurd (let none = rw (is, found) at ok in cc)
-over_only false None book station first last tide is found ok = let same = rw (is, found) at ok in cc
+pub curve_alone : (book : Book) (station : Station) (first last : ℤ) (curve : Prediction)
+    → curve_from (curve_over book station first last) ≡ Ok curve → curve ≡ prediction_over book station first last
+curve_alone book station first last curve ok = (over_ok _ book station first last curve refl ok).1
 
-pub curve_alone : (book : Book) (station : Station) (first last : ℤ) (tide : Tide)
-    → tide_from (curve_over book station first last) ≡ Ok tide → tide ≡ tide_over book station first last
-curve_alone book station first last tide ok = over_only _ _ book station first last tide refl refl ok
+pub whole_alone : (book : Book) (station : Station) (curve : Prediction)
+    → curve_from (curve_of book station) ≡ Ok curve → curve ≡ prediction_of book station
+unfolding curve_of
+whole_alone book station curve ok = curve_alone book station _ _ curve ok
 
-both_refused : (over whole : Tide) (fault : Option CurveFault) (refusal : Refusal)
-    → tide_from (tide_or over fault) ≡ Err refusal → tide_from (tide_or whole fault) ≡ Err refusal
+both_refused : (over whole : Prediction) (fault : Option CurveFault) (refusal : Refusal)
+    → curve_from (unless_fault over fault) ≡ Err refusal → curve_from (unless_fault whole fault) ≡ Err refusal
 both_refused over whole None refusal refused = absurd cc
 both_refused over whole (Some fault) refusal refused = refused
 
 over_refused : (hydraulic : Bool) (book : Book) (station : Station) (first last : ℤ) (refusal : Refusal)
-    → is_hydraulic station.units ≡ hydraulic → tide_from (curve_over book station first last) ≡ Err refusal
-    → tide_from (curve_of book station) ≡ Err refusal
+    → is_hydraulic station.units ≡ hydraulic → curve_from (curve_over book station first last) ≡ Err refusal
+    → curve_from (curve_of book station) ≡ Err refusal
 unfolding curve_of curve_over
 over_refused true book station first last refusal is refused = rw is (rw is at refused)
 over_refused false book station first last refusal is refused =
-    rw is (both_refused (tide_over book station first last) (tide_of book station)
+    rw is (both_refused (prediction_over book station first last) (prediction_of book station)
     (first_fault book station book.years) refusal (rw is at refused))
 
 pub curve_excused : (memory : Bool) (book : Book) (station : Station) (first last : ℤ) (refusal : Refusal)
-    → Excused memory (tide_from (curve_over book station first last)) refusal
-    → Excused memory (tide_from (curve_of book station)) refusal
+    → Excused memory (curve_from (curve_over book station first last)) refusal
+    → Excused memory (curve_from (curve_of book station)) refusal
 curve_excused true book station first last refusal excused = tt
 curve_excused false book station first last refusal excused = over_refused _ book station first last refusal refl excused
 
 -- ---- the steps after the curve
 
 -- the steps of a station up to its curve
-pub record HasCurve (reach : Reach) (book : Book) (site : Site) (asked : Asked) (units : Units) (tide : Tide) : Type 0 where
+pub record HasCurve (reach : Reach) (book : Book) (site : Site) (asked : Asked) (units : Units) (whole : Prediction) : Type 0 where
   pub unit : level_unit site.station.units ≡ Ok units
   pub span : span_in reach book site.basis asked.begin asked.end ≡ Ok tt
-  pub curve : tide_from (curve_of book site.station) ≡ Ok tide
+  pub curve : curve_from (curve_of book site.station) ≡ Ok whole
 
 -- the span is refused
 pub refused_span : (memory : Bool) (reach : Reach) (book : Book) (site : Site) (asked : Asked) (units : Units)
@@ -94,48 +90,48 @@ unfolding site_at
 refused_span memory reach book site asked units refusal unit excused =
     rw unit (excused_then memory (span_in reach book site.basis asked.begin asked.end) _ refusal excused)
 
--- the tide is refused
+-- the curve is refused
 pub refused_curve :
     (memory : Bool) (reach : Reach) (book : Book) (site : Site) (asked : Asked) (units : Units) (refusal : Refusal)
     → level_unit site.station.units ≡ Ok units → span_in reach book site.basis asked.begin asked.end ≡ Ok tt
-    → Excused memory (tide_from (curve_of book site.station)) refusal
+    → Excused memory (curve_from (curve_of book site.station)) refusal
     → Excused memory (site_at reach book site asked) refusal
 unfolding site_at
 refused_curve memory reach book site asked units refusal unit span excused =
-    rw (unit, span) (excused_then memory (tide_from (curve_of book site.station)) _ refusal excused)
+    rw (unit, span) (excused_then memory (curve_from (curve_of book site.station)) _ refusal excused)
 
 -- the span's length is refused
 pub refused_length : (memory : Bool) (reach : Reach) (book : Book) (site : Site) (asked : Asked) (units : Units)
-    (tide : Tide) (refusal : Refusal) → HasCurve reach book site asked units tide
+    (curve : Prediction) (refusal : Refusal) → HasCurve reach book site asked units curve
     → Excused memory (length_in asked.begin asked.end) refusal → Excused memory (site_at reach book site asked) refusal
 unfolding site_at
-refused_length memory reach book site asked units tide refusal has excused =
+refused_length memory reach book site asked units curve refusal has excused =
     rw (has.unit, has.span, has.curve) (excused_then memory (length_in asked.begin asked.end) _ refusal excused)
 
 -- the mark is refused
 pub refused_mark : (memory : Bool) (reach : Reach) (book : Book) (site : Site) (asked : Asked) (units : Units)
-    (tide : Tide) (refusal : Refusal) → HasCurve reach book site asked units tide
+    (curve : Prediction) (refusal : Refusal) → HasCurve reach book site asked units curve
     → length_in asked.begin asked.end ≡ Ok tt → Excused memory (mark_in site.basis asked.mark) refusal
     → Excused memory (site_at reach book site asked) refusal
 unfolding site_at
-refused_mark memory reach book site asked units tide refusal has few excused =
+refused_mark memory reach book site asked units curve refusal has few excused =
     rw (has.unit, has.span, has.curve, few) (excused_then memory (mark_in site.basis asked.mark) _ refusal excused)
 
 -- nothing is refused
-pub found_whole : (reach : Reach) (book : Book) (site : Site) (asked : Asked) (units : Units) (tide : Tide)
-    → HasCurve reach book site asked units tide → length_in asked.begin asked.end ≡ Ok tt
+pub found_whole : (reach : Reach) (book : Book) (site : Site) (asked : Asked) (units : Units) (curve : Prediction)
+    → HasCurve reach book site asked units curve → length_in asked.begin asked.end ≡ Ok tt
     → mark_in site.basis asked.mark ≡ Ok tt → site_at reach book site asked ≡ Ok site
 unfolding site_at
-found_whole reach book site asked units tide has few mark = rw (has.unit, has.span, has.curve, few, mark) refl
+found_whole reach book site asked units curve has few mark = rw (has.unit, has.span, has.curve, few, mark) refl
 
 -- ---- a station by its name
 
-pub reference_whole : (book : Book) (table : List Offsets) (name : List ℕ) (site : Site) (units : Units) (tide : Tide)
+pub reference_whole : (book : Book) (table : List Offsets) (name : List ℕ) (site : Site) (units : Units) (curve : Prediction)
     → basis_from (basis_of book table name) ≡ Ok site.basis
     → slice_get book.stations site.basis.station ≡ Some site.station → level_unit site.station.units ≡ Ok units
-    → tide_from (curve_of book site.station) ≡ Ok tide → station_in book table name ≡ Ok site
+    → curve_from (curve_of book site.station) ≡ Ok curve → station_in book table name ≡ Ok site
 unfolding station_in
-reference_whole book table name site units tide from is unit curve = rw (from, is, unit, curve) refl
+reference_whole book table name site units curve from is unit whole = rw (from, is, unit, whole) refl
 
 pub found_by : (reach : Reach) (book : Book) (table : List Offsets) (name : List ℕ) (asked : Asked) (basis : Basis)
     (station : Station) → basis_from (basis_of book table name) ≡ Ok basis

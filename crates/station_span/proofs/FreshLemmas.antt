@@ -6,9 +6,7 @@ use Rattle.curve_law.specs.CurveStates.{CurveState}
 use Rattle.event_list.specs.declared.span.Span.{Span}
 use Rattle.event_list.specs.Shifts.{widened_of}
 use Rattle.rate_bound.specs.declared.version.Version.{Version}
-use Rattle.rate_bound.specs.declared.version.Version.TheVariants.{Second}
 use Rattle.rate_bound.specs.Meanings.{turn_meaning}
-use Rattle.station_curve.specs.Waves.{Tide}
 use Rattle.station_span.specs.declared.asked.Asked.{Asked}
 use Rattle.station_span.specs.Workings.Tides.{SiteTide}
 use Rattle.station_span.specs.Following.{asks_slack}
@@ -16,16 +14,17 @@ use Rattle.station_span.specs.Workings.Curves.{HasMinutes, IsReady}
 use Rattle.event_list.specs.FreshCurves.{IsFreshOver}
 use Rattle.station_span.specs.Workings.TrackMeanings.{tide_slack, tide_mark}
 use Rattle.station_span.proofs.FollowLemmas.{for_asked, for_marked, ready_minutes}
+use Rattle.station_curve.specs.Curves.{Prediction}
 
--- a curve over the minutes of a tide
-abbrev IsOver : Tide → Meaning → Type 0
-IsOver tide c = (c.first ≡ (turn_meaning Second tide).first) × (c.last ≡ (turn_meaning Second tide).last)
+-- a curve at the minutes of a prediction
+abbrev IsOver : Prediction → Meaning → Type 0
+IsOver p c = (c.first ≡ p.first) × (c.last ≡ p.last)
 
-fresh_over : {C : Type 0} (tide : Tide) (s : Span) (state : C → CurveState) (curve : Option C)
-    (valid_over : Option Meaning) → HasMinutes tide s → option_map (λ c. (state c).facts.meaning) curve ≡ valid_over
-    → ForSome valid_over (IsOver tide) → ForSome curve (λ c. (state c).count ≡ 0)
+fresh_over : {C : Type 0} (p : Prediction) (s : Span) (state : C → CurveState) (curve : Option C)
+    (valid_over : Option Meaning) → HasMinutes p s → option_map (λ c. (state c).facts.meaning) curve ≡ valid_over
+    → ForSome valid_over (IsOver p) → ForSome curve (λ c. (state c).count ≡ 0)
     → ForSome curve (λ c. IsFreshOver s (state c))
-fresh_over tide s state curve valid_over has same over fresh x is =
+fresh_over p s state curve valid_over has same over fresh x is =
     let at = over (state x).facts.meaning (sym same ∙ ap (option_map (λ c. (state c).facts.meaning)) is) in
     record { forward = has.forward; first = rw at.0 has.begins.least; last = rw at.1 has.ends.most; fresh = fresh x is }
 

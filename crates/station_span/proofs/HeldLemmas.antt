@@ -10,19 +10,17 @@ use Rattle.event_text.specs.Lines.{IsListed}
 use Rattle.event_list.specs.Shifts.{IsMovable, shifted_of, widened_of}
 use Rattle.rate_bound.specs.declared.version.Version.TheVariants.{Second}
 use Rattle.station_table.specs.Bases.{is_equal, is_plain}
-use Rattle.year_blend.specs.Places.{InDomain}
 use Rattle.station_span.specs.declared.found_station.FoundStation.{FoundStation}
 use Rattle.station_span.specs.declared.reach.Reach.{Reach}
 use Rattle.station_span.specs.declared.reach.Reach.TheVariants.{Events, Levels, Highest}
 use Rattle.station_span.specs.Following.{cells_of, events_of, tracks_of}
-use Rattle.station_span.specs.Levels.{is_rising_at, level_at}
 use Rattle.station_span.specs.Sites.{moved, reached}
 use Rattle.station_span.specs.Workings.Curves.{AreMerged, HasMinutes, IsReady, followed_tide}
 use Rattle.station_span.specs.Workings.Finds.{AreLooked, AreReferences, HasPeak, IsLooked, IsSiteList, site_of, tide_of_found}
-use Rattle.station_span.specs.Workings.Levels.{HasLevel, is_tide_rising, source_of, tide_level}
-use Rattle.station_span.specs.Workings.Spans.{IsFound}
+use Rattle.station_span.specs.Workings.Levels.{HasLevel, source_of}
+use Rattle.station_span.specs.Workings.Spans.{IsFound, IsCurveOf}
 use Rattle.station_span.proofs.FollowLemmas.{asked_minute, counted_cells, found_cells, found_events, merged_can_move, plain_is_whole, ready_minutes, ready_of_found, shifted_is_whole, tide_lines, tracks_alike}
-use Rattle.station_span.proofs.LevelLemmas.{IsPredicted, in_tide, site_level, site_rising, tide_years, within_adds}
+use Rattle.station_span.proofs.LevelLemmas.{within_adds}
 use Rattle.station_span.proofs.PeakLemmas.{has_highest, peak_alike, tide_peak-is, verdict_alike}
 use Rattle.curve_law.specs.Meaning.{Meaning}
 use Rattle.highest_water.specs.declared.peak.Peak.{Peak}
@@ -34,36 +32,36 @@ use Rattle.station_span.specs.Workings.Peaks.{HasHighest, IsSourceIn, tide_level
 -- ---- events
 
 -- a station that was found for a purpose
-pub found_for : (f : FoundStation) (reach : Reach) → f.reach ≡ reach → IsFound reach f.origin.book f.asked (site_of f) (tide_of_found f)
-found_for f reach is = subst (λ r. IsFound r f.origin.book f.asked (site_of f) (tide_of_found f)) is f.valid
+pub found_for : (f : FoundStation) (reach : Reach) → f.reach ≡ reach → IsFound reach f.curve.book f.asked (site_of f) (tide_of_found f)
+found_for f reach is = subst (λ r. IsFound r f.curve.book f.asked (site_of f) (tide_of_found f)) is f.valid
 
 pub span_for : (f : FoundStation) (reach : Reach) → f.reach ≡ reach → f.span ≡ reached reach f.basis f.asked.begin f.asked.end
 span_for f reach is = f.looked ∙ ap (λ r. reached r f.basis f.asked.begin f.asked.end) is
 
 pub ready_for : (f : FoundStation) → f.reach ≡ Events → IsReady f.asked (tide_of_found f)
-ready_for f is = ready_of_found f.origin.book f.asked (site_of f) (tide_of_found f) (found_for f Events is)
+ready_for f is = ready_of_found f.curve.book f.asked (site_of f) (tide_of_found f) (found_for f Events is)
 
 pub minutes_for : (f : FoundStation) → f.reach ≡ Events → HasMinutes f.curve f.span
 minutes_for f is = rw (span_for f Events is) (ready_minutes f.asked (tide_of_found f) (ready_for f is))
 
 -- the tracks of the station are the cells of its curves
-pub tracks_tide : (f : FoundStation) → f.reach ≡ Events → tracks_of f.origin.book (site_of f) f.asked
+pub tracks_tide : (f : FoundStation) → f.reach ≡ Events → tracks_of f.curve.book (site_of f) f.asked
     ≡ covers_of (followed_tide Second (tide_of_found f) f.asked.mark) (widened_of f.basis f.asked.begin f.asked.end)
-tracks_tide f is = sym (tracks_alike f.origin.book f.asked (site_of f) (tide_of_found f) _ (found_for f Events is) refl)
+tracks_tide f is = sym (tracks_alike f.curve.book f.asked (site_of f) (tide_of_found f) _ (found_for f Events is) refl)
 
 pub tracks_for : (f : FoundStation) → f.reach ≡ Events
     → covers_of (followed_tide Second (tide_of_found f) f.asked.mark) f.span
-    ≡ tracks_of f.origin.book (site_of f) f.asked
+    ≡ tracks_of f.curve.book (site_of f) f.asked
 tracks_for f is =
     ap (λ s. covers_of (followed_tide Second (tide_of_found f) f.asked.mark) s) (span_for f Events is)
-    ∙ tracks_alike f.origin.book f.asked (site_of f) (tide_of_found f) _ (found_for f Events is) refl
+    ∙ tracks_alike f.curve.book f.asked (site_of f) (tide_of_found f) _ (found_for f Events is) refl
 
 pub cells_for : (f : FoundStation) → f.reach ≡ Events
-    → cells_in (tracks_of f.origin.book (site_of f) f.asked) ≡ cells_of f.origin.book (site_of f) f.asked
+    → cells_in (tracks_of f.curve.book (site_of f) f.asked) ≡ cells_of f.curve.book (site_of f) f.asked
 cells_for f is =
     ap cells_in (tracks_tide f is)
     ∙ counted_cells f.asked (tide_of_found f)
-    ∙ found_cells f.origin.book f.asked (site_of f) (tide_of_found f) (found_for f Events is)
+    ∙ found_cells f.curve.book f.asked (site_of f) (tide_of_found f) (found_for f Events is)
 
 merged_for : (f : FoundStation) (events : List Event) → f.reach ≡ Events → AreReferences f events
     → AreMerged f.asked (tide_of_found f) events
@@ -78,30 +76,30 @@ can_move f events is references =
     merged_can_move f.asked (tide_of_found f) events (ready_for f is) (merged_for f events is references)
 
 pub shifted_for : (f : FoundStation) (events : List Event) → f.reach ≡ Events → AreReferences f events
-    → shifted_of f.basis f.asked.begin f.asked.end events ≡ events_of f.origin.book (site_of f) f.asked
+    → shifted_of f.basis f.asked.begin f.asked.end events ≡ events_of f.curve.book (site_of f) f.asked
 shifted_for f events is references =
     shifted_is_whole f.asked (tide_of_found f) events (ready_for f is) (merged_for f events is references)
-    ∙ found_events f.origin.book f.asked (site_of f) (tide_of_found f) (found_for f Events is)
+    ∙ found_events f.curve.book f.asked (site_of f) (tide_of_found f) (found_for f Events is)
 
 pub plain_for : (f : FoundStation) (events : List Event) → f.reach ≡ Events → AreReferences f events
-    → IsTrue (is_plain f.basis) → events ≡ events_of f.origin.book (site_of f) f.asked
+    → IsTrue (is_plain f.basis) → events ≡ events_of f.curve.book (site_of f) f.asked
 plain_for f events is references plain =
     plain_is_whole f.asked (tide_of_found f) events (ready_for f is) (merged_for f events is references) plain
-    ∙ found_events f.origin.book f.asked (site_of f) (tide_of_found f) (found_for f Events is)
+    ∙ found_events f.curve.book f.asked (site_of f) (tide_of_found f) (found_for f Events is)
 
 -- the cells of its searches are the station's tracks
 pub tracks_are : (f : FoundStation) (turn : List Cell) (slack mark : Option (List Cell)) → turn
-    ≡ (tracks_of f.origin.book (site_of f) f.asked).turn → slack ≡ (tracks_of f.origin.book (site_of f) f.asked).slack
-    → mark ≡ (tracks_of f.origin.book (site_of f) f.asked).mark
-    → record { turn = turn; slack = slack; mark = mark } ≡ tracks_of f.origin.book (site_of f) f.asked
+    ≡ (tracks_of f.curve.book (site_of f) f.asked).turn → slack ≡ (tracks_of f.curve.book (site_of f) f.asked).slack
+    → mark ≡ (tracks_of f.curve.book (site_of f) f.asked).mark
+    → record { turn = turn; slack = slack; mark = mark } ≡ tracks_of f.curve.book (site_of f) f.asked
 tracks_are f turn slack mark t s m = rw (t, s, m) refl
 
-pub site_list : (f : FoundStation) (listed : FoundEvents) → f.reach ≡ Events → listed.units ≡ f.origin.station.units
-    → listed.events ≡ events_of f.origin.book (site_of f) f.asked
-    → listed.cells ≡ cells_of f.origin.book (site_of f) f.asked → IsSiteList f.origin.book f.asked (site_of f) listed
+pub site_list : (f : FoundStation) (listed : FoundEvents) → f.reach ≡ Events → listed.units ≡ f.curve.station.units
+    → listed.events ≡ events_of f.curve.book (site_of f) f.asked
+    → listed.cells ≡ cells_of f.curve.book (site_of f) f.asked → IsSiteList f.curve.book f.asked (site_of f) listed
 site_list f listed is units events cells =
     let ready = ready_for f is in
-    let same = found_events f.origin.book f.asked (site_of f) (tide_of_found f) (found_for f Events is) in
+    let same = found_events f.curve.book f.asked (site_of f) (tide_of_found f) (found_for f Events is) in
     record {
       units = units;
       levels = rw units f.valid.levels;
@@ -114,9 +112,9 @@ site_list f listed is units events cells =
     }
 
 pub event_lines : (f : FoundStation) → f.reach ≡ Events
-    → All (IsListed f.origin.station.units) (events_of f.origin.book (site_of f) f.asked)
+    → All (IsListed f.curve.station.units) (events_of f.curve.book (site_of f) f.asked)
 event_lines f is =
-    rw (← found_events f.origin.book f.asked (site_of f) (tide_of_found f) (found_for f Events is))
+    rw (← found_events f.curve.book f.asked (site_of f) (tide_of_found f) (found_for f Events is))
     (tide_lines f.asked (tide_of_found f) (ready_for f is))
 
 -- ---- levels
@@ -124,37 +122,12 @@ event_lines f is =
 pub looked_level : (f : FoundStation) (minute : ℤ) → IsLooked f minute → HasLevel (tide_of_found f) minute
 looked_level f minute looked =
     let is = f.valid in
-    let begins : InDomain f.origin.book.first_year f.origin.book.years f.span.begin = rw f.looked is.span.begins in
-    let ends : InDomain f.origin.book.first_year f.origin.book.years f.span.end = rw f.looked is.span.ends in
+    let curve : IsCurveOf f.curve.book f.curve.station f.span f.curve = rw f.looked is.predicts in
     let from = looked.from in
     let until = looked.until in
-    let least = begins.least in
-    let most = ends.most in
-    let inside : InDomain f.origin.book.first_year f.origin.book.years (source_of (tide_of_found f) minute) =
-    record { least = omega (arith, ints); most = omega (arith, ints) } in
-    record {
-      offset = is.valid.high;
-      years = tide_years f.origin.book (tide_of_found f) is.predicts.first_year is.predicts.years is.years;
-      inside = in_tide f.origin.book (tide_of_found f) _ is.predicts.first_year is.predicts.years inside;
-    }
-
-predicted_for : (f : FoundStation) (minute : ℤ) → IsLooked f minute
-    → IsPredicted f.origin.book (site_of f) (tide_of_found f) f.span.begin f.span.end minute
-predicted_for f minute looked =
-    let is = f.valid in
-    record { predicts = rw f.looked is.predicts; from = looked.from; until = looked.until }
-
-pub level_for : (f : FoundStation) (minute : ℤ) → IsLooked f minute
-    → tide_level (tide_of_found f) minute ≡ level_at f.origin.book (site_of f) minute
-level_for f minute looked =
-    site_level f.origin.book (site_of f) (tide_of_found f) f.span.begin f.span.end minute refl
-    (predicted_for f minute looked) (looked_level f minute looked)
-
-pub rising_for : (f : FoundStation) (minute : ℤ) → IsLooked f minute
-    → is_tide_rising (tide_of_found f) minute ≡ is_rising_at f.origin.book (site_of f) minute
-rising_for f minute looked =
-    site_rising f.origin.book (site_of f) (tide_of_found f) f.span.begin f.span.end minute refl
-    (predicted_for f minute looked) (looked_level f minute looked)
+    let least = curve.from in
+    let most = curve.until in
+    record { offset = is.valid.high; valid = is.within_limits; inside = record { least = omega (arith, ints); most = omega (arith, ints) } }
 
 -- the first minute has a level, if the station was found for events
 pub first_looked : (f : FoundStation) → f.reach ≡ Events → IsLooked f f.asked.begin
@@ -183,16 +156,16 @@ peak_looked f has = moved_looked f (span_for f Highest has.reach) has.equal
 -- ---- the highest water
 
 pub highest_for : (f : FoundStation) → HasPeak f → HasHighest (tide_of_found f) f.asked
-highest_for f has = has_highest f.origin.book f.asked (site_of f) (tide_of_found f) (found_for f Highest has.reach) has.equal
+highest_for f has = has_highest f.curve.book f.asked (site_of f) (tide_of_found f) (found_for f Highest has.reach) has.equal
 
-pub peak_for : (f : FoundStation) → HasPeak f → tide_peak (tide_of_found f) f.asked ≡ highest_of f.origin.book (site_of f) f.asked
+pub peak_for : (f : FoundStation) → HasPeak f → tide_peak (tide_of_found f) f.asked ≡ highest_of f.curve.book (site_of f) f.asked
 peak_for f has =
-    peak_alike f.origin.book f.asked (site_of f) (tide_of_found f) (found_for f Highest has.reach) has.equal (highest_for f has)
+    peak_alike f.curve.book f.asked (site_of f) (tide_of_found f) (found_for f Highest has.reach) has.equal (highest_for f has)
 
 pub verdict_for : (f : FoundStation) (peak : Peak) → HasPeak f
-    → tide_verdict (tide_of_found f) f.asked peak ≡ highest_verdict f.origin.book (site_of f) f.asked peak
+    → tide_verdict (tide_of_found f) f.asked peak ≡ highest_verdict f.curve.book (site_of f) f.asked peak
 verdict_for f peak has =
-    verdict_alike f.origin.book f.asked (site_of f) (tide_of_found f) peak (found_for f Highest has.reach) has.equal (highest_for f has)
+    verdict_alike f.curve.book f.asked (site_of f) (tide_of_found f) peak (found_for f Highest has.reach) has.equal (highest_for f has)
 
 -- the minutes of the reference that are evaluated
 pub peak_begins : (f : FoundStation) → HasPeak f → f.span.begin ≡ source_of (tide_of_found f) f.asked.begin
@@ -216,13 +189,13 @@ peak_short f has =
     omega (arith, ints)
 
 pub peak_is : (f : FoundStation) (c : Meaning) → HasPeak f → c ≡ tide_levels (tide_of_found f)
-    → peak_of c f.span.begin (unsigned_abs (f.span.end -ℤ f.span.begin)) ≡ highest_of f.origin.book (site_of f) f.asked
+    → peak_of c f.span.begin (unsigned_abs (f.span.end -ℤ f.span.begin)) ≡ highest_of f.curve.book (site_of f) f.asked
 peak_is f c has levels =
     tide_peak-is (tide_of_found f) f.asked c f.span.begin f.span.end levels (peak_begins f has) (peak_ends f has) ∙ peak_for f has
 
 pub verdict_is : (f : FoundStation) (c : Meaning) (peak : Peak) → HasPeak f → c ≡ tide_levels (tide_of_found f)
     → peak_verdict c f.span.begin (unsigned_abs (f.span.end -ℤ f.span.begin)) peak
-    ≡ highest_verdict f.origin.book (site_of f) f.asked peak
+    ≡ highest_verdict f.curve.book (site_of f) f.asked peak
 unfolding tide_verdict
 verdict_is f c peak has levels = rw (levels, peak_begins f has, peak_ends f has) (verdict_for f peak has)
 

@@ -1,5 +1,5 @@
 -- The levels of a station.
-use Rattle.std.proofs.Common.{◌≡◌, ◌∷◌, ℕ, suc, ◌+◌, ◌*◌, ◌^◌, ◌<◌, ◌≤◌, ℤ, pos, negsuc, ◌-ℤ◌, ◌*ℤ◌, ◌≤ℤ◌, unsigned_abs, length, Ok, refl, sym, lit<, arith}
+use Rattle.std.proofs.Common.{◌≡◌, ◌∷◌, ℕ, suc, ◌+◌, ◌*◌, ◌^◌, ◌<◌, ◌≤◌, ℤ, pos, negsuc, ◌-ℤ◌, ◌*ℤ◌, ◌≤ℤ◌, unsigned_abs, Ok, refl, lit<, arith}
 use Rattle.std.specs.Prelude.{IsTrue}
 use Rattle.std.proofs.Math.Nat.{div-mul-le_self, mul-le-mul_right}
 use Rattle.std.proofs.lemmas.Int.{ints, fold-int_max_bounds, fold-int_min_bounds}
@@ -8,31 +8,27 @@ use Rattle.curve_law.proofs.CoverLemmas.{by_test}
 use Rattle.decimal_text.specs.Rounding.{half_up, rounded_of}
 use Rattle.event_list.specs.Shifts.{greatest_add, least_add, scaled, slack_adds}
 use Rattle.harmonics_book.specs.declared.book.Book.{Book}
-use Rattle.station_curve.specs.Curves.{PredictsOver}
 use Rattle.station_curve.specs.Schureman.{predicted_level, predicted_millionths}
 use Rattle.station_table.specs.declared.basis.Basis.{Basis}
 use Rattle.station_table.specs.declared.offset.Offset.{Offset}
 use Rattle.station_table.specs.Bases.{is_equal}
 use Rattle.station_table.specs.Offsets.{IsOffset}
-use Rattle.year_blend.specs.Places.{AreYears, InDomain}
 use Rattle.year_blend.specs.Weights.{total_weight}
 use Rattle.zone_time.specs.Zones.{InZoneYears}
 use Rattle.station_span.specs.declared.asked.Asked.{Asked}
-use Rattle.station_span.specs.declared.reach.Reach.{Reach}
 use Rattle.station_span.specs.declared.reach.Reach.TheVariants.{Levels}
 use Rattle.station_span.specs.Workings.Tides.{SiteTide}
-use Rattle.station_span.specs.Levels.{level_at, level_in, is_rising_at}
-use Rattle.station_span.specs.Sites.{Site, moved, reached}
-use Rattle.station_span.specs.Workings.Curves.{InTide}
-use Rattle.station_span.specs.Workings.Levels.{source_of, tide_level, is_tide_rising, HasLevel, HasLevelsIn}
-use Rattle.station_span.specs.Workings.Spans.{IsFound, PredictsReached}
-use Rattle.station_span.proofs.SpanLemmas.{file_minute}
+use Rattle.station_span.specs.Levels.{level_at, level_in}
+use Rattle.station_span.specs.Sites.{Site}
+use Rattle.station_span.specs.Workings.Levels.{source_of, HasLevel, HasLevelsIn}
+use Rattle.station_span.specs.Workings.Spans.{IsFound}
+use Rattle.station_span.proofs.SpanLemmas.{curve_minute, ends_of}
 
--- ---- minutes whose level the tide has
+-- ---- minutes whose level the curve has
 
 pub zone_minute : (found : SiteTide) (minute : ℤ) → HasLevel found minute → InZoneYears minute
 zone_minute found minute has =
-    let file = file_minute found.curve.first_year (length found.curve.years) (source_of found minute) has.years has.inside in
+    let file = curve_minute found.curve (source_of found minute) has.valid has.inside in
     let low = file.least in
     let high = file.most in
     let least = has.offset.add in
@@ -49,36 +45,20 @@ between found asked minute has after before =
     let most = has.last.inside.most in
     record {
       offset = has.first.offset;
-      years = has.first.years;
+      valid = has.first.valid;
       inside = record { least = omega (arith, ints); most = omega (arith, ints) };
     }
 
--- ---- a station that was found
-
-pub tide_years : (book : Book) (found : SiteTide) → found.curve.first_year ≡ book.first_year → length found.curve.years
-    ≡ book.years → AreYears book.first_year book.years → AreYears found.curve.first_year (length found.curve.years)
-tide_years book found first count are = rw (first, count) are
-
-pub in_tide : (book : Book) (found : SiteTide) (minute : ℤ) → found.curve.first_year ≡ book.first_year
-    → length found.curve.years ≡ book.years → InDomain book.first_year book.years minute → InTide found.curve minute
-in_tide book found minute first count inside = rw (first, count) inside
-
-pub in_book : (book : Book) (found : SiteTide) (minute : ℤ) → found.curve.first_year ≡ book.first_year
-    → length found.curve.years ≡ book.years → InTide found.curve minute → InDomain book.first_year book.years minute
-in_book book found minute first count inside = rw (sym first, sym count) inside
 
 -- the span has levels, if the station was found for levels
 pub found_levels : (book : Book) (asked : Asked) (site : Site) (found : SiteTide) → IsFound Levels book asked site found
     → IsTrue (is_equal found.basis) → HasLevelsIn found asked
 found_levels book asked site found is equal =
-    let begins = rw equal at is.span.begins in
-    let ends = rw equal at is.span.ends in
-    let years = tide_years book found is.predicts.first_year is.predicts.years is.years in
+    let ends = rw equal at (ends_of _ _ _ found.curve is.predicts is.span.in_range.forward) in
     record {
       forward = is.span.forward;
-      first =
-          record { offset = is.valid.high; years = years; inside = in_tide book found _ is.predicts.first_year is.predicts.years begins };
-      last = record { offset = is.valid.high; years = years; inside = in_tide book found _ is.predicts.first_year is.predicts.years ends };
+      first = record { offset = is.valid.high; valid = is.within_limits; inside = ends.0 };
+      last = record { offset = is.valid.high; valid = is.within_limits; inside = ends.1 };
     }
 
 -- the span's first minute has a level, if the station was found for events
@@ -93,35 +73,6 @@ pub level_equal : (basis : Basis) → level_in basis ≡ Ok tt → IsTrue (is_eq
 level_equal basis ok = by_test (is_equal basis)
     (λ equal. rw equal refl)
     (λ other. absurd (let none = rw other at ok in cc))
-
--- ---- the levels by every constituent of the harmonics file
-
--- a minute of the reference that its curve predicts
-pub record IsPredicted (book : Book) (site : Site) (found : SiteTide) (first last minute : ℤ) : Type 0 where
-  pub predicts : PredictsOver book site.station first last found.curve
-  pub from : first ≤ℤ source_of found minute
-  pub until : source_of found minute ≤ℤ last
-
-pub site_level : (book : Book) (site : Site) (found : SiteTide) (first last minute : ℤ) → found.basis ≡ site.basis
-    → IsPredicted book site found first last minute → HasLevel found minute
-    → tide_level found minute ≡ level_at book site minute
-site_level book site found first last minute basis is has =
-    let inside = in_book book found _ is.predicts.first_year is.predicts.years has.inside in
-    rw (is.predicts.millionths (source_of found minute) inside is.from is.until, basis) refl
-
-pub site_rising : (book : Book) (site : Site) (found : SiteTide) (first last minute : ℤ) → found.basis ≡ site.basis
-    → IsPredicted book site found first last minute → HasLevel found minute
-    → is_tide_rising found minute ≡ is_rising_at book site minute
-site_rising book site found first last minute basis is has =
-    let inside = in_book book found _ is.predicts.first_year is.predicts.years has.inside in
-    rw (is.predicts.slope (source_of found minute) inside is.from is.until, basis) refl
-
--- each minute of the span is one, if the station was found for levels
-pub predicts_sources : (reach : Reach) (book : Book) (asked : Asked) (site : Site) (found : SiteTide)
-    → reached reach found.basis asked.begin asked.end ≡ moved found.basis asked.begin asked.end
-    → IsTrue (is_equal found.basis) → PredictsReached reach book asked site found
-    → PredictsOver book site.station (source_of found asked.begin) (source_of found asked.end) found.curve
-predicts_sources reach book asked site found is equal predicts = rw (is, equal) at predicts
 
 -- ---- the order of the reference's levels is kept by the offset
 

@@ -20,14 +20,12 @@ use Rattle.event_list.specs.Events.{Followed, IsValidOver, AreValidOver, IsAccep
 use Rattle.event_list.specs.Shifts.{IsMovable}
 use Rattle.event_list.proofs.EventLemmas.{merged-parts}
 use Rattle.event_list.proofs.OrderLemmas.{All-ordered}
-use Rattle.station_curve.specs.Levels.{level_of, millionths_of}
-use Rattle.station_curve.specs.Limits.{IsWithinLimits}
-use Rattle.station_curve.specs.Waves.{Tide}
 use Rattle.station_curve.proofs.Products.{half_up-le}
-use Rattle.station_curve.proofs.Ranges.{level_small}
+use Rattle.station_curve.proofs.Ranges.{level_small, in_domain as minute_in_years}
 use Rattle.year_blend.specs.Weights.{total_weight}
-use Rattle.station_span.specs.Workings.Curves.{InTide}
 use Rattle.station_span.specs.Workings.Spans.{IsSpanInRange}
+use Rattle.station_curve.specs.Curves.{IsPredicted, IsPrediction, Prediction}
+use Rattle.station_curve.specs.Schureman.{predicted_level, predicted_millionths}
 
 -- ---- levels
 
@@ -38,11 +36,12 @@ rounded_small (negsuc n) unit k some most =
     let half = half_up-le (suc n) unit k some most in
     omega (arith, ints, half)
 
-pub millionths_small : (tide : Tide) (m : ℤ) → IsWithinLimits tide → InTide tide m → unsigned_abs (millionths_of tide m) ≤ 11000000000
-unfolding millionths_of
-millionths_small tide m within_limits inside =
-    let small = level_small tide m within_limits inside in
-    rounded_small (level_of tide m) (total_weight * 10 ^ 9) 11000000000 (lit< tt) (omega (arith, small))
+pub millionths_small : (c : Prediction) (m : ℤ) → IsPrediction c → IsPredicted c m
+    → unsigned_abs (predicted_millionths c.book c.station m) ≤ 11000000000
+unfolding predicted_millionths
+millionths_small c m valid inside =
+    let small = level_small c.book c.station m valid.limits (minute_in_years c m valid inside) in
+    rounded_small (predicted_level c.book c.station m) (total_weight * 10 ^ 9) 11000000000 (lit< tt) (omega (arith, small))
 
 -- ---- the events of one curve
 

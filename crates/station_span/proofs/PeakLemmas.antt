@@ -1,9 +1,9 @@
 -- A station that was found for a highest water.
-use Rattle.std.proofs.Common.{◌≡◌, ℕ, ℤ, pos, ◌+ℤ◌, ◌-ℤ◌, ◌≤ℤ◌, ◌<ℤ◌, ◌≤◌, unsigned_abs, length, Bool, true, false, List, None, Ok, Err, refl, subst, ap, ◌∙◌, arith}
+use Rattle.std.proofs.Common.{◌≡◌, ℕ, ℤ, pos, ◌+ℤ◌, ◌-ℤ◌, ◌≤ℤ◌, ◌<ℤ◌, ◌≤◌, unsigned_abs, Bool, true, false, List, None, Ok, Err, refl, subst, ap, ◌∙◌, arith}
 use Rattle.std.specs.Bool.{IsTrue}
 use Rattle.std.proofs.lemmas.Int.{ints}
 use Rattle.cert_text.specs.Certificates.{IsStationName}
-use Rattle.curve_law.specs.Meaning.{Meaning, AgreeOver, IsLawful, IsSpan}
+use Rattle.curve_law.specs.Meaning.{Meaning, IsLawful, IsSpan}
 use Rattle.decimal_text.specs.Expected.{Excused}
 use Rattle.harmonics_book.specs.declared.book.Book.{Book}
 use Rattle.highest_water.specs.declared.peak.Peak.{Peak}
@@ -20,8 +20,6 @@ use Rattle.highest_water.proofs.VerdictLemmas.{verdict-highest}
 use Rattle.peak_text.proofs.PeakRangeLemmas.{verdict-cells}
 use Rattle.rate_bound.specs.declared.version.Version.TheVariants.{Second}
 use Rattle.rate_bound.specs.Workings.MarkLaw.{mark_lawful}
-use Rattle.rate_bound.proofs.Predicted.{mark_agrees}
-use Rattle.station_curve.specs.Limits.{IsWithinLimits}
 use Rattle.station_table.specs.declared.basis.Basis.{Basis}
 use Rattle.station_table.specs.Bases.{is_equal}
 use Rattle.station_table.specs.declared.offsets.Offsets.{Offsets}
@@ -37,10 +35,11 @@ use Rattle.station_span.specs.Workings.Peaks.{HasHighest, IsSourceIn, source_cou
 use Rattle.station_span.specs.Workings.Spans.{AreMoments, IsFound}
 use Rattle.station_span.proofs.FollowLemmas.{usual_scale}
 use Rattle.station_span.proofs.FoundLemmas.{excused_by, excused_then}
-use Rattle.station_span.proofs.LevelLemmas.{between, found_levels, in_book, level_equal, minute_in_range, predicts_sources}
+use Rattle.station_span.proofs.LevelLemmas.{between, found_levels, level_equal, minute_in_range}
 use Rattle.decimal_text.proofs.ExpectedLemmas.{then_ok}
 use Rattle.station_span.proofs.SiteLemmas.{found_at, site_minutes, site_unmarked}
-use Rattle.station_span.proofs.SpanLemmas.{moment}
+use Rattle.station_span.proofs.SpanLemmas.{curve_moment}
+use Rattle.station_curve.specs.Curves.{IsPrediction}
 
 -- ---- its levels
 
@@ -61,7 +60,6 @@ as_levels book asked site found is = record {
   levels = is.levels;
   predicts = is.predicts;
   within_limits = is.within_limits;
-  years = is.years;
   span = record {
     forward = is.span.forward;
     begins = is.span.begins;
@@ -88,21 +86,10 @@ has_highest book asked site found is equal = record {
 last_source : (begin end add : ℤ) → begin ≤ℤ end → (begin -ℤ add) +ℤ pos (unsigned_abs (end -ℤ begin)) ≡ end -ℤ add
 last_source begin end add forward = omega (arith, ints)
 
-values_alike : (c d : Meaning) (a : ℤ) (n : ℕ) → AgreeOver c d a n → AgreeOnValues c d a n
-values_alike c d a n agree = record { values = agree.values; rates = agree.rates }
-
-pub levels_alike : (book : Book) (asked : Asked) (site : Site) (found : SiteTide)
-    → IsFound Highest book asked site found → IsTrue (is_equal found.basis) → HasHighest found asked
+pub levels_alike : (book : Book) (asked : Asked) (site : Site) (found : SiteTide) → IsFound Highest book asked site found
     → AgreeOnValues (tide_levels found) (level_curve book site) (source_of found asked.begin) (minute_count asked)
-levels_alike book asked site found is equal has =
-    let end = last_source asked.begin asked.end found.basis.high.add has.levels.forward in
-    let first = in_book book found (source_of found asked.begin) is.predicts.first_year is.predicts.years has.levels.first.inside in
-    let last = in_book book found (source_of found asked.end) is.predicts.first_year is.predicts.years has.levels.last.inside in
-    values_alike _ _ _ _
-    (mark_agrees Second book site.station (source_of found asked.begin) (source_of found asked.end) found.curve
-    (pos 1000000) (pos 0) (pos 0) true (source_of found asked.begin) (minute_count asked)
-    (predicts_sources Highest book asked site found refl equal is.predicts) is.years first (rw end last)
-    (omega (arith, ints)) (rw end (omega (arith, ints))))
+levels_alike book asked site found is =
+    rw (is.predicts.of_book, is.predicts.of_station) (record { values = λ k few. refl; rates = λ k l inside some most. refl })
 
 -- ---- its minutes
 
@@ -133,7 +120,7 @@ pub peak_alike : (book : Book) (asked : Asked) (site : Site) (found : SiteTide) 
 unfolding tide_peak highest_of
 peak_alike book asked site found is equal has =
     ap (λ n. peak_of (tide_levels found) (source_of found asked.begin) n) (count_moved asked.begin asked.end found.basis.high.add)
-    ∙ peak_of-agrees _ _ (source_of found asked.begin) (minute_count asked) (levels_alike book asked site found is equal has)
+    ∙ peak_of-agrees _ _ (source_of found asked.begin) (minute_count asked) (levels_alike book asked site found is)
     ∙ ap (λ b. peak_of (level_curve book site) (asked.begin -ℤ b.high.add) (minute_count asked)) is.basis
 
 pub verdict_alike : (book : Book) (asked : Asked) (site : Site) (found : SiteTide) (peak : Peak)
@@ -142,7 +129,7 @@ pub verdict_alike : (book : Book) (asked : Asked) (site : Site) (found : SiteTid
 unfolding tide_verdict highest_verdict
 verdict_alike book asked site found peak is equal has =
     ap (λ n. peak_verdict (tide_levels found) (source_of found asked.begin) n peak) (count_moved asked.begin asked.end found.basis.high.add)
-    ∙ verdict-agrees _ _ (source_of found asked.begin) (minute_count asked) peak (levels_alike book asked site found is equal has)
+    ∙ verdict-agrees _ _ (source_of found asked.begin) (minute_count asked) peak (levels_alike book asked site found is)
     ∙ ap (λ b. peak_verdict (level_curve book site) (asked.begin -ℤ b.high.add) (minute_count asked) peak) is.basis
 
 pub whole_site : (book : Book) (table : List Offsets) (name : List ℕ) (asked : Asked) (site : Site) (found : SiteTide)
@@ -174,14 +161,14 @@ tide_peak-is found asked c b e levels first last = rw (levels, first, last) refl
 
 -- ---- a highest water that the tide accepts
 
-levels_lawful : (found : SiteTide) → IsWithinLimits found.curve → IsLawful (tide_levels found)
+levels_lawful : (found : SiteTide) → IsPrediction found.curve → IsLawful (tide_levels found)
 levels_lawful found within_limits = mark_lawful Second found.curve (pos 1000000) (pos 0) (pos 0) true within_limits usual_scale
 
 source_end : (begin end add : ℤ) → begin ≤ℤ end → (begin -ℤ add) +ℤ pos (unsigned_abs ((end -ℤ add) -ℤ (begin -ℤ add))) ≡ end -ℤ add
 source_end begin end add forward = omega (arith, ints)
 
 -- an accepted highest water is the highest water
-pub tide_highest : (found : SiteTide) (asked : Asked) (peak : Peak) → IsWithinLimits found.curve
+pub tide_highest : (found : SiteTide) (asked : Asked) (peak : Peak) → IsPrediction found.curve
     → HasHighest found asked → tide_verdict found asked peak ≡ Accepted
     → IsHighest (tide_levels found) (source_of found asked.begin) (source_of found asked.end) peak.at peak.value
 unfolding tide_verdict
@@ -194,7 +181,7 @@ tide_highest found asked peak within_limits has ok =
 
 -- a certificate of an accepted highest water has a text
 pub accepted_certificate : (name : List ℕ) (asked : Asked) (found : SiteTide) (peak : Peak) → IsStationName name
-    → AreMoments asked → IsWithinLimits found.curve → HasHighest found asked → tide_verdict found asked peak ≡ Accepted
+    → AreMoments asked → IsPrediction found.curve → HasHighest found asked → tide_verdict found asked peak ≡ Accepted
     → IsPeakCertificate (record { station = name; begin = asked.begin; end = asked.end; peak = peak })
 unfolding tide_verdict
 accepted_certificate name asked found peak named moments within_limits has ok =
@@ -207,7 +194,7 @@ accepted_certificate name asked found peak named moments within_limits has ok =
       station = named;
       begin = moments.begin;
       end = moments.end;
-      at = moment found.curve.first_year (length found.curve.years) peak.at has.levels.first.years
+      at = curve_moment found.curve peak.at has.levels.first.valid
           (record { least = omega (arith, ints); most = omega (arith, ints) });
       value = highest-small (tide_levels found) (source_of found asked.begin)
           (source_of found asked.end) peak.at peak.value (levels_lawful found within_limits) least most highest;
@@ -278,5 +265,5 @@ accepted_highest book asked site peak is equal ok =
     let has = has_highest book asked site found is equal in
     let tide = tide_highest found asked peak is.within_limits has (verdict_alike book asked site found peak is equal has ∙ ok) in
     highest-agrees (tide_levels found) (level_curve book site) (source_of found asked.begin) (minute_count asked) peak.at peak.value
-    (levels_alike book asked site found is equal has)
+    (levels_alike book asked site found is)
     (rw (last_source asked.begin asked.end site.basis.high.add has.levels.forward) tide)

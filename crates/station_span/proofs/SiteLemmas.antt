@@ -1,4 +1,4 @@
--- A station that was found has a tide that predicts it.
+-- A station that was found has a curve.
 use Rattle.std.proofs.Common.{◌≡◌, ℕ, zero, suc, ◌<◌, ◌≤◌, nat_lt, ℤ, pos, negsuc, ◌-ℤ◌, ◌≤ℤ◌, int_lt, unsigned_abs, Bool, true, false, IsTrue, List, [], ◌∷◌, length, Option, Some, None, Result, Ok, Err, All, slice_get, fold, refl, subst, ◌∙◌, arith}
 use Rattle.std.specs.Int.{int_max, int_min}
 use Rattle.std.specs.List.{position, position_or_len}
@@ -16,9 +16,7 @@ use Rattle.harmonics_book.specs.declared.book.Units.{Units}
 use Rattle.harmonics_book.specs.declared.book.Units.TheVariants.{Feet, Meters, Knots, KnotsSquared}
 use Rattle.harmonics_book.specs.Books.{IsBook, IsStation}
 use Rattle.station_curve.specs.declared.fault.CurveFault.{CurveFault}
-use Rattle.station_curve.specs.Curves.{is_hydraulic, first_fault, tide_or, tide_of, curve_of}
-use Rattle.station_curve.specs.Waves.{Tide}
-use Rattle.station_curve.proofs.Whole.{tide_within_limits, predicts_tide, predicts_within}
+use Rattle.station_curve.specs.Curves.{is_hydraulic, first_fault, curve_of, Prediction, curve_over, prediction_of, unless_fault}
 use Rattle.station_table.specs.declared.basis.Basis.{Basis}
 use Rattle.station_table.specs.declared.finding.FindFault.{FindFault}
 use Rattle.station_table.specs.declared.finding.FindFault.TheVariants as find
@@ -31,17 +29,19 @@ use Rattle.station_span.specs.declared.reach.Reach.{Reach}
 use Rattle.station_span.specs.declared.reach.Reach.TheVariants.{Events, Levels, Highest}
 use Rattle.tide_fault.specs.declared.refusal.Refusal.TheVariants.{NoStation}
 use Rattle.station_span.specs.Workings.Tides.{SiteTide}
-use Rattle.station_span.specs.Sites.{Site, basis_from, lacks_minute, level_unit, moved, reached, has_span, span_in, tide_from, length_in, mark_in, span_limit, site_at, site_in}
+use Rattle.station_span.specs.Sites.{Site, basis_from, lacks_minute, level_unit, moved, reached, has_span, span_in, curve_from, length_in, mark_in, span_limit, site_at, site_in}
 use Rattle.station_span.specs.Workings.Spans.{HasLevels, IsBeside, IsFound, IsInRange, IsSpanInRange, IsReached}
 use Rattle.station_span.proofs.FoundLemmas.{HasCurve, found_by, found_whole}
-use Rattle.station_span.proofs.SpanLemmas.{book_years, has_offsets, reached_span}
+use Rattle.station_span.proofs.SpanLemmas.{has_offsets, reached_span}
+use Rattle.station_curve.proofs.Ranges.{all_minutes_valid}
+use Rattle.station_curve.proofs.WithinLimits.{limits_of}
 
 -- ---- the results of a station's steps
 
 record WentThrough (reach : Reach) (book : Book) (site : Site) (asked : Asked) : Type 0 where
   pub units : Units
-  pub tide : Tide
-  pub curve : HasCurve reach book site asked units tide
+  pub whole : Prediction
+  pub curve : HasCurve reach book site asked units whole
   pub few : length_in asked.begin asked.end ≡ Ok tt
   pub mark : mark_in site.basis asked.mark ≡ Ok tt
 
@@ -51,13 +51,13 @@ unfolding site_at
 site_steps reach book site result asked ok =
     let unit = then_ok (level_unit site.station.units) _ result ok in
     let span = then_ok (span_in reach book site.basis asked.begin asked.end) _ result unit.2 in
-    let curve = then_ok (tide_from (curve_of book site.station)) _ result span.2 in
+    let curve = then_ok (curve_from (curve_of book site.station)) _ result span.2 in
     let few = then_ok (length_in asked.begin asked.end) _ result curve.2 in
     let mark = then_ok (mark_in site.basis asked.mark) _ result few.2 in
     let same : site ≡ result = (let last = mark.2 in cc) in (
       record {
         units = unit.0;
-        tide = curve.0;
+        whole = curve.0;
         curve = record { unit = unit.1; span = span.1; curve = curve.1 };
         few = few.1;
         mark = mark.1;
@@ -92,15 +92,15 @@ unit_levels Meters same ok = refl
 unit_levels Knots same ok = refl
 unit_levels KnotsSquared same ok = absurd cc
 
-no_fault : (tide : Tide) (fault : Option CurveFault) (same : Tide) → tide_from (tide_or tide fault) ≡ Ok same → fault ≡ None
-no_fault tide None same ok = refl
-no_fault tide (Some fault) same ok = absurd cc
+no_fault : (whole same : Prediction) (fault : Option CurveFault) → curve_from (unless_fault whole fault) ≡ Ok same → fault ≡ None
+no_fault whole same None ok = refl
+no_fault whole same (Some fault) ok = absurd cc
 
-curve_none : (book : Book) (station : Station) (hydraulic : Bool) (tide : Tide) → is_hydraulic station.units ≡ hydraulic
-    → tide_from (curve_of book station) ≡ Ok tide → first_fault book station book.years ≡ None
-unfolding curve_of
-curve_none book station true tide is ok = absurd (let none = rw is at ok in cc)
-curve_none book station false tide is ok = no_fault (tide_of book station) _ tide (rw is at ok)
+pub curve_none : (book : Book) (station : Station) (hydraulic : Bool) (curve : Prediction) → is_hydraulic station.units ≡ hydraulic
+    → curve_from (curve_of book station) ≡ Ok curve → first_fault book station book.years ≡ None
+unfolding curve_of curve_over
+curve_none book station true curve is ok = absurd (let none = rw is at ok in cc)
+curve_none book station false curve is ok = no_fault (prediction_of book station) curve _ (rw is at ok)
 
 few_minutes : (begin end : ℤ) → length_in begin end ≡ Ok tt → (end -ℤ begin) ≤ℤ span_limit
 unfolding length_in
@@ -260,10 +260,10 @@ span_reached reach book basis asked has in_range ok =
     let both = reached_in_range reach basis asked.begin asked.end forward in_range.begin in_range.end has in
     reached_span reach book basis asked.begin asked.end tests.0 tests.1 tests.2 both.0 both.1
 
--- ---- a station that was found has a tide that predicts it
+-- ---- a station that was found has a curve
 
 abbrev pub found_at : Book → Site → SiteTide
-found_at book site = record { basis = site.basis; units = site.station.units; curve = tide_of book site.station }
+found_at book site = record { basis = site.basis; units = site.station.units; curve = prediction_of book site.station }
 
 pub found_of_site : (reach : Reach) (book : Book) (table : List Offsets) (name : List ℕ) (asked : Asked) (site : Site)
     → IsBook book → IsTable table → IsInRange asked → site_in reach book table name asked ≡ Ok site
@@ -273,15 +273,16 @@ found_of_site reach book table name asked site is rows in_range ok =
     let steps = was.steps in
     let valid = basis_valid book table name site.basis rows was.basis in
     let station = each_got (IsStation (length book.constituents)) book.stations site.basis.station site.station is.stations was.station in
+    let span = span_reached reach book site.basis asked (has_offsets _ site.basis valid) in_range steps.curve.span in
     record {
       basis = refl;
       valid = valid;
       units = refl;
       levels = unit_levels site.station.units steps.units steps.curve.unit;
-      predicts = predicts_within book site.station _ _ (tide_of book site.station) (predicts_tide book site.station is);
-      within_limits = tide_within_limits book site.station is station (curve_none book site.station _ steps.tide refl steps.curve.curve);
-      years = book_years book is;
-      span = span_reached reach book site.basis asked (has_offsets _ site.basis valid) in_range steps.curve.span;
+      predicts = record { of_book = refl; of_station = refl; from = span.begins.least; until = span.ends.most };
+      within_limits = all_minutes_valid book site.station
+          (limits_of book site.station is station (curve_none book site.station _ steps.whole refl steps.curve.curve));
+      span = span;
       few = few_minutes asked.begin asked.end steps.few;
       mark = mark_here site.basis asked.mark steps.mark;
       in_range = in_range;
@@ -312,5 +313,5 @@ site_unmarked reach book table name asked site ok =
     let bare : Asked = record asked { mark = None } in
     let curve = steps.curve in
     found_by reach book table name bare site.basis site.station was.basis was.station
-    ∙ found_whole reach book site bare steps.units steps.tide
+    ∙ found_whole reach book site bare steps.units steps.whole
     (record { unit = curve.unit; span = curve.span; curve = curve.curve }) steps.few refl

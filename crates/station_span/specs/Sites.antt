@@ -1,26 +1,5 @@
 -- The steps of every request about a station's span, in the order of refusals (this project).
-use Rattle.std.specs.Prelude.{
-  ℕ,
-  ℤ,
-  pos,
-  ◌+ℤ◌,
-  ◌-ℤ◌,
-  int_lt,
-  int_le,
-  Bool,
-  true,
-  false,
-  ◌&&◌,
-  if◌then◌else◌,
-  List,
-  Option,
-  Some,
-  None,
-  Result,
-  Ok,
-  Err,
-  slice_get,
-}
+use Rattle.std.specs.Prelude.{ℕ, ℤ, pos, ◌+ℤ◌, ◌-ℤ◌, int_lt, int_le, Bool, true, false, ◌&&◌, if◌then◌else◌, List, Option, Some, None, Result, Ok, Err, slice_get}
 use Rattle.std.specs.Option.{ok_or}
 use Rattle.decimal_text.specs.Expected.{◌>>=◌}
 use Rattle.event_list.specs.declared.span.Span.{Span}
@@ -30,8 +9,7 @@ use Rattle.harmonics_book.specs.declared.book.Station.{Station}
 use Rattle.harmonics_book.specs.declared.book.Units.{Units}
 use Rattle.harmonics_book.specs.declared.book.Units.TheVariants.{Feet, Meters, Knots, KnotsSquared}
 use Rattle.station_curve.specs.declared.fault.CurveFault.{CurveFault}
-use Rattle.station_curve.specs.Curves.{curve_of}
-use Rattle.station_curve.specs.Waves.{Tide}
+use Rattle.station_curve.specs.Curves.{Prediction, curve_of}
 use Rattle.station_table.specs.declared.basis.Basis.{Basis}
 use Rattle.station_table.specs.declared.finding.FindFault.{FindFault}
 use Rattle.station_table.specs.declared.offsets.Offsets.{Offsets}
@@ -41,15 +19,7 @@ use Rattle.station_span.specs.declared.asked.Asked.{Asked}
 use Rattle.station_span.specs.declared.reach.Reach.{Reach}
 use Rattle.station_span.specs.declared.reach.Reach.TheVariants.{Events, Levels, Highest}
 use Rattle.tide_fault.specs.declared.refusal.Refusal.{Refusal}
-use Rattle.tide_fault.specs.declared.refusal.Refusal.TheVariants.{
-  NoStation,
-  Hydraulic,
-  BackwardSpan,
-  EmptySpan,
-  OutOfYears,
-  SpanTooLong,
-  MarkNotHere,
-}
+use Rattle.tide_fault.specs.declared.refusal.Refusal.TheVariants.{NoStation, Hydraulic, BackwardSpan, EmptySpan, OutOfYears, SpanTooLong, MarkNotHere}
 use Rattle.tide_fault.specs.Faults.{refusal_of_curve, refusal_of_find}
 
 -- a station of a harmonics file, and the offsets from it
@@ -127,10 +97,10 @@ span_in reach book basis begin end =
     else if has_span book (reached reach basis begin end) then Ok tt
     else Err (OutOfYears (year_start_of book.first_year) (year_start_of (book.first_year +ℤ pos book.years)))
 
--- the step of the bounds: the tide of the station
-abbrev pub tide_from : Result Tide CurveFault → Result Tide Refusal
-tide_from (Ok tide) = Ok tide
-tide_from (Err fault) = Err (refusal_of_curve fault)
+-- the step of the bounds: the curve of the station
+abbrev pub curve_from : Result Prediction CurveFault → Result Prediction Refusal
+curve_from (Ok curve) = Ok curve
+curve_from (Err fault) = Err (refusal_of_curve fault)
 
 -- the step of the length: at most 5,270,400 minutes
 unfoldable pub length_in : ℤ → ℤ → Result (Unit {0}) Refusal
@@ -149,7 +119,7 @@ unfoldable pub site_at : Reach → Book → Site → Asked → Result Site Refus
 site_at reach book site asked = do
   units ← level_unit site.station.units
   span ← span_in reach book site.basis asked.begin asked.end
-  tide ← tide_from (curve_of book site.station)
+  curve ← curve_from (curve_of book site.station)
   few ← length_in asked.begin asked.end
   mark ← mark_in site.basis asked.mark
   Ok site
@@ -167,5 +137,5 @@ station_in book table name = do
   basis ← basis_from (basis_of book table name)
   station ← ok_or (slice_get book.stations basis.station) NoStation
   units ← level_unit station.units
-  tide ← tide_from (curve_of book station)
+  curve ← curve_from (curve_of book station)
   Ok (record { basis = basis; station = station })

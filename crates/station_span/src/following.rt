@@ -66,7 +66,7 @@ pub fn list_station(
 /// ```
 pub fn find_events(alloc: Global, found: &FoundStation) -> Result<FoundEvents, AllocError>
     requires { found.now.reach ≡ Reach.Events }
-    ensures { IfOk result (λ listed. IsSiteList found.now.origin.book found.now.asked (site_of found.now) listed) }
+    ensures { IfOk result (λ listed. IsSiteList found.now.curve.book found.now.asked (site_of found.now) listed) }
 {
     let mut merge = merge_of(found);
     let merged = merged_events(alloc, &mut merge)?;
@@ -97,7 +97,7 @@ fn merged_events<'a>(
 fn shifted_events(alloc: Global, merged: Events, found: &FoundStation) -> Result<Events, AllocError>
     requires reach { found.now.reach ≡ Reach.Events }
     requires merged { AreReferences found.now merged }
-    ensures { IfOk result (λ events. events ≡ events_of found.now.origin.book (site_of found.now) found.now.asked) }
+    ensures { IfOk result (λ events. events ≡ events_of found.now.curve.book (site_of found.now) found.now.asked) }
 {
     if found.basis.plain() {
         Ok(merged)
@@ -119,9 +119,9 @@ fn shifted_events(alloc: Global, merged: Events, found: &FoundStation) -> Result
 pub fn merge_of<'a>(found: &'a FoundStation) -> Merge<TurnCurve<'a>, MarkCurve<'a>>
     requires { found.now.reach ≡ Reach.Events }
     ensures left { AreReferences found.now result.left }
-    ensures plain { IsTrue (is_plain found.now.basis) → result.left ≡ events_of found.now.origin.book (site_of found.now) found.now.asked }
+    ensures plain { IsTrue (is_plain found.now.basis) → result.left ≡ events_of found.now.curve.book (site_of found.now) found.now.asked }
     ensures cells { result.cells ≡ 0 }
-    ensures all { result.all ≡ cells_of found.now.origin.book (site_of found.now) found.now.asked }
+    ensures all { result.all ≡ cells_of found.now.curve.book (site_of found.now) found.now.asked }
 {
     Merge::new(turn_search(found), slack_search(found), mark_search(found))
 }
@@ -131,7 +131,7 @@ pub fn merge_of<'a>(found: &'a FoundStation) -> Merge<TurnCurve<'a>, MarkCurve<'
 pub fn turn_search<'a>(found: &'a FoundStation) -> Search<TurnCurve<'a>>
     requires { found.now.reach ≡ Reach.Events }
     ensures at { result.at ≡ found.now.span.begin }
-    ensures left { result.left ≡ (tracks_of found.now.origin.book (site_of found.now) found.now.asked).turn }
+    ensures left { result.left ≡ (tracks_of found.now.curve.book (site_of found.now) found.now.asked).turn }
     ensures most { result.most ≡ length result.left + 1 }
 {
     Search::new(
@@ -146,7 +146,7 @@ pub fn turn_search<'a>(found: &'a FoundStation) -> Search<TurnCurve<'a>>
 pub fn slack_search<'a>(found: &'a FoundStation) -> Option<Search<MarkCurve<'a>>>
     requires { found.now.reach ≡ Reach.Events }
     ensures at { ForSome result (λ search. search.at ≡ found.now.span.begin) }
-    ensures left { cells_left result ≡ (tracks_of found.now.origin.book (site_of found.now) found.now.asked).slack }
+    ensures left { cells_left result ≡ (tracks_of found.now.curve.book (site_of found.now) found.now.asked).slack }
     ensures most { ForSome result (λ search. search.most ≡ length search.left + 1) }
 {
     search_if(slack_curve(found, Version::Second), &found.span)
@@ -157,7 +157,7 @@ pub fn slack_search<'a>(found: &'a FoundStation) -> Option<Search<MarkCurve<'a>>
 pub fn mark_search<'a>(found: &'a FoundStation) -> Option<Search<MarkCurve<'a>>>
     requires { found.now.reach ≡ Reach.Events }
     ensures at { ForSome result (λ search. search.at ≡ found.now.span.begin) }
-    ensures left { cells_left result ≡ (tracks_of found.now.origin.book (site_of found.now) found.now.asked).mark }
+    ensures left { cells_left result ≡ (tracks_of found.now.curve.book (site_of found.now) found.now.asked).mark }
     ensures most { ForSome result (λ search. search.most ≡ length search.left + 1) }
 {
     search_if(mark_curve(found, Version::Second), &found.span)

@@ -1,12 +1,11 @@
 //! A station that was found, with a span.
 
 ghost use Rattle.std.specs.Prelude.{◌≡◌};
-ghost use Rattle.station_curve.specs.Curves.{tide_over};
+ghost use Rattle.station_curve.specs.Curves.{prediction_over};
 ghost use Rattle.station_span.specs.Sites.{reached};
 ghost use Rattle.station_span.specs.Workings.Looked.{IsValid};
 
 use crate::asked::Asked;
-use crate::origin::Origin;
 use crate::reach::Reach;
 use event_list::Span;
 use harmonics_book::Units;
@@ -15,11 +14,9 @@ use station_table::Basis;
 
 /// A station that was found, with a span of it for which a request has an answer.
 ///
-/// Its curve predicts the reference, over the minutes of `span` alone.
+/// Its curve has the minutes of `span` alone.
 #[derive(Drop)]
 pub struct FoundStation {
-    /// The harmonics file and the reference station, for contracts alone.
-    pub origin: Origin,
     /// The offsets from the reference.
     pub basis: Basis,
     /// The unit of the reference.
@@ -32,8 +29,8 @@ pub struct FoundStation {
     pub asked: Asked,
     /// The reference's minutes that are evaluated.
     pub span: Span,
-    pub ghost unit: { units ≡ origin.station.units },
-    pub ghost valid: { IsValid reach origin.book asked basis origin.station curve },
+    pub ghost unit: { units ≡ curve.station.units },
+    pub ghost valid: { IsValid reach curve.book asked basis curve.station curve },
     pub ghost looked: { span ≡ reached reach basis asked.begin asked.end },
-    pub ghost alone: { curve ≡ tide_over origin.book origin.station span.begin span.end },
+    pub ghost alone: { curve ≡ prediction_over curve.book curve.station span.begin span.end },
 }

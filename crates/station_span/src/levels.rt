@@ -39,7 +39,7 @@ pub fn check_level(found: &FoundStation) -> Result<(), Refusal>
 /// minute that the offset moves to `minute`, scaled. Doesn't allocate.
 pub fn level_at(found: &FoundStation, minute: i64) -> i64
     requires { IsLooked found.now minute }
-    ensures { result ≡ level_at found.now.origin.book (site_of found.now) minute }
+    ensures { result ≡ level_at found.now.curve.book (site_of found.now) minute }
 {
     let level = found.curve.millionths(source(found, minute));
     scaled(&found.basis.high, level)
@@ -48,7 +48,7 @@ pub fn level_at(found: &FoundStation, minute: i64) -> i64
 /// Returns true if the station's level at `minute` rises: its slope is above 0. Doesn't allocate.
 pub fn is_rising(found: &FoundStation, minute: i64) -> bool
     requires { IsLooked found.now minute }
-    ensures { result ≡ is_rising_at found.now.origin.book (site_of found.now) minute }
+    ensures { result ≡ is_rising_at found.now.curve.book (site_of found.now) minute }
 {
     found.curve.slope(source(found, minute)) > 0
 }

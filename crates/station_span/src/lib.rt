@@ -15,7 +15,6 @@ mod curves;
 mod following;
 mod found_station;
 mod levels;
-mod origin;
 mod peaks;
 mod reach;
 mod reference_station;
@@ -32,7 +31,6 @@ pub use following::{
 };
 pub use found_station::FoundStation;
 pub use levels::{check_level, is_rising, level_at, worked_levels};
-pub use origin::Origin;
 pub use peaks::{find_highest, find_level, highest_minute, judge_highest, moved_minute};
 pub use reach::Reach;
 pub use reference_station::{ReferenceStation, find_reference};

@@ -56,7 +56,7 @@ pub fn find_level(
 /// the cells that show it.
 pub fn find_highest(alloc: Global, found: &FoundStation) -> Result<Peak, AllocError>
     requires { HasPeak found.now }
-    ensures exact { IfOk result (λ peak. peak ≡ highest_of found.now.origin.book (site_of found.now) found.now.asked) }
+    ensures exact { IfOk result (λ peak. peak ≡ highest_of found.now.curve.book (site_of found.now) found.now.asked) }
     ensures inside { IfOk result (λ peak. IsSourceIn (tide_of_found found.now) found.now.asked peak.at) }
 {
     let peak = find_peak(
@@ -71,7 +71,7 @@ pub fn find_highest(alloc: Global, found: &FoundStation) -> Result<Peak, AllocEr
 /// Returns the reference's minute of the highest water, without making its cells.
 pub fn highest_minute(found: &FoundStation) -> i64
     requires { HasPeak found.now }
-    ensures exact { result ≡ (highest_of found.now.origin.book (site_of found.now) found.now.asked).at }
+    ensures exact { result ≡ (highest_of found.now.curve.book (site_of found.now) found.now.asked).at }
     ensures inside { IsSourceIn (tide_of_found found.now) found.now.asked result }
 {
     highest_point(&mut level_curve(found), found.span.begin, found.span.end).minute
@@ -84,7 +84,7 @@ pub fn judge_highest(found: &FoundStation, peak: &Peak) -> PeakVerdict
     requires peak { HasPeak found.now }
     requires size { unsigned_abs peak.now.value < 10 ^ 37 }
     requires count_bound { length peak.now.cells < 2 ^ 32 }
-    ensures exact { result ≡ highest_verdict found.now.origin.book (site_of found.now) found.now.asked peak.now }
+    ensures exact { result ≡ highest_verdict found.now.curve.book (site_of found.now) found.now.asked peak.now }
     ensures inside { result ≡ PeakVerdict.Accepted → IsSourceIn (tide_of_found found.now) found.now.asked peak.now.at }
 {
     check_peak(

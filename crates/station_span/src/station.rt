@@ -47,7 +47,6 @@ ghost use Rattle.year_blend.specs.Years.{year_start_of};
 ghost use Rattle.zone_time.specs.Moments.{IsMoment};
 
 use crate::found_station::FoundStation;
-use crate::origin::Origin;
 use crate::reach::Reach;
 use crate::station_curves::curve_over;
 use crate::station_data::StationData;
@@ -144,7 +143,6 @@ fn find_at(
     check_length(request)?;
     check_mark(&basis, request)?;
     Ok(FoundStation {
-        origin: Origin::of(book.get(), station),
         basis,
         units: station.units,
         curve,

@@ -1,13 +1,11 @@
 //! The curve of a station, for the minutes of a span or for all.
 
-ghost use Rattle.std.specs.Prelude.{◌≡◌, [], IfErr, IfOk, Some, slice_get};
+ghost use Rattle.std.specs.Prelude.{◌≡◌, ◌≤ℤ◌, [], IfErr, IfOk, Some, slice_get};
 ghost use Rattle.decimal_text.specs.Expected.{ReturnsUnless};
-ghost use Rattle.station_curve.specs.Curves.{curve_of, curve_over, Predicts, PredictsOver};
-ghost use Rattle.station_curve.specs.Limits.{IsWithinLimits};
-ghost use Rattle.station_span.specs.Sites.{tide_from};
-ghost use Rattle.station_span.specs.Workings.Spans.{IsSpanInRange};
+ghost use Rattle.station_curve.specs.Curves.{curve_of, curve_over, prediction_of, prediction_over, IsPrediction};
+ghost use Rattle.station_span.specs.Sites.{curve_from};
 ghost use Rattle.tide_fault.specs.Faults.{refusal_is_out_of_memory, IsPrintableRefusal};
-ghost use Rattle.year_blend.specs.Places.{AreYears};
+ghost use Rattle.year_blend.specs.Places.{InDomain};
 
 use event_list::Span;
 use harmonics_book::{Station, ValidBook};
@@ -24,12 +22,13 @@ pub fn curve_over(
     span: &Span,
 ) -> Result<StationCurve, Refusal>
     requires place { slice_get book.now.stations place ≡ Some station.now }
-    requires in_range { IsSpanInRange span.now }
+    requires begins { InDomain book.now.first_year book.now.years span.now.begin }
+    requires ends { InDomain book.now.first_year book.now.years span.now.end }
+    requires forward { span.now.begin ≤ℤ span.now.end }
     ensures exact { ReturnsUnless refusal_is_out_of_memory
-        (tide_from (curve_over book.now station.now span.now.begin span.now.end)) result }
-    ensures predicts { IfOk result (PredictsOver book.now station.now span.now.begin span.now.end) }
-    ensures within_limits { IfOk result IsWithinLimits }
-    ensures years { AreYears book.now.first_year book.now.years }
+        (curve_from (curve_over book.now station.now span.now.begin span.now.end)) result }
+    ensures predicts { IfOk result (λ curve. curve ≡ prediction_over book.now station.now span.now.begin span.now.end) }
+    ensures valid { IfOk result IsPrediction }
     ensures printable { IfErr result (IsPrintableRefusal []) }
 {
     match StationCurve::over(alloc, book.get(), place, span.begin, span.end) {
@@ -53,10 +52,9 @@ pub fn whole_curve(
     station: &Station,
 ) -> Result<StationCurve, Refusal>
     requires place { slice_get book.now.stations place ≡ Some station.now }
-    ensures exact { ReturnsUnless refusal_is_out_of_memory (tide_from (curve_of book.now station.now)) result }
-    ensures predicts { IfOk result (Predicts book.now station.now) }
-    ensures within_limits { IfOk result IsWithinLimits }
-    ensures years { AreYears book.now.first_year book.now.years }
+    ensures exact { ReturnsUnless refusal_is_out_of_memory (curve_from (curve_of book.now station.now)) result }
+    ensures predicts { IfOk result (λ curve. curve ≡ prediction_of book.now station.now) }
+    ensures valid { IfOk result IsPrediction }
     ensures printable { IfErr result (IsPrintableRefusal []) }
 {
     match StationCurve::new(alloc, book.get(), place) {

@@ -21,10 +21,8 @@ use Rattle.event_list.proofs.EventLemmas.{covers-accepted}
 use Rattle.harmonics_book.specs.declared.book.Book.{Book}
 use Rattle.rate_bound.specs.declared.version.Version.{Version}
 use Rattle.rate_bound.specs.declared.version.Version.TheVariants.{Second}
-use Rattle.rate_bound.specs.Meanings.{turn_meaning}
-use Rattle.station_curve.specs.Levels.{millionths_of}
-use Rattle.station_curve.specs.Limits.{IsWithinLimits}
-use Rattle.station_curve.specs.Waves.{Tide}
+use Rattle.station_curve.specs.Curves.{IsPrediction, Prediction}
+use Rattle.station_curve.specs.Schureman.{predicted_millionths}
 use Rattle.station_table.specs.declared.offsets.Offsets.{Offsets}
 use Rattle.zone_time.specs.Moments.{IsMoment}
 use Rattle.station_span.specs.declared.asked.Asked.{Asked}
@@ -49,7 +47,7 @@ pub tracks_few : (asked : Asked) (found : SiteTide) (tracks : Tracks) → IsRead
     → cells_in tracks < 2 ^ 64
 tracks_few asked found tracks ready same = rw same (few_cells asked found ready)
 
-pub few_for : (f : FoundStation) → f.reach ≡ Events → cells_in (tracks_of f.origin.book (site_of f) f.asked) < 2 ^ 64
+pub few_for : (f : FoundStation) → f.reach ≡ Events → cells_in (tracks_of f.curve.book (site_of f) f.asked) < 2 ^ 64
 few_for f is = tracks_few f.asked (tide_of_found f) _ (ready_for f is) (tracks_tide f is)
 
 -- ---- the parts are within their ranges
@@ -58,14 +56,14 @@ if_some : (P : ℤ → Type 0) (o : Option ℤ) → ForSome o P → IfSome o P
 if_some P (Some x) holds = holds x refl
 if_some P None holds = tt
 
-of_notes : (track : TrackName) (tide : Tide) (c : Meaning) → IsWithinLimits tide → c.first
-    ≡ (turn_meaning Second tide).first → c.last ≡ (turn_meaning Second tide).last → c.track.note ≡ millionths_of tide
+of_notes : (track : TrackName) (curve : Prediction) (c : Meaning) → IsPrediction curve → c.first ≡ curve.first → c.last ≡ curve.last
+    → c.track.note ≡ predicted_millionths curve.book curve.station
     → track_of c.track.rising ≡ track → track_of c.track.falling ≡ track → IsOf track c
-of_notes track tide c within_limits first last note rising falling = record {
+of_notes track curve c within_limits first last note rising falling = record {
   rising = rising;
   falling = falling;
   small = λ m minute.
-      rw note (millionths_small tide m within_limits (record { least = rw first at minute.first; most = rw last at minute.last }));
+      rw note (millionths_small curve m within_limits (record { least = rw first at minute.first; most = rw last at minute.last }));
 }
 
 of_if_asked : (asks : Bool) (c : Meaning) → IsOf Slack c → ForSome (if_asked asks c) (IsOf Slack)
@@ -76,13 +74,13 @@ of_if_marked : (mark : Option ℤ) (f : ℤ → Meaning) → ((level : ℤ) → 
 of_if_marked (Some level) f is x e = let same : f level ≡ x = cc in rw (← same) (is level)
 of_if_marked None f is x e = absurd cc
 
--- the curves of a tide have the events and the levels of their tracks
+-- the curves of a station have the events and the levels of their tracks
 record AreOf (f : Followed) : Type 0 where
   pub turn : IsOf Turn f.turn
   pub slack : ForSome f.slack (IsOf Slack)
   pub mark : ForSome f.mark (IsOf Mark)
 
-followed_of : (version : Version) (found : SiteTide) (mark : Option ℤ) → IsWithinLimits found.curve
+followed_of : (version : Version) (found : SiteTide) (mark : Option ℤ) → IsPrediction found.curve
     → AreOf (followed_tide version found mark)
 unfolding followed_tide
 followed_of version found mark within_limits = record {

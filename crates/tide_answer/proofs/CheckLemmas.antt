@@ -225,21 +225,21 @@ checked_by book table bytes zone cert is = rw is refl
 -- ---- a station that was found
 
 found_in : (found : FoundStation) (cert : Certificate) → found.reach ≡ Events → found.asked ≡ asked_by_certificate cert
-    → IsFound Events found.origin.book (asked_by_certificate cert) (site_of found) (tide_of_found found)
+    → IsFound Events found.curve.book (asked_by_certificate cert) (site_of found) (tide_of_found found)
 found_in found cert reach same =
-    subst (λ a. IsFound Events found.origin.book a (site_of found) (tide_of_found found)) same (found_for found Events reach)
+    subst (λ a. IsFound Events found.curve.book a (site_of found) (tide_of_found found)) same (found_for found Events reach)
 
 ready_in : (found : FoundStation) (cert : Certificate) → found.reach ≡ Events → found.asked ≡ asked_by_certificate cert
     → IsReady (asked_by_certificate cert) (tide_of_found found)
-ready_in found cert reach same = ready_of_found found.origin.book (asked_by_certificate cert) (site_of found)
+ready_in found cert reach same = ready_of_found found.curve.book (asked_by_certificate cert) (site_of found)
     (tide_of_found found) (found_in found cert reach same)
 
 -- the first fault by the tide is the first fault
 pub rejection_for : (found : FoundStation) (cert : Certificate) → found.reach ≡ Events
     → found.asked ≡ asked_by_certificate cert
-    → tide_rejection (tide_of_found found) cert ≡ rejection_in found.origin.book (site_of found) cert
+    → tide_rejection (tide_of_found found) cert ≡ rejection_in found.curve.book (site_of found) cert
 rejection_for found cert reach same =
-    site_rejection found.origin.book cert (site_of found) (tide_of_found found) (found_in found cert reach same)
+    site_rejection found.curve.book cert (site_of found) (tide_of_found found) (found_in found cert reach same)
 
 pub span_in : (found : FoundStation) (cert : Certificate) → found.reach ≡ Events
     → found.asked ≡ asked_by_certificate cert → found.span ≡ widened_of found.basis cert.begin cert.end
@@ -247,13 +247,13 @@ span_in found cert reach same = span_for found Events reach ∙ ap (λ (a : Aske
 
 pub found_short : (found : FoundStation) (cert : Certificate) → found.reach ≡ Events
     → found.asked ≡ asked_by_certificate cert → IsCertificate cert
-    → rejection_in found.origin.book (site_of found) cert ≡ None → AreShort cert.tracks
+    → rejection_in found.curve.book (site_of found) cert ≡ None → AreShort cert.tracks
 found_short found cert reach same valid none =
     ready_short (tide_of_found found) cert (ready_in found cert reach same) valid (rejection_for found cert reach same ∙ none)
 
 pub found_movable : (found : FoundStation) (cert : Certificate) (events : List Event) → found.reach ≡ Events
     → found.asked ≡ asked_by_certificate cert → events ≡ merged_of found.span.begin cert.tracks → IsCertificate cert
-    → rejection_in found.origin.book (site_of found) cert ≡ None → All IsMovable events
+    → rejection_in found.curve.book (site_of found) cert ≡ None → All IsMovable events
 found_movable found cert events reach same is valid none =
     rw (is, span_in found cert reach same)
     (ready_movable (version_of cert) (asked_by_certificate cert) (tide_of_found found) cert.tracks (ready_in found cert reach same)
@@ -261,17 +261,17 @@ found_movable found cert events reach same is valid none =
 
 pub found_list : (found : FoundStation) (cert : Certificate) (events : List Event) → found.reach ≡ Events
     → found.asked ≡ asked_by_certificate cert → events ≡ merged_of found.span.begin cert.tracks → IsCertificate cert
-    → rejection_in found.origin.book (site_of found) cert ≡ None
+    → rejection_in found.curve.book (site_of found) cert ≡ None
     → shifted_of found.basis found.asked.begin found.asked.end events
-    ≡ events_of found.origin.book (site_of found) (asked_by_certificate cert)
+    ≡ events_of found.curve.book (site_of found) (asked_by_certificate cert)
 found_list found cert events reach same is valid none =
     rw (is, span_in found cert reach same, same)
     (accepted_events (tide_of_found found) cert (ready_in found cert reach same) valid (rejection_for found cert reach same ∙ none)
-    ∙ found_events found.origin.book (asked_by_certificate cert) (site_of found) (tide_of_found found) (found_in found cert reach same))
+    ∙ found_events found.curve.book (asked_by_certificate cert) (site_of found) (tide_of_found found) (found_in found cert reach same))
 
 pub found_lines : (found : FoundStation) (cert : Certificate) → found.reach ≡ Events
-    → found.asked ≡ asked_by_certificate cert → All (IsListed found.origin.station.units)
-    (events_of found.origin.book (site_of found) (asked_by_certificate cert))
+    → found.asked ≡ asked_by_certificate cert → All (IsListed found.curve.station.units)
+    (events_of found.curve.book (site_of found) (asked_by_certificate cert))
 found_lines found cert reach same =
-    rw (← found_events found.origin.book (asked_by_certificate cert) (site_of found) (tide_of_found found) (found_in found cert reach same))
+    rw (← found_events found.curve.book (asked_by_certificate cert) (site_of found) (tide_of_found found) (found_in found cert reach same))
     (tide_lines (asked_by_certificate cert) (tide_of_found found) (ready_in found cert reach same))

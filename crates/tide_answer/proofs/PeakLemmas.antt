@@ -28,7 +28,7 @@ use Rattle.tide_answer.proofs.CheckLemmas.{lines_long}
 
 -- the parts of a highest water that is found are within their ranges
 pub certificate_valid : (name : List ℕ) (found : FoundStation) (peak : Peak) → IsStationName name
-    → AreMoments found.asked → HasPeak found → peak ≡ highest_of found.origin.book (site_of found) found.asked
+    → AreMoments found.asked → HasPeak found → peak ≡ highest_of found.curve.book (site_of found) found.asked
     → IsPeakCertificate (peak_certificate_in name found.asked peak)
 certificate_valid name found peak named moments has same =
     let tide = tide_of_found found in

@@ -39,11 +39,11 @@ row_level found step place looked is below =
 
 pub row_added : (found : FoundStation) (step : ℤ) (count : ℕ) (rows more : List Row) (row : Row) → AreLooked found
     → IsStep step → count < row_count found.asked.begin found.asked.end step
-    → AreRows found.origin.book (site_of found) found.asked.begin step count rows
-    → row ≡ row_at found.origin.book (site_of found) found.asked.begin step count → more ≡ rows ++ row ∷ []
-    → AreRows found.origin.book (site_of found) found.asked.begin step (count + 1) more
+    → AreRows found.curve.book (site_of found) found.asked.begin step count rows
+    → row ≡ row_at found.curve.book (site_of found) found.asked.begin step count → more ≡ rows ++ row ∷ []
+    → AreRows found.curve.book (site_of found) found.asked.begin step (count + 1) more
 row_added found step count rows more row looked is below are next added =
-    let here = row_at found.origin.book (site_of found) found.asked.begin step in
+    let here = row_at found.curve.book (site_of found) found.asked.begin step in
     let next_rows = map-range_with_len_more here 0 count count (omega arith) in
     let minute : InZoneYears (here count).minute =
     zone_minute (tide_of_found found) _ (looked_level found _ (row_level found step count looked is below)) in

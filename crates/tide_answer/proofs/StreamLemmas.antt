@@ -38,10 +38,10 @@ use Rattle.tide_answer.proofs.CertificateLemmas.{certificate_valid}
 -- ---- cells
 
 pub cells_small : (found : FoundStation) → found.reach ≡ Events
-    → cells_in (tracks_of found.origin.book (site_of found) found.asked) ≤ 600000000000
+    → cells_in (tracks_of found.curve.book (site_of found) found.asked) ≤ 600000000000
 unfolding cell_count tracks_of
 cells_small found is =
-    let few = count-few (followed found.origin.book (site_of found) found.asked)
+    let few = count-few (followed found.curve.book (site_of found) found.asked)
     (widened_of found.basis found.asked.begin found.asked.end) in
     let in_range = (found_for found Events is).span.in_range in
     let forward = in_range.forward in
@@ -115,30 +115,30 @@ merged_few a t =
 pub events_small : (found : FoundStation) (events : List Event) → found.reach ≡ Events → AreReferences found events
     → 96 * length events < 2 ^ 63
 events_small found events is references =
-    let few = merged_few found.span.begin (tracks_of found.origin.book (site_of found) found.asked) in
+    let few = merged_few found.span.begin (tracks_of found.curve.book (site_of found) found.asked) in
     let small = cells_small found is in
     rw references (omega (arith, few, small))
 
 -- ---- the parts of a certificate
 
 pub turn_small : (found : FoundStation) → found.reach ≡ Events
-    → length (tracks_of found.origin.book (site_of found) found.asked).turn ≤ 600000000000
-turn_small found is = omega (arith, cells-parts (tracks_of found.origin.book (site_of found) found.asked), cells_small found is)
+    → length (tracks_of found.curve.book (site_of found) found.asked).turn ≤ 600000000000
+turn_small found is = omega (arith, cells-parts (tracks_of found.curve.book (site_of found) found.asked), cells_small found is)
 
 pub slack_small : {C : Type 0} (found : FoundStation) (search : Option (Looking C)) → found.reach ≡ Events
-    → cells_left search ≡ (tracks_of found.origin.book (site_of found) found.asked).slack
+    → cells_left search ≡ (tracks_of found.curve.book (site_of found) found.asked).slack
     → left_count search ≤ 600000000000
 slack_small found search is left =
-    let tracks = tracks_of found.origin.book (site_of found) found.asked in
+    let tracks = tracks_of found.curve.book (site_of found) found.asked in
     let count : left_count search ≡ sum_by length (option_to_list tracks.slack) =
     left_counted search ∙ ap (λ (o : Option (List Cell)). sum_by length (option_to_list o)) left in
     omega (arith, count, cells-parts tracks, cells_small found is)
 
 pub mark_small : {C : Type 0} (found : FoundStation) (search : Option (Looking C)) → found.reach ≡ Events
-    → cells_left search ≡ (tracks_of found.origin.book (site_of found) found.asked).mark
+    → cells_left search ≡ (tracks_of found.curve.book (site_of found) found.asked).mark
     → left_count search ≤ 600000000000
 mark_small found search is left =
-    let tracks = tracks_of found.origin.book (site_of found) found.asked in
+    let tracks = tracks_of found.curve.book (site_of found) found.asked in
     let count : left_count search ≡ sum_by length (option_to_list tracks.mark) =
     left_counted search ∙ ap (λ (o : Option (List Cell)). sum_by length (option_to_list o)) left in
     omega (arith, count, cells-parts tracks, cells_small found is)
@@ -157,9 +157,9 @@ if_cells track (Some cells) all = All-weaker (IsCellOf track) IsCell (cell_of tr
 if_cells track None all = tt
 
 pub has_cells : (name : List ℕ) (found : FoundStation) → found.reach ≡ Events → IsStationName name
-    → AreMoments found.asked → HasCells (tracks_of found.origin.book (site_of found) found.asked)
+    → AreMoments found.asked → HasCells (tracks_of found.curve.book (site_of found) found.asked)
 has_cells name found reach named moments =
-    let tracks = tracks_of found.origin.book (site_of found) found.asked in
+    let tracks = tracks_of found.curve.book (site_of found) found.asked in
     let is = certificate_valid name found.asked (tide_of_found found) tracks named moments.begin moments.end
     (ready_for found reach) (tracks_tide found reach) in
     record {

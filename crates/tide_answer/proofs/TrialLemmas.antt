@@ -64,10 +64,10 @@ parts_few turn (Some slack) (Some mark) few = record {
   mark = λ x e. let same : mark ≡ x = cc in rw (← same) (omega (arith, few));
 }
 
-covers_few : (found : FoundStation) → found.reach ≡ Events → cells_in (tracks_of found.origin.book (site_of found) found.asked) < 2 ^ 32
+covers_few : (found : FoundStation) → found.reach ≡ Events → cells_in (tracks_of found.curve.book (site_of found) found.asked) < 2 ^ 32
 unfolding cell_count tracks_of
 covers_few found is =
-    let few = count-few (followed found.origin.book (site_of found) found.asked)
+    let few = count-few (followed found.curve.book (site_of found) found.asked)
     (widened_of found.basis found.asked.begin found.asked.end) in
     let span = (found_for found Events is).span in
     let forward = span.in_range.forward in
@@ -77,7 +77,7 @@ covers_few found is =
     omega (arith, ints, few)
 
 pub tracks_few : (found : FoundStation) (tracks : Tracks) → found.reach ≡ Events
-    → tracks ≡ tracks_of found.origin.book (site_of found) found.asked → HasFewCells tracks
+    → tracks ≡ tracks_of found.curve.book (site_of found) found.asked → HasFewCells tracks
 tracks_few found tracks is same =
     parts_few tracks.turn tracks.slack tracks.mark (rw same (covers_few found is))
 

@@ -20,7 +20,7 @@ pub fn find_rejection(found: &FoundStation, cert: &Certificate) -> Option<Reject
     requires reach { found.now.reach ≡ Reach.Events }
     requires same { found.now.asked ≡ asked_by_certificate cert.now }
     requires count_bound { HasFewCells cert.now.tracks }
-    ensures { result ≡ rejection_in found.now.origin.book (site_of found.now) cert.now }
+    ensures { result ≡ rejection_in found.now.curve.book (site_of found.now) cert.now }
 {
     let version = version_of(cert);
     let turn = turn_curve(found, version);

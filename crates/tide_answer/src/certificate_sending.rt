@@ -31,8 +31,8 @@ pub fn send_certificate<S: Sink>(
     requires moments { AreMoments found.now.asked }
     requires name { IsStationName name.now }
     ensures { Sends (S.state out.old) (S.state out.new) (record { bytes = 0; cells = 0 })
-        (certificate_text (certificate_by found.now.origin.book (site_of found.now) name.now found.now.asked))
-        (cells_of found.now.origin.book (site_of found.now) found.now.asked) result }
+        (certificate_text (certificate_by found.now.curve.book (site_of found.now) name.now found.now.asked))
+        (cells_of found.now.curve.book (site_of found.now) found.now.asked) result }
 {
     let sent = send_head(out, name, found)?;
     let sent = send_tracks(out, sent, found)?;
@@ -56,12 +56,12 @@ fn send_head<S: Sink>(out: &mut S, name: &Text, found: &FoundStation) -> Result<
 // Writes the tracks of all curves that are followed.
 fn send_tracks<S: Sink>(out: &mut S, sent: Sent, found: &FoundStation) -> Result<Sent, WriteFailed>
     requires reach { found.now.reach ≡ Reach.Events }
-    requires cells { HasCells (tracks_of found.now.origin.book (site_of found.now) found.now.asked) }
+    requires cells { HasCells (tracks_of found.now.curve.book (site_of found.now) found.now.asked) }
     requires small { sent.bytes ≤ 1000 }
     requires first { sent.cells ≡ 0 }
     ensures sends { Sends (S.state out.old) (S.state out.new) sent
-        (tracks_text (tracks_of found.now.origin.book (site_of found.now) found.now.asked))
-        (cells_of found.now.origin.book (site_of found.now) found.now.asked) result }
+        (tracks_text (tracks_of found.now.curve.book (site_of found.now) found.now.asked))
+        (cells_of found.now.curve.book (site_of found.now) found.now.asked) result }
     ensures length_bound { IfOk result (λ done. done.bytes < 2 ^ 63) }
 {
     let sent = send_track(out, sent, TrackName::Turn, turn_search(found))?;

@@ -80,8 +80,8 @@ fn accept(
     requires reach { found.now.reach ≡ Reach.Events }
     requires same { found.now.asked ≡ asked_by_certificate cert.now }
     requires cert { IsCertificate cert.now }
-    requires valid { rejection_in found.now.origin.book (site_of found.now) cert.now ≡ None }
-    ensures { IfOk result (λ answer. answer ≡ judged found.now.origin.book (site_of found.now) cert.now zone.now None) }
+    requires valid { rejection_in found.now.curve.book (site_of found.now) cert.now ≡ None }
+    ensures { IfOk result (λ answer. answer ≡ judged found.now.curve.book (site_of found.now) cert.now zone.now None) }
 {
     let events = events_of(alloc, found, cert)?;
     let mut text = accepted_line(alloc)?;
@@ -94,9 +94,9 @@ fn events_of(alloc: Global, found: &FoundStation, cert: &Certificate) -> Result<
     requires reach { found.now.reach ≡ Reach.Events }
     requires same { found.now.asked ≡ asked_by_certificate cert.now }
     requires cert { IsCertificate cert.now }
-    requires valid { rejection_in found.now.origin.book (site_of found.now) cert.now ≡ None }
-    ensures exact { IfOk result (λ events. events ≡ events_of found.now.origin.book (site_of found.now) (asked_by_certificate cert.now)) }
-    ensures listed { IfOk result (All (IsListed found.now.origin.station.units)) }
+    requires valid { rejection_in found.now.curve.book (site_of found.now) cert.now ≡ None }
+    ensures exact { IfOk result (λ events. events ≡ events_of found.now.curve.book (site_of found.now) (asked_by_certificate cert.now)) }
+    ensures listed { IfOk result (All (IsListed found.now.curve.station.units)) }
 {
     let events = merged(alloc, &cert.tracks, found.span.begin)?;
     let Asked { begin, end, .. } = found.asked;

@@ -95,7 +95,7 @@ fn rows_of(alloc: Global, found: &FoundStation, step: i64) -> Result<Rows, Alloc
     requires levels { AreLooked found.now }
     requires count_bound { row_count found.now.asked.begin found.now.asked.end step ≤ row_limit }
     ensures exact { IfOk result (λ rows. rows
-        ≡ rows_of found.now.origin.book (site_of found.now) found.now.asked.begin found.now.asked.end step) }
+        ≡ rows_of found.now.curve.book (site_of found.now) found.now.asked.begin found.now.asked.end step) }
     ensures listed { IfOk result (λ rows. All (λ row. InZoneYears row.minute) rows) }
 {
     let mut rows = Vec::new(alloc);
@@ -110,7 +110,7 @@ fn row_at(found: &FoundStation, step: i64, place: u64) -> Row
     requires step { IsStep step }
     requires place { place ≤ row_limit }
     requires level { IsLooked found.now (found.now.asked.begin +ℤ (step *ℤ pos place)) }
-    ensures { result ≡ row_at found.now.origin.book (site_of found.now) found.now.asked.begin step place }
+    ensures { result ≡ row_at found.now.curve.book (site_of found.now) found.now.asked.begin step place }
 {
     let minute = minute_at(found.asked.begin, step, place);
     Row {

@@ -57,7 +57,7 @@ pub fn highest_text_at(
 ) -> Result<Bytes, AllocError>
     requires peak { HasPeak found.now }
     requires inside { IsSourceIn (tide_of_found found.now) found.now.asked at }
-    ensures { IfOk result (λ text. text ≡ highest_text_at found.now.origin.book (site_of found.now) name.now at zone.now) }
+    ensures { IfOk result (λ text. text ≡ highest_text_at found.now.curve.book (site_of found.now) name.now at zone.now) }
 {
     let minute = moved_minute(found, at);
     let level = level_at(found, minute);

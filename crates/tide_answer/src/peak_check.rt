@@ -89,7 +89,7 @@ fn accept_peak(
 ) -> Result<Answer, AllocError>
     requires peak { HasPeak found.now }
     requires inside { IsSourceIn (tide_of_found found.now) found.now.asked cert.now.peak.at }
-    ensures { IfOk result (λ answer. answer ≡ peak_judged found.now.origin.book (site_of found.now) cert.now PeakVerdict.Accepted) }
+    ensures { IfOk result (λ answer. answer ≡ peak_judged found.now.curve.book (site_of found.now) cert.now PeakVerdict.Accepted) }
 {
     let zone = Zone::Utc;
     let shown = highest_text_at(alloc, found, &cert.station, cert.peak.at, &zone.clock())?;

@@ -15,7 +15,7 @@ use std::alloc::{AllocError, Global};
 /// evaluated.
 pub fn find_tracks(alloc: Global, found: &FoundStation) -> Result<Tracks, AllocError>
     requires { found.now.reach ≡ Reach.Events }
-    ensures { IfOk result (λ tracks. tracks ≡ tracks_of found.now.origin.book (site_of found.now) found.now.asked) }
+    ensures { IfOk result (λ tracks. tracks ≡ tracks_of found.now.curve.book (site_of found.now) found.now.asked) }
 {
     let turn = turn_curve(found, Version::Second);
     let slack = slack_curve(found, Version::Second);

@@ -1,9 +1,15 @@
 -- The years of a stretch. No public clause cites it.
-use Rattle.std.specs.Prelude.{ℕ, ◌<◌}
+use Rattle.std.specs.Prelude.{◌≡◌, ℕ, ◌-◌, ◌<◌, true}
+use Rattle.station_curve.specs.Curves.{Prediction, is_touched}
 use Rattle.year_blend.specs.declared.parts.Stretch.{Stretch}
 use Rattle.year_blend.specs.declared.parts.Stretch.TheVariants.{Within, Across}
 
--- the years of a stretch are among `years` years, counted from 0
-abbrev pub NamesYears : ℕ → Stretch → Type 0
-NamesYears years (Within year) = year < years
-NamesYears years (Across year) = (0 < year) × (year < years)
+-- a year of the book, counted from 0, that a prediction needs
+pub record IsNeeded (c : Prediction) (year : ℕ) : Type 0 where
+  pub below : year < c.book.years
+  pub touched : is_touched c.book c.first c.last year ≡ true
+
+-- the years of a stretch are needed
+abbrev pub AreNeeded : Prediction → Stretch → Type 0
+AreNeeded c (Within year) = IsNeeded c year
+AreNeeded c (Across year) = (0 < year) × IsNeeded c (year - 1) × IsNeeded c year

@@ -1,41 +1,13 @@
 -- The curve of the level less a mark is lawful.
-use Rattle.std.proofs.Common.{
-  ◌≡◌,
-  ℕ,
-  zero,
-  suc,
-  ◌+◌,
-  ◌-◌,
-  ◌*◌,
-  ◌^◌,
-  ◌<◌,
-  ◌≤◌,
-  length,
-  Bool,
-  Some,
-  sym,
-  ap,
-  ◌∙◌,
-  arith,
-  ℤ,
-  pos,
-  ◌+ℤ◌,
-  ◌-ℤ◌,
-  ◌*ℤ◌,
-  ◌≤ℤ◌,
-  ◌<ℤ◌,
-}
+use Rattle.std.proofs.Common.{◌≡◌, ℕ, zero, suc, ◌+◌, ◌-◌, ◌*◌, ◌^◌, ◌<◌, ◌≤◌, Bool, Some, sym, ap, ◌∙◌, arith, ℤ, pos, ◌+ℤ◌, ◌-ℤ◌, ◌*ℤ◌, ◌≤ℤ◌, ◌<ℤ◌}
 use Rattle.std.specs.Prelude.{unsigned_abs}
 use Rattle.std.proofs.lemmas.Int.{ints}
 use Rattle.std.proofs.lemmas.Nat.{mul-le}
 use Rattle.curve_law.specs.Meaning.{IsCell, IsRate, IsLawful}
 use Rattle.curve_law.specs.declared.quiet.TheConstants.{MOST_MINUTES}
-use Rattle.station_curve.specs.Waves.{Tide, amount_of}
+use Rattle.station_curve.specs.Waves.{amount_of}
 use Rattle.station_curve.specs.Sums.{near_of}
-use Rattle.station_curve.specs.Levels.{waves_in, level_of}
-use Rattle.station_curve.specs.Limits.{IsWithinLimits}
 use Rattle.station_curve.proofs.Gaps.{scaled_gap}
-use Rattle.station_curve.proofs.WithinLimits.{sums_within_limits}
 use Rattle.station_curve.proofs.Products.{abs_times, abs_plus, abs_minus, abs_within, abs_span, pos_abs}
 use Rattle.year_blend.specs.declared.parts.Stretch.{Stretch}
 use Rattle.year_blend.specs.declared.parts.Stretch.TheVariants.{Within, Across}
@@ -43,13 +15,17 @@ use Rattle.year_blend.specs.Weights.{total_weight}
 use Rattle.year_blend.proofs.StretchLemmas.{IsFound, stretch_of-found}
 use Rattle.rate_bound.specs.declared.version.Version.{Version}
 use Rattle.rate_bound.specs.declared.version.Version.TheVariants.{First, Second}
-use Rattle.rate_bound.specs.Rates.{tide_sums, level_rate_in, level_rate_of, blended_level_rate}
+use Rattle.rate_bound.specs.Rates.{level_rate_in, blended_level_rate, book_sums, predicted_level_rate}
 use Rattle.rate_bound.specs.Meanings.{over_mark, mark_meaning}
 use Rattle.rate_bound.specs.Scale.{IsScale}
 use Rattle.station_curve.proofs.CellSteps.{level_bound, plain_level_gap, step_over, over_level_gap}
 use Rattle.station_curve.proofs.PlainSteps.{IsSpan, plain_step}
+use Rattle.rate_bound.specs.Workings.TurnLaw.{within_below}
 use Rattle.rate_bound.specs.Workings.RateForms.{blended_level_rate-pos, some-same}
-use Rattle.station_curve.proofs.Ranges.{are_ends, level_small}
+use Rattle.station_curve.proofs.Ranges.{are_ends, level_small, in_domain}
+use Rattle.station_curve.specs.Curves.{IsPrediction, Prediction, waves_of}
+use Rattle.station_curve.specs.Schureman.{predicted_level}
+use Rattle.station_curve.proofs.WithinLimits.{sums_within_limits}
 
 -- the mark and the added level cancel in a step
 pub same_mark : (x y c : ℤ) → (x +ℤ c) -ℤ (y +ℤ c) ≡ x -ℤ y
@@ -81,74 +57,78 @@ rate_small times most rate is small same =
     let product = mul-le (unsigned_abs times) most (10 ^ 8) (2 * 10 ^ 26) is.size small in
     rw (sym all) (omega (arith, ints, product))
 
-rate_within : (version : Version) (tide : Tide) (times plus mark : ℤ) (slack : Bool) (a : ℤ) (n year : ℕ) (rate : ℤ)
-    → IsWithinLimits tide → IsScale times plus mark → IsSpan tide a n
-    → IsFound tide.first_year (length tide.years) a n (Within year)
-    → times *ℤ (pos total_weight *ℤ (tide_sums tide year).near) ≡ rate
-    → IsRate (mark_meaning version tide times plus mark slack) a n rate
-rate_within version tide times plus mark slack a n year rate within_limits scale span found is =
-    let near : near_of (waves_in tide year) ≤ 3 * 10 ^ 15 = (sums_within_limits tide year within_limits).near in
+rate_within : (version : Version) (c : Prediction) (times plus mark : ℤ) (slack : Bool) (a : ℤ) (n year : ℕ) (rate : ℤ)
+    → IsPrediction c → IsScale times plus mark → IsSpan c.book a n
+    → IsFound c.book.first_year c.book.years a n (Within year)
+    → times *ℤ (pos total_weight *ℤ (book_sums c.book c.station year).near) ≡ rate
+    → IsRate (mark_meaning version c times plus mark slack) a n rate
+rate_within version c times plus mark slack a n year rate valid scale span found is =
+    let near : near_of (waves_of c.book c.station year) ≤ 3 * 10 ^ 15 = 
+    (sums_within_limits c.book c.station year valid.limits (within_below c.book a n year span found)).near in
     let t = times_of times plus mark scale in
-    let most = total_weight * near_of (waves_in tide year) in
+    let most = total_weight * near_of (waves_of c.book c.station year) in
     record {
       small = rate_small times most rate t (omega (arith, near)) is;
-      steps = λ k below. mark_step times plus mark (level_of tide (a +ℤ pos k)) (level_of tide ((a +ℤ pos k) +ℤ pos 1)) most rate t
-          (plain_level_gap tide (a +ℤ pos k) year (plain_step tide a n year k span found below)) is;
+      steps = λ k below. mark_step times plus mark (predicted_level c.book c.station (a +ℤ pos k)) (predicted_level c.book c.station ((a +ℤ pos k) +ℤ pos 1)) most rate t
+          (plain_level_gap c.book c.station (a +ℤ pos k) year (plain_step c.book a n year k span found below)) is;
     }
 
 bound_small : (first second more less : ℕ) (high : ℕ) → high ≤ 3 * 10 ^ 15 → more ≤ 10 ^ 9 → less ≤ 10 ^ 9
     → total_weight * high + 64800000 * (10 ^ 9 * (more + less)) ≤ 2 * 10 ^ 26
 bound_small first second more less high small one other = omega (arith, small, one, other)
 
-rate_across : (version : Version) (tide : Tide) (times plus mark : ℤ) (slack : Bool) (a : ℤ) (n year : ℕ) (rate : ℤ)
-    → IsWithinLimits tide → IsScale times plus mark → IsSpan tide a n
-    → IsFound tide.first_year (length tide.years) a n (Across year)
-    → times *ℤ blended_level_rate (tide_sums tide (year - 1)) (tide_sums tide year) ≡ rate
-    → IsRate (mark_meaning version tide times plus mark slack) a n rate
-rate_across version tide times plus mark slack a n zero rate within_limits scale span found is = absurd (omega (arith, found.later))
-rate_across version tide times plus mark slack a n (suc k) rate within_limits scale span found is =
+rate_across : (version : Version) (c : Prediction) (times plus mark : ℤ) (slack : Bool) (a : ℤ) (n year : ℕ) (rate : ℤ)
+    → IsPrediction c → IsScale times plus mark → IsSpan c.book a n
+    → IsFound c.book.first_year c.book.years a n (Across year)
+    → times *ℤ blended_level_rate (book_sums c.book c.station (year - 1)) (book_sums c.book c.station year) ≡ rate
+    → IsRate (mark_meaning version c times plus mark slack) a n rate
+rate_across version c times plus mark slack a n zero rate valid scale span found is = absurd (omega (arith, found.later))
+rate_across version c times plus mark slack a n (suc k) rate valid scale span found is =
     let before : suc k - 1 ≡ k = omega arith in
-    let earlier = sums_within_limits tide k within_limits in
-    let later = sums_within_limits tide (suc k) within_limits in
-    let near : near_of (waves_in tide k) ≤ 3 * 10 ^ 15 = earlier.near in
-    let next : near_of (waves_in tide (suc k)) ≤ 3 * 10 ^ 15 = later.near in
+    let inner = found.inner in
+    let earlier = sums_within_limits c.book c.station k valid.limits (omega (arith, inner)) in
+    let later = sums_within_limits c.book c.station (suc k) valid.limits inner in
+    let near : near_of (waves_of c.book c.station k) ≤ 3 * 10 ^ 15 = earlier.near in
+    let next : near_of (waves_of c.book c.station (suc k)) ≤ 3 * 10 ^ 15 = later.near in
     let t = times_of times plus mark scale in
-    let same : times *ℤ pos (level_bound tide k) ≡ rate =
-    ap (λ z. times *ℤ z) (sym (blended_level_rate-pos (waves_in tide k) (waves_in tide (suc k)))) ∙ rw before at is in
+    let same : times *ℤ pos (level_bound c.book c.station k) ≡ rate =
+    ap (λ z. times *ℤ z) (sym (blended_level_rate-pos (waves_of c.book c.station k) (waves_of c.book c.station (suc k)))) ∙ rw before at is in
     record {
-      small = rate_small times (level_bound tide k) rate t (bound_small 0 0 (amount_of (waves_in tide (suc k)))
-          (amount_of (waves_in tide k)) _ (omega (arith, near, next)) later.amount earlier.amount) same;
-      steps = λ i below. mark_step times plus mark (level_of tide (a +ℤ pos i)) (level_of tide ((a +ℤ pos i) +ℤ pos 1))
-          (level_bound tide k) rate t
-          (over_level_gap tide (a +ℤ pos i) k (step_over tide a n k i span.are span.first span.last span.short found below)) same;
+      small = rate_small times (level_bound c.book c.station k) rate t (bound_small 0 0 (amount_of (waves_of c.book c.station (suc k)))
+          (amount_of (waves_of c.book c.station k)) _ (omega (arith, near, next)) later.amount earlier.amount) same;
+      steps = λ i below. mark_step times plus mark (predicted_level c.book c.station (a +ℤ pos i)) (predicted_level c.book c.station ((a +ℤ pos i) +ℤ pos 1))
+          (level_bound c.book c.station k) rate t
+          (over_level_gap c.book c.station (a +ℤ pos i) k (step_over c.book a n k i span.times span.first span.last span.short found below)) same;
     }
 
-rate_in : (version : Version) (tide : Tide) (times plus mark : ℤ) (slack : Bool) (a : ℤ) (n : ℕ) (rate : ℤ)
-    (s : Stretch) → IsWithinLimits tide → IsScale times plus mark → IsSpan tide a n
-    → IsFound tide.first_year (length tide.years) a n s → level_rate_in version times (tide_sums tide) s ≡ Some rate
-    → IsRate (mark_meaning version tide times plus mark slack) a n rate
-rate_in version tide times plus mark slack a n rate (Within year) within_limits scale span found is =
-    rate_within version tide times plus mark slack a n year rate within_limits scale span found (some-same _ rate is)
-rate_in First tide times plus mark slack a n rate (Across year) within_limits scale span found is = cc
-rate_in Second tide times plus mark slack a n rate (Across year) within_limits scale span found is =
-    rate_across Second tide times plus mark slack a n year rate within_limits scale span found (some-same _ rate is)
+rate_in : (version : Version) (c : Prediction) (times plus mark : ℤ) (slack : Bool) (a : ℤ) (n : ℕ) (rate : ℤ)
+    (s : Stretch) → IsPrediction c → IsScale times plus mark → IsSpan c.book a n
+    → IsFound c.book.first_year c.book.years a n s → level_rate_in version times (book_sums c.book c.station) s ≡ Some rate
+    → IsRate (mark_meaning version c times plus mark slack) a n rate
+rate_in version c times plus mark slack a n rate (Within year) valid scale span found is =
+    rate_within version c times plus mark slack a n year rate valid scale span found (some-same _ rate is)
+rate_in First c times plus mark slack a n rate (Across year) valid scale span found is = cc
+rate_in Second c times plus mark slack a n rate (Across year) valid scale span found is =
+    rate_across Second c times plus mark slack a n year rate valid scale span found (some-same _ rate is)
 
-mark_rate : (version : Version) (tide : Tide) (times plus mark : ℤ) (slack : Bool) (a : ℤ) (n : ℕ) (rate : ℤ)
-    → IsWithinLimits tide → IsScale times plus mark → IsCell (mark_meaning version tide times plus mark slack) a n
-    → level_rate_of version times tide a n ≡ Some rate
-    → IsRate (mark_meaning version tide times plus mark slack) a n rate
-unfolding level_rate_of
-mark_rate version tide times plus mark slack a n rate within_limits scale cell is =
+mark_rate : (version : Version) (c : Prediction) (times plus mark : ℤ) (slack : Bool) (a : ℤ) (n : ℕ) (rate : ℤ)
+    → IsPrediction c → IsScale times plus mark → IsCell (mark_meaning version c times plus mark slack) a n
+    → predicted_level_rate version times c.book c.station a n ≡ Some rate
+    → IsRate (mark_meaning version c times plus mark slack) a n rate
+unfolding predicted_level_rate
+mark_rate version c times plus mark slack a n rate valid scale cell is =
     let first = cell.first in
     let last = cell.last in
-    let span : IsSpan tide a n = record {
-      are = within_limits.years;
-      first = record { least = first; most = omega (arith, ints) };
-      last = record { least = omega (arith, ints); most = last };
+    let begins = valid.begins in
+    let ends = valid.ends in
+    let span : IsSpan c.book a n = record {
+      times = valid.limits.times;
+      first = record { least = omega (arith, ints); most = omega (arith, ints) };
+      last = record { least = omega (arith, ints); most = omega (arith, ints) };
       short = cell.few;
     } in
-    rate_in version tide times plus mark slack a n rate _ within_limits scale span
-    (stretch_of-found tide.first_year (length tide.years) a n span.are span.first span.last) is
+    rate_in version c times plus mark slack a n rate _ valid scale span
+    (stretch_of-found c.book.first_year c.book.years a n span.times.years span.first span.last) is
 
 -- a level less a mark is below its limit
 pub mark_small : (times plus mark level : ℤ) → IsScale times plus mark
@@ -166,17 +146,21 @@ mark_small times plus mark level scale small =
     omega (arith, all)
 
 -- the curve of the level less a mark meets the law of a curve
-pub mark_lawful : (version : Version) (tide : Tide) (times plus mark : ℤ) (slack : Bool) → IsWithinLimits tide
-    → IsScale times plus mark → IsLawful (mark_meaning version tide times plus mark slack)
-mark_lawful version tide times plus mark slack within_limits scale =
-    let ends = are_ends tide.first_year (length tide.years) within_limits.years in
+pub mark_lawful : (version : Version) (c : Prediction) (times plus mark : ℤ) (slack : Bool) → IsPrediction c
+    → IsScale times plus mark → IsLawful (mark_meaning version c times plus mark slack)
+mark_lawful version c times plus mark slack valid scale =
+    let all = are_ends c.book.first_year c.book.years valid.limits.times.years in
+    let begins = valid.begins in
+    let ends = valid.ends in
+    let early = all.early in
+    let late = all.late in
     record {
-      forward = ends.forward;
-      early = ends.early;
-      late = ends.late;
+      forward = valid.forward;
+      early = omega (arith, ints);
+      late = omega (arith, ints);
       values = λ m at.
-          let small = mark_small times plus mark (level_of tide m) scale
-          (level_small tide m within_limits (record { least = at.first; most = at.last })) in
+          let small = mark_small times plus mark (predicted_level c.book c.station m) scale
+          (level_small c.book c.station m valid.limits (in_domain c m valid (record { least = at.first; most = at.last }))) in
           omega (arith, small);
-      rates = λ a n rate cell is. mark_rate version tide times plus mark slack a n rate within_limits scale cell is;
+      rates = λ a n rate cell is. mark_rate version c times plus mark slack a n rate valid scale cell is;
     }

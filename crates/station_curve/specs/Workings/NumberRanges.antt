@@ -1,10 +1,11 @@
 -- Bounds that keep all numbers of a curve within their types.
-use Rattle.std.specs.Prelude.{◌≡◌, ℕ, suc, ◌+◌, ◌-◌, ◌/◌, ◌%◌, ◌^◌, ◌<◌, ◌≤◌, Option, Some, None, ℤ, pos, ◌+ℤ◌, ◌-ℤ◌, ◌*ℤ◌, ◌≤ℤ◌, unsigned_abs}
+use Rattle.std.specs.Prelude.{◌≡◌, ℕ, suc, ◌+◌, ◌-◌, ◌/◌, ◌%◌, ◌^◌, ◌<◌, ◌≤◌, Option, Some, None, ℤ, pos, ◌+ℤ◌, ◌-ℤ◌, ◌*ℤ◌, ◌≤ℤ◌, unsigned_abs, true}
 use Rattle.fixed_sine.specs.BinaryAngle.{units_of, binary_angle_of}
 use Rattle.year_blend.specs.declared.parts.Place.{Place}
 use Rattle.year_blend.specs.declared.parts.Place.TheVariants.{Plain, Blend}
 use Rattle.year_blend.specs.Places.{start_of, place_of}
 use Rattle.year_blend.specs.Weights.{IsWithinHourOfNewYear}
+use Rattle.station_curve.specs.Curves.{Prediction, is_touched}
 use Rattle.station_curve.specs.Limits.{most_amount, most_steepness}
 
 -- the fields of a wave: the product of its amplitude and its speed, and that by its speed in whole 2^9 units,
@@ -31,11 +32,27 @@ IsPlaceInRange first_year years m (Blend year x) =
     (0 < year) × (year < years) × IsWithinHourOfYear first_year year m × IsWithinHourOfYear first_year (year - 1) m
     × IsWithinHourOfNewYear x
 
+-- a year of a prediction whose constants are used at minute m
+pub record IsUsed (c : Prediction) (year : ℕ) (m : ℤ) : Type 0 where
+  pub below : year < c.book.years
+  pub hour : IsWithinHourOfYear c.book.first_year year m
+  pub touched : is_touched c.book c.first c.last year ≡ true
+
+-- the years of a position are used at its minute
+abbrev pub IsPlaceUsed : Prediction → ℤ → Place → Type 0
+IsPlaceUsed c m (Plain year) = IsUsed c year m
+IsPlaceUsed c m (Blend year x) = (0 < year) × IsUsed c year m × IsUsed c (year - 1) m × IsWithinHourOfNewYear x
+
 -- the year whose plain part contains minute m, or none if it is in a blend
 abbrev pub IsPlainYear : ℤ → ℕ → ℤ → Option ℕ → Type 0
 IsPlainYear first_year years m (Some year) =
     (Plain year ≡ place_of first_year years m) × (year < years) × IsWithinHourOfYear first_year year m
 IsPlainYear first_year years m None = (year : ℕ) × (x : ℤ) × (Blend year x ≡ place_of first_year years m)
+
+-- the same for a prediction, with what its constants are used for
+abbrev pub IsPlainYearOf : Prediction → ℤ → Option ℕ → Type 0
+IsPlainYearOf c m (Some year) = (Plain year ≡ place_of c.book.first_year c.book.years m) × IsUsed c year m
+IsPlainYearOf c m None = IsPlainYear c.book.first_year c.book.years m None
 
 -- the minutes from `first` to `last` are at least an hour from both ends of their year
 pub record IsAround (first_year : ℤ) (years : ℕ) (first last : ℤ) (year : ℕ) : Type 0 where

@@ -6,7 +6,16 @@ use Rattle.year_blend.specs.Places.{start_of}
 use Rattle.station_curve.specs.declared.years.Year.{Year}
 use Rattle.station_curve.specs.Curves.{waves_over, year_fault, first_fault}
 use Rattle.station_curve.specs.Schureman.{constituents_of}
+use Rattle.station_curve.specs.Waves.{Harmonic}
 use Rattle.station_curve.specs.Sums.{sums_of}
+
+-- a wave has an amplitude
+abbrev pub is_present : Harmonic → Bool
+is_present h = not (unsigned_abs h.amplitude == 0)
+
+-- the waves of a year that are stored: those with an amplitude
+abbrev pub stored_over : Book → Station → ℤ → ℤ → ℕ → List Harmonic
+stored_over b s first last year = filter is_present (waves_over b s first last year)
 
 -- the station has an amplitude for constituent k
 abbrev pub has_amplitude : Station → ℕ → Bool
@@ -21,14 +30,14 @@ pub record IsReadyYear (b : Book) (s : Station) (first last : ℤ) (year : ℕ) 
   pub within : year_fault b s year ≡ None
   pub start : y.start ≡ start_of b.first_year year
   pub end : y.end ≡ start_of b.first_year (suc year)
-  pub waves : y.waves.items ≡ waves_over b s first last year
-  pub sums : y.sums ≡ sums_of y.waves.items
+  pub waves : y.waves.items ≡ stored_over b s first last year
+  pub sums : y.sums ≡ sums_of (waves_over b s first last year)
 
 -- the first years, `count` of them, none beyond a limit, for the minutes from `first` to `last`
 pub record AreReady (b : Book) (s : Station) (first last : ℤ) (count : ℕ) (years : List Year) : Type 0 where
   pub counted : length years ≡ count
-  pub waves : (k : ℕ) (d : Year) → k < count → (slice_index_or years k d).waves.items ≡ waves_over b s first last k
+  pub waves : (k : ℕ) (d : Year) → k < count → (slice_index_or years k d).waves.items ≡ stored_over b s first last k
   pub starts : (k : ℕ) (d : Year) → k < count → (slice_index_or years k d).start ≡ start_of b.first_year k
   pub ends : (k : ℕ) (d : Year) → k < count → (slice_index_or years k d).end ≡ start_of b.first_year (suc k)
-  pub sums : (k : ℕ) (d : Year) → k < count → (slice_index_or years k d).sums ≡ sums_of (slice_index_or years k d).waves.items
+  pub sums : (k : ℕ) (d : Year) → k < count → (slice_index_or years k d).sums ≡ sums_of (waves_over b s first last k)
   pub within : first_fault b s count ≡ None

@@ -1,6 +1,6 @@
 //! The levels and slopes of a station by the constants of one year.
 
-ghost use Rattle.std.specs.Prelude.{◌≡◌, ◌*◌, ◌^◌, ◌<◌, ◌≤◌, length, unsigned_abs};
+ghost use Rattle.std.specs.Prelude.{◌≡◌, ◌*◌, ◌^◌, ◌≤◌, unsigned_abs};
 
 use super::StationCurve;
 use crate::summing::{
@@ -10,15 +10,16 @@ use crate::summing::{
 
 impl StationCurve {
     ghost use Rattle.station_curve.specs.Approximate.{approximate_year_level, approximate_year_slope};
-    ghost use Rattle.station_curve.specs.Levels.{minutes_into, waves_in, year_level, year_slope};
+    ghost use Rattle.station_curve.specs.Curves.{waves_of};
+    ghost use Rattle.station_curve.specs.Levels.{minutes_into};
+    ghost use Rattle.station_curve.specs.Schureman.{predicted_year_level, predicted_year_slope};
     ghost use Rattle.station_curve.specs.Waves.{heights_of};
-    ghost use Rattle.station_curve.specs.Workings.NumberRanges.{IsWithinHourOfYear};
+    ghost use Rattle.station_curve.specs.Workings.NumberRanges.{IsUsed};
 
     /// Returns the level by the constants of year `year`.
     pub(super) fn year_level(&self, year: u32, m: i64) -> i128
-        requires year { year < length self.now.years }
-        requires in_range { IsWithinHourOfYear self.now.first_year year m }
-        ensures value { result ≡ year_level self.now m year }
+        requires { IsUsed self.now year m }
+        ensures value { result ≡ predicted_year_level self.now.book self.now.station m year }
         ensures size { unsigned_abs result ≤ 11 * 10 ^ 18 }
     {
         mean_level(self.datum) + i128::from(self.year_heights(year, m))
@@ -27,9 +28,8 @@ impl StationCurve {
     /// Returns the approximate level by the constants of year `year`.
     #[inline(always)]
     pub(super) fn approximate_year_level(&self, year: u32, m: i64) -> i128
-        requires year { year < length self.now.years }
-        requires in_range { IsWithinHourOfYear self.now.first_year year m }
-        ensures value { result ≡ approximate_year_level self.now m year }
+        requires { IsUsed self.now year m }
+        ensures value { result ≡ approximate_year_level self.now.book self.now.station m year }
         ensures size { unsigned_abs result ≤ 12 * 10 ^ 18 }
     {
         let year = &self.years[year as usize];
@@ -40,9 +40,8 @@ impl StationCurve {
     /// Returns the approximate slope by the constants of year `year`.
     #[inline(always)]
     pub(super) fn approximate_year_slope(&self, year: u32, m: i64) -> i128
-        requires year { year < length self.now.years }
-        requires in_range { IsWithinHourOfYear self.now.first_year year m }
-        ensures value { result ≡ approximate_year_slope self.now m year }
+        requires { IsUsed self.now year m }
+        ensures value { result ≡ approximate_year_slope self.now.book self.now.station m year }
         ensures size { unsigned_abs result ≤ 2 * 10 ^ 26 }
     {
         let year = &self.years[year as usize];
@@ -51,9 +50,8 @@ impl StationCurve {
 
     /// Returns the slope by the constants of year `year`.
     pub(super) fn year_slope(&self, year: u32, m: i64) -> i128
-        requires year { year < length self.now.years }
-        requires in_range { IsWithinHourOfYear self.now.first_year year m }
-        ensures value { result ≡ year_slope self.now m year }
+        requires { IsUsed self.now year m }
+        ensures value { result ≡ predicted_year_slope self.now.book self.now.station m year }
         ensures size { unsigned_abs result ≤ 10 ^ 26 }
     {
         let year = &self.years[year as usize];
@@ -62,9 +60,8 @@ impl StationCurve {
 
     /// Returns the sum of the heights of the waves of year `year`.
     pub(super) fn year_heights(&self, year: u32, m: i64) -> i64
-        requires year { year < length self.now.years }
-        requires in_range { IsWithinHourOfYear self.now.first_year year m }
-        ensures value { result ≡ heights_of (minutes_into self.now.first_year year m) (waves_in self.now year) }
+        requires { IsUsed self.now year m }
+        ensures value { result ≡ heights_of (minutes_into self.now.book.first_year year m) (waves_of self.now.book self.now.station year) }
         ensures size { unsigned_abs result ≤ 10 ^ 18 }
     {
         let year = &self.years[year as usize];

@@ -1,5 +1,5 @@
--- The curves that are followed at a site, by the tide that predicts it.
-use Rattle.std.specs.Prelude.{◌≡◌, ℕ, ℤ, ◌-ℤ◌, ◌≤ℤ◌, ◌≤◌, unsigned_abs, length, List, Option}
+-- The curves that are followed at a site, at the minutes of its curve.
+use Rattle.std.specs.Prelude.{◌≡◌, ℕ, ℤ, ◌-ℤ◌, ◌≤ℤ◌, ◌≤◌, unsigned_abs, List, Option}
 use Rattle.std.specs.Option.{ForSome}
 use Rattle.curve_law.specs.declared.event.Event.{Event}
 use Rattle.event_list.specs.declared.span.Span.{Span}
@@ -8,14 +8,12 @@ use Rattle.event_list.specs.Shifts.{HasOffsets, widened_of}
 use Rattle.rate_bound.specs.declared.version.Version.{Version}
 use Rattle.rate_bound.specs.declared.version.Version.TheVariants.{Second}
 use Rattle.rate_bound.specs.Meanings.{turn_meaning}
-use Rattle.station_curve.specs.Limits.{IsWithinLimits}
-use Rattle.station_curve.specs.Waves.{Tide}
-use Rattle.year_blend.specs.Places.{AreYears, InDomain}
 use Rattle.station_span.specs.declared.asked.Asked.{Asked}
 use Rattle.station_span.specs.Workings.Tides.{SiteTide}
 use Rattle.station_span.specs.Sites.{span_limit}
 use Rattle.station_span.specs.Workings.Spans.{HasLevels, IsBeside, IsSpanInRange}
 use Rattle.station_span.specs.Workings.TrackMeanings.{tide_slack, tide_mark}
+use Rattle.station_curve.specs.Curves.{IsPredicted, IsPrediction, Prediction}
 
 -- the curves that are followed, as those by every constituent of the harmonics file
 unfoldable pub followed_tide : Version → SiteTide → Option ℤ → Followed
@@ -25,41 +23,35 @@ followed_tide version found mark = record {
   mark = tide_mark version found mark;
 }
 
--- the events of a span by the tide
+-- the events of a span
 abbrev pub tide_events : SiteTide → Asked → List Event
 tide_events found asked =
     station_events (followed_tide Second found asked.mark) found.basis asked.begin asked.end
 
--- the number of cells of a span by the tide
+-- the number of cells of a span
 abbrev pub tide_cells : SiteTide → Asked → ℕ
 tide_cells found asked =
     cell_count (followed_tide Second found asked.mark) (widened_of found.basis asked.begin asked.end)
 
--- a minute of a tide's years
-abbrev pub InTide : Tide → ℤ → Type 0
-InTide tide minute = InDomain tide.first_year (length tide.years) minute
-
--- a span that the curves can be followed over: it isn't backward or too long, and the tide has the minutes
+-- a span that the curves can be followed over: it isn't backward or too long, and the curve has the minutes
 -- that are evaluated
 pub record IsReady (asked : Asked) (found : SiteTide) : Type 0 where
   pub offsets : HasOffsets found.basis
   pub levels : HasLevels found.units
-  pub within_limits : IsWithinLimits found.curve
-  pub years : AreYears found.curve.first_year (length found.curve.years)
+  pub within_limits : IsPrediction found.curve
   pub forward : asked.begin ≤ℤ asked.end
   pub few : (asked.end -ℤ asked.begin) ≤ℤ span_limit
-  pub begins : InTide found.curve (widened_of found.basis asked.begin asked.end).begin
-  pub ends : InTide found.curve (widened_of found.basis asked.begin asked.end).end
+  pub begins : IsPredicted found.curve (widened_of found.basis asked.begin asked.end).begin
+  pub ends : IsPredicted found.curve (widened_of found.basis asked.begin asked.end).end
   pub in_range : IsSpanInRange (widened_of found.basis asked.begin asked.end)
   pub beside : IsBeside asked.begin asked.end (widened_of found.basis asked.begin asked.end)
   pub mark : ForSome asked.mark (λ level. unsigned_abs level ≤ 10000000000)
 
--- a span whose minutes a tide has
-pub record HasMinutes (tide : Tide) (span : Span) : Type 0 where
-  pub years : AreYears tide.first_year (length tide.years)
+-- a span whose minutes a curve has
+pub record HasMinutes (c : Prediction) (span : Span) : Type 0 where
   pub forward : span.begin ≤ℤ span.end
-  pub begins : InTide tide span.begin
-  pub ends : InTide tide span.end
+  pub begins : IsPredicted c span.begin
+  pub ends : IsPredicted c span.end
 
 -- the events of the reference's curves over the minutes that are evaluated
 abbrev pub AreMerged : Asked → SiteTide → List Event → Type 0

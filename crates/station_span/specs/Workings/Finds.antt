@@ -5,8 +5,7 @@ use Rattle.decimal_text.specs.Expected.{Excused}
 use Rattle.event_list.specs.Events.{merged_of}
 use Rattle.event_text.specs.Lines.{IsListed}
 use Rattle.harmonics_book.specs.declared.book.Book.{Book}
-use Rattle.station_curve.specs.Curves.{Predicts}
-use Rattle.station_curve.specs.Limits.{IsWithinLimits}
+use Rattle.station_curve.specs.Curves.{IsPrediction, prediction_of}
 use Rattle.station_table.specs.Bases.{is_equal}
 use Rattle.station_span.specs.declared.asked.Asked.{Asked}
 use Rattle.station_span.specs.declared.following.FoundEvents.{FoundEvents}
@@ -25,11 +24,11 @@ use Rattle.zone_time.specs.Zones.{InZoneYears}
 
 -- the station and the offsets of a station that was found
 abbrev pub site_of : FoundStation → Site
-site_of found = site_with found.basis found.origin.station
+site_of found = site_with found.basis found.curve.station
 
--- the tide that predicts a station that was found
+-- the curve of a station that was found
 abbrev pub tide_of_found : FoundStation → SiteTide
-tide_of_found found = tide_with found.basis found.origin.station found.curve
+tide_of_found found = tide_with found.basis found.curve.station found.curve
 
 -- ---- a station that was found
 
@@ -38,7 +37,7 @@ pub record IsFoundIn (reach_for : Reach) (book_read : Book) (asked_for : Asked) 
     (found : FoundStation) : Type 0 where
   pub site : expected ≡ Ok (site_of found)
   pub reach : found.reach ≡ reach_for
-  pub book : found.origin.book ≡ book_read
+  pub book : found.curve.book ≡ book_read
   pub asked : found.asked ≡ asked_for
 
 -- the expected station was found, or the expected refusal returned
@@ -46,14 +45,14 @@ abbrev pub FindsIn : Reach → Book → Asked → Result Site Refusal → Result
 FindsIn reach book asked expected (Ok found) = IsFoundIn reach book asked expected found
 FindsIn reach book asked expected (Err refusal) = Excused (refusal_is_out_of_memory refusal) expected refusal
 
--- a station without a span, whose curve predicts it
+-- a station without a span, whose curve has all minutes
 pub record IsReferenceFound (book : Book) (expected : Result Site Refusal) (reference : ReferenceStation) : Type 0 where
   pub site : Site
   pub is : expected ≡ Ok site
   pub station : reference.station.now ≡ site.station
   pub levels : HasLevels site.station.units
-  pub predicts : Predicts book site.station reference.curve
-  pub within_limits : IsWithinLimits reference.curve
+  pub curve : reference.curve ≡ prediction_of book site.station
+  pub valid : IsPrediction reference.curve
 
 -- the expected station was found, or the expected refusal returned
 abbrev pub FindsReference : Book → Result Site Refusal → Result ReferenceStation Refusal → Type 0
@@ -96,4 +95,4 @@ Lists book asked expected (Err refusal) = Excused (refusal_is_out_of_memory refu
 
 -- the events of the reference's curves over the minutes that are evaluated
 abbrev pub AreReferences : FoundStation → List Event → Type 0
-AreReferences found events = events ≡ merged_of found.span.begin (tracks_of found.origin.book (site_of found) found.asked)
+AreReferences found events = events ≡ merged_of found.span.begin (tracks_of found.curve.book (site_of found) found.asked)

@@ -5,16 +5,16 @@ use Rattle.event_list.specs.declared.span.Span.{Span}
 use Rattle.harmonics_book.specs.declared.book.Book.{Book}
 use Rattle.harmonics_book.specs.declared.book.Units.{Units}
 use Rattle.harmonics_book.specs.declared.book.Units.TheVariants.{Feet, Meters, Knots, KnotsSquared}
-use Rattle.station_curve.specs.Curves.{PredictsOver}
-use Rattle.station_curve.specs.Limits.{IsWithinLimits}
+use Rattle.station_curve.specs.Curves.{IsPrediction, Prediction}
 use Rattle.station_table.specs.declared.basis.Basis.{Basis}
 use Rattle.station_table.specs.Bases.{IsBasis, is_equal}
-use Rattle.year_blend.specs.Places.{AreYears, InDomain}
+use Rattle.year_blend.specs.Places.{InDomain}
 use Rattle.zone_time.specs.Moments.{IsMoment}
 use Rattle.station_span.specs.declared.asked.Asked.{Asked}
 use Rattle.station_span.specs.declared.reach.Reach.{Reach}
 use Rattle.station_span.specs.Workings.Tides.{SiteTide}
 use Rattle.station_span.specs.Sites.{Site, lacks_minute, reached, span_limit}
+use Rattle.harmonics_book.specs.declared.book.Station.{Station}
 
 -- a span and a mark in the range that a request, a certificate or a clock can name
 pub record IsInRange (asked : Asked) : Type 0 where
@@ -63,21 +63,27 @@ pub record IsFileMinute (minute : ℤ) : Type 0 where
   pub least : negsuc 1035067679 ≤ℤ minute
   pub most : minute ≤ℤ pos 3855208320
 
+-- a curve of a station that has the minutes of a span
+pub record IsCurveOf (book : Book) (station : Station) (s : Span) (c : Prediction) : Type 0 where
+  pub of_book : c.book ≡ book
+  pub of_station : c.station ≡ station
+  pub from : c.first ≤ℤ s.begin
+  pub until : s.end ≤ℤ c.last
+
 -- a curve that predicts a station over the minutes that are needed
 abbrev pub PredictsReached : Reach → Book → Asked → Site → SiteTide → Type 0
 PredictsReached reach book asked site found =
     let span = reached reach found.basis asked.begin asked.end in
-    PredictsOver book site.station span.begin span.end found.curve
+    IsCurveOf book site.station span found.curve
 
--- a tide that predicts a station over the minutes that are needed
+-- a station with a curve that has the minutes that are needed
 pub record IsFound (reach : Reach) (book : Book) (asked : Asked) (site : Site) (found : SiteTide) : Type 0 where
   pub basis : found.basis ≡ site.basis
   pub valid : IsBasis (length book.stations) found.basis
   pub units : found.units ≡ site.station.units
   pub levels : HasLevels found.units
   pub predicts : PredictsReached reach book asked site found
-  pub within_limits : IsWithinLimits found.curve
-  pub years : AreYears book.first_year book.years
+  pub within_limits : IsPrediction found.curve
   pub span : IsReached reach book found.basis asked.begin asked.end
   pub few : (asked.end -ℤ asked.begin) ≤ℤ span_limit
   pub mark : ForSome asked.mark (λ level. IsTrue (is_equal found.basis))

@@ -35,7 +35,7 @@ stream_answer form book site name asked zone =
 
 -- the answer of a form for a station that was found
 abbrev pub stream_of : Form → FoundStation → List ℕ → Zone → Answer
-stream_of form found name zone = stream_answer form found.origin.book (site_of found) name found.asked zone
+stream_of form found name zone = stream_answer form found.curve.book (site_of found) name found.asked zone
 
 -- the form of the answers of a command
 abbrev pub form_of : Command → Form

@@ -29,7 +29,7 @@ use Rattle.station_curve.specs.Schureman.{predicted_year_level, predicted_year_s
 use Rattle.year_blend.specs.Places.{year_at, place_in, place_of, plain_end_of}
 use Rattle.year_blend.specs.Years.{year_start_of}
 use Rattle.decimal_text.specs.Rounding.{rounded_of}
-use Rattle.station_curve.specs.Curves.{curve_of, first_fault, tide_of, waves_of, year_fault}
+use Rattle.station_curve.specs.Curves.{curve_of, first_fault, curve_over, waves_of, year_fault}
 use Rattle.slope_agreement.specs.Agreements.{IsPlainMinute, greatest}
 use Rattle.year_blend.specs.declared.parts.Place.TheVariants.{Plain}
 use Rattle.command_laws.proofs.abouts.worked_turns.Goals as goal
@@ -95,7 +95,7 @@ about_answer = text_alone (codes "Pier\nreference Pier\nunits feet\nconstituents
 about_text : answered_over_book (is_report about_question.command) [] full_book [] about_question
     (given_with pier_read (minute_for about_question.command (pos 0))) ≡ Ok about_answer
 unfolding answered asks_name station_about station_in about_text_of text_of_unit digits curve_of first_fault year_fault
-    tide_of waves_of basis_in basis_of greatest step_of rounded_of year_start_of days_from_civil day_count days_of_years
+    curve_over waves_of basis_in basis_of greatest step_of rounded_of year_start_of days_from_civil day_count days_of_years
     days_of_months
 about_text = refl
 

@@ -11,7 +11,7 @@ use Rattle.station_span.specs.Following.{events_of, followed_by}
 use Rattle.year_blend.specs.Places.{place_in, place_of, year_at}
 use Rattle.year_blend.specs.Weights.{weight_of, weight_slope_of}
 use Rattle.year_blend.specs.Years.{year_start_of}
-use Rattle.station_curve.specs.Curves.{curve_of, first_fault, tide_of, waves_of, year_fault}
+use Rattle.station_curve.specs.Curves.{curve_of, first_fault, curve_over, waves_of, year_fault}
 use Rattle.station_span.specs.Sites.{lacks_minute, length_in, site_at, site_in, span_in}
 use Rattle.station_table.specs.Bases.{basis_in, basis_of}
 use Rattle.tide_answer.specs.Answers.{answered, asks_name, on_clock}
@@ -19,7 +19,7 @@ use Rattle.command_laws.proofs.clock.worked_clock.Goals as goal
 
 pub returns-clause-met : goal.returns-clause-met
 unfolding answered asks_name on_clock site_in site_at span_in lacks_minute length_in basis_of basis_in curve_of
-    first_fault year_fault tide_of waves_of rounded_of year_start_of days_from_civil day_count days_of_years
+    first_fault year_fault curve_over waves_of rounded_of year_start_of days_from_civil day_count days_of_years
     days_of_months
 returns-clause-met c = refl
 

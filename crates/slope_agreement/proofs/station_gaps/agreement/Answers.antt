@@ -1,10 +1,10 @@
-use Rattle.std.proofs.Common.{FitsSigned, rules, ◌≡◌, ℕ, length, refl, sym, ap, ◌∙◌, arith, to_z}
+use Rattle.std.proofs.Common.{FitsSigned, rules, ◌≡◌, ℕ, refl, sym, ap, ◌∙◌, arith, to_z}
 use Rattle.std.specs.Int.{int_max}
 use Rattle.std.proofs.lemmas.Int.{ints, clamps, to_z-of_z}
 use mir.Syntax.{w128}
-use Rattle.rate_bound.specs.Rates.{tide_sums}
+use Rattle.station_curve.specs.Curves.{sums_for}
 use Rattle.slope_agreement.specs.Agreements.{year_agreement, greatest, agreement_of}
-use Rattle.slope_agreement.proofs.YearGaps.{greatest-next, tide_gap}
+use Rattle.slope_agreement.proofs.YearGaps.{greatest-next, station_gap}
 use Rattle.slope_agreement.proofs.station_gaps.agreement.Goals as goal
 
 pub loop-year-init : goal.loop-year-init
@@ -20,7 +20,7 @@ loop-year-preserved c =
     let part = to_z-of_z w128 c.year_agreement.result short in
     let greater = rw part at c.max-most.ensures.value in
     let size = c.year_agreement.ensures.size in
-    let value = λ (y : ℕ). year_agreement (tide_sums c.args.station.now y) in
+    let value = λ (y : ℕ). year_agreement (sums_for c.args.station.now y) in
     let here : c.year_agreement.result ≡ value year = c.year_agreement.ensures.value ∙ ap year_agreement c.sums.ensures.value in
     record {
       value = same ∙ greater ∙ ap (λ z. int_max z c.year_agreement.result) c.loop-year.invariant.value
@@ -31,9 +31,9 @@ loop-year-preserved c =
 
 pub returns-clause-law : goal.returns-clause-law
 returns-clause-law c =
-    λ m year plain.
-    let tide = c.args.station.now in
-    let value = λ (y : ℕ). year_agreement (tide_sums tide y) in
-    let is : to_z w128 c.loop-year.most-bits ≡ agreement_of tide = c.loop-year.invariant.value
-    ∙ ap (greatest value) (let e : c.loop-year.year ≡ length tide.years = omega arith in e) in
-    rw is (tide_gap tide m year c.limits_hold.ensures plain)
+    λ m year at plain.
+    let curve = c.args.station.now in
+    let value = λ (y : ℕ). year_agreement (sums_for curve y) in
+    let is : to_z w128 c.loop-year.most-bits ≡ agreement_of curve = c.loop-year.invariant.value
+    ∙ ap (greatest value) (let e : c.loop-year.year ≡ curve.book.years = omega arith in e) in
+    rw is (station_gap curve m year c.limits_hold.ensures at plain)

@@ -2,13 +2,13 @@ use Rattle.std.proofs.Common.{◌≡◌, ◌^◌, ◌<◌, [], ◌∷◌, ◌++�
 use Rattle.std.specs.Prelude.{unsigned_abs, filter}
 use mir.Syntax.{w64}
 use mir.Val.{of_z}
-use Rattle.station_curve.specs.Curves.{is_present}
 use Rattle.station_curve.specs.Schureman.{amplitude_of, speed_of}
 use Rattle.station_curve.proofs.Present.{place-in_book, present-waves, absent_more, present_more, all_waves}
 use Rattle.station_curve.proofs.Products.{cast_small, zero_of_bits}
 use Rattle.station_curve.proofs.WavesOf.{wave_amount, wave_steepness, is_wave}
 use Rattle.station_curve.proofs.constants.year_waves.Goals as goal
 use Rattle.station_curve.proofs.constants.year_waves.Goals.{then-amplitude-ne0+in_ok-push, else-amplitude-ne0}
+use Rattle.station_curve.specs.Workings.Prepared.{is_present}
 
 pub amplitude-amplitude-requires-clause-place : goal.amplitude-amplitude-requires-clause-place
 amplitude-amplitude-requires-clause-place c =

@@ -1,10 +1,9 @@
 use Rattle.std.proofs.Common.{◌≡◌, w64, rules, FitsSigned, ap, ◌∙◌}
 use Rattle.std.proofs.lemmas.Int.{to_z-of_z}
 use Rattle.event_list.specs.Shifts.{scaled}
-use Rattle.station_curve.specs.Levels.{millionths_of}
 use Rattle.station_span.specs.Workings.Finds.{tide_of_found}
 use Rattle.station_span.specs.Workings.Levels.{source_of}
-use Rattle.station_span.proofs.HeldLemmas.{level_for}
+use Rattle.station_curve.specs.Schureman.{predicted_millionths}
 use Rattle.station_span.proofs.levels.level_at.Goals as goal
 
 pub returns : goal.returns
@@ -14,9 +13,8 @@ returns c =
     let source : FitsSigned w64 c.source.result = search rules in
     let level : FitsSigned w64 c.millionths-level.result = search rules in
     let at : c.source.result ≡ source_of (tide_of_found found) c.args.minute = simp to_z-of_z at c.source.ensures.exact in
-    let millionths : c.millionths-level.result ≡ millionths_of found.curve c.source.result =
+    let millionths : c.millionths-level.result ≡ predicted_millionths found.curve.book found.curve.station c.source.result =
     simp to_z-of_z at c.millionths-level.ensures.value in
     let all : c.scaled.result ≡ scaled found.basis.high c.millionths-level.result = simp to_z-of_z at c.scaled.ensures in
     let fits : FitsSigned w64 c.scaled.result = search rules in
-    to_z-of_z w64 _ fits ∙ all ∙ ap (scaled found.basis.high) (millionths ∙ ap (millionths_of found.curve) at)
-    ∙ level_for found c.args.minute c.requires
+    to_z-of_z w64 _ fits ∙ all ∙ ap (scaled found.basis.high) (millionths ∙ ap (predicted_millionths found.curve.book found.curve.station) at)

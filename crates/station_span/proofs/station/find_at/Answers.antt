@@ -1,7 +1,8 @@
-use Rattle.std.proofs.Common.{refl, sym, ◌∙◌}
+use Rattle.std.proofs.lemmas.Int.{ints}
+use Rattle.std.proofs.Common.{refl, sym, ◌∙◌, ap, arith}
 use Rattle.std.proofs.lemmas.Result.{err_from_is_err_and}
-use Rattle.station_curve.specs.Curves.{tide_of}
-use Rattle.station_span.proofs.FoundLemmas.{HasCurve, curve_allowed, curve_alone, curve_excused, excused_by, refused_span, refused_curve, refused_length, refused_mark, found_whole}
+use Rattle.station_curve.specs.Curves.{Prediction, prediction_of}
+use Rattle.station_span.proofs.FoundLemmas.{HasCurve, curve_allowed, curve_excused, excused_by, refused_span, refused_curve, refused_length, refused_mark, found_whole}
 use Rattle.station_span.proofs.SiteLemmas.{span_reached}
 use Rattle.station_span.proofs.SpanLemmas.{has_offsets}
 use Rattle.station_span.specs.Sites.{Site}
@@ -11,11 +12,23 @@ use Rattle.station_span.proofs.station.find_at.Goals as goal
 pub span_looked_at-requires : goal.span_looked_at-requires
 span_looked_at-requires c = record { offsets = has_offsets _ _ c.requires.basis }
 
-pub curve_over-requires-clause-in_range : goal.curve_over-requires-clause-in_range
-curve_over-requires-clause-in_range c =
+pub curve_over-requires-clause-begins : goal.curve_over-requires-clause-begins
+curve_over-requires-clause-begins c =
     let reached = span_reached c.args.reach c.args.book.now c.args.basis c.args.request.now.asked (has_offsets _ _ c.requires.basis)
     c.asked-asked.ensures.in_range c.in_ok-span.ensures.found in
-    rw c.in_ok-span.ensures.exact reached.in_range
+    rw c.in_ok-span.ensures.exact reached.begins
+
+pub curve_over-requires-clause-ends : goal.curve_over-requires-clause-ends
+curve_over-requires-clause-ends c =
+    let reached = span_reached c.args.reach c.args.book.now c.args.basis c.args.request.now.asked (has_offsets _ _ c.requires.basis)
+    c.asked-asked.ensures.in_range c.in_ok-span.ensures.found in
+    rw c.in_ok-span.ensures.exact reached.ends
+
+pub curve_over-requires-clause-forward : goal.curve_over-requires-clause-forward
+curve_over-requires-clause-forward c =
+    let reached = span_reached c.args.reach c.args.book.now c.args.basis c.args.request.now.asked (has_offsets _ _ c.requires.basis)
+    c.asked-asked.ensures.in_range c.in_ok-span.ensures.found in
+    rw c.in_ok-span.ensures.exact reached.in_range.forward
 
 pub returns-in_err-span-clause-exact : goal.returns-in_err-span-clause-exact
 returns-in_err-span-clause-exact c =
@@ -36,68 +49,70 @@ pub returns-in_err-check_length-clause-exact : goal.returns-in_err-check_length-
 returns-in_err-check_length-clause-exact c =
     let p = err_from_is_err_and c.from_residual-in_err-check_length.result c.from_residual-in_err-check_length.ensures.1 in
     let site : Site = record { basis = c.args.basis; station = c.args.station.now } in
-    let has : HasCurve c.args.reach c.args.book.now site c.args.request.now.asked _ (tide_of c.args.book.now c.args.station.now) =
+    let has : HasCurve c.args.reach c.args.book.now site c.args.request.now.asked _ (prediction_of c.args.book.now c.args.station.now) =
     record {
       unit = sym c.in_ok-level_units.ensures.exact;
       span = c.in_ok-span.ensures.found;
       curve = curve_allowed c.args.book.now c.args.station.now _ _ c.in_ok-curve.curve c.in_ok-curve.ensures.exact;
     } in
     rw (p.1, p.2) (refused_length _ c.args.reach c.args.book.now site c.args.request.now.asked _
-    (tide_of c.args.book.now c.args.station.now) _ has (excused_by _ _ _ (sym c.in_err-check_length.ensures.exact)))
+    (prediction_of c.args.book.now c.args.station.now) _ has (excused_by _ _ _ (sym c.in_err-check_length.ensures.exact)))
 
 pub returns-in_err-check_mark-clause-exact : goal.returns-in_err-check_mark-clause-exact
 returns-in_err-check_mark-clause-exact c =
     let p = err_from_is_err_and c.from_residual-in_err-check_mark.result c.from_residual-in_err-check_mark.ensures.1 in
     let site : Site = record { basis = c.args.basis; station = c.args.station.now } in
-    let has : HasCurve c.args.reach c.args.book.now site c.args.request.now.asked _ (tide_of c.args.book.now c.args.station.now) =
+    let has : HasCurve c.args.reach c.args.book.now site c.args.request.now.asked _ (prediction_of c.args.book.now c.args.station.now) =
     record {
       unit = sym c.in_ok-level_units.ensures.exact;
       span = c.in_ok-span.ensures.found;
       curve = curve_allowed c.args.book.now c.args.station.now _ _ c.in_ok-curve.curve c.in_ok-curve.ensures.exact;
     } in
     rw (p.1, p.2) (refused_mark _ c.args.reach c.args.book.now site c.args.request.now.asked _
-    (tide_of c.args.book.now c.args.station.now) _ has (sym c.in_ok-check_length.ensures.exact) (excused_by _ _ _ (sym c.in_err-check_mark.ensures.exact)))
+    (prediction_of c.args.book.now c.args.station.now) _ has (sym c.in_ok-check_length.ensures.exact) (excused_by _ _ _ (sym c.in_err-check_mark.ensures.exact)))
 
 pub invariant_of-result : goal.invariant_of-result
 invariant_of-result c =
-    let book = c.of.ensures.0 ∙ c.get.ensures.exact in
-    let station = c.of.ensures.1 in
+    let is = c.in_ok-curve.ensures.predicts in
+    let span = span_reached c.args.reach c.args.book.now c.args.basis c.args.request.now.asked (has_offsets _ _ c.requires.basis)
+    c.asked-asked.ensures.in_range c.in_ok-span.ensures.found in
+    let looked = c.in_ok-span.ensures.exact in
     let found : IsValid c.args.reach c.args.book.now c.args.request.now.asked c.args.basis c.args.station.now c.in_ok-curve.curve = record {
       basis = refl;
       valid = c.requires.basis;
       units = refl;
       levels = c.in_ok-level_units.ensures.levels;
-      predicts = rw c.in_ok-span.ensures.exact at c.in_ok-curve.ensures.predicts;
-      within_limits = c.in_ok-curve.ensures.within_limits;
-      years = c.in_ok-curve.ensures.years;
-      span = span_reached c.args.reach c.args.book.now c.args.basis c.args.request.now.asked (has_offsets _ _ c.requires.basis)
-          c.asked-asked.ensures.in_range c.in_ok-span.ensures.found;
+      predicts = rw (is, looked) (record { of_book = refl; of_station = refl; from = omega (arith, ints); until = omega (arith, ints) });
+      within_limits = c.in_ok-curve.ensures.valid;
+      span = span;
       few = c.in_ok-check_length.ensures.count_bound;
       mark = c.in_ok-check_mark.ensures.here;
       in_range = c.asked-asked.ensures.in_range;
     } in
+    let book : c.in_ok-curve.curve.book ≡ c.args.book.now = ap (λ (p : Prediction). p.book) is in
+    let station : c.in_ok-curve.curve.station ≡ c.args.station.now = ap (λ (p : Prediction). p.station) is in
     record {
       unit = rw station refl;
       valid = rw (book, station, c.asked-asked.ensures.exact) found;
-      looked = rw c.asked-asked.ensures.exact c.in_ok-span.ensures.exact;
-      alone = rw (book, station) (curve_alone c.args.book.now c.args.station.now _ _ c.in_ok-curve.curve c.in_ok-curve.ensures.exact);
+      looked = rw c.asked-asked.ensures.exact looked;
+      alone = rw (book, station) is;
     }
 
 pub returns-clause-exact : goal.returns-clause-exact
 returns-clause-exact c =
     let site : Site = record { basis = c.args.basis; station = c.args.station.now } in
-    let has : HasCurve c.args.reach c.args.book.now site c.args.request.now.asked _ (tide_of c.args.book.now c.args.station.now) =
+    let has : HasCurve c.args.reach c.args.book.now site c.args.request.now.asked _ (prediction_of c.args.book.now c.args.station.now) =
     record {
       unit = sym c.in_ok-level_units.ensures.exact;
       span = c.in_ok-span.ensures.found;
       curve = curve_allowed c.args.book.now c.args.station.now _ _ c.in_ok-curve.curve c.in_ok-curve.ensures.exact;
     } in
     let whole =
-    found_whole c.args.reach c.args.book.now site c.args.request.now.asked _ (tide_of c.args.book.now c.args.station.now)
+    found_whole c.args.reach c.args.book.now site c.args.request.now.asked _ (prediction_of c.args.book.now c.args.station.now)
     has (sym c.in_ok-check_length.ensures.exact) (sym c.in_ok-check_mark.ensures.exact) in
     record {
-      site = rw c.of.ensures.1 whole;
+      site = rw (ap (λ (p : Prediction). p.station) c.in_ok-curve.ensures.predicts) whole;
       reach = refl;
-      book = c.of.ensures.0 ∙ c.get.ensures.exact;
+      book = ap (λ (p : Prediction). p.book) c.in_ok-curve.ensures.predicts;
       asked = c.asked-asked.ensures.exact;
     }

@@ -10,7 +10,7 @@ use Rattle.tide_answer.proofs.certificate_sending.send_certificate.Goals as goal
 pub returns-in_err-sent : goal.returns-in_err-sent
 returns-in_err-sent g c =
     let p = err_from_is_err_and c.from_residual.result c.from_residual.ensures.1 in
-    let tracks = tracks_of c.args.found.now.origin.book (site_of c.args.found.now) c.args.found.now.asked in
+    let tracks = tracks_of c.args.found.now.curve.book (site_of c.args.found.now) c.args.found.now.asked in
     let parts = certificate_parts c.args.name.now c.args.found.now.asked tracks in
     rw (p.1, p.2, parts) (sends_cut (g.S.Sink.state c.args.out.now) (g.S.Sink.state c.send_head.new.out)
     (record { bytes = 0; cells = 0 }) (head_text c.args.name.now c.args.found.now.asked ++ tracks_text tracks) (codes "done\n") 0 0 _
@@ -27,7 +27,7 @@ send_tracks-requires-clause-first g c = let cells = c.in_ok-sent.ensures.sends.1
 pub returns-in_err-sent-2 : goal.returns-in_err-sent-2
 returns-in_err-sent-2 g c =
     let p = err_from_is_err_and c.from_residual-in_err-sent-2.result c.from_residual-in_err-sent-2.ensures.1 in
-    let tracks = tracks_of c.args.found.now.origin.book (site_of c.args.found.now) c.args.found.now.asked in
+    let tracks = tracks_of c.args.found.now.curve.book (site_of c.args.found.now) c.args.found.now.asked in
     let parts = certificate_parts c.args.name.now c.args.found.now.asked tracks in
     rw (p.1, p.2, parts) (sends_cut (g.S.Sink.state c.args.out.now) (g.S.Sink.state c.send_tracks.new.out)
     (record { bytes = 0; cells = 0 }) (head_text c.args.name.now c.args.found.now.asked ++ tracks_text tracks) (codes "done\n") 0 0 _
@@ -37,8 +37,8 @@ returns-in_err-sent-2 g c =
 
 pub returns : goal.returns
 returns g c =
-    let tracks = tracks_of c.args.found.now.origin.book (site_of c.args.found.now) c.args.found.now.asked in
-    let count = cells_of c.args.found.now.origin.book (site_of c.args.found.now) c.args.found.now.asked in
+    let tracks = tracks_of c.args.found.now.curve.book (site_of c.args.found.now) c.args.found.now.asked in
+    let count = cells_of c.args.found.now.curve.book (site_of c.args.found.now) c.args.found.now.asked in
     let parts = certificate_parts c.args.name.now c.args.found.now.asked tracks in
     let both = sends_sum (g.S.Sink.state c.args.out.now) (g.S.Sink.state c.send_head.new.out) (g.S.Sink.state c.send_tracks.new.out)
     (record { bytes = 0; cells = 0 }) c.in_ok-sent.sent (head_text c.args.name.now c.args.found.now.asked)

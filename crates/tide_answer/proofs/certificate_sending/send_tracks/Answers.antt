@@ -36,7 +36,7 @@ send_track-requires-clause-count g c =
 pub send_if_followed-requires-clause-cells : goal.send_if_followed-requires-clause-cells
 send_if_followed-requires-clause-cells g c =
     let slack = c.slack_search.ensures.left in
-    searched c.slack_search.result (tracks_of c.args.found.now.origin.book
+    searched c.slack_search.result (tracks_of c.args.found.now.curve.book
     (site_of c.args.found.now) c.args.found.now.asked).slack slack c.requires.cells.slack
 
 pub send_if_followed-requires-clause-count_bound : goal.send_if_followed-requires-clause-count_bound
@@ -62,7 +62,7 @@ send_if_followed-requires-clause-count g c =
 pub send_if_followed-requires-2-clause-cells : goal.send_if_followed-requires-2-clause-cells
 send_if_followed-requires-2-clause-cells g c =
     let mark = c.mark_search.ensures.left in
-    searched c.mark_search.result (tracks_of c.args.found.now.origin.book
+    searched c.mark_search.result (tracks_of c.args.found.now.curve.book
     (site_of c.args.found.now) c.args.found.now.asked).mark mark c.requires.cells.mark
 
 pub send_if_followed-requires-2-clause-count_bound : goal.send_if_followed-requires-2-clause-count_bound
@@ -94,7 +94,7 @@ send_if_followed-requires-2-clause-count g c =
 pub returns-in_err-sent-clause-sends : goal.returns-in_err-sent-clause-sends
 returns-in_err-sent-clause-sends g c =
     let p = err_from_is_err_and c.from_residual.result c.from_residual.ensures.1 in
-    let tracks = tracks_of c.args.found.now.origin.book (site_of c.args.found.now) c.args.found.now.asked in
+    let tracks = tracks_of c.args.found.now.curve.book (site_of c.args.found.now) c.args.found.now.asked in
     let turn = c.turn_search.ensures.left in
     let t = joined (track_lines_of Turn tracks.turn) in
     let s = joined (lines_if_there Slack tracks.slack) in
@@ -106,7 +106,7 @@ returns-in_err-sent-clause-sends g c =
 pub returns-in_err-sent-2-clause-sends : goal.returns-in_err-sent-2-clause-sends
 returns-in_err-sent-2-clause-sends g c =
     let p = err_from_is_err_and c.from_residual-in_err-sent-2.result c.from_residual-in_err-sent-2.ensures.1 in
-    let tracks = tracks_of c.args.found.now.origin.book (site_of c.args.found.now) c.args.found.now.asked in
+    let tracks = tracks_of c.args.found.now.curve.book (site_of c.args.found.now) c.args.found.now.asked in
     let turn = c.turn_search.ensures.left in
     let slack = c.slack_search.ensures.left in
     let t = joined (track_lines_of Turn tracks.turn) in
@@ -134,7 +134,7 @@ returns-clause-sends g c =
     let both = sends_then (g.S.Sink.state c.args.out.now) (g.S.Sink.state c.send_track.new.out) (g.S.Sink.state c.send_if_followed.new.out)
     c.args.sent c.in_ok-sent.sent t s n k (Ok c.in_ok-sent-2.sent) c.in_ok-sent.ensures.sends c.in_ok-sent-2.ensures.sends in
     subst (λ (x : Tracks). Sends (g.S.Sink.state c.args.out.now) (g.S.Sink.state c.send_if_followed-2.new.out) c.args.sent (tracks_text x)
-    (cells_of c.args.found.now.origin.book (site_of c.args.found.now) c.args.found.now.asked) c.send_if_followed-2.result) same
+    (cells_of c.args.found.now.curve.book (site_of c.args.found.now) c.args.found.now.asked) c.send_if_followed-2.result) same
     (sends_sum (g.S.Sink.state c.args.out.now) (g.S.Sink.state c.send_if_followed.new.out) (g.S.Sink.state c.send_if_followed-2.new.out)
     c.args.sent c.in_ok-sent-2.sent (t ++ s) m (n + k) (left_count c.mark_search.result) _ total c.send_if_followed-2.result
     both c.send_if_followed-2.ensures.sends)

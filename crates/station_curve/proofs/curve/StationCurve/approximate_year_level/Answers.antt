@@ -2,35 +2,38 @@ use Rattle.std.proofs.Common.{◌≡◌, ◌*◌, ◌^◌, pos, ◌+ℤ◌, ◌*
 use Rattle.std.proofs.lemmas.Int.{to_z-of_z}
 use mir.Syntax.{w64, w128}
 use mir.Val.{to_z, of_z}
-use Rattle.station_curve.specs.Levels.{minutes_into, waves_in}
+use Rattle.station_curve.specs.Levels.{minutes_into}
 use Rattle.station_curve.specs.Approximate.{approximate_heights_of, approximate_year_level}
 use Rattle.station_curve.proofs.Products.{cast_small, kept_small, abs_plus, plus, plus_fits}
-use Rattle.station_curve.proofs.Ready.{stored, year_of}
+use Rattle.station_curve.proofs.Ready.{stored, year_of, datum_of, datum_small, used_waves}
+use Rattle.station_curve.proofs.WithinLimits.{approximate_heights-present}
+use Rattle.station_curve.proofs.Touched.{touched}
+use Rattle.station_curve.specs.Curves.{waves_of}
 use Rattle.station_curve.proofs.curve.StationCurve.approximate_year_level.Goals as goal
 
 pub index-year-requires : goal.index-year-requires
-index-year-requires c = rw (stored c.self.inside c.args.self.now c.self.view_is) c.requires.year
+index-year-requires c = rw (stored c.self.inside c.args.self.now c.self.invariant c.self.view_is) c.requires.below
 
 pub mean_level-requires : goal.mean_level-requires
 mean_level-requires c =
-    kept_small w64 c.self.inside.datum (10 ^ 10) c.self.invariant.within_limits.datum (lit< tt)
+    kept_small w64 c.self.inside.datum (10 ^ 10) (datum_small c.self.inside c.self.invariant) (lit< tt)
 
 pub minutes_to-requires-clause-least : goal.minutes_to-requires-clause-least
 minutes_to-requires-clause-least c =
     let y = year_of c.self.inside c.args.self.now c.args.year c.index-year.result.now c.self.invariant c.self.view_is
-    c.requires.year c.index-year.ensures in
-    rw (to_z-of_z w64 c.args.m c.ranges.m, y.start) c.requires.in_range.least
+    c.requires.below c.index-year.ensures in
+    rw (to_z-of_z w64 c.args.m c.ranges.m, y.start) c.requires.hour.least
 
 pub minutes_to-requires-clause-most : goal.minutes_to-requires-clause-most
 minutes_to-requires-clause-most c =
     let y = year_of c.self.inside c.args.self.now c.args.year c.index-year.result.now c.self.invariant c.self.view_is
-    c.requires.year c.index-year.ensures in
-    rw (to_z-of_z w64 c.args.m c.ranges.m, y.start) c.requires.in_range.most
+    c.requires.below c.index-year.ensures in
+    rw (to_z-of_z w64 c.args.m c.ranges.m, y.start) c.requires.hour.most
 
 pub approximate_heights-requires-clause-amount : goal.approximate_heights-requires-clause-amount
 approximate_heights-requires-clause-amount c =
     let y = year_of c.self.inside c.args.self.now c.args.year c.index-year.result.now c.self.invariant c.self.view_is
-    c.requires.year c.index-year.ensures in
+    c.requires.below c.index-year.ensures in
     rw c.as_slice.ensures.value y.amount
 
 pub overflow_add-result : goal.overflow_add-result
@@ -45,20 +48,22 @@ returns-clause-size c =
 pub returns-clause-value : goal.returns-clause-value
 unfolding approximate_year_level
 returns-clause-value c =
-    let tide = c.args.self.now in
-    let y = year_of c.self.inside tide c.args.year c.index-year.result.now c.self.invariant c.self.view_is
-    c.requires.year c.index-year.ensures in
+    let b = c.args.self.now.book in
+    let s = c.args.self.now.station in
+    let y = year_of c.self.inside c.args.self.now c.args.year c.index-year.result.now c.self.invariant c.self.view_is
+    c.requires.below c.index-year.ensures in
     let same = to_z-of_z w64 c.args.m c.ranges.m in
-    let minutes : c.minutes_to.result ≡ minutes_into tide.first_year c.args.year c.args.m =
+    let minutes : c.minutes_to.result ≡ minutes_into b.first_year c.args.year c.args.m =
     rw (same, y.start) at c.minutes_to.ensures.value in
-    let waves : c.as_slice.result.now ≡ waves_in tide c.args.year = c.as_slice.ensures.value ∙ y.waves in
-    let datum : to_z w64 (of_z w64 c.self.inside.datum) ≡ tide.datum =
-    cast_small w64 c.self.inside.datum (10 ^ 10) c.self.invariant.within_limits.datum (lit< tt) ∙ ap (λ t. t.datum) c.self.view_is in
+    let waves = c.as_slice.ensures.value ∙ used_waves c.args.self.now c.args.year c.index-year.result.now y c.requires.touched in
+    let datum : to_z w64 (of_z w64 c.self.inside.datum) ≡ s.datum =
+    datum_of c.self.inside c.args.self.now c.self.invariant c.self.view_is in
     plus w128 c.mean_level.result c.in_billionths.result (10 ^ 19) (2 * 10 ^ 18) c.mean_level.ensures.size c.in_billionths.ensures.size (lit< tt)
     ∙ ap (λ x. x +ℤ c.in_billionths.result) (c.mean_level.ensures.value ∙ ap (λ d. pos (10 ^ 9) *ℤ d) datum)
-    ∙ ap (λ y. (pos (10 ^ 9) *ℤ tide.datum) +ℤ y)
+    ∙ ap (λ y. (pos (10 ^ 9) *ℤ s.datum) +ℤ y)
     (rw (cast_small w64 c.approximate_heights.result (30518 * 10 ^ 9) c.approximate_heights.ensures.size (lit< tt))
     at c.in_billionths.ensures.value
     ∙ ap (λ z. pos (2 ^ 15) *ℤ z) (c.approximate_heights.ensures.value
     ∙ ap (λ t. approximate_heights_of t c.as_slice.result.now) minutes
-    ∙ ap (approximate_heights_of (minutes_into tide.first_year c.args.year c.args.m)) waves))
+    ∙ ap (approximate_heights_of (minutes_into b.first_year c.args.year c.args.m)) waves
+    ∙ approximate_heights-present (minutes_into b.first_year c.args.year c.args.m) (waves_of b s c.args.year)))

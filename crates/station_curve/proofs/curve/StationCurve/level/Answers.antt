@@ -12,7 +12,7 @@ returns-in-Plain-clause-value c =
     let same = to_z-of_z w64 c.args.m c.ranges.m in
     let level = cast_small w128 c.year_level.result (11 * 10 ^ 18) c.year_level.ensures.size (lit< tt) in
     cast_small w128 c.weighted.result (total_weight * 10 ^ 26) c.weighted.ensures.size (lit< tt)
-    ∙ level_plain c.args.self.now c.args.m c.in-Plain.year c.year_level.result c.weighted.result
+    ∙ level_plain c.args.self.now.book c.args.self.now.station c.args.m c.in-Plain.year c.year_level.result c.weighted.result
     (rw same at c.in-Plain.ensures.value) (rw same at c.year_level.ensures.value) (rw level at c.weighted.ensures.value)
 
 pub returns-in-Plain-clause-size : goal.returns-in-Plain-clause-size
@@ -25,14 +25,14 @@ returns-in-Plain-clause-size c =
 pub returns-in-Blend-clause-value : goal.returns-in-Blend-clause-value
 returns-in-Blend-clause-value c =
     let same = to_z-of_z w64 c.args.m c.ranges.m in
-    let in_range = c.in-Blend.ensures.in_range.4 in
+    let in_range = c.in-Blend.ensures.used.3 in
     let x : to_z w64 (of_z w64 c.in-Blend.x) ≡ c.in-Blend.x = omega (arith, ints, in_range.least, in_range.most) in
     let weight : to_z w64 (of_z w64 c.weight.result) ≡ c.weight.result =
     omega (arith, ints, c.weight.ensures.least, c.weight.ensures.most) in
     let earlier = cast_small w128 c.year_level-in-Blend.result (11 * 10 ^ 18) c.year_level-in-Blend.ensures.size (lit< tt) in
     let later = cast_small w128 c.year_level-in-Blend-2.result (11 * 10 ^ 18) c.year_level-in-Blend-2.ensures.size (lit< tt) in
     cast_small w128 c.mixed.result (2 * (total_weight * 10 ^ 26)) c.mixed.ensures.size (lit< tt)
-    ∙ level_blend c.args.self.now c.args.m c.in-Blend.year c.in-Blend.x c.year_level-in-Blend.result
+    ∙ level_blend c.args.self.now.book c.args.self.now.station c.args.m c.in-Blend.year c.in-Blend.x c.year_level-in-Blend.result
     c.year_level-in-Blend-2.result c.weight.result c.mixed.result
     (rw same at c.in-Blend.ensures.value) (rw same at c.year_level-in-Blend.ensures.value)
     (rw same at c.year_level-in-Blend-2.ensures.value)

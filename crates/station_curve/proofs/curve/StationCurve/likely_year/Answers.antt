@@ -20,5 +20,5 @@ overflow_cast-result c =
 pub returns : goal.returns
 returns c =
     let years = rw (← c.len.ensures) at (are_years c.self.inside c.self.invariant) in
-    rw (← (c.len.ensures ∙ stored c.self.inside c.args.self.now c.self.view_is))
+    rw (← (c.len.ensures ∙ stored c.self.inside c.args.self.now c.self.invariant c.self.view_is))
     (below (c.abs_diff-ended.result / 525949) c.len.result c.min.result c.min.ensures years.some)

@@ -4,8 +4,8 @@ use Rattle.std.proofs.lemmas.Int.{to_z-of_z, fits_signed_from_abs}
 use mir.Syntax.{w64, w128}
 use Rattle.decimal_text.specs.Rounding.{rounded_of}
 use Rattle.year_blend.specs.Weights.{total_weight}
-use Rattle.station_curve.specs.Levels.{millionths_of}
 use Rattle.station_curve.proofs.Products.{cast_small, half_up-le}
+use Rattle.station_curve.specs.Schureman.{predicted_millionths}
 use Rattle.station_curve.proofs.curve.StationCurve.millionths.Goals as goal
 
 pub rounded-requires-clause-room : goal.rounded-requires-clause-room
@@ -21,7 +21,7 @@ overflow_cast-result c =
     rw (cast_small w128 c.rounded.result (11 * 10 ^ 9) small (lit< tt)) (fits_signed_from_abs w64 c.rounded.result (omega (arith, small)))
 
 pub returns-clause-value : goal.returns-clause-value
-unfolding millionths_of
+unfolding predicted_millionths
 returns-clause-value c =
     let same = to_z-of_z w64 c.args.m c.ranges.m in
     let level = cast_small w128 c.level.result (total_weight * (11 * 10 ^ 18)) c.level.ensures.size (lit< tt) in

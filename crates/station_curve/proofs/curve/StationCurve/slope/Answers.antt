@@ -4,7 +4,8 @@ use mir.Syntax.{w64, w128}
 use Rattle.fixed_sine.specs.Circle.{radian}
 use Rattle.year_blend.specs.Weights.{total_weight}
 use Rattle.station_curve.proofs.Blending.{slope_plain, slope_blend, level_change}
-use Rattle.station_curve.proofs.Products.{cast_small, kept_small, abs_below, abs_span, abs_plus, abs_minus, plus, plus_fits, minus, minus_fits, under}
+use Rattle.station_curve.proofs.Products.{cast_small, kept_small, abs_below, abs_span, abs_plus, abs_minus, plus, plus_fits, minus, minus_fits, under, times}
+use Rattle.station_curve.specs.Levels.{drift}
 use Rattle.station_curve.proofs.curve.StationCurve.slope.Goals as goal
 
 pub weighted-requires-clause-value : goal.weighted-requires-clause-value
@@ -17,7 +18,7 @@ overflow_sub-change c =
 
 pub weight-requires : goal.weight-requires
 weight-requires c =
-    let in_range = c.in-Blend.ensures.in_range.4 in
+    let in_range = c.in-Blend.ensures.used.3 in
     rw (cast_small w64 c.in-Blend.x 60 (abs_span c.in-Blend.x 59 in_range.least in_range.most) (lit< tt)) in_range
 
 pub mixed-requires-clause-earlier : goal.mixed-requires-clause-earlier
@@ -47,7 +48,7 @@ drift-requires-clause-change c =
 
 pub drift-requires-clause-in_range : goal.drift-requires-clause-in_range
 drift-requires-clause-in_range c =
-    let in_range = c.in-Blend.ensures.in_range.4 in
+    let in_range = c.in-Blend.ensures.used.3 in
     rw (cast_small w64 c.in-Blend.x 60 (abs_span c.in-Blend.x 59 in_range.least in_range.most) (lit< tt)) in_range
 
 pub overflow_add-result : goal.overflow_add-result
@@ -60,7 +61,7 @@ returns-in-Plain-clause-value c =
     let same = to_z-of_z w64 c.args.m c.ranges.m in
     let level = cast_small w128 c.year_slope.result (10 ^ 26) c.year_slope.ensures.size (lit< tt) in
     cast_small w128 c.weighted.result (total_weight * 10 ^ 26) c.weighted.ensures.size (lit< tt)
-    ∙ slope_plain c.args.self.now c.args.m c.in-Plain.year c.year_slope.result c.weighted.result
+    ∙ slope_plain c.args.self.now.book c.args.self.now.station c.args.m c.in-Plain.year c.year_slope.result c.weighted.result
     (rw same at c.in-Plain.ensures.value) (rw same at c.year_slope.ensures.value) (rw level at c.weighted.ensures.value)
 
 pub returns-in-Plain-clause-size : goal.returns-in-Plain-clause-size
@@ -70,9 +71,11 @@ returns-in-Plain-clause-size c =
 
 pub returns-in-Blend-clause-value : goal.returns-in-Blend-clause-value
 returns-in-Blend-clause-value c =
-    let tide = c.args.self.now in
+    let b = c.args.self.now.book in
+    let s = c.args.self.now.station in
     let same = to_z-of_z w64 c.args.m c.ranges.m in
-    let in_range = c.in-Blend.ensures.in_range.4 in
+    let used = rw same at c.in-Blend.ensures.used in
+    let in_range = c.in-Blend.ensures.used.3 in
     let x = cast_small w64 c.in-Blend.x 60 (abs_span c.in-Blend.x 59 in_range.least in_range.most) (lit< tt) in
     let small = abs_below c.weight.result total_weight c.weight.ensures.least c.weight.ensures.most in
     let weight = cast_small w64 c.weight.result total_weight small (lit< tt) in
@@ -81,11 +84,12 @@ returns-in-Blend-clause-value c =
     let high = c.year_heights.result in
     let low = c.year_heights-in-Blend.result in
     let apart = minus w64 high low (10 ^ 18) (10 ^ 18) c.year_heights.ensures.size c.year_heights-in-Blend.ensures.size (lit< tt) in
-    let change = level_change tide c.args.m c.in-Blend.year high low (rw same at c.year_heights.ensures.value)
+    let change = level_change b s c.args.m c.in-Blend.year high low
+    c.in-Blend.ensures.valid.limits.times used.1.hour.least used.2.hour.least (rw same at c.year_heights.ensures.value)
     (rw same at c.year_heights-in-Blend.ensures.value) in
     plus w128 c.mixed.result c.drift.result (2 * (total_weight * 10 ^ 26)) ((64800000 * radian) * (2 * 10 ^ 18))
     c.mixed.ensures.size c.drift.ensures.size (lit< tt)
-    ∙ slope_blend tide c.args.m c.in-Blend.year c.in-Blend.x c.year_slope-in-Blend.result
+    ∙ slope_blend b s c.args.m c.in-Blend.year c.in-Blend.x c.year_slope-in-Blend.result
     c.year_slope-in-Blend-2.result c.weight.result (high -ℤ low) c.mixed.result c.drift.result
     (rw same at c.in-Blend.ensures.value) (rw same at c.year_slope-in-Blend.ensures.value)
     (rw same at c.year_slope-in-Blend-2.ensures.value)

@@ -1,22 +1,21 @@
-use Rattle.std.proofs.Common.{◌≡◌, length, pos, ◌+ℤ◌, arith}
+use Rattle.std.proofs.Common.{◌≡◌, pos, ◌+ℤ◌, arith}
 use Rattle.std.proofs.lemmas.Int.{ints, to_z-of_z}
 use mir.Syntax.{w64}
 use mir.Val.{to_z, of_z}
-use Rattle.year_blend.proofs.PlaceLemmas.{domain_small}
 use Rattle.station_curve.proofs.Around.{around_within}
 use Rattle.station_curve.proofs.Ready.{first_year_of}
+use Rattle.station_curve.proofs.Ranges.{in_domain, minute_small}
+use Rattle.station_curve.proofs.Products.{times}
 use Rattle.station_curve.proofs.curve.StationCurve.stretch.Goals as goal
 
 pub overflow_add-m : goal.overflow_add-m
 overflow_add-m c =
-    let small = domain_small c.args.self.now.first_year
-    (length c.args.self.now.years) c.args.m c.limits_hold.ensures.years c.requires.first in
+    let small = minute_small c.args.self.now c.args.m c.limits_hold.ensures c.requires.first in
     omega (arith, ints, small, c.requires.length_bound, c.from.ensures)
 
 pub year_around-requires-clause-last : goal.year_around-requires-clause-last
 year_around-requires-clause-last c =
-    let small = domain_small c.args.self.now.first_year
-    (length c.args.self.now.years) c.args.m c.limits_hold.ensures.years c.requires.first in
+    let small = minute_small c.args.self.now c.args.m c.limits_hold.ensures c.requires.first in
     let same = to_z-of_z w64 c.args.m c.ranges.m in
     let end : to_z w64 (of_z w64 (c.args.m +ℤ to_z w64 (of_z w64 c.from.result))) ≡ c.args.m +ℤ pos c.args.n =
     omega (arith, ints, small, c.requires.length_bound, c.from.ensures) in
@@ -24,12 +23,12 @@ year_around-requires-clause-last c =
 
 pub returns-in-Some : goal.returns-in-Some
 returns-in-Some c =
-    let tide = c.args.self.now in
-    let small = domain_small tide.first_year (length tide.years) c.args.m c.limits_hold.ensures.years c.requires.first in
+    let b = c.args.self.now.book in
+    let small = minute_small c.args.self.now c.args.m c.limits_hold.ensures c.requires.first in
     let same = to_z-of_z w64 c.args.m c.ranges.m in
     let end : to_z w64 (of_z w64 (c.args.m +ℤ to_z w64 (of_z w64 c.from.result))) ≡ c.args.m +ℤ pos c.args.n =
     omega (arith, ints, small, c.requires.length_bound, c.from.ensures) in
-    around_within tide.first_year (length tide.years) c.args.m c.args.n c.in-Some.year c.limits_hold.ensures.years.least
+    around_within b.first_year b.years c.args.m c.args.n c.in-Some.year c.limits_hold.ensures.limits.times.years.least
     (rw (same, end) at c.in-Some.ensures)
 
 pub returns-in-None : goal.returns-in-None
@@ -42,14 +41,16 @@ year_around-requires-clause-first c = rw (to_z-of_z w64 c.args.m c.ranges.m) c.r
 
 pub stretch-requires-clause-years : goal.stretch-requires-clause-years
 stretch-requires-clause-years c =
-    rw (first_year_of c.self.inside c.args.self.now c.self.invariant c.self.view_is, c.years.ensures) c.limits_hold.ensures.years
+    rw (first_year_of c.self.inside c.args.self.now c.self.invariant c.self.view_is, c.years.ensures) c.limits_hold.ensures.limits.times.years
 
 pub stretch-requires-clause-first : goal.stretch-requires-clause-first
 stretch-requires-clause-first c =
     let first = first_year_of c.self.inside c.args.self.now c.self.invariant c.self.view_is in
-    rw (first, c.years.ensures, to_z-of_z w64 c.args.m c.ranges.m) c.requires.first
+    rw (first, c.years.ensures, to_z-of_z w64 c.args.m c.ranges.m)
+    (in_domain c.args.self.now c.args.m c.limits_hold.ensures c.requires.first)
 
 pub stretch-requires-clause-last : goal.stretch-requires-clause-last
 stretch-requires-clause-last c =
     let first = first_year_of c.self.inside c.args.self.now c.self.invariant c.self.view_is in
-    rw (first, c.years.ensures, to_z-of_z w64 c.args.m c.ranges.m) c.requires.last
+    rw (first, c.years.ensures, to_z-of_z w64 c.args.m c.ranges.m)
+    (in_domain c.args.self.now _ c.limits_hold.ensures c.requires.last)

@@ -28,11 +28,11 @@ use denote.Triple.Table.{entered}
 use denote.Triple.Walked.{says, stay_none_ref, Stays, walk_of, Walks, ends_at, walked, Goes-none_ref, walk_Meets}
 use Rattle.harmonics_book.specs.contracts.book.Book as book
 use Rattle.harmonics_book.specs.contracts.book.Station as station
-use Rattle.station_span.specs.contracts.origin.Origin as origin
-use Rattle.station_span.specs.contracts.origin.Origin.of.Key.{name as key}
-use Rattle.station_span.specs.contracts.origin.Origin.of as f
-use Rattle.station_span.proofs.origin.Origin.of.Statement as stated
-use Rattle.station_span.proofs.origin.Origin.of.Code as code
+use Rattle.station_curve.specs.contracts.origin.Origin as origin
+use Rattle.station_curve.specs.contracts.origin.Origin.of.Key.{name as key}
+use Rattle.station_curve.specs.contracts.origin.Origin.of as f
+use Rattle.station_curve.proofs.origin.Origin.of.Statement as stated
+use Rattle.station_curve.proofs.origin.Origin.of.Code as code
 
 abbrev stayed : Stays (f.ended).signature.params (f.ended).kept
 stayed = (stay_none_ref (0 ∷ []) tt (plain (λ _. book.the_row)) yes, (stay_none_ref (1 ∷ []) tt (plain (λ _. station.the_row)) yes, tt))

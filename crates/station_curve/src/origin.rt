@@ -1,4 +1,4 @@
-//! The origin of a found station, for contracts alone.
+//! The origin of a curve, for contracts alone.
 
 ghost use Rattle.std.specs.Prelude.{◌≡◌};
 ghost use Rattle.std.specs.Borrow.{ftrue};
