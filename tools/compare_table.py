@@ -129,7 +129,7 @@ class Table:
         self.start, self.delimiter, self.columns = self.header()
         self.zone_name = words.get('zone') or self.zone_said()
         self.zone = zone_of(self.zone_name)
-        self.factor = factor(unit_of(words['units']) if 'units' in words else self.columns.unit or unit, unit)
+        self.factor = factor(unit_of(words['units']) if 'units' in words else self.columns.unit or self.unit_said() or unit, unit)
         rows = [self.row(number, line) for number, line in enumerate(self.lines, 1) if number > self.start and line.strip()]
         if not rows:
             raise Wrong(f'{self.name} has no row')
@@ -153,6 +153,11 @@ class Table:
         if said not in ('GMT', 'UTC'):
             raise Wrong(f'{self.name} has times in {said}: say which, as zone=America/New_York, or zone=-05:00 for standard time all year')
         return 'UTC'
+
+    def unit_said(self):
+        """The unit that the lines down to the column names say, if it is one."""
+        said = [line.split(':', 1)[1].strip().lower() for line in self.lines[:self.start] if line.lower().startswith('units:')]
+        return UNITS.get(said[0]) if said else None
 
     def fault(self, line, text):
         return Wrong(f'{self.name}, line {line}: {text}')

@@ -144,11 +144,30 @@ class CompareTrial:
                 yearly_table(rows, NEW_YORK, '\t', TEXT_HEAD.format(zone='LST_LDT')), 'zone=America/New_York'), differences, unmatched, 0.006)
         self.judged('yearly text in GMT', self.compare(yearly_table(rows, UTC, '\t', TEXT_HEAD.format(zone='GMT'))), differences, unmatched, 0.006)
         self.judged('yearly CSV', self.compare(yearly_table(rows, UTC, ',')), differences, unmatched, 0.006)
+        self.variants(rows, differences, unmatched)
         last = re.search(r'to (\d+)-01-01T', self.tide('predict', f'file={HARBOURS}', f'station={BOSTON}', 'begin=9000-01-01T00:00Z', 'end=9000-01-02T00:00Z'))
         late = self.events(f'{int(last[1]) - 1}-12-20', f'{last[1]}-01-01')
         self.judged('the last days of a file', self.compare(comma_table(late, UTC)), [(event, 0, 0) for _, event, _ in late], (0, 0))
         decade = self.events('2020-01-01', '2029-12-31')
         self.judged('ten years', self.compare(comma_table(decade, NEW_YORK), 'zone=America/New_York'), [(event, 0, 0) for _, event, _ in decade], (0, 0))
+
+    def variants(self, rows, differences, unmatched):
+        """NOAA's columns with other spaces, heads and units."""
+        text = comma_table(rows, UTC)
+        untyped = ''.join(line.rsplit(',', 1)[0] + '\n' for line in comma_table(self.events('2025-06-01', '2025-07-01'), UTC).splitlines())
+        self.judged('CO-OPS without types', self.compare(untyped), [(event, 0, 0) for _, event, _ in self.events('2025-06-01', '2025-07-01')], (0, 0))
+        for title, head in (('without spaces', 'Date Time,Prediction,Type'), ('in capitals', 'DATE TIME, PREDICTION, TYPE'), ('of its JSON', 't,v,type')):
+            self.judged(f'CO-OPS, names {title}', self.compare(text.replace('Date Time, Prediction, Type', head, 1)), differences, unmatched)
+        tabs = yearly_table(rows, UTC, '\t', TEXT_HEAD.format(zone='GMT'))
+        names = '\t'.join(['Date \t', *COLUMNS[1:]])
+        self.judged('yearly text, names with spaces and tabs', self.compare(tabs.replace(names, 'Date \t\tDay \tTime \t\tPred(Ft) \tPred(cm) \tHigh/Low ', 1)
+                                                                         .replace('\n', '\r\n')), differences, unmatched, 0.006)
+        metres = [(at, event, level * 0.3048) for at, event, level in rows]
+        lines = [f'{at:%Y/%m/%d}\t{at:%a}\t{at:%I:%M %p}\t{level:.4f}\t{SIGNS[event]}\n' for at, event, level in metres]
+        text = TEXT_HEAD.format(zone='GMT').replace('Feet and Centimeters', 'Meters') + 'Date\tDay\tTime\tPred\tHigh/Low\n' + ''.join(lines)
+        self.judged('yearly text in the meters of its head', self.compare(text), differences, unmatched)
+        listed = 'Date,Time (GMT),Predicted (ft),High/Low\n' + ''.join(f'{at:%Y/%m/%d},{at:%H:%M},{level:.3f},{SIGNS[event]}\n' for at, event, level in rows)
+        self.judged('a list of the page', self.compare(listed), differences, unmatched)
 
     def other_forms(self):
         """Other columns, units and stations."""

@@ -125,6 +125,7 @@ class LooksTrial:
             clip = {'x': 0, 'y': 0, 'width': tab.value('innerWidth'), 'height': min(height, 5000), 'scale': 1}
             picture = tab.call('Page.captureScreenshot', captureBeyondViewport=True, clip=clip)
             name = re.sub(r'\W+', '-', name)
+            pathlib.Path(self.words['pictures']).mkdir(parents=True, exist_ok=True)
             (pathlib.Path(self.words['pictures']) / f'{name}.png').write_bytes(base64.b64decode(picture['data']))
 
     def focused(self):
@@ -160,14 +161,15 @@ class LooksTrial:
     def printed(self):
         """A year prints on as many sheets as it says, on two papers, in type that can be read."""
         with Tab(self.site, 1280, 900) as tab:
-            for station, sill, wanted in ((BOSTON, '', 4), (BOSTON, '4', 6), (NARROWS, '', 4), (NARROWS, '2', 6)):
-                tab.open(f'year.html?{urllib.parse.urlencode({"station": station, "year": "2025", "sill": sill})}', SHOWN)
-                size = tab.value('Math.min(...[...document.querySelectorAll(".half td")].map(cell => parseFloat(getComputedStyle(cell).fontSize))) * 0.75')
+            for station, sill, hours, wanted in ((BOSTON, '', '24', 4), (BOSTON, '4', '24', 6), (BOSTON, '4', '12', 6), (BOSTON, '-1', '12', 12),
+                                                 (NARROWS, '', '24', 4), (NARROWS, '', '12', 6), (NARROWS, '2', '24', 12), (NARROWS, '2', '12', 12)):
+                tab.open(f'year.html?{urllib.parse.urlencode({"station": station, "year": "2025", "sill": sill, "hours": hours})}', SHOWN)
+                size = tab.value('Math.min(...[...document.querySelectorAll(".column td, .column th, .sheet p")].map(cell => parseFloat(getComputedStyle(cell).fontSize))) * 0.75')
                 for paper, inches in PAPERS.items():
                     sheet = self.site.folder / 'year.pdf'
                     tab.print_to(sheet, inches, landscape=False)
                     count = len(re.findall(rb'/Type\s*/Page\b', sheet.read_bytes()))
-                    self.say(count == wanted and size >= 7.75, f'a year of {station}{f" with {sill}" if sill else ""} on {paper}: {count} sheets, {size:.1f} points')
+                    self.say(count == wanted and size >= 8, f'a year of {station}{f" with {sill}" if sill else ""} by {hours} hours on {paper}: {count} sheets, {size:.1f} points')
 
 
 class Trial(LooksTrial):

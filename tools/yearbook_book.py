@@ -14,7 +14,7 @@ h1 { font-size: 14pt; margin: 0 0 3mm; } p { margin: 0 0 2mm; }
 .contents { break-after: page; } .contents:last-child { break-after: auto; }
 table { width: 100%; border-collapse: collapse; table-layout: fixed; }
 td, th { height: 6mm; padding: 0; white-space: nowrap; overflow: hidden; border-bottom: .1mm solid #999; text-align: left; font-size: 9pt; }
-td.number, th.number { width: 14mm; text-align: right; } td.why { width: 105mm; font-size: 7pt; line-height: 2.8mm; white-space: normal; }
+td.number, th.number { width: 14mm; text-align: right; } td.why { width: 110mm; font-size: 8pt; line-height: 2.9mm; white-space: normal; }
 a { color: inherit; text-decoration: none; }
 '''
 INDEX_STYLE = '''
@@ -41,13 +41,12 @@ def contents_of(title, book):
     pages = [rows[place:place + ROWS] for place in range(0, len(rows), ROWS)]
     head = '<tr><th>Station</th><th class="column"></th><th class="number">Page</th></tr>'
     return ''.join(f'<div class="contents"><h1>{html.escape(title)}</h1><p>{sheets.WARNING}</p>'
-                   f'<table><col><col style="width: 91mm"><col style="width: 14mm">{head}{"".join(page)}</table></div>' for page in pages)
+                   f'<table><col><col style="width: 96mm"><col style="width: 14mm">{head}{"".join(page)}</table></div>' for page in pages)
 
 
 def bookmarks_of(station):
     """A station's bookmark, with one for each of its sheets below it."""
-    count = sheets.sheet_count(station)
-    return station['name'], station['page'], [(sheets.months_text(place, count), station['page'] + place, []) for place in range(count)]
+    return station['name'], station['page'], [(name, station['page'] + place, []) for place, name in enumerate(station['sheets'])]
 
 
 def book_of(title, book, work):

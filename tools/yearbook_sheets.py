@@ -1,6 +1,7 @@
 """The sheets of a year as HTML, with the same elements as examples/server/html/year_sheets.js makes, for tools/yearbook."""
 
 import calendar
+import collections
 import csv
 import datetime
 import decimal
@@ -9,10 +10,11 @@ import io
 
 from yearbook_clock import MINUTE, Point, clock_name, day_text, moment_of, offset_text
 
-SIZES = (64, 72, 80, 92, 104, 120, 144, 180, 240)  # those of year.css
-LINES_HIGH = {'A4': 223, 'Letter': 205.4}  # the height for the lines of half a month in mm, by year.css
-MOST_HIGH = 3.6  # the greatest height of a line, in mm
-USUAL_LINES, WIDE = 3, 110  # the lines about a station for which there is room, and the letters of such a line
+SIZES = (64, 72, 80)  # the most lines of a column for each size of type in year.css, which is 9, 8.5 or 8 points
+COLUMNS_OF_MONTH = {6: (2, 3, 6, 12, 18), 4: (2, 4, 8, 16), 3: (3, 6, 12, 15)}  # those that a month may have, by those of a sheet
+# By year.css, in mm: the height of a sheet's paper, the greatest height of a line, that of a line of text, and the height of all else.
+PAPER_HIGH, MOST_HIGH, TEXT, AROUND = {'A4': 277, 'Letter': 259.4}, 4, 3.4, 30
+LETTERS = 115  # the letters that a line of text has at least
 SHORT = {'feet': 'ft', 'meters': 'm', 'knots': 'kn'}
 SIGNS = {'High Tide': 'H', 'Low Tide': 'L', 'Max Flood': 'F', 'Max Ebb': 'E', 'Min Flood': 'f', 'Min Ebb': 'e',
          'Slack Flood Begins': 'SF', 'Slack Ebb Begins': 'SE'}
@@ -99,16 +101,44 @@ class Year:
         """How many lines a day takes."""
         return max(2, len(self.lines.get(date, [])), len(self.above.get(date, [])))
 
-    def halves(self, month):
-        dates = [f'{self.year:04}-{month:02}-{day + 1:02}' for day in range(calendar.monthrange(self.year, month)[1])]
-        return dates[:16], dates[16:]
+    def columns_on(self):
+        """The columns of a sheet: as many as have room for their texts in type of 8 points."""
+        if self.sill:
+            return 3 if self.is_current else 4
+        return 4 if self.is_current and any(len(event.shown) > 5 for event in self.events) else 6
 
-    def most(self):
-        """The lines of the fullest half of a month."""
-        return max(sum(map(self.height, dates)) for month in range(1, 13) for dates in self.halves(month))
+    def columns(self, month, count):
+        """The dates of a month in some columns; the columns of the other months begin with the same days."""
+        dates = [f'{self.year:04}-{month:02}-{day + 1:02}' for day in range(calendar.monthrange(self.year, month)[1])]
+        starts = [-(-31 * place // count) for place in range(count + 1)]
+        return list(filter(None, (dates[start:stop] for start, stop in zip(starts, starts[1:]))))
+
+    def layout(self):
+        """How it is laid out: on as few sheets as can be in type of at least 8 points."""
+        wide = self.columns_on()
+        for count in COLUMNS_OF_MONTH[wide]:
+            most = max(sum(map(self.height, dates)) for month in range(1, 13) for dates in self.columns(month, count))
+            if most <= SIZES[-1]:
+                break
+        return Layout(wide, count, most)
+
+
+class Layout(collections.namedtuple('Layout', 'wide count most')):
+    """The columns of a sheet and of a month, and the lines of the fullest column."""
 
     def size(self):
-        return next((size for size in SIZES if self.most() <= size), SIZES[-1])
+        return next((size for size in SIZES if self.most <= size), SIZES[-1])
+
+    def sheets(self, year):
+        """The months of each sheet, each with its columns of dates."""
+        months = [(month, year.columns(month, self.count)) for month in range(1, 13)]
+        if self.count <= self.wide:
+            return chunks(months, self.wide // self.count)
+        return [[(month, some)] for month, columns in months for some in chunks(columns, self.wide)]
+
+
+def chunks(items, size):
+    return [items[place:place + size] for place in range(0, len(items), size)]
 
 
 def is_after(slack, turn):
@@ -183,27 +213,27 @@ def times_name(year):
     return f'{"Within" if year.is_current else "Above"} {year.sill} {year.units}'
 
 
-def columns(year):
-    """The columns with their heads."""
+def heads_of(year):
+    """The columns of a table with their heads."""
     begins, above = [('begins', 'Slack')] * year.is_current, [('above', times_name(year))] if year.sill else []
     return [('day', unseen('Day')), *begins, ('sign', unseen('Event')), ('time', 'Max' if year.is_current else 'Time'), ('level', year.units), *above]
 
 
-def half_table(year, name, dates):
-    heads = columns(year)
+def column_table(year, name, dates):
+    heads = heads_of(year)
     return element('table', element('caption', name, **{'class': 'unseen'})
                    + element('colgroup', ''.join(f'<col class="{kind}">' for kind, _ in heads))
                    + element('thead', element('tr', ''.join(element('th', text, **{'class': kind, 'scope': 'col'}) for kind, text in heads)))
                    + ''.join(day_rows(year, date) for date in dates))
 
 
-def month_part(year, month):
-    halves, name = year.halves(month), calendar.month_name[month]
-    before = [change.offset for change in year.changes if change.date < halves[0][0]]
+def month_part(year, month, columns):
+    name = calendar.month_name[month]
+    before = [change.offset for change in year.changes if change.date < columns[0][0]]
     offset = before[-1] if before else year.clock.at(year.begin)[2]
-    tables = (half_table(year, f'{name} {year.year}, {half} half', dates) for half, dates in zip(('first', 'second'), halves))
+    tables = (column_table(year, f'{name} {year.year}, {int(dates[0][8:])} to {int(dates[-1][8:])}', dates) for dates in columns)
     return element('section', element('h3', f'{name} {element("span", offset)}')
-                   + ''.join(element('div', table, **{'class': 'half'}) for table in tables), **{'class': 'month'})
+                   + ''.join(element('div', table, **{'class': 'column'}) for table in tables), **{'class': 'month'})
 
 
 def directions_text(notes):
@@ -256,50 +286,49 @@ def legend(year):
     return '; '.join([signs] + [above] * bool(year.sill) + ['+N: it ends N days later'] * ('+' in times) + ['..: outside this year'] * ('..' in times))
 
 
-def sheet_count(station):
-    """Four sheets of three months, or six of two with the times above a sill."""
-    return 6 if station.get('sill') else 4
+def texts_below(year):
+    """The texts below the columns, each with its class."""
+    return [('legend', legend(year)), ('warning', WARNING), *(('constants', line) for line in year.constants)]
 
 
-def months_of(place, count):
-    """The months of a sheet."""
-    more = 12 // count
-    return range(more * place + 1, more * place + more + 1)
+def months_text(months):
+    names = [calendar.month_name[months[place][0]] for place in (0, -1)]
+    return names[0] if len(months) == 1 else f'{names[0]} {"and" if len(months) == 2 else "to"} {names[1]}'
 
 
-def months_text(place, count):
-    first, *_, last = months_of(place, count)
-    return f'{calendar.month_name[first]} {"and" if count == 6 else "to"} {calendar.month_name[last]}'
-
-
-def sheet(year, place, count):
-    kind = (f'sheet {"current" if year.is_current else "tide"}{" with-sill" if year.sill else ""}{" pairs" if count == 6 else ""} '
-            f'lines-{year.size()}')
-    names = f'{months_text(place, count)} {year.year} · sheet {place + 1} of {count}'
+def sheet(year, layout, place, months, count):
+    kind = (f'sheet {"current" if year.is_current else "tide"}{" with-sill" if year.sill else ""} wide-{layout.wide} months-{len(months)} '
+            f'columns-{min(layout.count, layout.wide)} lines-{layout.size()}')
+    names = f'{months_text(months)} {year.year} · sheet {place + 1} of {count}'
     text = lambda words, **traits: element('p', html.escape(words, False), **traits)
     return element('section', ''.join([
         element('h2', html.escape(year.station['name'], False)), text(names, **{'class': 'when'}), *map(text, about_lines(year)),
-        element('div', ''.join(month_part(year, month) for month in months_of(place, count)), **{'class': 'months'}),
-        text(legend(year), **{'class': 'legend'}), text(WARNING, **{'class': 'warning'}),
-        *(text(line, **{'class': 'constants'}) for line in year.constants)]), **{'class': kind})
+        element('div', ''.join(month_part(year, *part) for part in months), **{'class': 'months'}),
+        *(text(words, **{'class': name}) for name, words in texts_below(year))]), **{'class': kind})
 
 
 def sheets(year):
     """A year on its sheets."""
-    count = sheet_count(year.station)
-    return ''.join(sheet(year, place, count) for place in range(count))
+    layout = year.layout()
+    found = layout.sheets(year)
+    return ''.join(sheet(year, layout, place, months, len(found)) for place, months in enumerate(found))
+
+
+def sheet_names(year):
+    """The months of each sheet."""
+    return [months_text(months) for months in year.layout().sheets(year)]
 
 
 def line_height(year, paper):
-    """The rule by which the fullest half of a month fills the height of a paper, for WeasyPrint, which doesn't compute lengths."""
-    above = sum(-(-len(line) // WIDE) for line in about_lines(year)) - USUAL_LINES
-    high = (LINES_HIGH[paper] - max(above, 0) * 3.4) / year.most()
-    return f'.half td, .half tbody th {{ line-height: {min(high, MOST_HIGH):.3f}mm; }}'
+    """The rule by which the fullest column fills the height of a paper, for WeasyPrint, which doesn't compute lengths."""
+    texts = sum(-(-len(text) // LETTERS) for text in [*about_lines(year), *(text for _, text in texts_below(year))])
+    high = (PAPER_HIGH[paper] - AROUND - TEXT * texts) / year.layout().most
+    return f'.column td, .column tbody th {{ line-height: {min(high, MOST_HIGH):.3f}mm; }}'
 
 
 def document(title, body, style, paper, first_page=1, rule=''):
     """A document for WeasyPrint, with the number of each page below it."""
-    pages = (f'@page {{ size: {paper}; margin: 10mm 8mm; @bottom-right {{ content: counter(page); font: 8pt Liberation Sans, sans-serif; }} }}'
+    pages = (f'@page {{ size: {paper}; margin: 10mm 7mm; @bottom-right {{ content: counter(page); font: 8pt Liberation Sans, sans-serif; }} }}'
              f' @page :first {{ counter-reset: page {first_page}; }} {rule} {BOOKMARKS}')
     return (f'<!DOCTYPE html>\n<html lang="en"><head><meta charset="utf-8"><title>{html.escape(title)}</title>'
             f'<style>{style}</style><style>{pages}</style></head><body>{body}</body></html>\n')

@@ -5,7 +5,8 @@ yearbook_station.py PLAN KIND NUMBER
 
 KIND is `data` (the listing as CSV, the calendar and the certificate) or `pdf` (the sheets). For a current with a limit
 the listing and the calendar have the marks of the limit and of minus the limit, and each mark has its certificate. The line
-has `number` and either `files`, by their suffixes, or `line`, which says why there are none. PLAN is written by
+has `number` and either `files`, by their suffixes (and with `data` the `sheets` by their months), or `line`, which says why
+there are none. PLAN is written by
 tools/yearbook.
 """
 
@@ -76,10 +77,14 @@ class Job:
         zone = self.station['zone']
         return self.for_each_mark('predict', 'layout=csv', 'zone=UTC' if zone == 'UTC' else f'zone=@{ZONES / zone}')
 
+    def year(self, listings):
+        return sheets.Year(self.station, self.plan['year'], self.clock, listings, self.first_level(), self.plan['constants'])
+
     def data(self):
-        certificates = self.for_each_mark('certify')
-        return {'csv': merged_listing(*self.listings()), 'ics': merged_calendar(*self.for_each_mark('report', 'sheets=ical')),
-                **dict(zip(('cert', 'ebb.cert'), certificates))}
+        """The files, and the months of each sheet, from which follow the numbers of the pages."""
+        certificates, listings = self.for_each_mark('certify'), self.listings()
+        return {'sheets': sheets.sheet_names(self.year(listings)), 'files': {'csv': merged_listing(*listings), 'ics': merged_calendar(*self.for_each_mark('report', 'sheets=ical')),
+                **dict(zip(('cert', 'ebb.cert'), certificates))}}
 
     def first_level(self):
         """The level as the year begins, or None if there is no sill."""
@@ -90,11 +95,11 @@ class Job:
         return sheets.decimal.Decimal(row.split(',')[-2])
 
     def pdf(self):
-        year = sheets.Year(self.station, self.plan['year'], self.clock, self.listings(), self.first_level(), self.plan['constants'])
+        year = self.year(self.listings())
         with open(self.plan['style'], encoding='utf-8') as style:
             text = sheets.document(f'{self.station["name"]}, {self.plan["year"]}', sheets.sheets(year), style.read(),
                                    self.plan['paper'], self.station['page'], sheets.line_height(year, self.plan['paper']))
-        return {'pdf': base64.b64encode(output(['weasyprint', '-', '-'], input=text.encode())).decode()}
+        return {'files': {'pdf': base64.b64encode(output(['weasyprint', '-', '-'], input=text.encode())).decode()}}
 
 
 def main():
@@ -102,7 +107,7 @@ def main():
     with open(path, encoding='utf-8') as file:
         job = Job(json.load(file), int(number))
     try:
-        made = {'files': job.pdf() if kind == 'pdf' else job.data()}
+        made = job.pdf() if kind == 'pdf' else job.data()
     except (Refused, OSError) as refused:
         made = {'line': str(refused)}
     print(json.dumps({'number': int(number), **made}), flush=True)

@@ -110,7 +110,7 @@ export async function answerTo(question, station) {
   const times = timesOf(found, { sill, isCurrent, begin, end }, found.levels?.[0]?.level);
   return {
     ...question, ...found, levels: found.levels ?? [], sill, isTurnsOnly, isCurrent, units, ownUnits, times, dates, begin, end, span, clockOf,
-    isConverted: isConverted(ownUnits, question.units), wantedSill: question.sill, above: times, known: station,
+    isConverted: isConverted(ownUnits, question.units), wantedSill: question.sill, known: station,
     offsets: offsetsOf(begin, found.events, times, zone),
   };
 }

@@ -3,7 +3,7 @@ import { timesWithin } from './events.js';
 import { freeX, isCrowded, placeLabels, roomFor, stepsOf } from './labels.js';
 import { monthSheet, thresholdText, weekSheet } from './sheets.js';
 import { same } from './testing.js';
-import { aboveText, heightOf, linesOf, monthsOnSheet, shortTime } from './year_days.js';
+import { aboveText, columnsOf, columnsOn, heightOf, layoutOf, linesOf, shortTime } from './year_days.js';
 import { clockAt, momentText } from './zones.js';
 
 const at = text => Date.parse(text);
@@ -81,4 +81,15 @@ same('a time on a sheet', aboveText(time('2026-12-01T04:01Z', '2026-12-01T05:00Z
 same('a time over two days', aboveText(time('2026-12-01T04:01Z', '2026-12-03T05:00Z'), clockOf), '04:01–05:00 +2');
 same('a time cut by the year', aboveText({ ...time('2026-01-01T00:00Z', '2026-01-01T05:00Z'), openFrom: true }, clockOf), '..–05:00');
 same('the lines of a day', [[[], []], [[1, 2, 3], ['a']], [[1], ['a', 'b', 'c', 'd']]].map(([lines, above]) => heightOf({ lines, above })), [2, 3, 4]);
-same('the months of a sheet', [{ sill: null, hours: '24' }, { sill: '4', hours: '24' }, { sill: null, hours: '12' }].map(monthsOnSheet), [3, 2, 2]);
+
+const yearOf = traits => ({ year: 2027, sill: null, hours: '24', isCurrent: false, events: [], points: [], times: [], clockOf, ...traits });
+const long = [time('2026-12-01T04:01Z', '2026-12-03T05:00Z')];
+same('the columns of a sheet of tides', [{}, { hours: '12' }, { sill: '4' }, { sill: '4', times: long }, { sill: '4', hours: '12' }, { sill: '4', hours: '12', times: long }]
+  .map(traits => columnsOn(yearOf(traits))), [6, 4, 4, 4, 4, 3]);
+same('the columns of a sheet of currents', [{}, { events: [{ shown: '-10.25' }] }, { hours: '12' }, { sill: '2' }]
+  .map(traits => columnsOn(yearOf({ isCurrent: true, ...traits }))), [6, 4, 4, 3]);
+const daysOf = columns => columns.map(dates => dates.map(date => Number(date.slice(8)))).map(days => `${days[0]}-${days.at(-1)}`).join(' ');
+same('the columns of a month', [2, 3, 4].map(count => daysOf(columnsOf(2027, 2, count))), ['1-16 17-28', '1-11 12-21 22-28', '1-8 9-16 17-24 25-28']);
+const daily = count => Array.from({ length: 365 * count }, (_, place) => ({ event: 'Max Flood', clock: { date: new Date(Date.UTC(2027, 0, 1 + Math.floor(place / count))).toISOString().slice(0, 10), time: '00:00' } }));
+const laid = count => (({ wide, divided, sheets, most }) => [wide, divided, sheets.length, most].join(' '))(layoutOf(yearOf({ isCurrent: true, points: daily(count) })));
+same('sheets of days of some lines', [2, 5, 6, 8, 14, 20].map(laid), ['6 2 4 32', '6 2 4 80', '6 3 6 66', '6 6 12 48', '6 6 24 42', '6 6 24 60']);

@@ -5,14 +5,16 @@ import { NoAnswer, readBeside, readList, readNotes } from './replies.js';
 import { element } from './sheets.js';
 import { readStations, withNotes } from './stations.js';
 import { zoneNames } from './zones.js';
-import { clockChanges } from './year_days.js';
-import { aboutLines, mostLines, yearSheets } from './year_sheets.js';
+import { clockChanges, layoutOf } from './year_days.js';
+import { textLengths, yearSheets } from './year_sheets.js';
 
 const place = id => document.getElementById(id);
 const controls = place('question').elements;
 const PAPERS = ['A4', 'Letter'];
-/** In mm: the greatest height of a line, the height around the lines by year.css, and of a line of text above and below them. */
-const MOST_HIGH = 3.6, AROUND = 54, TEXT = 3.4;
+/** By year.css, in mm: the greatest height of a line, that of a line of text, and the height of all else on a sheet. */
+const MOST_HIGH = 4, TEXT = 3.4, AROUND = 30;
+/** The letters that a line of text has at least. */
+const LETTERS = 115;
 
 const noted = (all, name) => (Object.hasOwn(all, name) && all[name]) || {};
 
@@ -41,11 +43,11 @@ function setPaper() {
   if (paper) addStyle(`@page { size: ${paper}; }`);
 }
 
-/** Has the fullest half of a month fill the height of the paper. */
-function fillPaper(answer) {
-  const more = Math.max(0, aboutLines(answer).length - 3) + Math.max(0, answer.constants.length - 2);
-  const height = `min(${MOST_HIGH}mm, calc((100vh - ${AROUND + TEXT * more}mm) / ${mostLines(answer)}))`;
-  addStyle(`@media print { .half td, .half tbody th { line-height: ${height}; } }`);
+/** Has the fullest column fill the height of the paper. */
+function fillPaper(answer, { most }) {
+  const texts = textLengths(answer).reduce((sum, length) => sum + Math.ceil(length / LETTERS), 0);
+  const height = `min(${MOST_HIGH}mm, calc((100vh - ${AROUND + TEXT * texts}mm) / ${most}))`;
+  addStyle(`@media print { .column td, .column tbody th { line-height: ${height}; } }`);
 }
 
 /** What the sheets show. */
@@ -89,8 +91,9 @@ async function show(question, all) {
     place('threshold').textContent = answer.isCurrent ? 'limit of' : 'sill at';
     place('units').textContent = answer.units;
     if (answer.isTurnsOnly && answer.wantedSill !== null) note(turnsOnlyText(answer));
-    place('sheets').replaceChildren(...yearSheets(answer));
-    fillPaper(answer);
+    const layout = layoutOf(answer);
+    place('sheets').replaceChildren(...yearSheets(answer, layout));
+    fillPaper(answer, layout);
   } catch (error) {
     if (!(error instanceof NoAnswer)) throw error;
     note(error.message, error.line);

@@ -2,8 +2,10 @@ import { clockAt, startOfDay } from './zones.js';
 
 const MINUTE = 60_000;
 const DAY = 1440 * MINUTE;
-/** The most lines of half a month for each size of type in year.css. */
-const SIZES = [64, 72, 80, 92, 104, 120, 144, 180, 240];
+/** The most lines of a column for each size of type in year.css, which is 9, 8.5 or 8 points. */
+const SIZES = [64, 72, 80];
+/** The columns that a month may have, by the columns of a sheet. */
+const COLUMNS_OF_MONTH = { 6: [2, 3, 6, 12, 18], 4: [2, 4, 8, 16], 3: [3, 6, 12, 15] };
 
 export const SIGNS = {
   'High Tide': 'H', 'Low Tide': 'L', 'Max Flood': 'F', 'Max Ebb': 'E', 'Min Flood': 'f', 'Min Ebb': 'e',
@@ -78,8 +80,38 @@ export function dayOf(date, { points, times, clockOf }) {
 /** The number of lines of a day; times above a sill or within a limit have a column beside the events. */
 export const heightOf = ({ lines, above }) => Math.max(2, lines.length, above.length);
 
-/** The months of a sheet: three if their columns are narrow, and else two. */
-export const monthsOnSheet = ({ sill, hours }) => (sill === null && hours !== '12' ? 3 : 2);
+/** The columns of a sheet: as many as have room for their texts in type of 8 points. */
+export function columnsOn({ sill, hours, isCurrent, events, times, clockOf }) {
+  const isTwelve = hours === '12', isLong = times.some(time => aboveText(time, clockOf).includes('+'));
+  if (sill === null) return isTwelve || (isCurrent && events.some(({ shown }) => shown.length > 5)) ? 4 : 6;
+  return isCurrent || (isTwelve && isLong) ? 3 : 4;
+}
 
-/** The class of year.css for half a month with so many lines. */
+/** The dates of a month in some columns; the columns of the other months begin with the same days. */
+export function columnsOf(year, month, count) {
+  const dates = Array.from({ length: daysIn(year, month) }, (_, place) => dateOf(year, month, place + 1));
+  const start = place => Math.ceil(31 * place / count);
+  return Array.from({ length: count }, (_, place) => dates.slice(start(place), start(place + 1))).filter(({ length }) => length > 0);
+}
+
+const mostLines = (answer, columns) => Math.max(...columns.map(dates => dates.reduce((sum, date) => sum + heightOf(dayOf(date, answer)), 0)));
+const chunks = (all, size) => Array.from({ length: Math.ceil(all.length / size) }, (_, place) => all.slice(place * size, (place + 1) * size));
+
+/**
+ * How a year is laid out: `wide`, the columns of a sheet; `divided`, those of a month on it; `most`, the lines of the
+ * fullest column; and the `sheets`, each with its months and their columns of dates. There are as few sheets as can be in
+ * type of at least 8 points.
+ */
+export function layoutOf(answer) {
+  const wide = columnsOn(answer);
+  const found = COLUMNS_OF_MONTH[wide].map(count => {
+    const months = MONTHS.map((_, place) => ({ month: place + 1, columns: columnsOf(answer.year, place + 1, count) }));
+    const sheets = count <= wide ? chunks(months, wide / count)
+      : months.flatMap(({ month, columns }) => chunks(columns, wide).map(some => [{ month, columns: some }]));
+    return { wide, divided: Math.min(count, wide), sheets, most: mostLines(answer, months.flatMap(({ columns }) => columns)) };
+  });
+  return found.find(({ most }) => most <= SIZES.at(-1)) ?? found.at(-1);
+}
+
+/** The class of year.css for a column of so many lines. */
 export const sizeFor = most => `lines-${SIZES.find(size => most <= size) ?? SIZES.at(-1)}`;

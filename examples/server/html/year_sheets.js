@@ -2,8 +2,9 @@ import { directionsText, stationText, timesText } from './about.js';
 import { isStrongest } from './events.js';
 import { element } from './sheets.js';
 import { shortUnits } from './units.js';
-import { aboveText, dateOf, dayOf, daysIn, heightOf, MONTHS, monthsOnSheet, shortTime, SIGNS, sizeFor } from './year_days.js';
+import { aboveText, dayOf, heightOf, layoutOf, MONTHS, shortTime, SIGNS, sizeFor } from './year_days.js';
 
+const WARNING = 'NOT FOR NAVIGATION. Predicted from harmonic constants, without the weather.';
 const WEEKDAYS = ['Sun', 'Mon', 'Tue', 'Wed', 'Thu', 'Fri', 'Sat'];
 const weekdayOf = date => WEEKDAYS[new Date(`${date}T00:00Z`).getUTCDay()];
 const cell = (className, text) => element('td', { className }, text);
@@ -52,7 +53,7 @@ function columnsOf(answer) {
     ['time', isCurrent ? 'Max' : 'Time'], ['level', shortUnits(units)], ...(sill === null ? [] : [['above', timesName(answer)]])];
 }
 
-function halfTable(name, dates, answer) {
+function columnTable(name, dates, answer) {
   const columns = columnsOf(answer);
   return element('table', {}, element('caption', { className: 'unseen' }, name),
     element('colgroup', {}, ...columns.map(([className]) => element('col', { className }))),
@@ -60,24 +61,18 @@ function halfTable(name, dates, answer) {
     ...dates.map(date => dayRows(date, answer)));
 }
 
-function halvesOf(year, month) {
-  const dates = Array.from({ length: daysIn(year, month) }, (_, place) => dateOf(year, month, place + 1));
-  return [dates.slice(0, 16), dates.slice(16)];
-}
-
 /** The offset with which a month begins: the offset of the last change before its first day. */
 const offsetBefore = (date, { changes, offset }) => changes.filter(({ clock }) => clock.date < date).at(-1)?.clock.offset ?? offset;
 
-function monthPart(month, answer) {
-  const halves = halvesOf(answer.year, month);
-  const half = (dates, place) => element('div', { className: 'half' },
-    halfTable(`${MONTHS[month - 1]} ${answer.year}, ${place === 0 ? 'first' : 'second'} half`, dates, answer));
+function monthPart({ month, columns }, answer) {
+  const name = `${MONTHS[month - 1]} ${answer.year}`, days = dates => [dates[0], dates.at(-1)].map(date => Number(date.slice(8))).join(' to ');
+  const column = dates => element('div', { className: 'column' }, columnTable(`${name}, ${days(dates)}`, dates, answer));
   return element('section', { className: 'month' },
-    element('h3', {}, MONTHS[month - 1], ' ', element('span', {}, offsetBefore(halves[0][0], answer))), ...halves.map(half));
+    element('h3', {}, MONTHS[month - 1], ' ', element('span', {}, offsetBefore(columns[0][0], answer))), ...columns.map(column));
 }
 
 /** The unit, the datum, the clock and the place. */
-export function aboutLines(answer) {
+function aboutLines(answer) {
   const { isCurrent, isConverted, units, ownUnits, datum, known } = answer;
   const what = isCurrent ? `Current in ${units}, flood above 0 and ebb below` : `Tide in ${units}${isConverted ? ` (converted from ${ownUnits})` : ''} above ${datum ?? 'the datum of its constants'}`;
   return [
@@ -97,30 +92,25 @@ function legendOf(answer) {
     ...(texts.some(text => text.includes('..')) ? ['..: outside this year'] : [])].join('; ');
 }
 
-/** The number of lines of the fullest half of a month. */
-export function mostLines(answer) {
-  const halves = MONTHS.flatMap((_, place) => halvesOf(answer.year, place + 1));
-  return Math.max(...halves.map(dates => dates.reduce((sum, date) => sum + heightOf(dayOf(date, answer)), 0)));
-}
+/** The texts below the columns, each with its class. */
+const notesOf = answer => [['legend', legendOf(answer)], ['warning', WARNING], ...answer.constants.map(line => ['constants', line])];
 
-function sheetOf(first, answer, size) {
-  const { station, year, isCurrent, sill, hours, constants } = answer, count = monthsOnSheet(answer);
-  const kind = ['sheet', isCurrent ? 'current' : 'tide', ...(sill === null ? [] : ['with-sill']), ...(count === 2 ? ['pairs'] : []),
-    ...(hours === '12' ? ['twelve'] : []), size].join(' ');
-  const months = Array.from({ length: count }, (_, place) => first + place);
-  const place = (first - 1) / count + 1;
+/** The letters of the texts above and below the columns, line by line. */
+export const textLengths = answer => [...aboutLines(answer), ...notesOf(answer).map(([, text]) => text)].map(({ length }) => length);
+
+const monthsText = months => [...new Set([months[0], months.at(-1)].map(({ month }) => MONTHS[month - 1]))].join(months.length === 2 ? ' and ' : ' to ');
+
+function sheetOf(months, place, answer, { wide, divided, most, sheets }) {
+  const { station, year, isCurrent, sill, hours } = answer;
+  const kind = ['sheet', isCurrent ? 'current' : 'tide', ...(sill === null ? [] : ['with-sill']), ...(hours === '12' ? ['twelve'] : []),
+    `wide-${wide}`, `months-${months.length}`, `columns-${divided}`, sizeFor(most)].join(' ');
   return element('section', { className: kind },
     element('h2', {}, station),
-    element('p', { className: 'when' }, `${MONTHS[first - 1]} ${count === 2 ? 'and' : 'to'} ${MONTHS[first + count - 2]} ${year} · sheet ${place} of ${12 / count}`),
+    element('p', { className: 'when' }, `${monthsText(months)} ${year} · sheet ${place + 1} of ${sheets.length}`),
     ...aboutLines(answer).map(line => element('p', {}, line)),
-    element('div', { className: 'months' }, ...months.map(month => monthPart(month, answer))),
-    element('p', { className: 'legend' }, legendOf(answer)),
-    element('p', { className: 'warning' }, 'NOT FOR NAVIGATION. Predicted from harmonic constants, without the weather.'),
-    ...constants.map(line => element('p', { className: 'constants' }, line)));
+    element('div', { className: 'months' }, ...months.map(part => monthPart(part, answer))),
+    ...notesOf(answer).map(([className, text]) => element('p', { className }, text)));
 }
 
-/** A year on four sheets of three months each, or on six of two if they have times above a sill or within a limit too. */
-export function yearSheets(answer) {
-  const size = sizeFor(mostLines(answer)), count = monthsOnSheet(answer);
-  return Array.from({ length: 12 / count }, (_, place) => sheetOf(count * place + 1, answer, size));
-}
+/** A year on its sheets. */
+export const yearSheets = (answer, layout) => layout.sheets.map((months, place) => sheetOf(months, place, answer, layout));
