@@ -1,12 +1,12 @@
 -- The pieces of lines that have no LF, each with its LF, are these lines.
-use Rattle.std.proofs.Common.{◌≡◌, ℕ, ◌<◌, Bool, true, List, [], ◌∷◌, ◌++◌, length, refl, sym, ap, ◌∙◌, append_assoc, arith}
+use Rattle.std.proofs.Common.{◌≡◌, ℕ, ◌<◌, ◌==◌, Bool, true, inl, inr, List, [], ◌∷◌, ◌++◌, length, refl, sym, ap, ◌∙◌, append_assoc, arith}
 use Rattle.std.specs.Prelude.{not}
 use Rattle.std.specs.List.{list_all, AllByRecursion, join_with_byte}
-use Rattle.std.proofs.lemmas.Bool.{not-true}
+use Rattle.std.proofs.lemmas.Bool.{not-true, ne_eqb, cases_Bool}
 use Rattle.std.proofs.lemmas.List.Splits.{slice_split_at, length-slice_split, join_with_byte-slice_split}
 use Rattle.std.proofs.lemmas.List.Sums.{AllPass-from_list_all}
 use Rattle.cert_text.specs.Texts.{ended, joined}
-use Rattle.cert_text.specs.ByLine.{is_lf, pieces}
+use Rattle.cert_text.specs.ByLine.{is_lf, pieces, but_last, last_of, lines_in, last_in, is_over}
 
 -- ---- lines without LF
 
@@ -30,13 +30,31 @@ pieces_ended : (line rest : List ℕ) → is_free line ≡ true → pieces (line
 pieces_ended line rest h =
     slice_split_at is_lf line 10 rest (λ k d lt. not-true _ (AllPass-from_list_all (λ (b : ℕ). not (is_lf b)) line h k d lt)) refl
 
-pub pieces-joined : (lines : List (List ℕ)) (rest : List ℕ) → AreFree lines → pieces (joined lines ++ rest) ≡ lines ++ pieces rest
-pieces-joined [] rest h = refl
-pieces-joined (line ∷ lines) rest h =
+pub some_piece : (bytes : List ℕ) → 0 < length (pieces bytes)
+some_piece bytes = omega (arith, length-slice_split is_lf bytes)
+
+pub but_last-next : (piece : List ℕ) (more : List (List ℕ)) → 0 < length more → but_last (piece ∷ more) ≡ piece ∷ but_last more
+but_last-next piece [] h = absurd (omega arith)
+but_last-next piece (next ∷ more) h = refl
+
+pub last_of-next : (piece : List ℕ) (more : List (List ℕ)) → 0 < length more → last_of (piece ∷ more) ≡ last_of more
+last_of-next piece [] h = absurd (omega arith)
+last_of-next piece (next ∷ more) h = refl
+
+-- the lines of lines that have no LF, each with its LF, are these lines and those of the bytes after them
+pub lines_in-joined : (lines : List (List ℕ)) (rest : List ℕ) → AreFree lines
+    → (lines_in (joined lines ++ rest) ≡ lines ++ lines_in rest) × (last_in (joined lines ++ rest) ≡ last_in rest)
+lines_in-joined [] rest h = (refl, refl)
+lines_in-joined (line ∷ lines) rest h =
     let apart : joined (line ∷ lines) ++ rest ≡ line ++ 10 ∷ (joined lines ++ rest) =
     append_assoc (ended line) (joined lines) rest ∙ append_assoc line (10 ∷ []) (joined lines ++ rest) in
-    ap (λ (bytes : List ℕ). pieces bytes) apart ∙ pieces_ended line (joined lines ++ rest) h.0
-    ∙ ap (λ ls. line ∷ ls) (pieces-joined lines rest h.1)
+    let cut = ap (λ (bytes : List ℕ). pieces bytes) apart ∙ pieces_ended line (joined lines ++ rest) h.0 in
+    let more = lines_in-joined lines rest h.1 in (
+      ap (λ (ps : List (List ℕ)). but_last ps) cut
+          ∙ but_last-next line (pieces (joined lines ++ rest)) (some_piece (joined lines ++ rest)) ∙ ap (λ ls. line ∷ ls) more.0,
+      ap (λ (ps : List (List ℕ)). last_of ps) cut
+          ∙ last_of-next line (pieces (joined lines ++ rest)) (some_piece (joined lines ++ rest)) ∙ more.1,
+    )
 
 join_next : (line : List ℕ) (lines : List (List ℕ)) (rest : List ℕ)
     → join_with_byte 10 (line ∷ (lines ++ rest ∷ [])) ≡ line ++ 10 ∷ join_with_byte 10 (lines ++ rest ∷ [])
@@ -49,29 +67,31 @@ join_joined (line ∷ lines) rest =
     join_next line lines rest ∙ ap (λ ls. line ++ 10 ∷ ls) (join_joined lines rest)
     ∙ sym (append_assoc (ended line) (joined lines) rest ∙ append_assoc line (10 ∷ []) (joined lines ++ rest))
 
--- the bytes are the lines that LF ends, and what follows them
-pub bytes_of_pieces : (bytes : List ℕ) (lines : List (List ℕ)) (rest : List ℕ) → pieces bytes ≡ lines ++ rest ∷ []
+bytes_of_pieces : (bytes : List ℕ) (lines : List (List ℕ)) (rest : List ℕ) → pieces bytes ≡ lines ++ rest ∷ []
     → bytes ≡ joined lines ++ rest
 bytes_of_pieces bytes lines rest e =
     sym (join_with_byte-slice_split 10 bytes) ∙ ap (λ (ps : List (List ℕ)). join_with_byte 10 ps) e ∙ join_joined lines rest
 
-pub record Cut (ps : List (List ℕ)) : Type 0 where
-  pub lines : List (List ℕ)
-  pub rest : List ℕ
-  pub all : ps ≡ lines ++ rest ∷ []
+rejoined : (ps : List (List ℕ)) → 0 < length ps → ps ≡ but_last ps ++ last_of ps ∷ []
+rejoined [] h = absurd (omega arith)
+rejoined (p ∷ []) h = refl
+rejoined (p ∷ q ∷ ps) h = ap (λ xs. p ∷ xs) (rejoined (q ∷ ps) (omega arith))
 
-cut_last : (p : List ℕ) (ps : List (List ℕ)) → Cut (p ∷ ps)
-cut_last p [] = record { lines = []; rest = p; all = refl }
-cut_last p (q ∷ ps) =
-    let more = cut_last q ps in
-    record { lines = p ∷ more.lines; rest = more.rest; all = ap (λ xs. p ∷ xs) more.all }
+-- the bytes are the lines that LF ends, and what follows them
+pub bytes_of_lines : (bytes : List ℕ) → bytes ≡ joined (lines_in bytes) ++ last_in bytes
+bytes_of_lines bytes = bytes_of_pieces bytes (lines_in bytes) (last_in bytes) (rejoined (pieces bytes) (some_piece bytes))
 
-some_pieces : (ps : List (List ℕ)) → 0 < length ps → Cut ps
-some_pieces [] h = absurd (omega arith)
-some_pieces (p ∷ ps) h = cut_last p ps
+over_is : (lines : List (List ℕ)) (last : List ℕ) → is_over lines last ≡ true → joined lines ++ last ≡ []
+over_is [] [] e = refl
+over_is [] (b ∷ bs) e = absurd cc
+over_is (line ∷ lines) last e = absurd cc
 
-pub cut : (bytes : List ℕ) → Cut (pieces bytes)
-cut bytes = some_pieces (pieces bytes) (omega (arith, length-slice_split is_lf bytes))
-
-pub some_piece : (bytes : List ℕ) → 0 < length (pieces bytes)
-some_piece bytes = omega (arith, length-slice_split is_lf bytes)
+-- nothing follows exactly if there are no bytes
+pub is_over-bytes : (bytes : List ℕ) → is_over (lines_in bytes) (last_in bytes) ≡ (length bytes == 0)
+is_over-bytes [] = refl
+is_over-bytes (b ∷ bs) =
+    elim (cases_Bool (is_over (lines_in (b ∷ bs)) (last_in (b ∷ bs)))) [
+      | inl over ↦
+          let none : b ∷ bs ≡ [] = bytes_of_lines (b ∷ bs) ∙ over_is (lines_in (b ∷ bs)) (last_in (b ∷ bs)) over in absurd cc
+      | inr more ↦ more ∙ sym (ne_eqb (length (b ∷ bs)) 0 (λ e. omega (arith, e)))
+    ]

@@ -4,10 +4,9 @@ pub mod LineLemmas
 pub mod TextLemmas
 pub mod LengthLemmas
 pub mod AppendLemmas
-mod CertificateParserLemmas
-mod RunLemmas
 pub mod CutLemmas
 pub mod FreeLemmas
-pub mod ByLineLemmas
 mod GrammarLemmas
-mod ReadingLemmas
+pub mod PartLemmas
+pub mod ByLineLemmas
+pub mod ReadingLemmas

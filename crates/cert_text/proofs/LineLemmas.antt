@@ -10,7 +10,6 @@ use Rattle.std.proofs.lemmas.Int.{ints}
 use Rattle.std.proofs.lemmas.List.{take_at, drop_at}
 use Rattle.std.proofs.lemmas.List.Sums.{AllPass-from_list_all, list_all-from_AllPass}
 use Rattle.std.proofs.lemmas.Option.{cond_some, same_Some, option_and_then_some}
-use Rattle.std.proofs.lemmas.Slice.Eq.{bytes_eq-Decides}
 use Rattle.std.proofs.lemmas.Str.{IsUtf8-from_ascii, IsUtf8-from_is_utf8, is_utf8-from_IsUtf8}
 use Rattle.curve_law.specs.declared.cell.Cell.{Cell}
 use Rattle.curve_law.specs.declared.cell.Cell.TheVariants as cells
@@ -23,27 +22,23 @@ use Rattle.zone_time.proofs.ReadingLemmas.{moment_text-moment_of}
 use Rattle.cert_text.specs.declared.track_name.TrackName.{TrackName}
 use Rattle.cert_text.specs.declared.track_name.TrackName.TheVariants.{Turn, Slack, Mark}
 use Rattle.cert_text.specs.Tracks.{track_of, track_word, kind_word}
-use Rattle.cert_text.specs.Certificates.{IsStationName, IsMark, IsLevel, IsCellOf}
-use Rattle.cert_text.specs.Lines.{title_of, station_line_of, mark_line_of, heading_of, prefix_of, cell_line_of, last_line}
+use Rattle.cert_text.specs.Certificates.{IsStationName, IsMark, IsLevel}
+use Rattle.cert_text.specs.Lines.{heading_of, prefix_of, last_line}
+use Rattle.cert_text.specs.Spelling.{SpellsVersion, SpellsStation, SpellsMoment, SpellsMark, SpellsCell}
 use Rattle.cert_text.specs.declared.numbers.TheConstants.{LEVEL_DIGITS}
 use Rattle.cert_text.specs.Workings.LineReading.{after, size_of, number_of, version_of, named, station_of, moment_after, mark_within, mark_of, quiet_for, quiet_of, event_cell_of, first_kind, second_kind, cell_of}
 use Rattle.cert_text.proofs.OptionLemmas.{option_map_some, option_or_some}
+use Rattle.cert_text.proofs.PartLemmas.{same_bytes, bytes_eq-same}
 use Rattle.cert_text.proofs.NumberLemmas.{size_is, size_of-decimal, number_is, number_of-signed, first_digit}
 
 -- ---- words
 
-pub same_bytes : (xs ys : List ℕ) → bytes_eq xs ys ≡ true → xs ≡ ys
-same_bytes xs ys e = (bytes_eq-Decides xs ys).0 e
-
-bytes_eq-same : (xs : List ℕ) → bytes_eq xs xs ≡ true
-bytes_eq-same xs = (bytes_eq-Decides xs xs).1 refl
-
-pub after_is : (word line rest : List ℕ) → after word line ≡ Some rest → word ++ rest ≡ line
+pub after_is : (word line rest : List ℕ) → after word line ≡ Some rest → line ≡ word ++ rest
 unfolding after
 after_is word line rest e =
     let got = cond_some (bytes_eq (take (length word) line) word) (drop (length word) line) rest e in
-    let prefix : take (length word) line ≡ word = same_bytes _ _ got.0 in
-    ap (λ w. w ++ rest) (sym prefix) ∙ ap (λ r. take (length word) line ++ r) (sym got.1) ∙ take-append-drop (length word) line
+    sym (take-append-drop (length word) line) ∙ ap (λ w. w ++ drop (length word) line) (same_bytes _ _ got.0)
+    ∙ ap (λ r. word ++ r) got.1
 
 pub after-append : (word rest : List ℕ) → after word (word ++ rest) ≡ Some rest
 unfolding after
@@ -71,17 +66,16 @@ level_read z h = number_of-signed LEVEL_DIGITS z (lit< tt) (lit≤ tt) (omega (a
 
 -- ---- the title
 
-pub version_is : (line : List ℕ) (v : ℕ) → version_of line ≡ Some v → ((v ≡ 1) ⊎ (v ≡ 2)) × (title_of v ≡ line)
-unfolding version_of title_of
+pub version_is : (line : List ℕ) (v : ℕ) → version_of line ≡ Some v → SpellsVersion v line
+unfolding version_of
 version_is line v e =
     one_of_two line (codes "tide certificate 1") (codes "tide certificate 2") 1 2 v e
-    (λ l n. let is : v ≡ 1 = sym n in (inl is, rw is (sym l)))
-    (λ l n. let is : v ≡ 2 = sym n in (inr is, rw is (sym l)))
+    (λ l n. inl (sym n, l)) (λ l n. inr (sym n, l))
 
-pub version_of-title : (v : ℕ) → (v ≡ 1) ⊎ (v ≡ 2) → version_of (title_of v) ≡ Some v
-unfolding version_of title_of
-version_of-title v (inl one) = rw one refl
-version_of-title v (inr two) = rw two refl
+pub version_read : (v : ℕ) (line : List ℕ) → SpellsVersion v line → version_of line ≡ Some v
+unfolding version_of
+version_read v line (inl one) = rw one.1 (ap Some (sym one.0))
+version_read v line (inr two) = rw two.1 (ap Some (sym two.0))
 
 -- ---- the station's name
 
@@ -122,19 +116,19 @@ named_is bytes name e =
     } in
     (subst IsStationName got.1 is, got.1)
 
-pub station_is : (line name : List ℕ) → station_of line ≡ Some name → IsStationName name × (station_line_of name ≡ line)
-unfolding station_of station_line_of
+pub station_is : (line name : List ℕ) → station_of line ≡ Some name → SpellsStation name line
+unfolding station_of
 station_is line name e =
     option_and_then_some named (after (codes "station ") line) name e (λ bytes found is.
     let got = named_is bytes name is in
     (got.0, rw (← got.1) (after_is (codes "station ") line bytes found)))
 
-pub station_of-line : (name : List ℕ) → IsStationName name → station_of (station_line_of name) ≡ Some name
-unfolding station_of station_line_of
-station_of-line name h =
+pub station_read : (name line : List ℕ) → SpellsStation name line → station_of line ≡ Some name
+unfolding station_of
+station_read name line h =
     let printed : list_all is_name_byte name ≡ true =
-    list_all-from_AllPass is_name_byte name (λ k d lt. name_byte-from _ (h.printed k d lt)) in
-    rw (after-append (codes "station ") name) (named_yes name h.some h.short printed h.text)
+    list_all-from_AllPass is_name_byte name (λ k d lt. name_byte-from _ (h.0.printed k d lt)) in
+    rw (h.1, after-append (codes "station ") name) (named_yes name h.0.some h.0.short printed h.0.text)
 
 -- a name of printed ASCII
 abbrev pub is_plain : ℕ → Bool
@@ -164,16 +158,16 @@ x_is_name = plain_name (codes "x") (lit≤ tt) (lit≤ tt) refl
 pub moment_zero : IsMoment (pos 0)
 moment_zero = record { first = omega (arith, ints); last = omega (arith, ints) }
 
-pub moment_is : (word line : List ℕ) (m : ℤ) → moment_after word line ≡ Some m → IsMoment m × (word ++ moment_text m ≡ line)
+pub moment_is : (word line : List ℕ) (m : ℤ) → moment_after word line ≡ Some m → SpellsMoment word m line
 unfolding moment_after
 moment_is word line m e =
     option_and_then_some moment_of (after word line) m e (λ text found is.
     let got = moment_text-moment_of text m is in
     (got.0, rw got.1 (after_is word line text found)))
 
-pub moment_after-text : (word : List ℕ) (m : ℤ) → IsMoment m → moment_after word (word ++ moment_text m) ≡ Some m
+pub moment_read : (word : List ℕ) (m : ℤ) (line : List ℕ) → SpellsMoment word m line → moment_after word line ≡ Some m
 unfolding moment_after
-moment_after-text word m h = rw (after-append word (moment_text m)) (moment_of-moment_text m h)
+moment_read word m line h = rw (h.1, after-append word (moment_text m)) (moment_of-moment_text m h.0)
 
 -- ---- the mark
 
@@ -182,26 +176,25 @@ mark_within_is z mark e =
     let got = cond_some _ (Some z) mark e in
     (leb-true _ _ got.0, got.1)
 
-mark_read : (line : List ℕ) (mark : Option ℤ)
+mark_number_is : (line : List ℕ) (mark : Option ℤ)
     → option_and_then mark_within (option_and_then (number_of LEVEL_DIGITS) (after (codes "mark ") line)) ≡ Some mark
-    → IfSome mark IsMark × (mark_line_of mark ≡ line)
-unfolding mark_line_of
-mark_read line mark e =
+    → SpellsMark mark line
+mark_number_is line mark e =
     option_and_then_some mark_within (option_and_then (number_of LEVEL_DIGITS) (after (codes "mark ") line)) mark e (λ z found is.
     option_and_then_some (number_of LEVEL_DIGITS) (after (codes "mark ") line) z found (λ text prefix number.
     let within = mark_within_is z mark is in
-    let written = level_is text z number in
-    let line_is : codes "mark " ++ signed_decimal z ≡ line = rw written.1 (after_is (codes "mark ") line text prefix) in
-    subst (λ mark. IfSome mark IsMark × (mark_line_of mark ≡ line)) within.1 (within.0, line_is)))
+    let line_is : line ≡ codes "mark " ++ signed_decimal z =
+    rw (level_is text z number).1 (after_is (codes "mark ") line text prefix) in
+    subst (λ mark. SpellsMark mark line) within.1 (within.0, line_is)))
 
-pub mark_is : (line : List ℕ) (mark : Option ℤ) → mark_of line ≡ Some mark → IfSome mark IsMark × (mark_line_of mark ≡ line)
-unfolding mark_of mark_line_of
+pub mark_is : (line : List ℕ) (mark : Option ℤ) → mark_of line ≡ Some mark → SpellsMark mark line
+unfolding mark_of
 mark_is line mark e =
     elim (bytes_eq line (codes "mark none")) as (λ v. bytes_eq line (codes "mark none") ≡ v → cond v (Some None)
     (option_and_then mark_within (option_and_then (number_of LEVEL_DIGITS) (after (codes "mark ") line)))
-    ≡ Some mark → IfSome mark IsMark × (mark_line_of mark ≡ line)) [
-      | true ↦ λ b k. subst (λ mark. IfSome mark IsMark × (mark_line_of mark ≡ line)) (same_Some None mark k) (tt, sym (same_bytes _ _ b))
-      | false ↦ λ b k. mark_read line mark k
+    ≡ Some mark → SpellsMark mark line) [
+      | true ↦ λ b k. subst (λ mark. SpellsMark mark line) (same_Some None mark k) (same_bytes _ _ b)
+      | false ↦ λ b k. mark_number_is line mark k
     ] refl e
 
 no_word : (text : List ℕ) → get_or text 0 0 < 58 → bytes_eq (codes "mark " ++ text) (codes "mark none") ≡ false
@@ -212,48 +205,46 @@ signed_prefix : (z : ℤ) → unsigned_abs z ≤ 99999999999999 → get_or (sign
 signed_prefix (pos n) h = omega (arith, first_digit n (omega (arith, h)))
 signed_prefix (negsuc n) h = omega arith
 
-pub mark_of-line : (mark : Option ℤ) → IfSome mark IsMark → mark_of (mark_line_of mark) ≡ Some mark
-unfolding mark_of mark_line_of
-mark_of-line None h = refl
-mark_of-line (Some z) h =
-    let small : unsigned_abs z ≤ 99999999999999 = omega (arith, h) in
+pub mark_read : (mark : Option ℤ) (line : List ℕ) → SpellsMark mark line → mark_of line ≡ Some mark
+unfolding mark_of
+mark_read None line h = rw h refl
+mark_read (Some z) line h =
+    let small : unsigned_abs z ≤ 99999999999999 = omega (arith, h.0) in
     rw (
+      h.1,
       no_word (signed_decimal z) (signed_prefix z small),
       after-append (codes "mark ") (signed_decimal z),
       level_read z small,
-      le-leb (unsigned_abs z) 10000000000 h,
+      le-leb (unsigned_abs z) 10000000000 h.0,
     ) refl
 
 -- ---- cells
 
-quiet_for_is : (track : TrackName) (n : ℕ) (cell : Cell) → quiet_for n ≡ Some cell
-    → IsCellOf track cell × (cell_line_of cell ≡ codes "q " ++ decimal n)
-unfolding cell_line_of
+quiet_for_is : (track : TrackName) (n : ℕ) (cell : Cell) → quiet_for n ≡ Some cell → SpellsCell track cell (codes "q " ++ decimal n)
 quiet_for_is track n cell e =
     let got = cond_some _ (cells.Quiet n) cell e in
     let both = and_parts _ _ got.0 in
-    subst (λ cell. IsCellOf track cell × (cell_line_of cell ≡ codes "q " ++ decimal n)) got.1
-    ((leb-true 2 n both.0, leb-true n 1024 both.1), refl)
+    subst (λ cell. SpellsCell track cell (codes "q " ++ decimal n)) got.1 (leb-true 2 n both.0, leb-true n 1024 both.1, refl)
 
-quiet_is : (track : TrackName) (line : List ℕ) (cell : Cell) → quiet_of line ≡ Some cell → IsCellOf track cell × (cell_line_of cell ≡ line)
+quiet_is : (track : TrackName) (line : List ℕ) (cell : Cell) → quiet_of line ≡ Some cell → SpellsCell track cell line
 unfolding quiet_of
 quiet_is track line cell e =
     option_and_then_some quiet_for (option_and_then (size_of LEVEL_DIGITS) (after (codes "q ") line)) cell e (λ n found is.
     option_and_then_some (size_of LEVEL_DIGITS) (after (codes "q ") line) n found (λ text prefix size.
-    let quiet = quiet_for_is track n cell is in
-    let written = size_is LEVEL_DIGITS text n (lit≤ tt) size in
-    (quiet.0, quiet.1 ∙ rw written.1 (after_is (codes "q ") line text prefix))))
+    let written : line ≡ codes "q " ++ decimal n =
+    rw (size_is LEVEL_DIGITS text n (lit≤ tt) size).1 (after_is (codes "q ") line text prefix) in
+    subst (λ l. SpellsCell track cell l) (sym written) (quiet_for_is track n cell is)))
 
 event_cell_is : (track : TrackName) (kind : Kind) (line : List ℕ) (cell : Cell) → track_of kind ≡ track
-    → event_cell_of kind line ≡ Some cell → IsCellOf track cell × (cell_line_of cell ≡ line)
-unfolding event_cell_of cell_line_of
+    → event_cell_of kind line ≡ Some cell → SpellsCell track cell line
+unfolding event_cell_of
 event_cell_is track kind line cell of_track e =
     option_map_some (λ level. cells.Turn kind level)
     (option_and_then (number_of LEVEL_DIGITS) (after (prefix_of kind) line)) cell e (λ z found is.
     option_and_then_some (number_of LEVEL_DIGITS) (after (prefix_of kind) line) z found (λ text prefix number.
     let written = level_is text z number in
-    let line_is : prefix_of kind ++ signed_decimal z ≡ line = rw written.1 (after_is (prefix_of kind) line text prefix) in
-    subst (λ cell. IsCellOf track cell × (cell_line_of cell ≡ line)) is ((of_track, written.0), line_is)))
+    let line_is : line ≡ prefix_of kind ++ signed_decimal z = rw written.1 (after_is (prefix_of kind) line text prefix) in
+    subst (λ cell. SpellsCell track cell line) is (of_track, written.0, line_is)))
 
 first_of : (track : TrackName) → track_of (first_kind track) ≡ track
 first_of Turn = refl
@@ -265,15 +256,13 @@ second_of Turn = refl
 second_of Slack = refl
 second_of Mark = refl
 
-pub cell_is : (track : TrackName) (line : List ℕ) (cell : Cell) → cell_of track line ≡ Some cell
-    → IsCellOf track cell × (cell_line_of cell ≡ line)
-unfolding cell_of cell_line_of
+pub cell_is : (track : TrackName) (line : List ℕ) (cell : Cell) → cell_of track line ≡ Some cell → SpellsCell track cell line
+unfolding cell_of
 cell_is track line cell e =
     elim (bytes_eq line (codes "s")) as (λ v. bytes_eq line (codes "s") ≡ v → cond v (Some cells.Still)
     (option_or (quiet_of line) (option_or (event_cell_of (first_kind track) line) (event_cell_of (second_kind track) line)))
-    ≡ Some cell → IsCellOf track cell × (cell_line_of cell ≡ line)) [
-      | true ↦ λ b k. subst (λ cell. IsCellOf track cell × (cell_line_of cell ≡ line)) (same_Some cells.Still cell k)
-          (tt, sym (same_bytes _ _ b))
+    ≡ Some cell → SpellsCell track cell line) [
+      | true ↦ λ b k. subst (λ cell. SpellsCell track cell line) (same_Some cells.Still cell k) (same_bytes _ _ b)
       | false ↦ λ b k. option_or_some (quiet_of line) _ cell k (λ quiet. quiet_is track line cell quiet)
           (λ other. option_or_some (event_cell_of (first_kind track) line) (event_cell_of (second_kind track) line) cell other
           (λ turn. event_cell_is track (first_kind track) line cell (first_of track) turn)
@@ -345,11 +334,11 @@ quiet_read n low high =
       le-leb n 1024 high,
     ) refl
 
-pub cell_of-line : (track : TrackName) (cell : Cell) → IsCellOf track cell → cell_of track (cell_line_of cell) ≡ Some cell
-unfolding cell_of cell_line_of
-cell_of-line track (cells.Quiet n) h = rw (quiet_read n h.0 h.1) refl
-cell_of-line track cells.Still h = refl
-cell_of-line track (cells.Turn kind level) h = rw (← h.0) (event_read kind level h.1)
+pub cell_read : (track : TrackName) (cell : Cell) (line : List ℕ) → SpellsCell track cell line → cell_of track line ≡ Some cell
+unfolding cell_of
+cell_read track (cells.Quiet n) line h = rw (h.2, quiet_read n h.0 h.1) refl
+cell_read track cells.Still line h = rw h refl
+cell_read track (cells.Turn kind level) line h = rw (h.2, ← h.0) (event_read kind level h.1)
 
 -- ---- headings
 

@@ -1,31 +1,11 @@
--- Texts of lines, read line by line by a parser whose state each line changes or refuses (this project).
-use Rattle.std.specs.Prelude.{
-  ◌≡◌,
-  ℕ,
-  ◌+◌,
-  ◌==◌,
-  Bool,
-  true,
-  false,
-  if◌then◌else◌,
-  List,
-  [],
-  ◌∷◌,
-  length,
-  Option,
-  None,
-  Some,
-  Result,
-  Ok,
-  Err,
-}
+-- Reading a text part by part: a part of a grammar takes lines, and returns its value or the first line that
+-- it can't have (this project).
+use Rattle.std.specs.Prelude.{◌≡◌, ℕ, ◌+◌, ◌==◌, Bool, true, false, if◌then◌else◌, List, [], ◌∷◌, Option, None, Some, Result, Ok, Err}
 use Rattle.std.specs.List.{slice_split}
-use Rattle.std.specs.Option.{ok_or}
-use Rattle.decimal_text.specs.Expected.{◌>>=◌}
+use Rattle.std.specs.Option.{option_map}
+use Rattle.std.specs.Str.{bytes_eq}
 use Rattle.cert_text.specs.declared.fault.CertFault.{CertFault}
 use Rattle.cert_text.specs.declared.fault.CertFault.TheVariants.{NoMemory, NotACertificate}
-use Rattle.cert_text.specs.declared.fault.LineFault.{LineFault}
-use Rattle.cert_text.specs.declared.fault.LineFault.TheVariants as lines
 
 -- ---- lines
 
@@ -37,41 +17,147 @@ is_lf b = b == 10
 abbrev pub pieces : List ℕ → List (List ℕ)
 pieces bytes = slice_split is_lf bytes
 
--- ---- one line
+-- all pieces but the last
+abbrev pub but_last : List (List ℕ) → List (List ℕ)
+but_last [] = []
+but_last (piece ∷ []) = []
+but_last (piece ∷ next ∷ more) = piece ∷ but_last (next ∷ more)
 
--- the fault of a line: it is bad only if the expected state is none; out of memory allows any
-abbrev pub TakesFault : {D : Type 0} → Option D → LineFault → Type 0
-TakesFault expected lines.NoMemory = Unit {0}
-TakesFault expected lines.Bad = expected ≡ None
+-- the last piece
+abbrev pub last_of : List (List ℕ) → List ℕ
+last_of [] = []
+last_of (piece ∷ []) = piece
+last_of (piece ∷ next ∷ more) = last_of (next ∷ more)
 
--- the outcome of reading a line: the new state is the expected one, or the fault is right
-abbrev pub Takes : {D : Type 0} → Option D → D → Result (Unit {0}) LineFault → Type 0
-Takes expected new (Ok _) = expected ≡ Some new
-Takes expected new (Err fault) = TakesFault expected fault
+-- the lines that LF ends
+abbrev pub lines_in : List ℕ → List (List ℕ)
+lines_in bytes = but_last (pieces bytes)
 
--- ---- faults
+-- what follows the last LF
+abbrev pub last_in : List ℕ → List ℕ
+last_in bytes = last_of (pieces bytes)
 
--- the fault of a line as the fault of the bytes
-abbrev pub placed : ℕ → LineFault → CertFault
-placed line lines.NoMemory = NoMemory
-placed line lines.Bad = NotACertificate line
+-- a place in a text: the number of lines taken, the lines to come, and what follows the last LF
+pub record Place : Type 0 where
+  pub taken : ℕ
+  pub lines : List (List ℕ)
+  pub last : List ℕ
+
+-- the place after some lines of which the bytes follow
+abbrev pub place_at : ℕ → List ℕ → Place
+place_at taken bytes = record { taken = taken; lines = lines_in bytes; last = last_in bytes }
+
+-- the place after one more line
+abbrev pub past_line : Place → List (List ℕ) → Place
+past_line at lines = record { taken = at.taken + 1; lines = lines; last = at.last }
+
+-- ---- parts
+
+-- a part of a grammar: its value and the place after it, or the fault
+abbrev pub Part : Type 0 → Type 0
+Part A = Place → Result (A × Place) CertFault
+
+-- what a part hands to the next one
+abbrev pub handed : {A B : Type 0} → (A → Part B) → Result (A × Place) CertFault → Result (B × Place) CertFault
+handed next (Ok done) = next done.0 done.1
+handed next (Err fault) = Err fault
+
+-- one part after the other
+infixl 10 ◌>>=◌
+abbrev pub ◌>>=◌ : {A B : Type 0} → Part A → (A → Part B) → Part B
+(part >>= next) at = handed next (part at)
+
+-- no line, with a value
+abbrev pub returned : {A : Type 0} → A → Part A
+returned value at = Ok (value, at)
+
+-- no line: the value, or the line taken last is the fault
+abbrev pub required : {A : Type 0} → Option A → Part A
+required (Some value) at = Ok (value, at)
+required None at = Err (NotACertificate at.taken)
+
+-- the first line of those to come
+abbrev pub first_line : Place → List (List ℕ) → Result (List ℕ × Place) CertFault
+first_line at [] = Err (NotACertificate (at.taken + 1))
+first_line at (line ∷ lines) = Ok (line, past_line at lines)
+
+-- any line
+abbrev pub any_line : Part (List ℕ)
+any_line at = first_line at at.lines
+
+-- a line with a meaning
+abbrev pub line_of : {A : Type 0} → (List ℕ → Option A) → Part A
+line_of meaning = any_line >>= λ line. required (meaning line)
+
+-- the meaning of a word alone
+abbrev pub is_word : List ℕ → List ℕ → Option (Unit {0})
+is_word word line = if bytes_eq line word then Some tt else None
+
+-- the next line is the word
+abbrev pub is_next : List ℕ → List (List ℕ) → Bool
+is_next word [] = false
+is_next word (line ∷ lines) = bytes_eq line word
+
+-- the item on the first line of those to come
+abbrev pub item_in : {A : Type 0} → (List ℕ → Option A) → Place → List (List ℕ) → Option (A × Place)
+item_in meaning at [] = None
+item_in meaning at (line ∷ lines) = option_map (λ item. (item, past_line at lines)) (meaning line)
+
+-- the item on the next line, if it is one, and the place after it
+abbrev pub first_item : {A : Type 0} → (List ℕ → Option A) → Place → Option (A × Place)
+first_item meaning at = item_in meaning at at.lines
+
+-- the items from a line on, if the items of the lines after it are these
+abbrev pub items_from : {A : Type 0} → Place → Option A → List A × Place → List A × Place
+items_from at None rest = ([], at)
+items_from at (Some item) rest = (item ∷ rest.0, rest.1)
+
+-- the items of the next lines, up to the first line that is none, and the place before it
+abbrev pub items_at : {A : Type 0} → (List ℕ → Option A) → ℕ → List (List ℕ) → List ℕ → List A × Place
+items_at meaning taken [] last = ([], record { taken = taken; lines = []; last = last })
+items_at meaning taken (line ∷ lines) last =
+    items_from (record { taken = taken; lines = line ∷ lines; last = last }) (meaning line) (items_at meaning (taken + 1) lines last)
+
+-- as many items as there are, a line each
+abbrev pub items_of : {A : Type 0} → (List ℕ → Option A) → Part (List A)
+items_of meaning at = Ok (items_at meaning at.taken at.lines at.last)
+
+-- a part that is there or not
+abbrev pub part_if : {A : Type 0} → Bool → Part A → Part (Option A)
+part_if true part = part >>= λ value. returned (Some value)
+part_if false part = returned None
+
+-- a part that is there if the next line is its heading
+abbrev pub part_after : {A : Type 0} → List ℕ → Part A → Part (Option A)
+part_after heading part at = part_if (is_next heading at.lines) part at
+
+-- nothing follows
+abbrev pub is_over : List (List ℕ) → List ℕ → Bool
+is_over [] [] = true
+is_over [] (byte ∷ last) = false
+is_over (line ∷ lines) last = false
+
+-- nothing may follow
+abbrev pub end_of_text : Part (Unit {0})
+end_of_text at = if is_over at.lines at.last then Ok (tt, at) else Err (NotACertificate (at.taken + 1))
+
+-- ---- results
+
+-- a result without the place after it
+abbrev pub without_place : {A : Type 0} → Result (A × Place) CertFault → Result A CertFault
+without_place (Ok done) = Ok done.0
+without_place (Err fault) = Err fault
+
+-- what a part that takes a whole text makes of the bytes
+abbrev pub read_by : {A : Type 0} → Part A → List ℕ → Result A CertFault
+read_by part bytes = without_place (part (place_at 0 bytes))
 
 -- true if memory ran out
 abbrev pub is_out_of_memory : CertFault → Bool
 is_out_of_memory NoMemory = true
 is_out_of_memory (NotACertificate line) = false
 
--- ---- to the end
-
--- the value of a state before the bytes after the last LF: there may be none, and no line may be missing
-abbrev pub finished : {D C : Type 0} → (D → Option C) → D → ℕ → List ℕ → Result C CertFault
-finished whole d number rest =
-    if length rest == 0 then ok_or (whole d) (NotACertificate number) else Err (NotACertificate number)
-
--- the value that the lines from a state and a line number on lead to, or the first fault; the last of them
--- is what no LF ends
-unfoldable pub read_from : {D C : Type 0} → (D → List ℕ → Option D) → (D → Option C) → D → ℕ → List (List ℕ) → Result C CertFault
-read_from after whole d number [] = Err (NotACertificate number)
-read_from after whole d number (rest ∷ []) = finished whole d number rest
-read_from after whole d number (line ∷ more ∷ lines) =
-    ok_or (after d line) (NotACertificate number) >>= λ e. read_from after whole e (number + 1) (more ∷ lines)
+-- what a function returns and the place where it stops are the part's, unless memory ran out
+abbrev pub Takes : {A : Type 0} → Part A → Place → Place → Result A CertFault → Type 0
+Takes part old new (Ok value) = part old ≡ Ok (value, new)
+Takes part old new (Err fault) = is_out_of_memory fault ≡ false → part old ≡ Err fault

@@ -1,11 +1,48 @@
--- The certificate of a text, as a function of its bytes; it is proved to follow the grammar (this project).
-use Rattle.std.specs.Prelude.{ℕ, List, Result}
+-- The certificate of a text, read part by part; it is proved to follow the grammar (this project).
+use Rattle.std.specs.Prelude.{ℕ, ℤ, List, Option, Result, is_some, codes}
+use Rattle.curve_law.specs.declared.cell.Cell.{Cell}
+use Rattle.curve_law.specs.declared.tracks.Tracks.{Tracks}
 use Rattle.cert_text.specs.declared.certificate.Certificate.{Certificate}
 use Rattle.cert_text.specs.declared.fault.CertFault.{CertFault}
+use Rattle.cert_text.specs.declared.track_name.TrackName.{TrackName}
+use Rattle.cert_text.specs.declared.track_name.TrackName.TheVariants.{Turn, Slack, Mark}
+use Rattle.cert_text.specs.Lines.{heading_of, last_line}
 pub use Rattle.cert_text.specs.ByLine.{is_out_of_memory}
-use Rattle.cert_text.specs.ByLine.{read_from, pieces}
-use Rattle.cert_text.specs.Workings.CertificateParsing.{start, next, whole}
+use Rattle.cert_text.specs.ByLine.{Part, ◌>>=◌, returned, line_of, is_word, items_of, part_if, part_after, end_of_text, read_by}
+use Rattle.cert_text.specs.Workings.LineReading.{version_of, station_of, moment_after, mark_of, cell_of}
+
+-- a track: its heading, and a cell a line
+abbrev pub track_part : TrackName → Part (List Cell)
+track_part track = do
+  heading ← line_of (is_word (heading_of track))
+  items_of (cell_of track)
+
+-- the last line, and nothing after it
+abbrev pub last_part : Part (Unit {0})
+last_part = do
+  last ← line_of (is_word last_line)
+  end_of_text
+
+-- the tracks, of which that of the mark is there if there is a mark, and the end of the text
+abbrev pub tracks_part : Option ℤ → Part Tracks
+tracks_part mark = do
+  turn ← track_part Turn
+  slack ← part_after (heading_of Slack) (track_part Slack)
+  crossings ← part_if (is_some mark) (track_part Mark)
+  last ← last_part
+  returned (record { turn = turn; slack = slack; mark = crossings })
+
+-- a certificate
+abbrev pub certificate_part : Part Certificate
+certificate_part = do
+  version ← line_of version_of
+  station ← line_of station_of
+  begin ← line_of (moment_after (codes "begin "))
+  end ← line_of (moment_after (codes "end "))
+  mark ← line_of mark_of
+  tracks ← tracks_part mark
+  returned (record { version = version; station = station; begin = begin; end = end; mark = mark; tracks = tracks })
 
 -- the certificate whose text the bytes are, or the line of the fault
 unfoldable pub certificate_of : List ℕ → Result Certificate CertFault
-certificate_of bytes = read_from next whole start 1 (pieces bytes)
+certificate_of bytes = read_by certificate_part bytes

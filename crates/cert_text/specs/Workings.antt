@@ -1,2 +1,1 @@
 pub mod LineReading
-pub mod CertificateParsing

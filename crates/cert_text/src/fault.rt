@@ -1,4 +1,4 @@
-//! The errors of reading a certificate.
+//! The error of reading a certificate.
 
 ghost use Rattle.std.specs.Prelude.{◌≡◌};
 
@@ -17,21 +17,12 @@ pub enum CertFault {
     NotACertificate { line: u32 },
 }
 
-/// An error of reading one line.
-#[derive(Clone, Copy, PartialEq, Eq)]
-pub enum LineFault {
-    /// Memory ran out.
-    NoMemory,
-    /// The line can't follow the lines before it.
-    Bad,
-}
-
-impl From<AllocError> for LineFault {
-    ghost use Rattle.cert_text.specs.declared.fault.LineFault.TheVariants.{NoMemory};
+impl From<AllocError> for CertFault {
+    ghost use Rattle.cert_text.specs.declared.fault.CertFault.TheVariants.{NoMemory};
 
     ghost from_gives = { λ _ fault. fault ≡ NoMemory };
 
-    fn from(_: AllocError) -> LineFault {
-        LineFault::NoMemory
+    fn from(_: AllocError) -> CertFault {
+        CertFault::NoMemory
     }
 }

@@ -6,39 +6,36 @@
 //! certificate of a text or the line of its first fault. `specs/Spelling.antt` is the grammar.
 #![tactic(auto)]
 
-mod by_line;
 mod cell_reading;
 mod certificate;
-mod certificate_parser;
 mod fault;
-mod item_list;
 mod laws;
+mod line_cursor;
 mod line_reading;
 mod line_writing;
 mod lines;
 mod numbers;
-mod part;
+mod parts;
 mod reading;
 mod track_name;
 mod words;
 mod worked;
 mod writing;
 
-pub use by_line::{LineParser, read_lines};
 pub use certificate::Certificate;
-pub use fault::{CertFault, LineFault};
-pub use item_list::ItemList;
+pub use fault::CertFault;
 pub use laws::{
     certificates_are_short, certificates_have_one_text, readings_go_by_the_grammar,
     texts_come_in_parts,
 };
-pub use line_reading::{moment_after, station_of};
+pub use line_cursor::{ItemForm, LineCursor};
 pub use line_writing::{
     begin_line, cell_line, end_line, heading_line, last_line, mark_line, push_cell_line, title_line,
 };
 pub use lines::after;
 pub use numbers::{number_of, size_of};
-pub use reading::read_certificate;
+pub use parts::{items, moment, station, word};
+pub use reading::{read_certificate, read_last};
 pub use track_name::TrackName;
 pub use words::track_of;
 pub use worked::{worked_readings, worked_texts};

@@ -1,7 +1,7 @@
 //! Lines and prefixes of bytes.
 
 ghost use Rattle.std.specs.Prelude.{◌≡◌, ◌<◌, ◌∷◌, [], length, MatchOption, IfSome, position, option_copied};
-ghost use Rattle.cert_text.specs.ByLine.{is_lf, pieces};
+ghost use Rattle.cert_text.specs.ByLine.{is_lf, lines_in, last_in};
 ghost use Rattle.cert_text.specs.Workings.LineReading.{after};
 
 /// Returns the index of the first LF.
@@ -15,7 +15,8 @@ fn lf_at(bytes: &[u8]) -> Option<usize>
 /// has no LF.
 pub fn next_line(bytes: &[u8]) -> Option<(&[u8], &[u8])>
     ensures shorter { IfSome result (λ r. length r.1.now < length bytes.now) }
-    ensures exact { MatchOption result (pieces bytes.now ≡ bytes.now ∷ []) (λ r. pieces bytes.now ≡ r.0.now ∷ pieces r.1.now) }
+    ensures exact { MatchOption result (lines_in bytes.now ≡ [])
+        (λ r. (lines_in bytes.now ≡ r.0.now ∷ lines_in r.1.now) × (last_in bytes.now ≡ last_in r.1.now)) }
 {
     match lf_at(bytes) {
         None => None,

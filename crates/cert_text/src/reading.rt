@@ -1,19 +1,130 @@
 //! Certificates read from text.
 
-ghost use Rattle.std.specs.Prelude.{◌≡◌, ◌≤◌, length, IfOk};
+ghost use Rattle.std.specs.Prelude.{◌≡◌, ◌≤◌, length, IfOk, is_some};
 ghost use Rattle.decimal_text.specs.Expected.{ReturnsUnless};
-ghost use Rattle.cert_text.specs.Certificates.{IsCertificate};
-ghost use Rattle.cert_text.specs.Spelling.{Reads};
-ghost use Rattle.cert_text.specs.Readings.{certificate_of, is_out_of_memory};
 ghost use Rattle.decimal_text.specs.declared.limits.TheConstants.{MOST_BYTES};
+ghost use Rattle.cert_text.specs.ByLine.{Takes, part_if, part_after};
+ghost use Rattle.cert_text.specs.Certificates.{IsCertificate};
+ghost use Rattle.cert_text.specs.Lines.{heading_of};
+ghost use Rattle.cert_text.specs.Spelling.{Reads};
+ghost use Rattle.cert_text.specs.Readings.{track_part, last_part, tracks_part, certificate_part, certificate_of, is_out_of_memory};
 
-use crate::by_line::read_lines;
+use crate::cell_reading::cell_of;
 use crate::certificate::Certificate;
-use crate::certificate_parser::CertificateParser;
 use crate::fault::CertFault;
+use crate::line_cursor::{ItemForm, LineCursor};
+use crate::parts::{items, mark, moment, station, version, word};
+use crate::track_name::TrackName;
+use curve_law::{Cell, Cells, Tracks};
+use decimal_text::Text;
 use std::alloc::Global;
 
-/// Reads the certificate whose text `bytes` is, at most 400,000,000 bytes. Each byte is read once.
+impl ItemForm for TrackName {
+    ghost use Rattle.cert_text.specs.Workings.LineReading.{cell_of};
+
+    type Item = Cell;
+
+    ghost meaning = { cell_of };
+
+    fn read_item(&self, line: &[u8]) -> Option<Cell> {
+        cell_of(*self, line)
+    }
+}
+
+/// Reads a track: its heading and its cells.
+fn read_track(
+    alloc: Global,
+    lines: &mut LineCursor<'_>,
+    track: TrackName,
+) -> Result<Cells, CertFault>
+    ensures { Takes (track_part track) lines.old lines.new result }
+{
+    word(lines, track.heading())?;
+    Ok(Cells::from_vec(items(alloc, lines, &track)?))
+}
+
+/// Reads a track if `there`.
+fn read_track_if(
+    there: bool,
+    alloc: Global,
+    lines: &mut LineCursor<'_>,
+    track: TrackName,
+) -> Result<Option<Cells>, CertFault>
+    ensures { Takes (part_if there (track_part track)) lines.old lines.new result }
+{
+    if !there {
+        return Ok(None);
+    }
+    Ok(Some(read_track(alloc, lines, track)?))
+}
+
+/// Reads the slack track if its heading comes next.
+fn read_slack(alloc: Global, lines: &mut LineCursor<'_>) -> Result<Option<Cells>, CertFault>
+    ensures { Takes (part_after (heading_of TrackName.Slack) (track_part TrackName.Slack)) lines.old lines.new result }
+{
+    let track = TrackName::Slack;
+    read_track_if(lines.is_next(track.heading()), alloc, lines, track)
+}
+
+/// Reads the mark's track if there is a mark.
+fn read_crossings(
+    alloc: Global,
+    lines: &mut LineCursor<'_>,
+    mark: Option<i64>,
+) -> Result<Option<Cells>, CertFault>
+    ensures { Takes (part_if (is_some mark) (track_part TrackName.Mark)) lines.old lines.new result }
+{
+    read_track_if(mark.is_some(), alloc, lines, TrackName::Mark)
+}
+
+/// Reads the last line, after which nothing may follow.
+pub fn read_last(lines: &mut LineCursor<'_>) -> Result<(), CertFault>
+    ensures { Takes last_part lines.old lines.new result }
+{
+    word(lines, "done")?;
+    lines.finish()
+}
+
+/// Reads the tracks and the end of the text.
+fn read_tracks(
+    alloc: Global,
+    lines: &mut LineCursor<'_>,
+    mark: Option<i64>,
+) -> Result<Tracks, CertFault>
+    ensures { Takes (tracks_part mark) lines.old lines.new result }
+{
+    let turn = read_track(alloc, lines, TrackName::Turn)?;
+    let slack = read_slack(alloc, lines)?;
+    let crossings = read_crossings(alloc, lines, mark)?;
+    read_last(lines)?;
+    Ok(Tracks {
+        turn,
+        slack,
+        mark: crossings,
+    })
+}
+
+/// Reads a certificate.
+fn read_lines(alloc: Global, lines: &mut LineCursor<'_>) -> Result<Certificate, CertFault>
+    ensures { Takes certificate_part lines.old lines.new result }
+{
+    let version = version(lines)?;
+    let station = station(lines)?;
+    let begin = moment(lines, "begin ")?;
+    let end = moment(lines, "end ")?;
+    let mark = mark(lines)?;
+    let tracks = read_tracks(alloc, lines, mark)?;
+    Ok(Certificate {
+        version,
+        station: Text::from_str(alloc, station)?,
+        begin,
+        end,
+        mark,
+        tracks,
+    })
+}
+
+/// Reads the certificate whose text `bytes` is, at most 400,000,000 bytes, in linear time.
 ///
 /// # Errors
 /// [`CertFault::NotACertificate`] exactly if `bytes` is no certificate's text. Its line is the
@@ -33,5 +144,5 @@ pub fn read_certificate(alloc: Global, bytes: &[u8]) -> Result<Certificate, Cert
     ensures reads { Reads bytes.now result }
     ensures valid { IfOk result IsCertificate }
 {
-    read_lines(alloc, CertificateParser::new(alloc), bytes)
+    read_lines(alloc, &mut LineCursor::new(bytes))
 }

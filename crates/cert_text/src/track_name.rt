@@ -14,6 +14,7 @@ pub enum TrackName {
 impl TrackName {
     ghost use Rattle.std.specs.Prelude.{◌≡◌, ◌≤◌, length};
     ghost use Rattle.cert_text.specs.Tracks.{track_word};
+    ghost use Rattle.cert_text.specs.Lines.{heading_of};
 
     /// Returns the track's word in headings: `turn`, `slack` or `mark`.
     #[tactic(auto, unfolding(crate::specs::Tracks::track_word))]
@@ -25,6 +26,18 @@ impl TrackName {
             TrackName::Turn => "turn",
             TrackName::Slack => "slack",
             TrackName::Mark => "mark",
+        }
+    }
+
+    /// Returns the line before the track's cells, such as `track turn`.
+    #[tactic(auto, unfolding(crate::specs::Tracks::track_word, crate::specs::Lines::heading_of))]
+    pub fn heading(self) -> &'static str
+        ensures { result.now ≡ heading_of self }
+    {
+        match self {
+            TrackName::Turn => "track turn",
+            TrackName::Slack => "track slack",
+            TrackName::Mark => "track mark",
         }
     }
 }

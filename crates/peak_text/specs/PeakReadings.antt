@@ -1,27 +1,55 @@
 -- The certificate of a highest water of a text, as a function of its bytes; it is proved to follow the
 -- grammar (this project).
-use Rattle.std.specs.Prelude.{ℕ, List, Result, Ok, Err, Bool, true, false}
+use Rattle.std.specs.Prelude.{ℕ, List, Result, Ok, Err, Bool, true, false, codes}
 use Rattle.cert_text.specs.declared.fault.CertFault.{CertFault as ReadingFault}
 use Rattle.cert_text.specs.declared.fault.CertFault.TheVariants as reading
-use Rattle.cert_text.specs.ByLine.{read_from, pieces}
+use Rattle.cert_text.specs.ByLine.{Part, ◌>>=◌, returned, line_of, is_word, items_of, read_by}
+use Rattle.cert_text.specs.Readings.{last_part}
+use Rattle.cert_text.specs.Workings.LineReading.{station_of, moment_after}
+use Rattle.highest_water.specs.declared.peak_cell.PeakCell.{PeakCell}
 use Rattle.peak_text.specs.declared.certificate.PeakCertificate.{PeakCertificate}
 use Rattle.peak_text.specs.declared.fault.PeakFault.{PeakFault}
 use Rattle.peak_text.specs.declared.fault.PeakFault.TheVariants.{NoMemory, NotACertificate}
-use Rattle.peak_text.specs.Workings.PeakParsing.{start, next, whole}
+use Rattle.peak_text.specs.PeakTexts.{peak_title}
+use Rattle.peak_text.specs.Workings.PeakLineReading.{value_of, cell_of}
 
--- the fault of reading line by line as a fault of this crate
+-- the cells, a line each, and the end of the text
+abbrev pub cells_part : Part (List PeakCell)
+cells_part = do
+  cells ← items_of cell_of
+  last ← last_part
+  returned cells
+
+-- a certificate
+abbrev pub peak_part : Part PeakCertificate
+peak_part = do
+  title ← line_of (is_word peak_title)
+  station ← line_of station_of
+  begin ← line_of (moment_after (codes "begin "))
+  end ← line_of (moment_after (codes "end "))
+  at ← line_of (moment_after (codes "at "))
+  value ← line_of value_of
+  cells ← cells_part
+  returned (record {
+    station = station;
+    begin = begin;
+    end = end;
+    peak = record { at = at; value = value; cells = cells };
+  })
+
+-- the fault of reading part by part as a fault of this crate
 abbrev pub fault_of : ReadingFault → PeakFault
 fault_of reading.NoMemory = NoMemory
 fault_of (reading.NotACertificate line) = NotACertificate line
 
--- the result of reading line by line with a fault of this crate
+-- the result of reading part by part with a fault of this crate
 abbrev pub with_fault : {C : Type 0} → Result C ReadingFault → Result C PeakFault
 with_fault (Ok said) = Ok said
 with_fault (Err fault) = Err (fault_of fault)
 
 -- the certificate whose text the bytes are, or the line of the fault
 unfoldable pub peak_of : List ℕ → Result PeakCertificate PeakFault
-peak_of bytes = with_fault (read_from next whole start 1 (pieces bytes))
+peak_of bytes = with_fault (read_by peak_part bytes)
 
 -- true if memory ran out
 abbrev pub is_out_of_memory : PeakFault → Bool

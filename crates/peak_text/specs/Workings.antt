@@ -1,1 +1,1 @@
-pub mod PeakParsing
+pub mod PeakLineReading

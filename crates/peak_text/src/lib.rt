@@ -9,8 +9,6 @@
 mod certificate;
 mod fault;
 mod line_reading;
-mod part;
-mod peak_parser;
 mod reading;
 mod text_laws;
 mod verdict_text;

@@ -1,7 +1,7 @@
 //! The lines of a certificate of a highest water, read.
 
 ghost use Rattle.std.specs.Prelude.{◌≡◌};
-ghost use Rattle.peak_text.specs.Workings.PeakParsing.{value_of, under_for, under_of, cell_of};
+ghost use Rattle.peak_text.specs.Workings.PeakLineReading.{value_of, under_for, under_of, cell_of};
 
 use cert_text::{after, number_of, size_of};
 use curve_law::MOST_MINUTES;
@@ -14,7 +14,7 @@ const VALUE_DIGITS: usize = 37;
 const MINUTE_DIGITS: usize = 4;
 
 /// Reads the value from its line, or returns `None` if `line` isn't one.
-#[tactic(auto, unfolding(crate::specs::Workings::PeakParsing::value_of))]
+#[tactic(auto, unfolding(crate::specs::Workings::PeakLineReading::value_of))]
 pub fn value_of(line: &[u8]) -> Option<i128>
     ensures { result ≡ value_of line.now }
 {
@@ -33,7 +33,7 @@ fn under_for(minutes: u128) -> Option<PeakCell>
 }
 
 /// Reads the line of a cell that is under, or returns `None` if `line` isn't one.
-#[tactic(auto, unfolding(crate::specs::Workings::PeakParsing::under_of))]
+#[tactic(auto, unfolding(crate::specs::Workings::PeakLineReading::under_of))]
 fn under_of(line: &[u8]) -> Option<PeakCell>
     ensures { result ≡ under_of line.now }
 {
@@ -41,7 +41,7 @@ fn under_of(line: &[u8]) -> Option<PeakCell>
 }
 
 /// Reads the line of a cell, or returns `None` if `line` isn't one.
-#[tactic(auto, unfolding(crate::specs::Workings::PeakParsing::cell_of))]
+#[tactic(auto, unfolding(crate::specs::Workings::PeakLineReading::cell_of))]
 pub fn cell_of(line: &[u8]) -> Option<PeakCell>
     ensures { result ≡ cell_of line.now }
 {

@@ -3,18 +3,73 @@
 ghost use Rattle.std.specs.Prelude.{◌≤◌, length, IfOk};
 ghost use Rattle.decimal_text.specs.Expected.{ReturnsUnless};
 ghost use Rattle.decimal_text.specs.declared.limits.TheConstants.{MOST_BYTES};
+ghost use Rattle.cert_text.specs.ByLine.{Takes, line_of};
 ghost use Rattle.peak_text.specs.PeakTexts.{IsPeakCertificate};
 ghost use Rattle.peak_text.specs.PeakSpelling.{ReadsPeak};
-ghost use Rattle.peak_text.specs.PeakReadings.{peak_of, is_out_of_memory};
+ghost use Rattle.peak_text.specs.PeakReadings.{cells_part, peak_part, peak_of, is_out_of_memory};
+ghost use Rattle.peak_text.specs.Workings.PeakLineReading.{value_of};
 
 use crate::certificate::PeakCertificate;
 use crate::fault::PeakFault;
-use crate::peak_parser::PeakParser;
-use cert_text::read_lines;
+use crate::line_reading::{cell_of, value_of};
+use cert_text::{CertFault, ItemForm, LineCursor, items, moment, read_last, station, word};
+use decimal_text::Text;
+use highest_water::{Peak, PeakCell, PeakCells};
 use std::alloc::Global;
 
-/// Reads the certificate of a highest water whose text `bytes` is, at most 400,000,000 bytes. Each
-/// byte is read once.
+/// The lines of a certificate's cells.
+struct CellForm;
+
+impl ItemForm for CellForm {
+    ghost use Rattle.peak_text.specs.Workings.PeakLineReading.{cell_of};
+
+    type Item = PeakCell;
+
+    ghost meaning = { λ _. cell_of };
+
+    fn read_item(&self, line: &[u8]) -> Option<PeakCell> {
+        cell_of(line)
+    }
+}
+
+/// Reads the line of the value.
+fn read_value(lines: &mut LineCursor<'_>) -> Result<i128, CertFault>
+    ensures { Takes (line_of value_of) lines.old lines.new result }
+{
+    value_of(lines.next()?).ok_or(lines.fault())
+}
+
+/// Reads the cells and the end of the text.
+fn read_cells(alloc: Global, lines: &mut LineCursor<'_>) -> Result<PeakCells, CertFault>
+    ensures { Takes cells_part lines.old lines.new result }
+{
+    let cells = items(alloc, lines, &CellForm)?;
+    read_last(lines)?;
+    Ok(PeakCells::from_vec(cells))
+}
+
+/// Reads a certificate.
+#[tactic(auto, unfolding(crate::specs::PeakTexts::peak_title))]
+fn read_lines(alloc: Global, lines: &mut LineCursor<'_>) -> Result<PeakCertificate, CertFault>
+    ensures { Takes peak_part lines.old lines.new result }
+{
+    word(lines, "peak certificate 1")?;
+    let station = station(lines)?;
+    let begin = moment(lines, "begin ")?;
+    let end = moment(lines, "end ")?;
+    let at = moment(lines, "at ")?;
+    let value = read_value(lines)?;
+    let cells = read_cells(alloc, lines)?;
+    Ok(PeakCertificate {
+        station: Text::from_str(alloc, station)?,
+        begin,
+        end,
+        peak: Peak { at, value, cells },
+    })
+}
+
+/// Reads the certificate of a highest water whose text `bytes` is, at most 400,000,000 bytes, in
+/// linear time.
 ///
 /// # Errors
 /// [`PeakFault::NotACertificate`] exactly if `bytes` is no such certificate's text. Its line is the
@@ -27,5 +82,5 @@ pub fn read_peak(alloc: Global, bytes: &[u8]) -> Result<PeakCertificate, PeakFau
     ensures reads { ReadsPeak bytes.now result }
     ensures valid { IfOk result IsPeakCertificate }
 {
-    Ok(read_lines(alloc, PeakParser::new(alloc), bytes)?)
+    Ok(read_lines(alloc, &mut LineCursor::new(bytes))?)
 }

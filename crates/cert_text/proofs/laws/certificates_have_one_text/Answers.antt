@@ -1,18 +1,15 @@
+use Rattle.cert_text.specs.Spelling.{Spells}
+use Rattle.cert_text.specs.Readings.{certificate_part}
+use Rattle.cert_text.proofs.ByLineLemmas.{one_reading}
 use Rattle.cert_text.proofs.GrammarLemmas.{spells-lines_of, lines_of-spelled}
-use Rattle.cert_text.proofs.ReadingLemmas.{text_of-itself, text_is, one_reading}
+use Rattle.cert_text.proofs.ReadingLemmas.{reader, text_of-itself, text_is}
 use Rattle.cert_text.proofs.laws.certificates_have_one_text.Goals as goal
 
-pub returns-clause-lines : goal.returns-clause-lines
-returns-clause-lines c = spells-lines_of
-
-pub returns-clause-only_lines : goal.returns-clause-only_lines
-returns-clause-only_lines c = lines_of-spelled
-
-pub returns-clause-text : goal.returns-clause-text
-returns-clause-text c = text_of-itself
-
-pub returns-clause-only_text : goal.returns-clause-only_text
-returns-clause-only_text c = text_is
-
-pub returns-clause-one_certificate : goal.returns-clause-one_certificate
-returns-clause-one_certificate c = one_reading
+pub returns : goal.returns
+returns c = record {
+  lines = spells-lines_of;
+  only_lines = lines_of-spelled;
+  text = text_of-itself;
+  only_text = text_is;
+  one_certificate = one_reading Spells certificate_part reader;
+}

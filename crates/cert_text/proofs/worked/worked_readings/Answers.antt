@@ -12,11 +12,12 @@ use Rattle.cert_text.specs.Lines.{title_of, station_line_of, begin_line_of, end_
 use Rattle.cert_text.specs.Tracks.{track_word, kind_word}
 use Rattle.cert_text.specs.Worked.{pier, pier_lines}
 use Rattle.cert_text.proofs.LineLemmas.{plain_name}
-use Rattle.cert_text.proofs.ReadingLemmas.{certificate_of-text}
+use Rattle.cert_text.specs.Spelling.{Spells}
+use Rattle.cert_text.specs.Readings.{certificate_part}
+use Rattle.cert_text.proofs.ByLineLemmas.{text_reads}
+use Rattle.cert_text.proofs.ReadingLemmas.{reader, text_of-itself}
 use Rattle.decimal_text.specs.Digits.{digits_of}
 use Rattle.cert_text.specs.Workings.LineReading.{after, size_of, number_of, version_of, station_of, moment_after, mark_of, quiet_of, event_cell_of, cell_of}
-use Rattle.cert_text.specs.ByLine.{read_from}
-use Rattle.cert_text.specs.Workings.CertificateParsing.{next}
 use Rattle.cert_text.specs.Readings.{certificate_of}
 use Rattle.cert_text.proofs.worked.worked_readings.Goals as goal
 
@@ -41,30 +42,15 @@ unfolding digits two_digits date_text clock_text date_of date_from_year date_fro
     station_line_of begin_line_of end_line_of mark_line_of heading_of cell_line_of last_line certificate_text
 pier_text = refl
 
-pub returns-clause-pier : goal.returns-clause-pier
-returns-clause-pier c = sym (ap certificate_of pier_text) ∙ certificate_of-text pier pier_is
-
-pub returns-clause-changed : goal.returns-clause-changed
-unfolding encode chars is_utf8 moment_of has_form kind_word after digits_of size_of number_of version_of station_of
-    moment_after mark_of quiet_of event_cell_of cell_of next read_from certificate_of
-returns-clause-changed c = refl
-
-pub returns-clause-empty : goal.returns-clause-empty
-unfolding encode chars is_utf8 moment_of has_form kind_word after digits_of size_of number_of version_of station_of
-    moment_after mark_of quiet_of event_cell_of cell_of next read_from certificate_of
-returns-clause-empty c = refl
-
-pub returns-clause-not_done : goal.returns-clause-not_done
-unfolding encode chars is_utf8 moment_of has_form kind_word after digits_of size_of number_of version_of station_of
-    moment_after mark_of quiet_of event_cell_of cell_of next read_from certificate_of
-returns-clause-not_done c = refl
-
-pub returns-clause-no_lf : goal.returns-clause-no_lf
-unfolding encode chars is_utf8 moment_of has_form kind_word after digits_of size_of number_of version_of station_of
-    moment_after mark_of quiet_of event_cell_of cell_of next read_from certificate_of
-returns-clause-no_lf c = refl
-
-pub returns-clause-more : goal.returns-clause-more
-unfolding encode chars is_utf8 moment_of has_form kind_word after digits_of size_of number_of version_of station_of
-    moment_after mark_of quiet_of event_cell_of cell_of next read_from certificate_of
-returns-clause-more c = refl
+pub returns : goal.returns
+unfolding encode chars is_utf8 moment_of has_form track_word kind_word heading_of last_line after digits_of size_of number_of
+    version_of station_of moment_after mark_of quiet_of event_cell_of cell_of certificate_of
+returns c = record {
+  pier = sym (ap certificate_of pier_text)
+      ∙ text_reads Spells certificate_part reader pier (certificate_text pier) (text_of-itself pier pier_is);
+  changed = refl;
+  empty = refl;
+  not_done = refl;
+  no_lf = refl;
+  more = refl;
+}

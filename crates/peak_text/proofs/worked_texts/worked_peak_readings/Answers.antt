@@ -12,13 +12,12 @@ use Rattle.zone_time.specs.Moments.{moment_of, moment_text, has_form}
 use Rattle.cert_text.specs.Certificates.{IsStationName}
 use Rattle.cert_text.specs.Lines.{station_line_of, begin_line_of, end_line_of, last_line}
 use Rattle.cert_text.specs.Texts.{joined}
-use Rattle.cert_text.specs.ByLine.{read_from}
 use Rattle.cert_text.specs.Workings.LineReading.{after, size_of, number_of, station_of, moment_after}
 use Rattle.cert_text.proofs.LineLemmas.{plain_name}
 use Rattle.highest_water.specs.declared.peak_cell.PeakCell.{PeakCell}
 use Rattle.highest_water.specs.declared.peak_cell.PeakCell.TheVariants.{Under, Single}
 use Rattle.peak_text.specs.PeakTexts.{IsPeakCell, IsPeakCertificate, peak_title, at_line_of, value_line_of, peak_cell_line_of, peak_text}
-use Rattle.peak_text.specs.Workings.PeakParsing.{value_of, under_of, cell_of, next}
+use Rattle.peak_text.specs.Workings.PeakLineReading.{value_of, under_of, cell_of}
 use Rattle.peak_text.specs.PeakReadings.{peak_of}
 use Rattle.peak_text.specs.Worked.{pier, pier_lines}
 use Rattle.peak_text.proofs.PeakReadingLemmas.{peak_of-text}
@@ -58,30 +57,14 @@ unfolding digits two_digits date_text clock_text date_of date_from_year date_fro
     begin_line_of end_line_of last_line peak_title at_line_of value_line_of peak_cell_line_of peak_text
 pier_text = refl
 
-pub returns-clause-pier : goal.returns-clause-pier
-returns-clause-pier c = sym (ap peak_of pier_text) ∙ peak_of-text pier pier_is
-
-pub returns-clause-changed : goal.returns-clause-changed
-unfolding encode chars is_utf8 moment_of has_form after digits_of size_of number_of station_of moment_after value_of
-    under_of cell_of next read_from peak_of
-returns-clause-changed c = refl
-
-pub returns-clause-empty : goal.returns-clause-empty
-unfolding encode chars is_utf8 moment_of has_form after digits_of size_of number_of station_of moment_after value_of
-    under_of cell_of next read_from peak_of
-returns-clause-empty c = refl
-
-pub returns-clause-not_done : goal.returns-clause-not_done
-unfolding encode chars is_utf8 moment_of has_form after digits_of size_of number_of station_of moment_after value_of
-    under_of cell_of next read_from peak_of
-returns-clause-not_done c = refl
-
-pub returns-clause-no_lf : goal.returns-clause-no_lf
-unfolding encode chars is_utf8 moment_of has_form after digits_of size_of number_of station_of moment_after value_of
-    under_of cell_of next read_from peak_of
-returns-clause-no_lf c = refl
-
-pub returns-clause-more : goal.returns-clause-more
-unfolding encode chars is_utf8 moment_of has_form after digits_of size_of number_of station_of moment_after value_of
-    under_of cell_of next read_from peak_of
-returns-clause-more c = refl
+pub returns : goal.returns
+unfolding encode chars is_utf8 moment_of has_form last_line peak_title after digits_of size_of number_of station_of
+    moment_after value_of under_of cell_of peak_of
+returns c = record {
+  pier = sym (ap peak_of pier_text) ∙ peak_of-text pier pier_is;
+  changed = refl;
+  empty = refl;
+  not_done = refl;
+  no_lf = refl;
+  more = refl;
+}

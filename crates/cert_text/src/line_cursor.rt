@@ -1,0 +1,116 @@
+//! A place in a text, which moves on line by line.
+
+ghost use Rattle.std.specs.Prelude.{◌≡◌, ◌≤◌, ℕ, List, Option, length, IfNone, MatchOption, MatchResult};
+ghost use Rattle.decimal_text.specs.declared.limits.TheConstants.{MOST_BYTES};
+ghost use Rattle.cert_text.specs.ByLine.{Takes, place_at, first_item, any_line, is_next, end_of_text};
+
+use crate::fault::CertFault;
+use crate::lines::next_line;
+use std::marker::Model;
+
+/// What the lines of a list of items mean.
+pub trait ItemForm {
+    /// An item of the list.
+    type Item: Drop;
+
+    // The item on a line, or `None` if the line is no item.
+    ghost meaning: { Self → List ℕ → Option Self.Item };
+
+    /// Reads the item on `line`, or returns `None` if `line` is no item.
+    fn read_item(&self, line: &[u8]) -> Option<Self::Item>
+        ensures { result ≡ meaning self.now line.now };
+}
+
+/// A place in a text. In contracts it is the number of lines taken, and the lines to come.
+#[derive(Drop)]
+pub struct LineCursor<'a> {
+    rest: &'a [u8],
+    taken: u32,
+}
+
+impl<'a> Model for LineCursor<'a> {
+    ghost use Rattle.std.specs.Prelude.{◌+◌, ◌≤◌, length};
+    ghost use Rattle.decimal_text.specs.declared.limits.TheConstants.{MOST_BYTES};
+    ghost use Rattle.cert_text.specs.ByLine.{Place, place_at};
+
+    ghost Value = { Place };
+
+    ghost view = { λ c. place_at c.taken c.rest.now };
+
+    ghost invariant = { λ c. c.taken + length c.rest.now ≤ MOST_BYTES };
+}
+
+impl<'a> LineCursor<'a> {
+    /// Returns the place before the first line of `bytes`, at most 400,000,000 bytes.
+    pub fn new(bytes: &'a [u8]) -> LineCursor<'a>
+        requires { length bytes.now ≤ MOST_BYTES }
+        ensures { result ≡ place_at 0 bytes.now }
+    {
+        LineCursor {
+            rest: bytes,
+            taken: 0,
+        }
+    }
+
+    /// Takes the next line and returns it without its LF.
+    ///
+    /// # Errors
+    /// [`CertFault::NotACertificate`] if no LF follows.
+    pub fn next(&mut self) -> Result<&'a [u8], CertFault>
+        ensures { MatchResult result (λ line. any_line self.old ≡ Ok (line.now, self.new)) (λ fault. any_line self.old ≡ Err fault) }
+    {
+        let Some((line, rest)) = next_line(self.rest) else {
+            return Err(CertFault::NotACertificate {
+                line: self.taken + 1,
+            });
+        };
+        self.rest = rest;
+        self.taken += 1;
+        Ok(line)
+    }
+
+    /// Returns the fault of the line taken last.
+    pub fn fault(&self) -> CertFault
+        ensures { result ≡ CertFault.NotACertificate self.now.taken }
+    {
+        CertFault::NotACertificate { line: self.taken }
+    }
+
+    /// Returns true if the next line is `word`.
+    pub fn is_next(&self, word: &str) -> bool
+        ensures { result ≡ is_next word.now self.now.lines }
+    {
+        match next_line(self.rest) {
+            None => false,
+            Some((line, _)) => line == word.as_bytes(),
+        }
+    }
+
+    /// Takes the next line if it is an item, and returns the item.
+    pub fn take_item<F: ItemForm>(&mut self, form: &F) -> Option<F::Item>
+        ensures item { MatchOption result (first_item (F.meaning form.now) self.old ≡ None) (λ item. first_item (F.meaning form.now) self.old ≡ Some (item, self.new)) }
+        ensures none { IfNone result (self.new ≡ self.old) }
+    {
+        let (line, rest) = next_line(self.rest)?;
+        let item = form.read_item(line)?;
+        self.rest = rest;
+        self.taken += 1;
+        Some(item)
+    }
+
+    /// Checks that nothing follows.
+    ///
+    /// # Errors
+    /// [`CertFault::NotACertificate`] with the number of the next line, if a byte follows.
+    pub fn finish(&self) -> Result<(), CertFault>
+        ensures { Takes end_of_text self.now self.now result }
+    {
+        if self.rest.is_empty() {
+            Ok(())
+        } else {
+            Err(CertFault::NotACertificate {
+                line: self.taken + 1,
+            })
+        }
+    }
+}
