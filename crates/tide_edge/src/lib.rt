@@ -6,15 +6,12 @@
 //! [`write_all`] writes all of its bytes, over any implementation.
 #![tactic(auto)]
 
-mod byte_transcript;
 mod calls;
 mod clock;
 mod connection;
 mod count;
 mod door;
 mod doorway;
-mod earlier_connections;
-mod earlier_openings;
 mod failed;
 mod files;
 mod fixed_clock;
@@ -28,7 +25,6 @@ mod laws;
 mod memory_door;
 mod memory_files;
 mod memory_sink;
-mod minute_transcript;
 mod named_file;
 mod open_line;
 mod opening;
