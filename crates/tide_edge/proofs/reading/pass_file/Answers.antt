@@ -2,8 +2,9 @@ use Rattle.std.proofs.Common.{refl, ap, Err}
 use Rattle.tide_edge.specs.declared.read_all_fault.ReadAllFault.TheVariants.{Failed}
 use Rattle.decimal_text.specs.Expected.{is_outside_fault}
 use Rattle.tide_edge.specs.Whole.{source_of, whole}
+use Rattle.tide_edge.specs.Workings.Reading.{all_taken}
 use Rattle.tide_edge.proofs.ReadingLemmas.{opened_once, passed_once, read_on_whole, read_on_within, unopened_once, unopened_unpassed, unopened_within}
-use Rattle.tide_edge.proofs.reading.read_all.Goals as goal
+use Rattle.tide_edge.proofs.reading.pass_file.Goals as goal
 
 pub returns-in-Ok-clause-whole : goal.returns-in-Ok-clause-whole
 returns-in-Ok-clause-whole g c =
@@ -12,20 +13,20 @@ returns-in-Ok-clause-whole g c =
     c.args.limit
     c.args.name.now
     (g.F.Files.state c.args.files.now)
-    c.read_rest.result
+    (all_taken (g.R.Receiver.taken c.pass_rest.new.receiver) c.pass_rest.result)
     c.in-Ok.ensures.found
-    (rw c.in-Ok.ensures.after at c.read_rest.ensures.whole)
+    (rw c.in-Ok.ensures.after at c.pass_rest.ensures.whole)
 
 pub returns-in-Ok-clause-read : goal.returns-in-Ok-clause-read
 returns-in-Ok-clause-read g c =
     read_on_within
     c.in-Ok.field-0
     c.args.limit
-    (is_outside_fault source_of c.read_rest.result)
+    (is_outside_fault source_of c.pass_rest.result)
     c.args.name.now
     (g.F.Files.state c.args.files.now)
-    (g.F.Files.state c.read_rest.new.files)
-    (rw c.in-Ok.ensures.after at c.read_rest.ensures.read)
+    (g.F.Files.state c.pass_rest.new.files)
+    (rw c.in-Ok.ensures.after at c.pass_rest.ensures.read)
 
 pub returns-clause-whole : goal.returns-clause-whole
 returns-clause-whole g c = λ t firm. rw (c.in-Err.ensures.absent t firm) refl
@@ -35,8 +36,8 @@ returns-clause-read g c =
     rw c.in-Err.ensures.after
     (unopened_within (Unit {0}) c.in-Err.field-0 c.args.limit c.args.name.now (g.F.Files.state c.args.files.now))
 
-pub read_rest-requires-clause-fresh : goal.read_rest-requires-clause-fresh
-read_rest-requires-clause-fresh g c = (c.args.name.now, ap (λ s. s.openings.latest) c.in-Ok.ensures.after)
+pub pass_rest-requires-clause-fresh : goal.pass_rest-requires-clause-fresh
+pass_rest-requires-clause-fresh g c = (c.args.name.now, ap (λ s. s.openings.latest) c.in-Ok.ensures.after)
 
 pub returns-in-Ok-clause-came : goal.returns-in-Ok-clause-came
 returns-in-Ok-clause-came g c =
@@ -47,10 +48,10 @@ returns-in-Ok-clause-came g c =
     c.args.name.now
     (g.F.Files.state c.args.files.now).openings
     _
-    (g.F.Files.state c.read_rest.new.files).openings
-    c.read_rest.result
+    (g.F.Files.state c.pass_rest.new.files).openings
+    (all_taken (g.R.Receiver.taken c.pass_rest.new.receiver) c.pass_rest.result)
     (ap (λ s. s.openings) c.in-Ok.ensures.after)
-    c.read_rest.ensures.came
+    c.pass_rest.ensures.came
 
 pub returns-clause-came : goal.returns-clause-came
 returns-clause-came g c =
@@ -75,11 +76,11 @@ returns-in-Ok-clause-too_long g c =
     c.args.name.now
     (g.F.Files.state c.args.files.now).openings
     _
-    (g.F.Files.state c.read_rest.new.files).openings
-    c.read_rest.result
+    (g.F.Files.state c.pass_rest.new.files).openings
+    (all_taken (g.R.Receiver.taken c.pass_rest.new.receiver) c.pass_rest.result)
     (ap (λ s. s.openings) c.in-Ok.ensures.after)
-    c.read_rest.ensures.came
-    c.read_rest.ensures.too_long
+    c.pass_rest.ensures.came
+    c.pass_rest.ensures.too_long
 
 pub returns-clause-too_long : goal.returns-clause-too_long
 returns-clause-too_long g c = (
