@@ -1,21 +1,16 @@
 -- The result of loading, from the results of reading and parsing.
-use Rattle.std.proofs.Common.{◌≡◌, ◌↔◌, ℕ, List, Option, IsErrAnd, Some, None, IsSome, Result, Ok, Err, refl}
-use Rattle.std.specs.Bool.{IsTrue}
-use Rattle.tide_edge.proofs.ReadingLemmas.{begun_whole}
-use Rattle.tide_edge.specs.FileStates.{FilesState, files_after_open}
+use Rattle.std.proofs.Common.{◌≡◌, ◌↔◌, ℕ, List, Option, IsErrAnd, Result, Ok, Err, refl}
 use Rattle.harmonics_book.specs.declared.book.Book.{Book as TheBook}
 use Rattle.harmonics_text.specs.declared.fault.BookFault.{BookFault}
 use Rattle.harmonics_text.specs.declared.fault.BookFault.TheVariants as form
-use Rattle.harmonics_text.specs.Pieces.{Fed}
 use Rattle.harmonics_text.specs.Reading.{FailsBook, book_of}
 use Rattle.tide_edge.specs.declared.read_all_fault.ReadAllFault.{ReadAllFault}
 use Rattle.tide_edge.specs.declared.read_all_fault.ReadAllFault.TheVariants as reading
-use Rattle.decimal_text.specs.Expected.{Excuses, Meets}
+use Rattle.decimal_text.specs.Expected.{Excuses, memory}
 use Rattle.tide_edge.specs.Whole.{whole, source_of as source_of_reading}
 use Rattle.book_loading.specs.declared.loading.LoadFault.{LoadFault}
-use Rattle.book_loading.specs.declared.loading.LoadFault.TheVariants.{Failed, TooLong, Book}
+use Rattle.book_loading.specs.declared.loading.LoadFault.TheVariants.{TooLong, Book}
 use Rattle.book_loading.specs.Loading.{loaded, fault_of_reading, source_of}
-use Rattle.book_loading.specs.Workings.Feeding.{bytes_fed}
 
 -- the result if reading the file fails
 pub excuses_reading : (limit : ℕ) (firm : Type 0) (file : Option (List ℕ)) (fault : ReadAllFault)
@@ -26,11 +21,11 @@ excuses_reading limit firm file reading.Failed excused = λ s. rw (excused s) re
 excuses_reading limit firm file reading.TooLong excused = rw excused refl
 excuses_reading limit firm file reading.NoMemory excused = tt
 
--- the bytes fed if a read fails
-pub failed_meets : (limit : ℕ) (reader : Fed) (file : Option (List ℕ)) (result : Result (Unit {0}) ReadAllFault) → file ≡ None
-    → IsErrAnd result (λ it. it ≡ reading.Failed) → Meets source_of_reading (Unit {0}) (whole limit file) (bytes_fed reader result)
-failed_meets limit reader file (Err it) none is = rw (is, none) (λ firm. refl)
-failed_meets limit reader file (Ok done) none is = absurd is
+-- reading that ran out of memory is loading that ran out of memory
+pub memory_as : (fault : ReadAllFault) → source_of_reading fault ≡ memory → source_of (fault_of_reading fault) ≡ memory
+memory_as reading.Failed is = cc
+memory_as reading.TooLong is = cc
+memory_as reading.NoMemory is = refl
 
 -- the result if a line is bad
 pub excuses_form : (limit : ℕ) (firm : Type 0) (file : Option (List ℕ)) (bytes : List ℕ) (fault : BookFault)
@@ -45,19 +40,6 @@ pub loaded_whole : (limit : ℕ) (file : Option (List ℕ)) (bytes : List ℕ) (
     → book_of bytes ≡ Ok book → loaded limit file ≡ Ok book
 unfolding loaded
 loaded_whole limit file bytes book read returned = rw (read, returned) refl
-
--- the result if no file was opened
-pub unopened : (limit : ℕ) (firm : Type 0) (file : Option (List ℕ)) → (firm → file ≡ None) → firm → loaded limit file ≡ Err Failed
-unfolding loaded
-unopened limit firm file absent = λ s. rw (absent s) refl
-
--- the result of loading the rest of an opened file is that of loading the file
-pub loaded_opened : {T : Type 0} (opened : T) (limit : ℕ) (name : List ℕ) (s : FilesState) (result : Result TheBook LoadFault)
-    → (IsTrue s.store.is_observable → IsSome (s.store.folder name))
-    → (IsTrue s.store.is_observable → Meets source_of (IsTrue s.store.is_steady)
-    (loaded limit (Some (files_after_open (Ok opened) name s).rest)) result)
-    → IsTrue s.store.is_observable → Meets source_of (IsTrue s.store.is_steady) (loaded limit (s.store.folder name)) result
-loaded_opened opened limit name s result found meets t = rw (begun_whole s name t (found t)) (meets t)
 
 -- the result of feeding
 abbrev fed_fault : ReadAllFault → Result (Unit {0}) ReadAllFault

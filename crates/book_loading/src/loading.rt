@@ -1,19 +1,17 @@
 //! Loading a book from a file, in pieces.
 
-ghost use Rattle.std.specs.Prelude.{◌≡◌, ◌↔◌, ◌≤◌, IsTrue, [], length, Some, Err, IfOk, OnOk};
+ghost use Rattle.std.specs.Prelude.{◌≡◌, ◌↔◌, ◌≤◌, IsTrue, Err, IfOk};
 ghost use Rattle.harmonics_book.specs.Books.{IsBook};
 ghost use Rattle.book_loading.specs.Loading.{loaded, source_of};
-ghost use Rattle.book_loading.specs.Workings.Feeding.{bytes_fed};
 ghost use Rattle.decimal_text.specs.Expected.{Meets, is_outside_fault};
-ghost use Rattle.tide_edge.specs.Whole.{HasPassed, OpenedOnce, ReadWithin, one_file, whole, source_of as source_of_reading};
-ghost use Rattle.tide_edge.specs.Workings.Reading.{HasCome, IsFresh, IsPassed, IsReadOn};
+ghost use Rattle.tide_edge.specs.Whole.{HasPassed, OpenedOnce, ReadWithin, one_file};
 ghost use Rattle.decimal_text.specs.declared.limits.TheConstants.{MOST_BYTES};
 
 use decimal_text::Text;
 use harmonics_book::Book;
 use harmonics_text::{BookFault, BookReader};
 use std::alloc::{AllocError, Global};
-use tide_edge::{Files, PIECE, ReadAllFault};
+use tide_edge::{Files, ReadAllFault, Receiver, pass_file};
 
 /// The reason why a file wasn't loaded.
 #[derive(Clone, Copy, Debug, PartialEq, Eq)]
@@ -57,70 +55,32 @@ pub fn load_book<F: Files>(
     ensures too_long { (result ≡ Err LoadFault.TooLong) ↔ HasPassed limit (F.state files.old).openings (F.state files.new).openings }
     ensures read { ReadWithin (one_file limit) (is_outside_fault source_of result) (F.state files.old) (F.state files.new) }
 {
-    let mut room = vec![in alloc; 0; PIECE]?;
-    match files.open(name) {
-        Ok(()) => load_rest(alloc, files, &mut room, limit),
-        Err(_) => Err(LoadFault::Failed),
-    }
-}
-
-/// Loads the book of the rest of the open file.
-fn load_rest<F: Files>(
-    alloc: Global,
-    files: &mut F,
-    room: &mut [u8],
-    limit: u64,
-) -> Result<Book, LoadFault>
-    requires room { length room.old ≡ PIECE }
-    requires fresh { IsFresh (F.state files.old).openings }
-    requires most { limit ≤ MOST_BYTES }
-    ensures own { IsTrue (F.state files.old).store.is_observable
-        → Meets source_of (IsTrue (F.state files.old).store.is_steady) (loaded limit (Some (F.state files.old).rest)) result }
-    ensures came { HasCome source_of (loaded limit) limit (F.state files.old).openings (F.state files.new).openings result }
-    ensures valid { IfOk result IsBook }
-    ensures too_long { (result ≡ Err LoadFault.TooLong) ↔ IsPassed limit (F.state files.new).openings }
-    ensures read { IsReadOn limit (is_outside_fault source_of result) (F.state files.old) (F.state files.new) }
-{
-    let mut reader = BookReader::new(alloc)?;
-    let fed = feed_rest(files, room, &mut reader, limit);
+    let mut feeder = Feeder {
+        reader: BookReader::new(alloc)?,
+    };
+    let passed = pass_file(alloc, files, name, limit, &mut feeder);
+    let Feeder { reader } = feeder;
     let book = reader.finish();
     // A failure of reading takes precedence over a bad line.
-    fed?;
+    passed?;
     Ok(book?)
 }
 
-/// Feeds the rest of the open file to `reader`, in pieces of at most the length of `room`, if at most
-/// `limit` bytes are left. A fault that the reader finds is returned when it finishes.
-fn feed_rest<F: Files>(
-    files: &mut F,
-    room: &mut [u8],
-    reader: &mut BookReader,
-    limit: u64,
-) -> Result<(), ReadAllFault>
-    requires room { length room.old ≡ PIECE }
-    requires fresh { IsFresh (F.state files.old).openings }
-    requires unfed { reader.old.bytes ≡ [] }
-    requires most { limit ≤ MOST_BYTES }
-    ensures whole { IsTrue (F.state files.old).store.is_observable
-        → Meets source_of_reading (IsTrue (F.state files.old).store.is_steady)
-        (whole limit (Some (F.state files.old).rest)) (bytes_fed reader.new result) }
-    ensures came { HasCome source_of_reading (whole limit) limit (F.state files.old).openings
-        (F.state files.new).openings (bytes_fed reader.new result) }
-    ensures within { OnOk result (length reader.new.bytes ≤ limit) }
-    ensures too_long { (result ≡ Err ReadAllFault.TooLong) ↔ IsPassed limit (F.state files.new).openings }
-    ensures read { IsReadOn limit (is_outside_fault source_of_reading result) (F.state files.old) (F.state files.new) }
-{
-    let mut fed = 0;
-    loop {
-        let count = files.read(room)?;
-        if count == 0 {
-            return Ok(());
-        }
-        if count as u64 > limit - fed {
-            return Err(ReadAllFault::TooLong);
-        }
-        let _ = reader.feed(&room[..count]);
-        fed += count as u64;
+/// Feeds the bytes of a file to a reader, which returns its first fault when it finishes.
+struct Feeder {
+    reader: BookReader,
+}
+
+impl Receiver for Feeder {
+    ghost use Rattle.decimal_text.specs.declared.limits.TheConstants.{MOST_BYTES};
+
+    ghost taken = { λ feeder. feeder.reader.bytes };
+
+    ghost most = { λ feeder. MOST_BYTES };
+
+    fn take(&mut self, piece: &[u8]) -> Result<(), AllocError> {
+        let _ = self.reader.feed(piece);
+        Ok(())
     }
 }
 

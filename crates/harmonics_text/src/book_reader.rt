@@ -8,8 +8,8 @@ ghost use Rattle.harmonics_text.specs.Pieces.{ReturnsFault, fault_so_far, pendin
 ghost use Rattle.decimal_text.specs.declared.limits.TheConstants.{MOST_BYTES};
 
 use crate::fault::BookFault;
-use crate::history::History;
 use crate::progress::Progress;
+use ghost_log::Log;
 use harmonics_book::Book;
 use std::alloc::{AllocError, Global};
 use std::marker::Model;
@@ -26,7 +26,7 @@ pub struct BookReader {
     progress: Progress,
     /// The fault that was returned, if any.
     fault: Option<BookFault>,
-    history: History,
+    history: Log<u8>,
 }
 
 impl Model for BookReader {
@@ -35,9 +35,9 @@ impl Model for BookReader {
 
     ghost Value = { Fed };
 
-    ghost view = { λ r. record { bytes = r.history.bytes; fault = r.fault } };
+    ghost view = { λ r. record { bytes = r.history.items; fault = r.fault } };
 
-    ghost invariant = { λ r. IsReader (reached r.progress r.fault) r.history.bytes };
+    ghost invariant = { λ r. IsReader (reached r.progress r.fault) r.history.items };
 }
 
 impl BookReader {
@@ -53,7 +53,7 @@ impl BookReader {
             alloc,
             progress,
             fault: None,
-            history: History::new(),
+            history: Log::new(),
         })
     }
 

@@ -11,7 +11,6 @@ mod book_reader;
 mod column;
 mod fault;
 mod heading;
-mod history;
 mod laws;
 mod lines;
 mod local_time;

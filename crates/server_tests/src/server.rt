@@ -2,7 +2,6 @@
 
 mod coming;
 mod hours;
-mod minute_transcript;
 mod replies;
 mod serving;
 mod serving_texts;

@@ -1,5 +1,5 @@
 -- The end of a run that reports a fault.
-use Rattle.std.proofs.Common.{◌≡◌, ◌⊎◌, Bool, true, false, cond, if◌then◌else◌, [], Result, Ok, inl, inr, refl, sym, ◌∙◌}
+use Rattle.std.proofs.Common.{◌≡◌, ◌⊎◌, Bool, true, false, cond, if◌then◌else◌, [], Result, Ok, Err, inl, inr, refl, sym, ◌∙◌}
 use Rattle.decimal_text.specs.Expected.{Excused}
 use Rattle.question.specs.declared.fault.AskFault.TheVariants as ask
 use Rattle.harmonics_text.specs.declared.fault.BookFault.TheVariants as form
@@ -7,16 +7,16 @@ use Rattle.station_table.specs.declared.fault.OffsetFault.TheVariants as table
 use Rattle.tide_fault.specs.declared.fault.Fault.TheVariants.{Ask, NoSheet, TooLong, Book, Offsets, BadZone, Refused}
 use Rattle.tide_fault.specs.declared.refusal.Refusal.TheVariants as refusals
 use Rattle.tide_fault.specs.declared.status.Status.{Status}
-use Rattle.tide_fault.specs.declared.status.Status.TheVariants.{Done, Rejected, ReadFault}
+use Rattle.tide_fault.specs.declared.status.Status.TheVariants.{Done, Rejected, ReadFault, WriteFault}
 use Rattle.tide_answer.specs.declared.text.Answer.{Answer}
 use Rattle.tide_fault.specs.Faults.{is_out_of_memory as fault_is_out_of_memory, refusal_is_out_of_memory, line_of as line_of_fault, ask_line, form_line, table_line, refusal_line as line_of_refusal}
 use Rattle.decimal_text.specs.Expected.{Excuses, memory, given}
-use Rattle.tide_edge.specs.SinkStates.{Wrote, put}
+use Rattle.tide_edge.specs.SinkStates.{SinkState, Wrote, put}
 use Rattle.named_files.specs.declared.no_answer.NoAnswer.{NoAnswer}
 use Rattle.named_files.specs.declared.no_answer.NoAnswer.TheVariants.{Unread, Faulty}
 use Rattle.named_files.specs.declared.no_answer.NoAnswer.TheVariants as none_of
 use Rattle.named_files.specs.NoAnswers.{status_of, line_of, source_of, is_out_of_memory}
-use Rattle.tide_desk.specs.Outcomes.{Says, EndsAs, Outputs, is_write_fault, output_with, line_with}
+use Rattle.tide_desk.specs.Outcomes.{Says, EndsAs, IsSilent, IsUntouched, Outputs, is_write_fault, output_with, line_with}
 use Rattle.named_files.specs.Reporting.{Reports}
 
 -- the status of a fault fits the expected answer, its line belongs to it, and nothing is written
@@ -97,3 +97,31 @@ ends_whole expected answer true status before after is judged ends wrote quiet =
     rw (is, ends) (record { says = sym judged; output = wrote; failed = false; line = quiet })
 ends_whole expected answer false status before after is judged ends wrote quiet =
     rw (is, ends) (record { says = sym judged; output = wrote; failed = false; line = quiet })
+
+-- ---- The outputs that are unchanged
+
+-- an output to which nothing was written
+pub untouched : {A : Type 0} (status : Status) (output : A) → IsUntouched status output output
+untouched Done output = tt
+untouched Rejected output = tt
+untouched WriteFault output = tt
+untouched _ output = refl
+
+excuses_itself : (is : Bool) (none : NoAnswer) → Excused {T = Answer} is (Err none) none
+excuses_itself true none = tt
+excuses_itself false none = refl
+
+refused_silent : {A : Type 0} (none : NoAnswer) (status : Status) (before after : A) → Says (Err none) status → IsSilent status before after
+refused_silent none Done before after says = absurd says
+refused_silent none Rejected before after says = absurd says
+refused_silent none _ before after says = tt
+
+-- the status of a reason isn't that of an answer
+pub reported_silent : {A : Type 0} (none : NoAnswer) (status : Status) (unprinted printed : SinkState) (before after : A)
+    → Reports none status unprinted printed → IsSilent status before after
+reported_silent none status unprinted printed before after reported =
+    elim reported [
+      | inl t ↦ rw t.0 (refused_silent none (status_of none) before after
+          (fits (Err none) none (excuses_itself (is_out_of_memory none) none)).says)
+      | inr t ↦ rw t.0 tt
+    ]

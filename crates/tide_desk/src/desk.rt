@@ -1,12 +1,9 @@
 //! One run, from the arguments to the exit status.
 
-ghost use Rattle.std.specs.Prelude.{◌≡◌, ◌⊎◌, ℤ, Bool, false, Ok, IsTrue, if◌then◌else◌, map};
+ghost use Rattle.std.specs.Prelude.{◌≡◌, false, Ok, if◌then◌else◌, map};
 ghost use Rattle.named_files.specs.NoAnswers.{is_read_fault};
-ghost use Rattle.tide_desk.specs.Answers.{ReadsClock, HasFiles, NamesFile, allowed_by, answer_of, question_of_words};
-ghost use Rattle.tide_desk.specs.Outcomes.{EndsAs, IsFirm, IsSilent, IsUntouched, WentOn, is_settled, outputs, sources};
+ghost use Rattle.tide_desk.specs.Outcomes.{EndsAs, IsSilent, IsUntouched, outputs};
 ghost use Rattle.tide_desk.specs.Promises.{AnswersAs, objects, states};
-ghost use Rattle.tide_desk.specs.Shown.{EndsAsShown};
-ghost use Rattle.tide_edge.specs.Clocks.{clock_after, next_minute};
 ghost use Rattle.tide_fault.specs.declared.status.Status.{Status};
 
 use crate::answering::answer_words;
@@ -53,42 +50,6 @@ pub fn run<F: Files, O: Sink, E: Sink, K: Clock>(
 ) -> Status
     ensures { AnswersAs (states F.state O.state E.state K.state) (map meaning sheets.items) words.now result
         (objects files.old out.old err.old clock.old) (objects files.new out.new err.new clock.new) }
-{
-    write_answer(alloc, words, files, out, err, clock, sheets)
-}
-
-// Does the same as [`run`], with each promise as a clause of its own.
-fn write_answer<F: Files, O: Sink, E: Sink, K: Clock>(
-    alloc: Global,
-    words: &Words,
-    files: &mut F,
-    out: &mut O,
-    err: &mut E,
-    clock: &mut K,
-    sheets: Vec<Box<dyn Sheet>>,
-) -> Status
-    ensures own_files { let meanings = map meaning sheets.items in let asked = question_of_words meanings words.now in
-        IsTrue (F.state files.old).store.is_observable → (ReadsClock asked → IsTrue (K.state clock.old).is_observable)
-        → IsFirm (ReadsClock asked) (sources (F.state files.old) (K.state clock.old)) (sources (F.state files.new) (K.state clock.new))
-        ⊎ (¬ (result ≡ Status.ReadFault))
-        → EndsAs (answer_of meanings (F.state files.old).store.folder (next_minute (K.state clock.old)) words.now) result
-        (outputs (O.state out.old) (E.state err.old)) (outputs (O.state out.new) (E.state err.new)) }
-    ensures as_shown { EndsAsShown (map meaning sheets.items) words.now
-        (sources (F.state files.old) (K.state clock.old)) (sources (F.state files.new) (K.state clock.new)) result
-        (outputs (O.state out.old) (E.state err.old)) (outputs (O.state out.new) (E.state err.new)) }
-    ensures reads { let asked = question_of_words (map meaning sheets.items) words.now in
-        WentOn (is_read_fault result) (ReadsClock asked) (allowed_by asked)
-        (sources (F.state files.old) (K.state clock.old)) (sources (F.state files.new) (K.state clock.new)) }
-    ensures unwritten { IsUntouched result out.old out.new }
-    ensures unprinted { IsSilent result err.old err.new }
-    ensures unopened { ¬ (NamesFile (question_of_words (map meaning sheets.items) words.now)) → files.new ≡ files.old }
-    ensures clock_unread { ¬ (ReadsClock (question_of_words (map meaning sheets.items) words.now)) → clock.new ≡ clock.old }
-    ensures asked_last { IsTrue (F.state files.old).store.is_observable
-        → ¬ (HasFiles (λ slot. (F.state files.old).store.folder) (question_of_words (map meaning sheets.items) words.now))
-        → clock.new ≡ clock.old }
-    ensures clock_read_once { let asked = question_of_words (map meaning sheets.items) words.now in
-        IsTrue (F.state files.old).store.is_observable → ReadsClock asked → HasFiles (λ slot. (F.state files.old).store.folder) asked
-        → IsTrue (is_settled result) → (minute : ℤ) × (K.state clock.new ≡ clock_after (Ok minute) (K.state clock.old)) }
 {
     match answer_words(alloc, words, files, clock, sheets) {
         Ok(reply) => {

@@ -6,12 +6,12 @@ use Rattle.std.proofs.lemmas.List.{length-append, length-take-le}
 use Rattle.std.proofs.lemmas.Bool.{lt-leb, le-leb}
 use Rattle.tide_edge.specs.declared.failed.Failed.{Failed}
 use Rattle.tide_edge.specs.declared.read_all_fault.ReadAllFault.{ReadAllFault}
-use Rattle.tide_edge.specs.declared.read_all_fault.ReadAllFault.TheVariants.{TooLong, NoMemory}
+use Rattle.tide_edge.specs.declared.read_all_fault.ReadAllFault.TheVariants.{Failed as ReadFailed, TooLong, NoMemory}
 use Rattle.decimal_text.specs.Expected.{Source, Meets, memory}
 use Rattle.tide_edge.specs.Faults.{counted, faults_after}
 use Rattle.tide_edge.specs.FileStates.{FilesState, Opening, Openings, files_after_open, just_opened, openings_after_open, openings_after_read, openings_of}
-use Rattle.tide_edge.specs.Whole.{Allowance, HasPassed, OpenedOnce, ReadWithin, as_came, both, one_file, source_of, whole}
-use Rattle.tide_edge.specs.Workings.Reading.{HasCome, IsFresh, IsPassed, IsReadOn}
+use Rattle.tide_edge.specs.Whole.{Allowance, HasPassed, IsOutOfMemory, OpenedOnce, ReadWithin, as_came, both, one_file, source_of, whole}
+use Rattle.tide_edge.specs.Workings.Reading.{HasCome, IsPassed, IsReadOn, all_taken}
 
 counted_most_by : (last : Bool) (count : ℕ) → (count == 2 ^ 64 - 1) ≡ last → counted count ≤ count + 1
 counted_most_by true count is = rw is (omega arith)
@@ -115,10 +115,16 @@ came_on source expected limit count room name bytes initial now after result fre
     (name, bytes ++ take count room, (count == 0) || false, fresh, next ∙ ap (openings_after_read count room) so_far, meets)
 
 -- out of memory implies nothing for the file
-pub memory_met : (expected : Result (List ℕ) ReadAllFault) (result : Result (List ℕ) ReadAllFault)
-    → IsErrAnd result (λ fault. fault ≡ NoMemory) → Meets source_of (Unit {0}) expected result
-memory_met expected (Err fault) is = rw is tt
-memory_met expected (Ok bytes) is = absurd is
+pub memory_taken : (expected : Result (List ℕ) ReadAllFault) (bytes : List ℕ) (result : Result (Unit {0}) ReadAllFault)
+    → IsErrAnd result (λ fault. fault ≡ NoMemory) → Meets source_of (Unit {0}) expected (all_taken bytes result)
+memory_taken expected bytes (Err fault) is = rw is tt
+memory_taken expected bytes (Ok done) is = absurd is
+
+-- the result if a read fails
+pub failed_taken : (limit : ℕ) (bytes : List ℕ) (file : Option (List ℕ)) (result : Result (Unit {0}) ReadAllFault) → file ≡ None
+    → IsErrAnd result (λ it. it ≡ ReadFailed) → Meets source_of (Unit {0}) (whole limit file) (all_taken bytes result)
+failed_taken limit bytes file (Err it) none is = rw (is, none) (λ firm. refl)
+failed_taken limit bytes file (Ok done) none is = absurd is
 
 -- a file was opened, and then read on
 pub opened_once : {T E : Type 0} (source : E → Source) (expected : Option (List ℕ) → Result T E) (limit : ℕ) (name : List ℕ)
@@ -137,39 +143,18 @@ pub unopened_once : {T E : Type 0} (source : E → Source) (expected : Option (L
     → Meets source (Unit {0}) (expected None) result → OpenedOnce source expected limit name before after result
 unopened_once source expected limit name before after result opened meets = inr (just_opened false name, refl, opened, meets)
 
--- out of memory before a file was opened
-pub unasked_once : {T E : Type 0} (source : E → Source) (expected : Option (List ℕ) → Result T E) (limit : ℕ) (name : List ℕ)
-    (before : Openings) (fault : E) (result : Result T E) → IsErrAnd result (λ it. it ≡ fault) → source fault ≡ memory
-    → OpenedOnce source expected limit name before before result
-unasked_once source expected limit name before fault (Err it) is of_memory = inl (refl, rw is of_memory)
-unasked_once source expected limit name before fault (Ok value) is of_memory = absurd is
-
--- the result expected for the bytes read is the result expected for the contents
-pub come_as : {T E S F : Type 0} (source : E → Source) (expected : Option (List ℕ) → Result T E) (also : F → Source)
-    (expected_also : Option (List ℕ) → Result S F) (limit : ℕ) (before after : Openings) (result : Result T E) (other : Result S F)
+-- another result over the same opening
+pub once_as : {T E S F : Type 0} (source : E → Source) (expected : Option (List ℕ) → Result T E) (also : F → Source)
+    (expected_also : Option (List ℕ) → Result S F) (limit : ℕ) (name : List ℕ) (before after : Openings) (result : Result T E)
+    (other : Result S F)
     → ((file : Option (List ℕ)) → Meets source (Unit {0}) (expected file) result → Meets also (Unit {0}) (expected_also file) other)
-    → HasCome source expected limit before after result → HasCome also expected_also limit before after other
-come_as source expected also expected_also limit before after result other says (name, bytes, is_ended, fresh, come, meets) = (
-  name,
-  bytes,
-  is_ended,
-  fresh,
-  come,
-  says (as_came limit (record { name = name; is_open = true; bytes = bytes; is_ended = is_ended })) meets,
-)
-
--- out of memory implies nothing for the expected result
-pub memory_meets : {T E : Type 0} (source : E → Source) (expected result : Result T E) (fault : E) → IsErrAnd result (λ it. it ≡ fault)
-    → source fault ≡ memory → Meets source (Unit {0}) expected result
-memory_meets source expected (Err it) fault is of_memory = rw (is, of_memory) tt
-memory_meets source expected (Ok value) fault is of_memory = absurd is
-
--- out of memory before any byte of the open file was read
-pub unread_come : {T E : Type 0} (source : E → Source) (expected : Option (List ℕ) → Result T E) (limit : ℕ) (before : Openings) (fault : E)
-    (result : Result T E) → IsFresh before → IsErrAnd result (λ it. it ≡ fault) → source fault ≡ memory
-    → HasCome source expected limit before before result
-unread_come source expected limit before fault result (name, fresh) is of_memory =
-    (name, [], false, fresh, ap (λ latest. record before { latest = latest }) fresh, memory_meets source _ result fault is of_memory)
+    → (IsOutOfMemory source result → IsOutOfMemory also other)
+    → OpenedOnce source expected limit name before after result → OpenedOnce also expected_also limit name before after other
+once_as source expected also expected_also limit name before after result other says also_memory once =
+    elim once [
+      | inl none ↦ inl (none.0, also_memory none.1)
+      | inr one ↦ inr (one.0, one.1, one.2, says (as_came limit one.0) one.3)
+    ]
 
 -- at most the limit was read, and then a read failed
 pub cut_came : (limit : ℕ) (name bytes : List ℕ) → length bytes ≤ limit

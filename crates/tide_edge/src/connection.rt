@@ -3,17 +3,17 @@
 ghost use Rattle.std.specs.Prelude.{◌≡◌, ◌≤◌, ◌==◌, length, Ok, Err};
 ghost use Rattle.tide_edge.specs.declared.failed.Failed.{Failed};
 
-use crate::byte_transcript::ByteTranscript;
 use crate::failed::Failed;
+use ghost_log::Log;
 use std::marker::Model;
 
 /// One connection: the bytes that came, and whether their end was found; the bytes of its reply that were
 /// accepted; and whether a read or a write of it has failed.
 #[derive(Drop)]
 pub(crate) struct OneConnection {
-    came: ByteTranscript,
+    came: Log<u8>,
     is_ended: bool,
-    sent: ByteTranscript,
+    sent: Log<u8>,
     read_failed: bool,
     write_failed: bool,
 }
@@ -24,9 +24,9 @@ impl Model for OneConnection {
     ghost Value = { Connection };
 
     ghost view = { λ c. record {
-      came = c.came.bytes;
+      came = c.came.items;
       is_ended = c.is_ended;
-      sent = c.sent.bytes;
+      sent = c.sent.items;
       read_failed = c.read_failed;
       write_failed = c.write_failed;
     } };
@@ -41,9 +41,9 @@ impl OneConnection {
         ensures { result ≡ just_taken }
     {
         OneConnection {
-            came: ByteTranscript::new(),
+            came: Log::new(),
             is_ended: false,
-            sent: ByteTranscript::new(),
+            sent: Log::new(),
             read_failed: false,
             write_failed: false,
         }

@@ -6,14 +6,15 @@ ghost use Rattle.tide_edge.specs.Clocks.{IsClockMinute};
 use crate::calls::Calls;
 use crate::clock::Clock;
 use crate::failed::Failed;
-use crate::minute_transcript::MinuteTranscript;
+use ghost_log::Log;
 use std::marker::Model;
+use std::slice;
 
 /// A clock that always shows the same minute, which is observable.
 #[derive(Drop)]
 pub struct FixedClock {
     minute: i64,
-    given: MinuteTranscript,
+    given: Log<i64>,
     calls: Calls,
 }
 
@@ -23,7 +24,7 @@ impl Model for FixedClock {
 
     ghost Value = { HeldClock };
 
-    ghost view = { λ c. record { minute = c.minute; given = c.given.minutes; calls = c.calls } };
+    ghost view = { λ c. record { minute = c.minute; given = c.given.items; calls = c.calls } };
 
     ghost invariant = { λ c. IsClockMinute c.minute };
 }
@@ -41,7 +42,7 @@ impl FixedClock {
     {
         FixedClock {
             minute,
-            given: MinuteTranscript::new(),
+            given: Log::new(),
             calls: Calls::new(fails),
         }
     }
@@ -59,7 +60,7 @@ impl Clock for FixedClock {
         ensures in_range { IfOk result IsClockMinute }
     {
         self.calls.next()?;
-        self.given = self.given.then(&self.minute);
+        self.given = self.given.then(slice::from_ref(&self.minute));
         Ok(self.minute)
     }
 }

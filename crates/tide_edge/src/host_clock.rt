@@ -8,9 +8,9 @@ use crate::clock::Clock;
 use crate::count::one_more;
 use crate::failed::Failed;
 use crate::host_fault::count_fault;
-use crate::minute_transcript::MinuteTranscript;
-use std::rt;
+use ghost_log::Log;
 use std::time::{SystemTime, UNIX_EPOCH};
+use std::{rt, slice};
 
 const LAST_MINUTE: u64 = 10_000_000_000;
 
@@ -21,7 +21,7 @@ const LAST_MINUTE: u64 = 10_000_000_000;
 #[derive(Drop)]
 pub struct HostClock<R: rt::Clock + Drop> {
     system: R,
-    given: MinuteTranscript,
+    given: Log<i64>,
     faults: u64,
     asked: u64,
 }
@@ -35,7 +35,7 @@ impl<R: rt::Clock + Drop> HostClock<R> {
     {
         HostClock {
             system,
-            given: MinuteTranscript::new(),
+            given: Log::new(),
             faults: 0,
             asked: 0,
         }
@@ -44,14 +44,14 @@ impl<R: rt::Clock + Drop> HostClock<R> {
 
 impl<R: rt::Clock + Drop> Clock for HostClock<R> {
     ghost state = { λ h.
-        record { is_observable = false; minute_at = λ reading. pos 0; given = h.given.minutes; asked = h.asked; faults = h.faults } };
+        record { is_observable = false; minute_at = λ reading. pos 0; given = h.given.items; asked = h.asked; faults = h.faults } };
 
     fn minute(&mut self) -> Result<i64, Failed> {
         self.asked = one_more(self.asked);
         if let Ok(now) = SystemTime::now(&self.system)
             && let Some(minute) = minute_at(now)
         {
-            self.given = self.given.then(&minute);
+            self.given = self.given.then(slice::from_ref(&minute));
             return Ok(minute);
         }
         Err(count_fault(&mut self.faults))

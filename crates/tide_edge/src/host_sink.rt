@@ -3,11 +3,11 @@
 ghost use Rattle.std.specs.Prelude.{◌≡◌, ◌<◌, ◌≤◌, [], length, IfOk};
 ghost use Rattle.tide_edge.specs.SinkStates.{sink_after_write};
 
-use crate::byte_transcript::ByteTranscript;
 use crate::failed::Failed;
 use crate::host_fault::count_fault;
 use crate::sink::Sink;
 use crate::write_through::write_through;
+use ghost_log::Log;
 use std::io::Write;
 
 /// A sink over a writer of the machine, such as standard output or standard error.
@@ -16,7 +16,7 @@ use std::io::Write;
 #[derive(Drop)]
 pub struct HostSink<W: Write + Drop> {
     writer: W,
-    accepted: ByteTranscript,
+    accepted: Log<u8>,
     faults: u64,
 }
 
@@ -30,7 +30,7 @@ impl<W: Write + Drop> HostSink<W> {
     {
         HostSink {
             writer,
-            accepted: ByteTranscript::new(),
+            accepted: Log::new(),
             faults: 0,
         }
     }
@@ -39,7 +39,7 @@ impl<W: Write + Drop> HostSink<W> {
 impl<W: Write + Drop> Sink for HostSink<W> {
     ghost use Rattle.tide_edge.specs.Adapters.{writer_of, WritesThrough};
 
-    ghost state = { λ h. record { taken = h.accepted.bytes; faults = h.faults } };
+    ghost state = { λ h. record { taken = h.accepted.items; faults = h.faults } };
 
     fn write(&mut self, piece: &[u8]) -> Result<usize, Failed>
         requires { 0 < length piece.now }

@@ -2,19 +2,17 @@
 //! through.
 //!
 //! Each is a trait with an observable implementation in memory and one over the machine, whose results
-//! are tied by contracts to the bytes of the system below it. [`read_all`] reads a whole file, and
-//! [`write_all`] writes all of its bytes, over any implementation.
+//! are tied by contracts to the bytes of the system below it. [`pass_file`] passes the bytes of a file to a
+//! [`Receiver`] as they are read, [`read_all`] reads a whole file, and [`write_all`] writes all of its
+//! bytes, over any implementation.
 #![tactic(auto)]
 
-mod byte_transcript;
 mod calls;
 mod clock;
 mod connection;
 mod count;
 mod door;
 mod doorway;
-mod earlier_connections;
-mod earlier_openings;
 mod failed;
 mod files;
 mod fixed_clock;
@@ -28,7 +26,6 @@ mod laws;
 mod memory_door;
 mod memory_files;
 mod memory_sink;
-mod minute_transcript;
 mod named_file;
 mod open_line;
 mod opening;
@@ -40,6 +37,7 @@ mod read_all_fault;
 mod read_through;
 mod reading;
 mod reads;
+mod receiver;
 mod replies;
 mod rest;
 mod rows;
@@ -66,7 +64,8 @@ pub use memory_sink::MemorySink;
 pub use named_file::NamedFile;
 pub use piece::PIECE;
 pub use read_all_fault::ReadAllFault;
-pub use reading::read_all;
+pub use reading::{pass_file, read_all};
+pub use receiver::Receiver;
 pub use rows::worked_rows;
 pub use sink::Sink;
 pub use writing::{WriteFailed, write_all};

@@ -2,17 +2,17 @@
 
 ghost use Rattle.std.specs.Prelude.{◌≡◌, ◌≤◌, ◌==◌, length};
 
-use crate::byte_transcript::ByteTranscript;
 use decimal_text::Text;
+use ghost_log::Log;
 use std::marker::Model;
 
 /// One call of `open`: the name, whether a file was opened, the bytes read of it, and whether its end was
 /// found.
 #[derive(Drop)]
 pub(crate) struct OneOpening {
-    name: ByteTranscript,
+    name: Log<u8>,
     is_open: bool,
-    bytes: ByteTranscript,
+    bytes: Log<u8>,
     is_ended: bool,
 }
 
@@ -22,9 +22,9 @@ impl Model for OneOpening {
     ghost Value = { Opening };
 
     ghost view = { λ o. record {
-      name = o.name.bytes;
+      name = o.name.items;
       is_open = o.is_open;
-      bytes = o.bytes.bytes;
+      bytes = o.bytes.items;
       is_ended = o.is_ended;
     } };
 }
@@ -37,9 +37,9 @@ impl OneOpening {
         ensures { result ≡ just_opened is_open name.now }
     {
         OneOpening {
-            name: ByteTranscript::new().then(name.as_str().as_bytes()),
+            name: Log::new().then(name.as_str().as_bytes()),
             is_open,
-            bytes: ByteTranscript::new(),
+            bytes: Log::new(),
             is_ended: false,
         }
     }

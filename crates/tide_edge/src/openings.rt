@@ -2,16 +2,17 @@
 
 ghost use Rattle.std.specs.Prelude.{◌≡◌, ◌≤◌, length};
 
-use crate::earlier_openings::EarlierOpenings;
 use crate::opening::OneOpening;
 use decimal_text::Text;
+use ghost_log::Log;
 use std::marker::Model;
+use std::slice;
 
 /// All openings of files, with the bytes read after each. The bytes, names and lists are ghosts: none is
 /// kept at run time.
 #[derive(Drop)]
 pub(crate) struct Openings {
-    earlier: EarlierOpenings,
+    earlier: Log<OneOpening>,
     latest: Option<OneOpening>,
 }
 
@@ -20,7 +21,7 @@ impl Model for Openings {
 
     ghost Value = { spec.Openings };
 
-    ghost view = { λ o. record { earlier = o.earlier.openings; latest = o.latest } };
+    ghost view = { λ o. record { earlier = o.earlier.items; latest = o.latest } };
 }
 
 impl Openings {
@@ -31,7 +32,7 @@ impl Openings {
         ensures { result ≡ no_openings }
     {
         Openings {
-            earlier: EarlierOpenings::new(),
+            earlier: Log::new(),
             latest: None,
         }
     }
@@ -41,7 +42,7 @@ impl Openings {
         ensures { self.new ≡ openings_after_open is_open name.now self.old }
     {
         if let Some(latest) = &self.latest {
-            self.earlier = self.earlier.then(latest);
+            self.earlier = self.earlier.then(slice::from_ref(latest));
         }
         self.latest = Some(OneOpening::new(name, is_open));
     }

@@ -4,15 +4,16 @@ ghost use Rattle.std.specs.Prelude.{◌≡◌, ◌≤◌, length, IfOk, Ok, true
 ghost use Rattle.tide_edge.specs.declared.failed.Failed.{Failed};
 
 use crate::connection::OneConnection;
-use crate::earlier_connections::EarlierConnections;
 use crate::failed::Failed;
+use ghost_log::Log;
 use std::marker::Model;
+use std::slice;
 
 /// All connections, with the bytes read and written over each. The bytes and lists are ghosts: none is
 /// kept at run time.
 #[derive(Drop)]
 pub(crate) struct Connections {
-    earlier: EarlierConnections,
+    earlier: Log<OneConnection>,
     latest: Option<OneConnection>,
 }
 
@@ -21,7 +22,7 @@ impl Model for Connections {
 
     ghost Value = { spec.Connections };
 
-    ghost view = { λ c. record { earlier = c.earlier.connections; latest = c.latest } };
+    ghost view = { λ c. record { earlier = c.earlier.items; latest = c.latest } };
 }
 
 impl Connections {
@@ -38,7 +39,7 @@ impl Connections {
         ensures { result ≡ no_connections }
     {
         Connections {
-            earlier: EarlierConnections::new(),
+            earlier: Log::new(),
             latest: None,
         }
     }
@@ -48,7 +49,7 @@ impl Connections {
         ensures { self.new ≡ connections_after_next (Ok true) self.old }
     {
         if let Some(latest) = &self.latest {
-            self.earlier = self.earlier.then(latest);
+            self.earlier = self.earlier.then(slice::from_ref(latest));
         }
         self.latest = Some(OneConnection::new());
     }

@@ -1,15 +1,16 @@
 //! Reading a whole file.
 
-ghost use Rattle.std.specs.Prelude.{◌≡◌, ◌↔◌, ◌≤◌, IsTrue, length, Some, Err, IfOk};
+ghost use Rattle.std.specs.Prelude.{◌≡◌, ◌↔◌, ◌≤◌, ◌^◌, IsTrue, [], length, Some, Err, IfOk, OnOk};
 ghost use Rattle.decimal_text.specs.Expected.{Meets, is_outside_fault};
 ghost use Rattle.tide_edge.specs.Whole.{HasPassed, OpenedOnce, ReadWithin, one_file, source_of, whole};
-ghost use Rattle.tide_edge.specs.Workings.Reading.{HasCome, IsFresh, IsPassed, IsReadOn};
+ghost use Rattle.tide_edge.specs.Workings.Reading.{HasCome, IsFresh, IsPassed, IsReadOn, all_taken};
 
 use crate::files::Files;
 use crate::piece::PIECE;
 use crate::read_all_fault::ReadAllFault;
+use crate::receiver::Receiver;
 use decimal_text::{Bytes, Text};
-use std::alloc::Global;
+use std::alloc::{AllocError, Global};
 
 /// Returns all bytes of the file `name`, if there are at most `limit`. The file is opened at most once,
 /// its end is found at most once, and at most 65,536 bytes past `limit` are read of it, whatever the
@@ -33,39 +34,92 @@ pub fn read_all<F: Files>(
     ensures too_long { (result ≡ Err ReadAllFault.TooLong) ↔ HasPassed limit (F.state files.old).openings (F.state files.new).openings }
     ensures read { ReadWithin (one_file limit) (is_outside_fault source_of result) (F.state files.old) (F.state files.new) }
 {
+    let mut kept = Kept {
+        bytes: Vec::new(alloc),
+    };
+    match pass_file(alloc, files, name, limit, &mut kept) {
+        Ok(()) => Ok(Bytes::from_vec(kept.bytes)),
+        Err(fault) => Err(fault),
+    }
+}
+
+/// Passes all bytes of the file `name` to `receiver`, which has taken none, if there are at most `limit`.
+/// Of a longer file it takes at most `limit` bytes. The file is read as by [`read_all`].
+///
+/// # Errors
+/// As [`read_all`].
+pub fn pass_file<F: Files, R: Receiver>(
+    alloc: Global,
+    files: &mut F,
+    name: &Text,
+    limit: u64,
+    receiver: &mut R,
+) -> Result<(), ReadAllFault>
+    requires unused { R.taken receiver.old ≡ [] }
+    requires most { limit ≤ R.most receiver.old }
+    ensures whole { IsTrue (F.state files.old).store.is_observable
+        → Meets source_of (IsTrue (F.state files.old).store.is_steady)
+        (whole limit ((F.state files.old).store.folder name.now)) (all_taken (R.taken receiver.new) result) }
+    ensures came { OpenedOnce source_of (whole limit) limit name.now (F.state files.old).openings (F.state files.new).openings
+        (all_taken (R.taken receiver.new) result) }
+    ensures within { OnOk result (length (R.taken receiver.new) ≤ limit) }
+    ensures too_long { (result ≡ Err ReadAllFault.TooLong) ↔ HasPassed limit (F.state files.old).openings (F.state files.new).openings }
+    ensures read { ReadWithin (one_file limit) (is_outside_fault source_of result) (F.state files.old) (F.state files.new) }
+{
     let mut room = vec![in alloc; 0; PIECE]?;
     match files.open(name) {
-        Ok(()) => read_rest(alloc, files, &mut room, limit),
+        Ok(()) => pass_rest(files, &mut room, limit, receiver),
         Err(_) => Err(ReadAllFault::Failed),
     }
 }
 
-/// Reads the open file to its end, in pieces of at most the length of `room`, if at most `limit` bytes
-/// are left.
-fn read_rest<F: Files>(
-    alloc: Global,
+/// Passes the rest of the open file to `receiver`, in pieces of at most the length of `room`, if at most
+/// `limit` bytes are left.
+fn pass_rest<F: Files, R: Receiver>(
     files: &mut F,
     room: &mut [u8],
     limit: u64,
-) -> Result<Bytes, ReadAllFault>
+    receiver: &mut R,
+) -> Result<(), ReadAllFault>
     requires room { length room.old ≡ PIECE }
     requires fresh { IsFresh (F.state files.old).openings }
+    requires unused { R.taken receiver.old ≡ [] }
+    requires most { limit ≤ R.most receiver.old }
     ensures whole { IsTrue (F.state files.old).store.is_observable
-        → Meets source_of (IsTrue (F.state files.old).store.is_steady) (whole limit (Some (F.state files.old).rest)) result }
-    ensures came { HasCome source_of (whole limit) limit (F.state files.old).openings (F.state files.new).openings result }
-    ensures within { IfOk result (λ bytes. length bytes ≤ limit) }
+        → Meets source_of (IsTrue (F.state files.old).store.is_steady)
+        (whole limit (Some (F.state files.old).rest)) (all_taken (R.taken receiver.new) result) }
+    ensures came { HasCome source_of (whole limit) limit (F.state files.old).openings (F.state files.new).openings
+        (all_taken (R.taken receiver.new) result) }
+    ensures within { OnOk result (length (R.taken receiver.new) ≤ limit) }
     ensures too_long { (result ≡ Err ReadAllFault.TooLong) ↔ IsPassed limit (F.state files.new).openings }
     ensures read { IsReadOn limit (is_outside_fault source_of result) (F.state files.old) (F.state files.new) }
 {
-    let mut bytes = Vec::new(alloc);
+    let mut passed = 0;
     loop {
         let count = files.read(room)?;
         if count == 0 {
-            return Ok(Bytes::from_vec(bytes));
+            return Ok(());
         }
-        if count as u64 > limit - bytes.len() as u64 {
+        if count as u64 > limit - passed {
             return Err(ReadAllFault::TooLong);
         }
-        bytes.extend_from_slice(&room[..count])?;
+        receiver.take(&room[..count])?;
+        passed += count as u64;
+    }
+}
+
+/// The bytes of a file, which are kept.
+#[derive(Drop)]
+struct Kept {
+    bytes: Vec<u8>,
+}
+
+impl Receiver for Kept {
+    ghost taken = { λ kept. kept.bytes.items };
+
+    ghost most = { λ kept. 2 ^ 64 };
+
+    fn take(&mut self, piece: &[u8]) -> Result<(), AllocError> {
+        self.bytes.extend_from_slice(piece)
     }
 }

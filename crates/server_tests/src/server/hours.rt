@@ -1,11 +1,12 @@
 //! A server whose clock goes on, and one whose reply is long.
 
 use super::coming::Coming;
-use super::minute_transcript::MinuteTranscript;
 use super::serving::{ASKED, NONE, Outcome, assert_done, serve_by, serve_over};
 use crate::asserts::{assert_count, assert_holds};
+use ghost_log::Log;
 use std::alloc::Global;
 use std::process::Abort;
+use std::slice;
 use std::test::Fail;
 use tide_edge::{Clock, Failed};
 
@@ -16,7 +17,7 @@ const HOURS: u64 = 24;
 #[derive(Debug, Drop)]
 struct HourClock {
     asked: u64,
-    given: MinuteTranscript,
+    given: Log<i64>,
 }
 
 impl Clock for HourClock {
@@ -26,7 +27,7 @@ impl Clock for HourClock {
     ghost state = { λ c. record {
       is_observable = true;
       minute_at = (λ n. pos (15791160 + 60 * min n 24));
-      given = c.given.minutes;
+      given = c.given.items;
       asked = c.asked;
       faults = 0;
     } };
@@ -35,7 +36,7 @@ impl Clock for HourClock {
         self.asked = self.asked.saturating_add(1);
         let hours = self.asked.min(HOURS);
         let minute = 15_791_160 + 60 * hours as i64;
-        self.given = self.given.then(&minute);
+        self.given = self.given.then(slice::from_ref(&minute));
         Ok(minute)
     }
 }
@@ -66,7 +67,7 @@ fn each_request_is_answered_at_its_own_minute(rt: HostRuntime) -> Result<(), Fai
     let requests = [Coming::Whole(NOW), Coming::Whole(""), Coming::Whole(NOW)];
     let mut clock = HourClock {
         asked: 0,
-        given: MinuteTranscript::new(),
+        given: Log::new(),
     };
     let outcome = serve_by(alloc, ASKED, &requests, 4096, NONE, &mut clock)?;
     assert_done(&rt, &outcome, ASKED);

@@ -1,10 +1,16 @@
 -- Reading the open file to its end (this project).
-use Rattle.std.specs.Prelude.{◌≡◌, ◌<◌, ◌≤◌, ◌+◌, ℕ, Bool, true, List, length, Option, Some, Result}
+use Rattle.std.specs.Prelude.{◌≡◌, ◌<◌, ◌≤◌, ◌+◌, ℕ, Bool, true, List, length, Option, Some, Result, Ok, Err}
 use Rattle.decimal_text.specs.Expected.{Source, Meets}
 use Rattle.tide_edge.specs.Faults.{faults_after}
 use Rattle.tide_edge.specs.FileStates.{FilesState, Opening, Openings, just_opened}
 use Rattle.tide_edge.specs.Whole.{as_came}
 use Rattle.tide_edge.specs.declared.piece.TheConstants.{PIECE}
+use Rattle.tide_edge.specs.declared.read_all_fault.ReadAllFault.{ReadAllFault}
+
+-- all bytes that were taken, or the failure before their end
+abbrev pub all_taken : List ℕ → Result (Unit {0}) ReadAllFault → Result (List ℕ) ReadAllFault
+all_taken bytes (Ok done) = Ok bytes
+all_taken bytes (Err fault) = Err fault
 
 -- the open file was read on: at most one piece past the limit, its end found at most once, and no other
 -- file opened

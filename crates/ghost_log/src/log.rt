@@ -1,0 +1,40 @@
+//! A list that exists in proofs alone.
+
+ghost use Rattle.std.specs.Prelude.{◌≡◌, List, [], ◌++◌};
+ghost use Rattle.std.specs.Borrow.{ftrue};
+
+use std::fmt;
+use std::marker::{Model, PhantomData};
+
+/// A list that exists in proofs alone. A clause reads it as `items`.
+#[derive(Drop)]
+pub struct Log<T> {
+    of: PhantomData<T>,
+    pub ghost items: { List T },
+}
+
+impl<T> Model for Log<T> {
+    ghost also_owns = { λ _. ftrue };
+}
+
+impl<T> fmt::Debug for Log<T> {
+    fn fmt<W: fmt::Write>(&self, f: &mut fmt::Formatter<W>) -> fmt::Result {
+        f.pad("Log")
+    }
+}
+
+impl<T> Log<T> {
+    /// Returns the empty list.
+    pub fn new() -> Log<T>
+        ensures { result.items ≡ [] }
+    {
+        Log { of: PhantomData }
+    }
+
+    /// Returns this list followed by `_items`.
+    pub fn then(&self, _items: &[T]) -> Log<T>
+        ensures { result.items ≡ self.now.items ++ _items.now }
+    {
+        Log { of: PhantomData }
+    }
+}
