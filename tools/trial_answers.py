@@ -134,7 +134,7 @@ class AnswerTrial:
         """The file that a button of the page makes. The browser writes an empty one of its name first, and another beside it."""
         before = set(folder.iterdir())
         tab.value(f'[...document.querySelectorAll("#take li:nth-child({row}) button")].find(it => it.textContent === "{word}").click()')
-        end = time.monotonic() + 60
+        end = time.monotonic() + 180
         while time.monotonic() < end:
             new = set(folder.iterdir()) - before
             made = [path for path in new if path.suffix in ('.csv', '.ics', '.txt') and path.stat().st_size > 0]
