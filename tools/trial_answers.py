@@ -131,13 +131,14 @@ class AnswerTrial:
                 self.compare_files(view, span, *files)
 
     def file_of(self, tab, folder, row, word):
-        """The file that a button of the page makes."""
+        """The file that a button of the page makes. The browser writes an empty one of its name first, and another beside it."""
         before = set(folder.iterdir())
         tab.value(f'[...document.querySelectorAll("#take li:nth-child({row}) button")].find(it => it.textContent === "{word}").click()')
-        end = time.monotonic() + 60
+        end = time.monotonic() + 180
         while time.monotonic() < end:
-            made = [path for path in set(folder.iterdir()) - before if path.suffix in ('.csv', '.ics', '.txt')]
-            if made:
+            new = set(folder.iterdir()) - before
+            made = [path for path in new if path.suffix in ('.csv', '.ics', '.txt') and path.stat().st_size > 0]
+            if made and len(new) == 1:
                 return made[0].read_bytes()
             tab.value('1')
             time.sleep(0.1)

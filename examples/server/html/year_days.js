@@ -69,12 +69,24 @@ export function aboveText({ from, to, openFrom, openTo }, clockOf) {
   return `${openFrom ? '..' : shortTime(first)}–${openTo ? '..' : shortTime(last)}${days > 1 ? ` +${days}` : ''}`;
 }
 
+/** The points and the times of a year by their dates; a time is under the date on which it begins. */
+const datesOf = new WeakMap();
+
+function onDate(date, answer) {
+  if (!datesOf.has(answer)) {
+    const { points, times, clockOf } = answer, found = new Map();
+    const add = (name, key, item) => found.set(key, { ...found.get(key), [name]: [...found.get(key)?.[name] ?? [], item] });
+    points.forEach(point => add('points', point.clock.date, point));
+    times.forEach(time => add('times', clockOf(time.from).date, time));
+    datesOf.set(answer, found);
+  }
+  return { points: [], times: [], ...datesOf.get(answer).get(date) };
+}
+
 /** A day's lines and its times above the sill or within the limit, each under the date on which it begins. */
-export function dayOf(date, { points, times, clockOf }) {
-  return {
-    lines: linesOf(points.filter(({ clock }) => clock.date === date)),
-    above: times.filter(({ from }) => clockOf(from).date === date).map(time => aboveText(time, clockOf)),
-  };
+export function dayOf(date, answer) {
+  const { points, times } = onDate(date, answer);
+  return { lines: linesOf(points), above: times.map(time => aboveText(time, answer.clockOf)) };
 }
 
 /** The number of lines of a day; times above a sill or within a limit have a column beside the events. */
@@ -103,14 +115,13 @@ const chunks = (all, size) => Array.from({ length: Math.ceil(all.length / size) 
  * type of at least 8 points.
  */
 export function layoutOf(answer) {
-  const wide = columnsOn(answer);
-  const found = COLUMNS_OF_MONTH[wide].map(count => {
-    const months = MONTHS.map((_, place) => ({ month: place + 1, columns: columnsOf(answer.year, place + 1, count) }));
-    const sheets = count <= wide ? chunks(months, wide / count)
-      : months.flatMap(({ month, columns }) => chunks(columns, wide).map(some => [{ month, columns: some }]));
-    return { wide, divided: Math.min(count, wide), sheets, most: mostLines(answer, months.flatMap(({ columns }) => columns)) };
-  });
-  return found.find(({ most }) => most <= SIZES.at(-1)) ?? found.at(-1);
+  const wide = columnsOn(answer), counts = COLUMNS_OF_MONTH[wide];
+  const monthsIn = count => MONTHS.map((_, place) => ({ month: place + 1, columns: columnsOf(answer.year, place + 1, count) }));
+  const mostIn = count => mostLines(answer, monthsIn(count).flatMap(({ columns }) => columns));
+  const count = counts.find(number => mostIn(number) <= SIZES.at(-1)) ?? counts.at(-1);
+  const sheets = count <= wide ? chunks(monthsIn(count), wide / count)
+    : monthsIn(count).flatMap(({ month, columns }) => chunks(columns, wide).map(some => [{ month, columns: some }]));
+  return { wide, divided: Math.min(count, wide), sheets, most: mostIn(count) };
 }
 
 /** The class of year.css for a column of so many lines. */
