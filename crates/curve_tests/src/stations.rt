@@ -306,7 +306,8 @@ const LIMITS: &[(&str, &str, &str, Option<CurveFault>)] = &[
 
 // Returns true if both the curve of a file and that for the first minute of its years have this fault.
 fn has_fault(alloc: Global, file: &[u8], want: Option<CurveFault>) -> bool {
-    curve_of(alloc, file).err() == want && curve_over(alloc, file, 15_252_480, 15_252_480).err() == want
+    curve_of(alloc, file).err() == want
+        && curve_over(alloc, file, 15_252_480, 15_252_480).err() == want
 }
 
 fn is_limit(

@@ -76,7 +76,6 @@ fewer_minutes first last c a n = record {
   rates = λ k l inside some most. refl;
 }
 
-
 alike_if_asked : (s : Span) (asks : Bool) (c d : Meaning) → AgreeOver c d s.begin (span_minutes s)
     → AgreeIfFollowed s (if_asked asks c) (if_asked asks d)
 alike_if_asked s true c d agree = agree

@@ -49,7 +49,6 @@ between found asked minute has after before =
       inside = record { least = omega (arith, ints); most = omega (arith, ints) };
     }
 
-
 -- the span has levels, if the station was found for levels
 pub found_levels : (book : Book) (asked : Asked) (site : Site) (found : SiteTide) → IsFound Levels book asked site found
     → IsTrue (is_equal found.basis) → HasLevelsIn found asked

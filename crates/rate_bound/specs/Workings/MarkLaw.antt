@@ -63,7 +63,7 @@ rate_within : (version : Version) (c : Prediction) (times plus mark : ℤ) (slac
     → times *ℤ (pos total_weight *ℤ (book_sums c.book c.station year).near) ≡ rate
     → IsRate (mark_meaning version c times plus mark slack) a n rate
 rate_within version c times plus mark slack a n year rate valid scale span found is =
-    let near : near_of (waves_of c.book c.station year) ≤ 3 * 10 ^ 15 = 
+    let near : near_of (waves_of c.book c.station year) ≤ 3 * 10 ^ 15 =
     (sums_within_limits c.book c.station year valid.limits (within_below c.book a n year span found)).near in
     let t = times_of times plus mark scale in
     let most = total_weight * near_of (waves_of c.book c.station year) in

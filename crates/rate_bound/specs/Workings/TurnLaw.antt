@@ -38,7 +38,7 @@ rate_within : (version : Version) (c : Prediction) (a : ℤ) (n year : ℕ) (rat
     → IsFound c.book.first_year c.book.years a n (Within year)
     → pos total_weight *ℤ (book_sums c.book c.station year).far ≡ rate → IsRate (turn_meaning version c) a n rate
 rate_within version c a n year rate valid span found is = record {
-  small = plain_small (far_of (waves_of c.book c.station year)) rate is 
+  small = plain_small (far_of (waves_of c.book c.station year)) rate is
       (sums_within_limits c.book c.station year valid.limits (within_below c.book a n year span found)).far;
   steps = λ k below. step-within _ (total_weight * far_of (waves_of c.book c.station year)) rate is
       (plain_slope_gap c.book c.station (a +ℤ pos k) year (plain_step c.book a n year k span found below));

@@ -1,5 +1,5 @@
 use Rattle.std.proofs.lemmas.Int.{ints}
-use Rattle.std.proofs.Common.{refl, sym, ◌∙◌, ap, arith}
+use Rattle.std.proofs.Common.{◌≡◌, refl, sym, ◌∙◌, ap, arith}
 use Rattle.std.proofs.lemmas.Result.{err_from_is_err_and}
 use Rattle.station_curve.specs.Curves.{Prediction, prediction_of}
 use Rattle.station_span.proofs.FoundLemmas.{HasCurve, curve_allowed, curve_excused, excused_by, refused_span, refused_curve, refused_length, refused_mark, found_whole}
