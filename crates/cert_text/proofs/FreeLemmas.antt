@@ -53,21 +53,7 @@ free_digit n = free_byte (48 + n % 10) (omega arith)
 spelled_free : (a b c d e f : ℕ) → is_free (two_digits a ++ two_digits b ++ codes "-" ++ two_digits c ++ codes "-"
     ++ two_digits d ++ codes "T" ++ (two_digits e ++ codes ":" ++ two_digits f) ++ codes "Z") ≡ true
 unfolding two_digits
-spelled_free a b c d e f =
-    rw (
-      free_digit (a / 10),
-      free_digit a,
-      free_digit (b / 10),
-      free_digit b,
-      free_digit (c / 10),
-      free_digit c,
-      free_digit (d / 10),
-      free_digit d,
-      free_digit (e / 10),
-      free_digit e,
-      free_digit (f / 10),
-      free_digit f,
-    ) refl
+spelled_free a b c d e f = simp free_digit
 
 pub moment_free : (m : ℤ) → is_free (moment_text m) ≡ true
 unfolding moment_text date_text clock_text

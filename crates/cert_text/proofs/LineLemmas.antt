@@ -1,6 +1,6 @@
 -- The meaning that is read of a line is what the line spells, and no other line spells it.
-use Rattle.std.proofs.Common.{◌≡◌, ◌≢◌, ℕ, zero, suc, ◌<◌, ◌≤◌, Bool, true, false, cond, List, [], ◌∷◌, ◌++◌, codes, length, get_or, take, drop, Option, Some, None, ℤ, pos, negsuc, ◌⊎◌, inl, inr, refl, sym, ap, ◌∙◌, subst, take-append-drop, lit<, lit≤, arith}
-use Rattle.std.specs.Prelude.{unsigned_abs, decimal, nat_lt, nat_le, ◌&&◌, IfSome, option_and_then}
+use Rattle.std.proofs.Common.{◌≡◌, ◌≢◌, ℕ, zero, suc, ◌<◌, ◌≤◌, Bool, true, false, cond, List, [], ◌∷◌, ◌++◌, codes, length, get_or, take, drop, Option, Some, None, ℤ, pos, negsuc, inl, inr, refl, sym, ap, ◌∙◌, subst, take-append-drop, lit<, lit≤, arith}
+use Rattle.std.specs.Prelude.{unsigned_abs, decimal, nat_lt, nat_le, ◌&&◌, option_and_then}
 use Rattle.std.specs.Fmt.{signed_decimal}
 use Rattle.std.specs.List.{list_all}
 use Rattle.std.specs.Option.{option_or}
@@ -269,60 +269,15 @@ cell_is track line cell e =
           (λ turn. event_cell_is track (second_kind track) line cell (second_of track) turn))
     ] refl e
 
-event_cell_read : (kind : Kind) (level : ℤ) → IsLevel level
-    → event_cell_of kind (prefix_of kind ++ signed_decimal level) ≡ Some (cells.Turn kind level)
-unfolding event_cell_of
-event_cell_read kind level h = rw (after-append (prefix_of kind) (signed_decimal level), level_read level h) refl
-
--- the line of an event is neither quiet nor still, and the second kind of a track isn't its first
-not_before : (kind : Kind) (text : List ℕ)
-    → (bytes_eq (prefix_of kind ++ text) (codes "s") ≡ false) × (quiet_of (prefix_of kind ++ text) ≡ None)
-unfolding quiet_of after kind_word
-not_before High text = (refl, refl)
-not_before Low text = (refl, refl)
-not_before FloodBegins text = (refl, refl)
-not_before EbbBegins text = (refl, refl)
-not_before MarkRising text = (refl, refl)
-not_before MarkFalling text = (refl, refl)
-
-not_first : (track : TrackName) (text : List ℕ) → event_cell_of (first_kind track) (prefix_of (second_kind track) ++ text) ≡ None
-unfolding event_cell_of after kind_word
-not_first Turn text = refl
-not_first Slack text = refl
-not_first Mark text = refl
-
-first_chosen : (track : TrackName) (line : List ℕ) (cell : Cell) → bytes_eq line (codes "s") ≡ false
-    → quiet_of line ≡ None → event_cell_of (first_kind track) line ≡ Some cell → cell_of track line ≡ Some cell
-unfolding cell_of
-first_chosen track line cell still quiet turn = rw (still, quiet, turn) refl
-
-second_chosen : (track : TrackName) (line : List ℕ) (cell : Cell) → bytes_eq line (codes "s") ≡ false
-    → quiet_of line ≡ None → event_cell_of (first_kind track) line ≡ None
-    → event_cell_of (second_kind track) line ≡ Some cell → cell_of track line ≡ Some cell
-unfolding cell_of
-second_chosen track line cell still quiet first turn = rw (still, quiet, first, turn) refl
-
-first_read : (track : TrackName) (level : ℤ) → IsLevel level
-    → cell_of track (prefix_of (first_kind track) ++ signed_decimal level) ≡ Some (cells.Turn (first_kind track) level)
-first_read track level h =
-    let no = not_before (first_kind track) (signed_decimal level) in
-    first_chosen track _ _ no.0 no.1 (event_cell_read (first_kind track) level h)
-
-second_read : (track : TrackName) (level : ℤ) → IsLevel level
-    → cell_of track (prefix_of (second_kind track) ++ signed_decimal level)
-    ≡ Some (cells.Turn (second_kind track) level)
-second_read track level h =
-    let no = not_before (second_kind track) (signed_decimal level) in
-    second_chosen track _ _ no.0 no.1 (not_first track (signed_decimal level)) (event_cell_read (second_kind track) level h)
-
 event_read : (kind : Kind) (level : ℤ) → IsLevel level
     → cell_of (track_of kind) (prefix_of kind ++ signed_decimal level) ≡ Some (cells.Turn kind level)
-event_read High level h = first_read Turn level h
-event_read Low level h = second_read Turn level h
-event_read FloodBegins level h = first_read Slack level h
-event_read EbbBegins level h = second_read Slack level h
-event_read MarkRising level h = first_read Mark level h
-event_read MarkFalling level h = second_read Mark level h
+unfolding cell_of quiet_of event_cell_of after kind_word
+event_read High level h = rw (level_read level h) refl
+event_read Low level h = rw (level_read level h) refl
+event_read FloodBegins level h = rw (level_read level h) refl
+event_read EbbBegins level h = rw (level_read level h) refl
+event_read MarkRising level h = rw (level_read level h) refl
+event_read MarkFalling level h = rw (level_read level h) refl
 
 quiet_read : (n : ℕ) → 2 ≤ n → n ≤ 1024 → quiet_of (codes "q " ++ decimal n) ≡ Some (cells.Quiet n)
 unfolding quiet_of

@@ -1,6 +1,6 @@
 -- Parts of a grammar, and what is known of each: it returns what the lines spell, or stops at the first line
 -- with which nothing that is spelled goes on.
-use Rattle.std.proofs.Common.{◌≡◌, ℕ, suc, ◌+◌, ◌<◌, ◌≤◌, Bool, true, false, List, [], ◌∷◌, ◌++◌, length, take, append-nil, append_assoc, Option, Some, None, Result, Ok, Err, ◌⊎◌, inl, inr, refl, sym, ap, ◌∙◌, subst, arith}
+use Rattle.std.proofs.Common.{◌≡◌, ℕ, suc, ◌+◌, ◌<◌, ◌≤◌, true, false, List, [], ◌∷◌, ◌++◌, length, take, append-nil, append_assoc, Option, Some, None, Result, Ok, Err, ◌⊎◌, inl, inr, refl, sym, ap, ◌∙◌, subst, arith}
 use Rattle.std.specs.List.{AllZip}
 use Rattle.std.specs.Option.{option_map}
 use Rattle.std.specs.Str.{bytes_eq}
@@ -9,7 +9,7 @@ use Rattle.std.proofs.lemmas.Slice.Eq.{bytes_eq-Decides}
 use Rattle.cert_text.specs.declared.fault.CertFault.{CertFault}
 use Rattle.cert_text.specs.declared.fault.CertFault.TheVariants.{NotACertificate}
 use Rattle.cert_text.proofs.OptionLemmas.{option_map_some}
-use Rattle.cert_text.specs.ByLine.{Place, Part, handed, ◌>>=◌, returned, line_of, is_word, item_in, first_item, items_at, items_of, part_if, part_after, end_of_text}
+use Rattle.cert_text.specs.ByLine.{Place, Part, handed, ◌>>=◌, returned, line_of, is_word, item_in, first_item, items_at, items_of, part_after, end_of_text}
 
 abbrev pub Lines : Type 0
 Lines = List (List ℕ)

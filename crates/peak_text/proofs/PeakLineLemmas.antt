@@ -1,6 +1,6 @@
 -- The meaning that is read of a line of a highest water is what the line spells, no other line spells it,
 -- and none has an LF.
-use Rattle.std.proofs.Common.{◌≡◌, ℕ, ◌≤◌, true, false, cond, List, [], ◌∷◌, ◌++◌, codes, Some, None, ℤ, refl, sym, ◌∙◌, subst, lit<, lit≤, arith}
+use Rattle.std.proofs.Common.{◌≡◌, ℕ, ◌≤◌, true, false, cond, List, [], ◌∷◌, ◌++◌, codes, Some, None, ℤ, refl, sym, subst, lit<, lit≤, arith}
 use Rattle.std.specs.Prelude.{decimal, option_and_then}
 use Rattle.std.specs.Fmt.{signed_decimal}
 use Rattle.std.specs.List.{AllByRecursion}

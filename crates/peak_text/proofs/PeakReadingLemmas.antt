@@ -1,6 +1,6 @@
 -- Reading bytes returns the certificate of a highest water whose text they are, or the line of the first
 -- fault.
-use Rattle.std.proofs.Common.{◌≡◌, ℕ, ◌+◌, List, [], ◌∷◌, ◌++◌, codes, Some, Result, Ok, Err, ℤ, pos, refl, sym, ap, ◌∙◌, subst, lit<}
+use Rattle.std.proofs.Common.{◌≡◌, ℕ, ◌+◌, List, [], ◌∷◌, ◌++◌, codes, Result, Ok, Err, ℤ, pos, refl, sym, ap, ◌∙◌, subst, lit<}
 use Rattle.std.specs.Prelude.{IfOk, IsErrAnd}
 use Rattle.std.specs.Fmt.{signed_decimal}
 use Rattle.decimal_text.specs.Expected.{ReturnsUnless}
@@ -8,8 +8,7 @@ use Rattle.cert_text.specs.declared.fault.CertFault.{CertFault as ReadingFault}
 use Rattle.cert_text.specs.declared.fault.CertFault.TheVariants as reading
 use Rattle.cert_text.specs.Lines.{last_line}
 use Rattle.cert_text.specs.Texts.{joined, ReadsBy}
-use Rattle.cert_text.specs.ByLine.{Place, Part, ◌>>=◌, returned, line_of, is_word, items_at, items_of, read_by, is_out_of_memory as reading_is_out_of_memory}
-use Rattle.cert_text.specs.Readings.{last_part}
+use Rattle.cert_text.specs.ByLine.{Place, Part, ◌>>=◌, returned, line_of, is_word, items_at, read_by, is_out_of_memory as reading_is_out_of_memory}
 use Rattle.cert_text.specs.Workings.LineReading.{station_of, moment_after}
 use Rattle.cert_text.proofs.PartLemmas.{Lines, at, IsReader, Mean, items_reader, mapped_reader, word_is, word_read}
 use Rattle.cert_text.proofs.ByLineLemmas as by_line
