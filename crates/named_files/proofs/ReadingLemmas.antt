@@ -1,5 +1,5 @@
 -- The contents of files, from the steps of reading.
-use Rattle.std.proofs.Common.{◌≡◌, ◌∙◌, ap, sym, ℕ, nat_le, Bool, true, false, cond, List, length, Option, Some, None, Result, Ok, Err, refl, subst}
+use Rattle.std.proofs.Common.{◌≡◌, ◌∙◌, ap, sym, ℕ, ◌≤◌, nat_le, Bool, true, false, cond, List, length, Option, Some, None, Result, Ok, Err, arith, refl, subst}
 use Rattle.std.specs.Result.{IsErrAnd}
 use Rattle.decimal_text.specs.Expected.{◌>>=◌, Excused, ReturnsUnless}
 use Rattle.harmonics_book.specs.declared.book.Book.{Book as TheBook}
@@ -24,8 +24,8 @@ use Rattle.question.specs.declared.question.Question.{Question}
 use Rattle.std.specs.Option.{ForSome}
 use Rattle.std.specs.Result.{IfErr}
 use Rattle.tide_edge.specs.FileStates.{FilesState}
-use Rattle.tide_edge.specs.Whole.{ReadWithin, both, one_file, whole, source_of as source_of_reading}
-use Rattle.tide_edge.proofs.ReadingLemmas.{read_more, read_then}
+use Rattle.tide_edge.specs.Whole.{Allowance, ReadWithin, both, one_file, whole, source_of as source_of_reading}
+use Rattle.tide_edge.proofs.ReadingLemmas.{read_then}
 use Rattle.zone_time.specs.declared.zone.Zone.{Zone as TheZone}
 use Rattle.zone_time.specs.declared.zone_fault.ZoneFault.{ZoneFault}
 use Rattle.zone_time.specs.declared.zone_fault.ZoneFault.TheVariants as zones
@@ -170,67 +170,80 @@ excuses_book firm folder name (load.Book (form.At line why)) excused =
 
 -- ---- The bytes that were read before a fault
 
-to_fault : (question : Question) (slot : Slot) (said : Option Slot) (failed : Bool) (before after : FilesState)
-    → ForSome said (λ other. other ≡ slot) → ReadWithin (files_allowed question) failed before after
-    → ReadWithin (allowed_to question (Some slot)) failed before after
-    → ReadWithin (allowed_to question said) failed before after
-to_fault question slot None failed before after is all own = all
-to_fault question slot (Some other) failed before after is all own =
-    subst (λ (s : Slot). ReadWithin (allowed_to question (Some s)) failed before after) (sym (is other refl)) own
+-- reading within an allowance is within any larger one
+wider : (a b : Allowance) (failed : Bool) (before after : FilesState) → a.files ≤ b.files → a.bytes ≤ b.bytes
+    → ReadWithin a failed before after → ReadWithin b failed before after
+wider a b failed before after files bytes read = record {
+  store = read.store;
+  opens = omega (arith, read.opens, files);
+  ends = omega (arith, read.ends, files);
+  bytes = omega (arith, read.bytes, bytes);
+  faults = read.faults;
+}
 
-pub to_book : (question : Question) (none : NoAnswer) (before after : FilesState) → IsOf File none
-    → ReadWithin (one_file (limit_of File)) (is_unread none) before after
-    → ReadWithin (allowed_to question (file_of none)) (is_unread none) before after
-to_book question none before after is book =
-    to_fault question File (file_of none) (is_unread none) before after is
-    (read_more (one_file (limit_of File)) (both (allowed_for Offsets question.offsets)
-    (both (allowed_for Zone (zone_file question.zone)) (allowed_for Certificate question.certificate)))
-    (is_unread none) before after book) book
+-- what is read up to a file is within what is read of all
+within_all : (question : Question) (said : Option Slot) (failed : Bool) (before after : FilesState)
+    → ReadWithin (allowed_to question said) failed before after → ReadWithin (files_allowed question) failed before after
+within_all question None failed before after read = read
+within_all question (Some File) failed before after read =
+    wider (allowed_to question (Some File)) (files_allowed question) failed before after (omega arith) (omega arith) read
+within_all question (Some Offsets) failed before after read =
+    wider (allowed_to question (Some Offsets)) (files_allowed question) failed before after (omega arith) (omega arith) read
+within_all question (Some Zone) failed before after read =
+    wider (allowed_to question (Some Zone)) (files_allowed question) failed before after (omega arith) (omega arith) read
+within_all question (Some Certificate) failed before after read = read
 
-pub to_table : (question : Question) (none : NoAnswer) (before between after : FilesState) → IsOf Offsets none
+-- each file is read after the ones before it
+pub to_table : (question : Question) (failed : Bool) (before between after : FilesState)
     → ReadWithin (one_file (limit_of File)) false before between
-    → ReadWithin (allowed_for Offsets question.offsets) (is_unread none) between after
-    → ReadWithin (allowed_to question (file_of none)) (is_unread none) before after
-to_table question none before between after is book table =
-    to_fault question Offsets (file_of none) (is_unread none) before after is
-    (read_then (one_file (limit_of File)) (both (allowed_for Offsets question.offsets)
-    (both (allowed_for Zone (zone_file question.zone)) (allowed_for Certificate question.certificate)))
-    (is_unread none) before between after book
-    (read_more (allowed_for Offsets question.offsets) (both (allowed_for Zone (zone_file question.zone))
-    (allowed_for Certificate question.certificate)) (is_unread none) between after table))
-    (read_then (one_file (limit_of File)) (allowed_for Offsets question.offsets) (is_unread none) before between after book table)
+    → ReadWithin (allowed_for Offsets question.offsets) failed between after
+    → ReadWithin (allowed_to question (Some Offsets)) failed before after
+to_table question failed before between after book table =
+    read_then (one_file (limit_of File)) (allowed_for Offsets question.offsets) failed before between after book table
 
-pub to_zone : (question : Question) (none : NoAnswer) (before between beyond after : FilesState) → IsOf Zone none
+pub to_zone : (question : Question) (failed : Bool) (before between beyond after : FilesState)
     → ReadWithin (one_file (limit_of File)) false before between
     → ReadWithin (allowed_for Offsets question.offsets) false between beyond
-    → ReadWithin (allowed_for Zone (zone_file question.zone)) (is_unread none) beyond after
-    → ReadWithin (allowed_to question (file_of none)) (is_unread none) before after
-to_zone question none before between beyond after is book table zone =
-    to_fault question Zone (file_of none) (is_unread none) before after is
-    (read_then (one_file (limit_of File)) (both (allowed_for Offsets question.offsets)
-    (both (allowed_for Zone (zone_file question.zone)) (allowed_for Certificate question.certificate)))
-    (is_unread none) before between after book
-    (read_then (allowed_for Offsets question.offsets) (both (allowed_for Zone (zone_file question.zone))
-    (allowed_for Certificate question.certificate)) (is_unread none) between beyond after table
-    (read_more (allowed_for Zone (zone_file question.zone)) (allowed_for Certificate question.certificate)
-    (is_unread none) beyond after zone)))
-    (read_then (one_file (limit_of File)) (both (allowed_for Offsets question.offsets)
-    (allowed_for Zone (zone_file question.zone))) (is_unread none) before between after book
-    (read_then (allowed_for Offsets question.offsets) (allowed_for Zone (zone_file question.zone))
-    (is_unread none) between beyond after table zone))
+    → ReadWithin (allowed_for Zone (zone_file question.zone)) failed beyond after
+    → ReadWithin (allowed_to question (Some Zone)) failed before after
+to_zone question failed before between beyond after book table zone =
+    read_then (one_file (limit_of File)) (both (allowed_for Offsets question.offsets) (allowed_for Zone (zone_file question.zone)))
+    failed before between after book
+    (read_then (allowed_for Offsets question.offsets) (allowed_for Zone (zone_file question.zone)) failed between beyond after table zone)
 
--- a certificate is the last file
-pub to_certificate : (question : Question) (none : NoAnswer) (before after : FilesState) → IsOf Certificate none
-    → ReadWithin (files_allowed question) (is_unread none) before after
-    → ReadWithin (allowed_to question (file_of none)) (is_unread none) before after
-to_certificate question none before after is all =
-    to_fault question Certificate (file_of none) (is_unread none) before after is all all
+pub to_certificate : (question : Question) (failed : Bool) (before between beyond later after : FilesState)
+    → ReadWithin (one_file (limit_of File)) false before between
+    → ReadWithin (allowed_for Offsets question.offsets) false between beyond
+    → ReadWithin (allowed_for Zone (zone_file question.zone)) false beyond later
+    → ReadWithin (allowed_for Certificate question.certificate) failed later after
+    → ReadWithin (files_allowed question) failed before after
+to_certificate question failed before between beyond later after book table zone certificate =
+    let last = both (allowed_for Zone (zone_file question.zone)) (allowed_for Certificate question.certificate) in
+    read_then (one_file (limit_of File)) (both (allowed_for Offsets question.offsets) last) failed before between after book
+    (read_then (allowed_for Offsets question.offsets) last failed between beyond after table
+    (read_then (allowed_for Zone (zone_file question.zone)) (allowed_for Certificate question.certificate) failed beyond later after
+    zone certificate))
 
--- the returned fault is that of the step
-pub last_at :
-    {A : Type 0} (question : Question) (result : Result A NoAnswer) (none : NoAnswer) (before after : FilesState)
-    → IsErrAnd result (λ e. e ≡ none) → ReadWithin (allowed_to question (file_of none)) (is_unread none) before after
+-- the file that is the reason, if one is
+said_at : (question : Question) (slot : Slot) (said : Option Slot) (failed : Bool) (before after : FilesState)
+    → ForSome said (λ other. other ≡ slot) → ReadWithin (allowed_to question (Some slot)) failed before after
+    → ReadWithin (allowed_to question said) failed before after
+said_at question slot None failed before after is read = within_all question (Some slot) failed before after read
+said_at question slot (Some other) failed before after is read =
+    subst (λ (s : Slot). ReadWithin (allowed_to question (Some s)) failed before after) (sym (is other refl)) read
+
+-- the returned fault is that of the step that read the file
+pub last_at : {A : Type 0} (question : Question) (slot : Slot) (result : Result A NoAnswer) (none : NoAnswer) (before after : FilesState)
+    → IsErrAnd result (λ e. e ≡ none) → IsOf slot none → ReadWithin (allowed_to question (Some slot)) (is_unread none) before after
     → IfErr result (λ e. ReadWithin (allowed_to question (file_of e)) (is_unread e) before after)
-last_at question (Ok value) none before after is read = absurd is
-last_at question (Err e) none before after is read =
-    subst (λ (x : NoAnswer). ReadWithin (allowed_to question (file_of x)) (is_unread x) before after) (sym is) read
+last_at question slot (Ok value) none before after is of_slot read = absurd is
+last_at question slot (Err e) none before after is of_slot read =
+    subst (λ (x : NoAnswer). ReadWithin (allowed_to question (file_of x)) (is_unread x) before after) (sym is)
+    (said_at question slot (file_of none) (is_unread none) before after of_slot read)
+
+-- what was read up to the reason is within what is read of all
+pub read_of_last : {A : Type 0} (question : Question) (result : Result A NoAnswer) (none : NoAnswer) (before after : FilesState)
+    → IsErrAnd result (λ e. e ≡ none) → IfErr result (λ e. ReadWithin (allowed_to question (file_of e)) (is_unread e) before after)
+    → ReadWithin (files_allowed question) (reading_failed result) before after
+read_of_last question (Ok value) none before after is last = absurd is
+read_of_last question (Err e) none before after is last = within_all question (file_of e) (is_unread e) before after last

@@ -1,11 +1,9 @@
 use Rattle.std.proofs.Common.{refl, false}
 use Rattle.std.specs.Bool.{IsTrue}
-use Rattle.tide_edge.specs.Whole.{both, one_file}
-use Rattle.tide_edge.proofs.ReadingLemmas.{read_more, read_then}
 use Rattle.tide_fault.specs.declared.slot.Slot.TheVariants.{File, Offsets, Zone, Certificate}
-use Rattle.named_files.specs.Readings.{allowed_for, book_named, table_named, zone_named, certificate_named, files_in, limit_of, zone_file}
+use Rattle.named_files.specs.Readings.{book_named, table_named, zone_named, certificate_named, files_in}
 use Rattle.named_files.proofs.OpenedLemmas.{all_opened, stopped_at_book, stopped_at_certificate, stopped_at_table, stopped_at_zone}
-use Rattle.named_files.proofs.ReadingLemmas.{failed_at, last_at, meets_at, to_book, to_certificate, to_table, to_zone}
+use Rattle.named_files.proofs.ReadingLemmas.{last_at, meets_at, read_of_last, to_certificate, to_table, to_zone}
 use Rattle.named_files.proofs.reading.read_files.Goals as goal
 
 pub returns-in_err-book-clause-own : goal.returns-in_err-book-clause-own
@@ -154,107 +152,68 @@ returns-clause-opened g c =
     c.in_ok-zone.ensures.opened
     c.in_ok-certificate.ensures.opened)
 
-pub returns-in_err-book-clause-read : goal.returns-in_err-book-clause-read
-returns-in_err-book-clause-read g c =
-    rw (failed_at c.from_residual.result _ c.from_residual.ensures.1)
-    (read_more (one_file (limit_of File)) (both (allowed_for Offsets c.args.question.now.offsets)
-    (both (allowed_for Zone (zone_file c.args.question.now.zone)) (allowed_for Certificate c.args.question.now.certificate))) _
-    (g.F.Files.state c.args.files.now) (g.F.Files.state c.read_book.new.files) c.in_err-book.ensures.read)
-
-pub returns-in_err-table-clause-read : goal.returns-in_err-table-clause-read
-returns-in_err-table-clause-read g c =
-    rw (← c.get-question.ensures.exact) (rw (failed_at c.from_residual-in_err-table.result _ c.from_residual-in_err-table.ensures.1)
-    (read_then (one_file (limit_of File)) (both (allowed_for Offsets c.get-question.result.now.offsets)
-    (both (allowed_for Zone (zone_file c.get-question.result.now.zone))
-    (allowed_for Certificate c.get-question.result.now.certificate))) _ (g.F.Files.state c.args.files.now)
-    (g.F.Files.state c.read_book.new.files) (g.F.Files.state c.read_table.new.files) c.in_ok-book.ensures.read
-    (read_more (allowed_for Offsets c.get-question.result.now.offsets) (both (allowed_for Zone
-    (zone_file c.get-question.result.now.zone)) (allowed_for Certificate c.get-question.result.now.certificate)) _
-    (g.F.Files.state c.read_book.new.files) (g.F.Files.state c.read_table.new.files) c.in_err-table.ensures.read)))
-
-pub returns-in_err-zone-clause-read : goal.returns-in_err-zone-clause-read
-returns-in_err-zone-clause-read g c =
-    rw (← c.get-question.ensures.exact) (rw (failed_at c.from_residual-in_err-zone.result _ c.from_residual-in_err-zone.ensures.1)
-    (read_then (one_file (limit_of File)) (both (allowed_for Offsets c.get-question.result.now.offsets)
-    (both (allowed_for Zone (zone_file c.get-question.result.now.zone))
-    (allowed_for Certificate c.get-question.result.now.certificate))) _ (g.F.Files.state c.args.files.now)
-    (g.F.Files.state c.read_book.new.files) (g.F.Files.state c.read_zone_named.new.files) c.in_ok-book.ensures.read
-    (read_then (allowed_for Offsets c.get-question.result.now.offsets)
-    (both (allowed_for Zone (zone_file c.get-question.result.now.zone)) (allowed_for Certificate c.get-question.result.now.certificate))
-    _ (g.F.Files.state c.read_book.new.files) (g.F.Files.state c.read_table.new.files) (g.F.Files.state c.read_zone_named.new.files)
-    c.in_ok-table.ensures.read (read_more (allowed_for Zone (zone_file c.get-question.result.now.zone))
-    (allowed_for Certificate c.get-question.result.now.certificate) _ (g.F.Files.state c.read_table.new.files)
-    (g.F.Files.state c.read_zone_named.new.files) c.in_err-zone.ensures.read))))
-
-pub returns-in_err-certificate-clause-read : goal.returns-in_err-certificate-clause-read
-returns-in_err-certificate-clause-read g c =
-    rw (← c.get-question.ensures.exact)
-    (rw (failed_at c.from_residual-in_err-certificate.result _ c.from_residual-in_err-certificate.ensures.1)
-    (read_then (one_file (limit_of File)) (both (allowed_for Offsets c.get-question.result.now.offsets)
-    (both (allowed_for Zone (zone_file c.get-question.result.now.zone))
-    (allowed_for Certificate c.get-question.result.now.certificate))) _ (g.F.Files.state c.args.files.now)
-    (g.F.Files.state c.read_book.new.files) (g.F.Files.state c.read_certificate.new.files) c.in_ok-book.ensures.read
-    (read_then (allowed_for Offsets c.get-question.result.now.offsets)
-    (both (allowed_for Zone (zone_file c.get-question.result.now.zone)) (allowed_for Certificate c.get-question.result.now.certificate))
-    _ (g.F.Files.state c.read_book.new.files) (g.F.Files.state c.read_table.new.files)
-    (g.F.Files.state c.read_certificate.new.files) c.in_ok-table.ensures.read (read_then (allowed_for Zone
-    (zone_file c.get-question.result.now.zone)) (allowed_for Certificate c.get-question.result.now.certificate) _
-    (g.F.Files.state c.read_table.new.files) (g.F.Files.state c.read_zone_named.new.files)
-    (g.F.Files.state c.read_certificate.new.files) c.in_ok-zone.ensures.read c.in_err-certificate.ensures.read))))
-
-pub returns-clause-read : goal.returns-clause-read
-returns-clause-read g c =
-    rw (← c.get-question.ensures.exact) ((read_then (one_file (limit_of File))
-    (both (allowed_for Offsets c.get-question.result.now.offsets) (both (allowed_for Zone (zone_file c.get-question.result.now.zone))
-    (allowed_for Certificate c.get-question.result.now.certificate))) false (g.F.Files.state c.args.files.now)
-    (g.F.Files.state c.read_book.new.files) (g.F.Files.state c.read_certificate.new.files) c.in_ok-book.ensures.read
-    (read_then (allowed_for Offsets c.get-question.result.now.offsets)
-    (both (allowed_for Zone (zone_file c.get-question.result.now.zone)) (allowed_for Certificate c.get-question.result.now.certificate))
-    false (g.F.Files.state c.read_book.new.files) (g.F.Files.state c.read_table.new.files)
-    (g.F.Files.state c.read_certificate.new.files) c.in_ok-table.ensures.read (read_then (allowed_for Zone
-    (zone_file c.get-question.result.now.zone)) (allowed_for Certificate c.get-question.result.now.certificate)
-    false (g.F.Files.state c.read_table.new.files) (g.F.Files.state c.read_zone_named.new.files)
-    (g.F.Files.state c.read_certificate.new.files) c.in_ok-zone.ensures.read c.in_ok-certificate.ensures.read))))
-
 pub returns-in_err-book-clause-last : goal.returns-in_err-book-clause-last
 returns-in_err-book-clause-last g c =
-    last_at c.args.question.now c.from_residual.result _ (g.F.Files.state c.args.files.now)
-    (g.F.Files.state c.read_book.new.files) c.from_residual.ensures.1
-    (to_book c.args.question.now _ (g.F.Files.state c.args.files.now)
-    (g.F.Files.state c.read_book.new.files) c.in_err-book.ensures.fault c.in_err-book.ensures.read)
+    last_at c.args.question.now File c.from_residual.result _
+    (g.F.Files.state c.args.files.now) (g.F.Files.state c.read_book.new.files)
+    c.from_residual.ensures.1 c.in_err-book.ensures.fault
+    c.in_err-book.ensures.read
+
+pub returns-in_err-book-clause-read : goal.returns-in_err-book-clause-read
+returns-in_err-book-clause-read g c =
+    read_of_last c.args.question.now c.from_residual.result _ _ _ c.from_residual.ensures.1 (returns-in_err-book-clause-last g c)
 
 pub returns-in_err-table-clause-last : goal.returns-in_err-table-clause-last
 returns-in_err-table-clause-last g c =
     rw (← c.get-question.ensures.exact)
-    (last_at c.get-question.result.now c.from_residual-in_err-table.result _ (g.F.Files.state c.args.files.now)
-    (g.F.Files.state c.read_table.new.files) c.from_residual-in_err-table.ensures.1
-    (to_table c.get-question.result.now _ (g.F.Files.state c.args.files.now) (g.F.Files.state c.read_book.new.files)
-    (g.F.Files.state c.read_table.new.files) c.in_err-table.ensures.fault c.in_ok-book.ensures.read c.in_err-table.ensures.read))
+    (last_at c.get-question.result.now Offsets c.from_residual-in_err-table.result _
+    (g.F.Files.state c.args.files.now) (g.F.Files.state c.read_table.new.files)
+    c.from_residual-in_err-table.ensures.1 c.in_err-table.ensures.fault
+    (to_table c.get-question.result.now _
+    (g.F.Files.state c.args.files.now) (g.F.Files.state c.read_book.new.files) (g.F.Files.state c.read_table.new.files)
+    c.in_ok-book.ensures.read c.in_err-table.ensures.read))
+
+pub returns-in_err-table-clause-read : goal.returns-in_err-table-clause-read
+returns-in_err-table-clause-read g c =
+    read_of_last c.args.question.now c.from_residual-in_err-table.result _ _ _ c.from_residual-in_err-table.ensures.1
+    (returns-in_err-table-clause-last g c)
 
 pub returns-in_err-zone-clause-last : goal.returns-in_err-zone-clause-last
 returns-in_err-zone-clause-last g c =
     rw (← c.get-question.ensures.exact)
-    (last_at c.get-question.result.now c.from_residual-in_err-zone.result _ (g.F.Files.state c.args.files.now)
-    (g.F.Files.state c.read_zone_named.new.files) c.from_residual-in_err-zone.ensures.1
-    (to_zone c.get-question.result.now _ (g.F.Files.state c.args.files.now) (g.F.Files.state c.read_book.new.files)
-    (g.F.Files.state c.read_table.new.files) (g.F.Files.state c.read_zone_named.new.files)
-    c.in_err-zone.ensures.fault c.in_ok-book.ensures.read c.in_ok-table.ensures.read c.in_err-zone.ensures.read))
+    (last_at c.get-question.result.now Zone c.from_residual-in_err-zone.result _
+    (g.F.Files.state c.args.files.now) (g.F.Files.state c.read_zone_named.new.files)
+    c.from_residual-in_err-zone.ensures.1 c.in_err-zone.ensures.fault
+    (to_zone c.get-question.result.now _
+    (g.F.Files.state c.args.files.now) (g.F.Files.state c.read_book.new.files) (g.F.Files.state c.read_table.new.files)
+    (g.F.Files.state c.read_zone_named.new.files)
+    c.in_ok-book.ensures.read c.in_ok-table.ensures.read c.in_err-zone.ensures.read))
+
+pub returns-in_err-zone-clause-read : goal.returns-in_err-zone-clause-read
+returns-in_err-zone-clause-read g c =
+    read_of_last c.args.question.now c.from_residual-in_err-zone.result _ _ _ c.from_residual-in_err-zone.ensures.1
+    (returns-in_err-zone-clause-last g c)
 
 pub returns-in_err-certificate-clause-last : goal.returns-in_err-certificate-clause-last
 returns-in_err-certificate-clause-last g c =
     rw (← c.get-question.ensures.exact)
-    (last_at c.get-question.result.now c.from_residual-in_err-certificate.result _ (g.F.Files.state c.args.files.now)
-    (g.F.Files.state c.read_certificate.new.files) c.from_residual-in_err-certificate.ensures.1
-    (to_certificate c.get-question.result.now _ (g.F.Files.state c.args.files.now)
-    (g.F.Files.state c.read_certificate.new.files) c.in_err-certificate.ensures.fault
-    (read_then (one_file (limit_of File)) (both (allowed_for Offsets c.get-question.result.now.offsets)
-    (both (allowed_for Zone (zone_file c.get-question.result.now.zone))
-    (allowed_for Certificate c.get-question.result.now.certificate))) _ (g.F.Files.state c.args.files.now)
-    (g.F.Files.state c.read_book.new.files) (g.F.Files.state c.read_certificate.new.files) c.in_ok-book.ensures.read
-    (read_then (allowed_for Offsets c.get-question.result.now.offsets)
-    (both (allowed_for Zone (zone_file c.get-question.result.now.zone)) (allowed_for Certificate c.get-question.result.now.certificate))
-    _ (g.F.Files.state c.read_book.new.files) (g.F.Files.state c.read_table.new.files)
-    (g.F.Files.state c.read_certificate.new.files) c.in_ok-table.ensures.read (read_then (allowed_for Zone
-    (zone_file c.get-question.result.now.zone)) (allowed_for Certificate c.get-question.result.now.certificate) _
-    (g.F.Files.state c.read_table.new.files) (g.F.Files.state c.read_zone_named.new.files)
-    (g.F.Files.state c.read_certificate.new.files) c.in_ok-zone.ensures.read c.in_err-certificate.ensures.read)))))
+    (last_at c.get-question.result.now Certificate c.from_residual-in_err-certificate.result _
+    (g.F.Files.state c.args.files.now) (g.F.Files.state c.read_certificate.new.files)
+    c.from_residual-in_err-certificate.ensures.1 c.in_err-certificate.ensures.fault
+    (to_certificate c.get-question.result.now _
+    (g.F.Files.state c.args.files.now) (g.F.Files.state c.read_book.new.files) (g.F.Files.state c.read_table.new.files)
+    (g.F.Files.state c.read_zone_named.new.files) (g.F.Files.state c.read_certificate.new.files)
+    c.in_ok-book.ensures.read c.in_ok-table.ensures.read c.in_ok-zone.ensures.read c.in_err-certificate.ensures.read))
+
+pub returns-in_err-certificate-clause-read : goal.returns-in_err-certificate-clause-read
+returns-in_err-certificate-clause-read g c =
+    read_of_last c.args.question.now c.from_residual-in_err-certificate.result _ _ _ c.from_residual-in_err-certificate.ensures.1
+    (returns-in_err-certificate-clause-last g c)
+
+pub returns-clause-read : goal.returns-clause-read
+returns-clause-read g c =
+    rw (← c.get-question.ensures.exact)
+    (to_certificate c.get-question.result.now false
+    (g.F.Files.state c.args.files.now) (g.F.Files.state c.read_book.new.files) (g.F.Files.state c.read_table.new.files)
+    (g.F.Files.state c.read_zone_named.new.files) (g.F.Files.state c.read_certificate.new.files)
+    c.in_ok-book.ensures.read c.in_ok-table.ensures.read c.in_ok-zone.ensures.read c.in_ok-certificate.ensures.read)
