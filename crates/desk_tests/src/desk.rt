@@ -3,12 +3,15 @@
 mod failing;
 mod files;
 mod passing_on;
+mod refusals;
 mod reports;
 mod rows;
 
 use crate::asserts::{assert_bytes, assert_count, assert_holds};
+use crate::stamp::Stamp;
 use decimal_text::{Bytes, Text};
-use files::*;
+use ical_sheet::IcalSheet;
+use report_sheets::{FirstLines, Ranges, Sheet, Tally};
 use rows::*;
 use std::alloc::{AllocError, Global};
 use std::process::Abort;
@@ -18,32 +21,13 @@ use tide_answer::Status;
 use tide_desk::run;
 use tide_edge::{FixedClock, MemoryFiles, MemorySink, NamedFile};
 
-// The files of a run, its outputs, and its clock.
-#[derive(Drop)]
-struct Desk {
-    files: MemoryFiles,
-    out: MemorySink,
-    err: MemorySink,
-    clock: FixedClock,
-}
-
-// The status of a run, and what it has left.
-#[derive(Drop)]
-struct Outcome {
-    status: Status,
-    left: Desk,
-}
-
-// Returns the pier's file with one line changed; lines are counted from 1, and line 0 changes
-// nothing.
-fn pier_with(alloc: Global, line: usize, text: &str) -> Result<Bytes, AllocError> {
-    let mut bytes = Vec::new(alloc);
-    for (i, old) in PIER.lines().enumerate() {
-        let new = if i < line && line - i == 1 { text } else { old };
-        bytes.extend_from_slice(new.as_bytes())?;
-        bytes.extend_from_slice(b"\n")?;
-    }
-    Ok(Bytes::from_vec(bytes))
+// A file: a text with another line in place of one of its lines, which are counted from 1 (line 0
+// changes nothing), a text behind so many bytes `#` that it has this length, or bytes.
+#[derive(Clone, Copy)]
+enum Source<'a> {
+    Line(&'a str, usize, &'a str),
+    Behind(usize, &'a str),
+    Bytes(&'a [u8]),
 }
 
 // The numbers of the calls that fail, counted from 1 for each object.
@@ -62,338 +46,212 @@ const NONE: Fails = Fails {
     clock: 0,
 };
 
-fn only(alloc: Global, number: u64) -> Result<Vec<u64>, AllocError> {
-    let mut numbers = Vec::new(alloc);
-    numbers.push(number)?;
-    Ok(numbers)
+// A run: the file `pier.txt` and those beside it, the calls that fail, the arguments, whether the
+// sheet `first` takes two events and not ten, the most bytes that a write takes, and the status and
+// the texts that follow. At most so many bytes of the second one are written.
+#[derive(Clone, Copy)]
+struct Case<'a> {
+    file: Source<'a>,
+    more: &'a [(&'a str, Source<'a>)],
+    fails: Fails,
+    words: &'a str,
+    is_short: bool,
+    most: u64,
+    status: u8,
+    out: &'a str,
+    err: &'a str,
+    most_err: usize,
 }
 
-fn named(alloc: Global, name: &str, bytes: Bytes) -> Result<NamedFile, AllocError> {
+// A day of the pier.
+const CASE: Case<'static> = Case {
+    file: Source::Line(PIER, 0, ""),
+    more: &[],
+    fails: NONE,
+    words: PREDICT,
+    is_short: false,
+    most: 4096,
+    status: 0,
+    out: DAY,
+    err: "",
+    most_err: 4096,
+};
+
+// The files of a run, its outputs, and its clock.
+#[derive(Drop)]
+struct Desk {
+    files: MemoryFiles,
+    out: MemorySink,
+    err: MemorySink,
+    clock: FixedClock,
+}
+
+fn with_line(alloc: Global, text: &str, line: usize, other: &str) -> Result<Vec<u8>, AllocError> {
+    let mut bytes = Vec::new(alloc);
+    for (i, old) in text.lines().enumerate() {
+        let new = if i < line && line - i == 1 {
+            other
+        } else {
+            old
+        };
+        bytes.extend_from_slice(new.as_bytes())?;
+        bytes.extend_from_slice(b"\n")?;
+    }
+    Ok(bytes)
+}
+
+fn behind(alloc: Global, length: usize, text: &str) -> Result<Vec<u8>, AllocError> {
+    let mut bytes = vec![in alloc; b'#'; length.saturating_sub(text.len())]?;
+    bytes.extend_from_slice(text.as_bytes())?;
+    Ok(bytes)
+}
+
+fn file_of(alloc: Global, name: &str, source: &Source<'_>) -> Result<NamedFile, AllocError> {
+    let bytes = match *source {
+        Source::Line(text, line, other) => with_line(alloc, text, line, other)?,
+        Source::Behind(length, text) => behind(alloc, length, text)?,
+        Source::Bytes(bytes) => bytes.to_vec(alloc)?,
+    };
     Ok(NamedFile {
         name: Text::from_str(alloc, name)?,
-        bytes,
+        bytes: Bytes::from_vec(bytes),
     })
 }
 
-fn named_text(alloc: Global, name: &str, text: &[u8]) -> Result<NamedFile, AllocError> {
-    named(alloc, name, Bytes::from_vec(text.to_vec(alloc)?))
-}
-
-// Adds a file to those that are held.
-fn hold(
-    alloc: Global,
-    held: &mut Vec<NamedFile>,
-    name: &str,
-    text: &[u8],
-) -> Result<(), AllocError> {
-    held.push(named_text(alloc, name, text)?)?;
-    Ok(())
-}
-
-// Returns a file `pier.txt`.
-fn only_pier(alloc: Global, file: Bytes) -> Result<Vec<NamedFile>, AllocError> {
+fn files_of(alloc: Global, case: &Case<'_>) -> Result<Vec<NamedFile>, AllocError> {
     let mut held = Vec::new(alloc);
-    held.push(named(alloc, "pier.txt", file)?)?;
+    held.push(file_of(alloc, "pier.txt", &case.file)?)?;
+    for (name, source) in case.more {
+        held.push(file_of(alloc, name, source)?)?;
+    }
     Ok(held)
-}
-
-// Returns the pier's file with one line changed.
-fn held_with(alloc: Global, line: usize, text: &str) -> Result<Vec<NamedFile>, AllocError> {
-    only_pier(alloc, pier_with(alloc, line, text)?)
 }
 
 // Returns an output that takes at most `most` bytes in a write.
 fn sink_of(alloc: Global, most: u64, room: u64, fails: u64) -> Result<MemorySink, AllocError> {
-    MemorySink::new(alloc, most.max(1), room, only(alloc, fails)?)
+    MemorySink::new(alloc, most.max(1), room, [fails].to_vec(alloc)?)
 }
 
-fn files_of(alloc: Global, held: Vec<NamedFile>, fails: u64) -> Result<MemoryFiles, AllocError> {
-    Ok(MemoryFiles::new(held, only(alloc, fails)?))
-}
-
-// Returns files, outputs that take at most `most` bytes in a write, and a clock at 2000-01-10T03:00Z.
-fn desk_of(
-    alloc: Global,
-    held: Vec<NamedFile>,
-    most: u64,
-    fails: Fails,
-) -> Result<Desk, AllocError> {
+// Returns the files and the outputs of a case, and a clock at 2000-01-10T03:00Z.
+fn desk_of(alloc: Global, case: &Case<'_>) -> Result<Desk, AllocError> {
+    let fails = case.fails;
     Ok(Desk {
-        files: files_of(alloc, held, fails.files)?,
-        out: sink_of(alloc, most, 1_000_000, fails.out)?,
-        err: sink_of(alloc, most, 4096, fails.err)?,
-        clock: FixedClock::new(15_791_220, only(alloc, fails.clock)?),
+        files: MemoryFiles::new(files_of(alloc, case)?, [fails.files].to_vec(alloc)?),
+        out: sink_of(alloc, case.most, 1_000_000, fails.out)?,
+        err: sink_of(alloc, case.most, 4096, fails.err)?,
+        clock: FixedClock::new(15_791_220, [fails.clock].to_vec(alloc)?),
     })
 }
 
-// Runs without a sheet.
-fn run_line(alloc: Global, line: &str, desk: &mut Desk) -> Result<Status, AllocError> {
-    let words = words_of(alloc, line)?;
-    let sheets = Vec::new(alloc);
-    Ok(run(
-        alloc,
-        &words,
-        &mut desk.files,
-        &mut desk.out,
-        &mut desk.err,
-        &mut desk.clock,
-        sheets,
-    ))
+// Adds a sheet of each kind.
+fn add_sheets(
+    alloc: Global,
+    is_short: bool,
+    sheets: &mut Vec<Box<dyn Sheet>>,
+) -> Result<(), AllocError> {
+    let first = if is_short { 2 } else { 10 };
+    sheets.push(Box::new(alloc, Tally::new(alloc, 1_000_000))?)?;
+    sheets.push(Box::new(alloc, Ranges::new(alloc, 1_000_000))?)?;
+    sheets.push(Box::new(alloc, FirstLines::new(alloc, first))?)?;
+    sheets.push(Box::new(alloc, IcalSheet::new(alloc, 1))?)?;
+    sheets.push(Box::new(alloc, Stamp::new(alloc, 4))?)?;
+    Ok(())
 }
 
-// Runs over files, without a sheet. A write takes at most `most` bytes.
-fn run_over(
-    alloc: Global,
-    held: Vec<NamedFile>,
-    line: &str,
-    most: u64,
-    fails: Fails,
-) -> Result<Outcome, AllocError> {
-    let mut left = desk_of(alloc, held, most, fails)?;
-    let status = run_line(alloc, line, &mut left)?;
-    Ok(Outcome { status, left })
+fn run_case(alloc: Global, case: &Case<'_>, desk: &mut Desk) -> Result<u8, AllocError> {
+    let words = words_of(alloc, case.words)?;
+    let mut sheets = Vec::new(alloc);
+    add_sheets(alloc, case.is_short, &mut sheets)?;
+    let (files, out, err) = (&mut desk.files, &mut desk.out, &mut desk.err);
+    Ok(run(alloc, &words, files, out, err, &mut desk.clock, sheets).number())
 }
 
 // Asserts the status of a run, and what it wrote to `out` and to `err`.
-fn assert_outcome(
-    rt: &impl Abort,
-    outcome: &Outcome,
-    case: &str,
-    (status, out, err): (u8, &str, &str),
-) {
-    let seen = usize::from(outcome.status.number());
-    assert_count(rt, seen, usize::from(status), case);
-    assert_bytes(rt, outcome.left.out.bytes(), out.as_bytes(), case);
-    assert_bytes(rt, outcome.left.err.bytes(), err.as_bytes(), case);
+fn assert_left(rt: &impl Abort, status: u8, desk: &Desk, case: &Case<'_>) {
+    let err = case.err.as_bytes();
+    assert_count(
+        rt,
+        usize::from(status),
+        usize::from(case.status),
+        case.words,
+    );
+    assert_bytes(rt, desk.out.bytes(), case.out.as_bytes(), case.words);
+    assert_bytes(
+        rt,
+        desk.err.bytes(),
+        &err[..case.most_err.min(err.len())],
+        case.words,
+    );
 }
 
-fn assert_run_with(
-    rt: &impl Abort,
-    alloc: Global,
-    held: Vec<NamedFile>,
-    line: &str,
-    fails: Fails,
-    expected: (u8, &str, &str),
-) -> Result<(), AllocError> {
-    let outcome = run_over(alloc, held, line, 4096, fails)?;
-    assert_outcome(rt, &outcome, line, expected);
+fn judge(rt: &impl Abort, alloc: Global, case: &Case<'_>) -> Result<(), AllocError> {
+    let mut desk = desk_of(alloc, case)?;
+    let status = run_case(alloc, case, &mut desk)?;
+    assert_left(rt, status, &desk, case);
     Ok(())
 }
 
-fn assert_run(
-    rt: &impl Abort,
-    alloc: Global,
-    held: Vec<NamedFile>,
-    line: &str,
-    expected: (u8, &str, &str),
-) -> Result<(), AllocError> {
-    assert_run_with(rt, alloc, held, line, NONE, expected)
-}
-
-#[test]
-fn a_span_lists_its_events(rt: HostRuntime) -> Result<(), Fail> {
-    let alloc = rt.alloc();
-    for &(line, text, begin, end, expected) in LISTINGS {
-        let words = predict(alloc, begin, end)?;
-        let held = held_with(alloc, line, text)?;
-        assert_run(&rt, alloc, held, words.as_str(), (0, expected, ""))?;
+fn judge_all(rt: &impl Abort, alloc: Global, cases: &[Case<'_>]) -> Result<(), AllocError> {
+    for case in cases {
+        judge(rt, alloc, case)?;
     }
     Ok(())
 }
 
 #[test]
-fn each_refusal_has_its_line(rt: HostRuntime) -> Result<(), Fail> {
-    let alloc = rt.alloc();
-    for &(line, text, words, status, expected) in REFUSALS {
-        let held = held_with(alloc, line, text)?;
-        assert_run(&rt, alloc, held, words, (status, "", expected))?;
-    }
+fn runs_have_their_outcomes(rt: HostRuntime) -> Result<(), Fail> {
+    judge_all(&rt, rt.alloc(), &ANSWERS)?;
+    judge_all(&rt, rt.alloc(), &refusals::REFUSALS)?;
+    judge_all(&rt, rt.alloc(), &files::FILES)?;
+    judge_all(&rt, rt.alloc(), &reports::REPORTS)?;
     Ok(())
-}
-
-// Returns a file of eleven years whose tide has this amplitude.
-fn eleven_years_of(alloc: Global, amplitude: &str) -> Result<Vec<NamedFile>, AllocError> {
-    let file = format!(in alloc;
-        "1\nS2 30\n1999\n11\nS2\n0 0 0 0 0 0 0 0 0 0 0\n*END*\n11\nS2\n1 1 1 1 1 1 1 1 1 1 1\n*END*\nPier\n0:00\n\
-        0 feet\nS2 {amplitude} 0\n"
-    )?;
-    only_pier(alloc, Bytes::from_vec(file.into_bytes()))
-}
-
-#[test]
-fn a_span_of_too_many_minutes_is_refused(rt: HostRuntime) -> Result<(), Fail> {
-    let alloc = rt.alloc();
-    let words = "predict|file=pier.txt|station=Pier|begin=1999-01-02T00:00Z|end=2009-01-09T00:01Z";
-    for &(amplitude, line) in TOO_MANY_MINUTES {
-        let held = eleven_years_of(alloc, amplitude)?;
-        assert_run(&rt, alloc, held, words, (5, "", line))?;
-    }
-    Ok(())
-}
-
-#[test]
-fn stations_are_listed(rt: HostRuntime) -> Result<(), Fail> {
-    let alloc = rt.alloc();
-    let held = held_with(alloc, 16, "S2 1 0\nQuay\n0:00\n2 knots^2\nx 0 0")?;
-    let listed = "Ref feet Pier\nRef knots^2 Quay\n";
-    Ok(assert_run(&rt, alloc, held, "stations|file=pier.txt", (0, listed, ""))?)
-}
-
-#[test]
-fn the_clock_is_asked_for_its_minute(rt: HostRuntime) -> Result<(), Fail> {
-    let alloc = rt.alloc();
-    let words = "clock|file=pier.txt|station=Pier";
-    let held = held_with(alloc, 0, "")?;
-    Ok(assert_run(&rt, alloc, held, words, (0, NOW, ""))?)
-}
-
-#[test]
-fn pairs_stand_in_any_order(rt: HostRuntime) -> Result<(), Fail> {
-    let alloc = rt.alloc();
-    let words =
-        "predict|end=2000-01-11T00:00Z|station=Pier|zone=UTC|begin=2000-01-10T00:00Z|file=pier.txt";
-    let held = held_with(alloc, 0, "")?;
-    Ok(assert_run(&rt, alloc, held, words, (0, DAY, ""))?)
-}
-
-// Returns a file of three years whose tide has these node factors.
-fn three_years_of(alloc: Global, factors: &str) -> Result<Vec<NamedFile>, AllocError> {
-    let file = format!(in alloc;
-        "1\nS2 30\n1999\n3\nS2\n0 0 0\n*END*\n3\nS2\n{factors}\n*END*\nPier\n0:00\n0 feet\nS2 800 0\n"
-    )?;
-    only_pier(alloc, Bytes::from_vec(file.into_bytes()))
-}
-
-#[test]
-fn the_first_year_beyond_a_limit_is_named(rt: HostRuntime) -> Result<(), Fail> {
-    let alloc = rt.alloc();
-    for &(factors, line) in BEYOND_A_LIMIT {
-        let held = three_years_of(alloc, factors)?;
-        assert_run(&rt, alloc, held, PREDICT, (5, "", line))?;
-    }
-    Ok(())
-}
-
-// Returns a file of eleven years of a pier.
-fn eleven_years(alloc: Global) -> Result<Vec<NamedFile>, AllocError> {
-    let file = String::from_str(alloc, ELEVEN_YEARS)?;
-    only_pier(alloc, Bytes::from_vec(file.into_bytes()))
-}
-
-// Asserts the number of bytes and lines of a long listing, and its first and last event.
-fn assert_long_listing(
-    rt: &impl Abort,
-    out: &[u8],
-    case: &str,
-    bytes: usize,
-    lines: usize,
-    (first, last): (&str, &str),
-) {
-    assert_count(rt, out.len(), bytes, case);
-    assert_count(rt, out.iter().filter(|b| **b == b'\n').count(), lines, case);
-    assert_holds(rt, out.starts_with(first.as_bytes()), case);
-    assert_holds(rt, out.ends_with(last.as_bytes()), case);
-}
-
-#[test]
-fn years_are_listed(rt: HostRuntime) -> Result<(), Fail> {
-    let alloc = rt.alloc();
-    for &(begin, end, bytes, lines, first, last) in LONG_LISTINGS {
-        let words = predict(alloc, begin, end)?;
-        let outcome = run_over(alloc, eleven_years(alloc)?, words.as_str(), 65_536, NONE)?;
-        assert_count(&rt, usize::from(outcome.status.number()), 0, begin);
-        let out = outcome.left.out.bytes();
-        assert_long_listing(&rt, out, begin, bytes, lines, (first, last));
-    }
-    Ok(())
-}
-
-// Returns the pier's file behind a comment, so that it has `length` bytes.
-fn pier_behind_a_comment(alloc: Global, length: usize) -> Result<Bytes, AllocError> {
-    let mut bytes = vec![in alloc; b'#'; length.saturating_sub(PIER.len() + 1)]?;
-    bytes.push(b'\n')?;
-    bytes.extend_from_slice(PIER.as_bytes())?;
-    Ok(Bytes::from_vec(bytes))
-}
-
-#[test]
-fn a_file_may_have_67108864_bytes(rt: HostRuntime) -> Result<(), Fail> {
-    let alloc = rt.alloc();
-    for &(length, status, out, line) in LENGTHS {
-        let held = only_pier(alloc, pier_behind_a_comment(alloc, length)?)?;
-        assert_run(
-            &rt,
-            alloc,
-            held,
-            "stations|file=pier.txt",
-            (status, out, line),
-        )?;
-    }
-    Ok(())
-}
-
-// Returns the files of a case.
-fn held_for(alloc: Global, case: &FileCase) -> Result<Vec<NamedFile>, AllocError> {
-    let mut held = held_with(alloc, case.line, case.text)?;
-    if let Some(text) = case.offsets {
-        hold(alloc, &mut held, "o.csv", text.as_bytes())?;
-    }
-    if let Some(text) = case.zone {
-        hold(alloc, &mut held, "zone", text.as_bytes())?;
-    }
-    Ok(held)
-}
-
-#[test]
-fn each_file_has_its_place_in_the_order(rt: HostRuntime) -> Result<(), Fail> {
-    let alloc = rt.alloc();
-    for case in FILE_CASES {
-        let fails = Fails {
-            clock: case.clock_fails,
-            ..NONE
-        };
-        let expected = (case.status, "", case.line_printed);
-        let held = held_for(alloc, case)?;
-        assert_run_with(&rt, alloc, held, case.words, fails, expected)?;
-    }
-    Ok(())
-}
-
-// Returns the pier's file, and one more.
-fn held_beside(alloc: Global, name: &str, text: &[u8]) -> Result<Vec<NamedFile>, AllocError> {
-    let mut held = held_with(alloc, 0, "")?;
-    hold(alloc, &mut held, name, text)?;
-    Ok(held)
-}
-
-#[test]
-fn false_certificates_are_rejected(rt: HostRuntime) -> Result<(), Fail> {
-    let alloc = rt.alloc();
-    for &(words, text, printed) in REJECTIONS {
-        let held = held_beside(alloc, "cert", text.as_bytes())?;
-        assert_run(&rt, alloc, held, words, (1, printed, ""))?;
-    }
-    Ok(())
-}
-
-// Returns the pier's file, and one of `length` bytes.
-fn held_beside_long(
-    alloc: Global,
-    name: &str,
-    length: usize,
-) -> Result<Vec<NamedFile>, AllocError> {
-    let bytes = Bytes::from_vec(vec![in alloc; b'#'; length]?);
-    let mut held = held_with(alloc, 0, "")?;
-    held.push(named(alloc, name, bytes)?)?;
-    Ok(held)
 }
 
 #[test]
 fn files_have_limits(rt: HostRuntime) -> Result<(), Fail> {
-    let alloc = rt.alloc();
-    for &(name, length, words, line) in FILE_LIMITS {
-        let held = held_beside_long(alloc, name, length)?;
-        assert_run(&rt, alloc, held, words, (3, "", line))?;
+    judge_all(&rt, rt.alloc(), &files::LIMITS)?;
+    Ok(())
+}
+
+// Asserts the number of bytes and lines of a long text, its begin and its end.
+fn assert_long(
+    rt: &impl Abort,
+    seen: &[u8],
+    &(words, bytes, lines, first, last): &(&str, usize, usize, &str, &str),
+) {
+    assert_count(rt, seen.len(), bytes, words);
+    assert_count(
+        rt,
+        seen.iter().filter(|b| **b == b'\n').count(),
+        lines,
+        words,
+    );
+    assert_holds(rt, seen.starts_with(first.as_bytes()), words);
+    assert_holds(rt, seen.ends_with(last.as_bytes()), words);
+}
+
+fn judge_long(
+    rt: &impl Abort,
+    alloc: Global,
+    row: &(&str, usize, usize, &str, &str),
+) -> Result<(), AllocError> {
+    let case = Case {
+        file: Source::Line(ELEVEN_YEARS, 0, ""),
+        words: row.0,
+        most: 65_536,
+        ..CASE
+    };
+    let mut desk = desk_of(alloc, &case)?;
+    let status = run_case(alloc, &case, &mut desk)?;
+    assert_count(rt, usize::from(status), 0, row.0);
+    assert_long(rt, desk.out.bytes(), row);
+    Ok(())
+}
+
+#[test]
+fn years_are_listed(rt: HostRuntime) -> Result<(), Fail> {
+    for row in LONG_TEXTS {
+        judge_long(&rt, rt.alloc(), row)?;
     }
     Ok(())
 }

@@ -10,8 +10,8 @@ const DOCKS: &str = "name,reference,high_add,low_add,high_times,low_times,high_p
     Dock,Pier,0:30,-0:10,1.1,0.9,0.1,0\nOuter,Pier,0:30,0:30,2,2,0.5,0.5\n";
 
 // A time zone's file (RFC 8536): one hour ahead, always.
-const HOUR_AHEAD: &str =
-    "TZif2\0\0\0\0\0\0\0\0\0\0\0\0\0\0\0\0\0\0\0\0\0\0\0\0\0\0\0\0\0\0\0\0\0\0\x01\0\0\0\x01\0\0\0\0\0\0\0\
+const HOUR_AHEAD: &[u8] =
+    b"TZif2\0\0\0\0\0\0\0\0\0\0\0\0\0\0\0\0\0\0\0\0\0\0\0\0\0\0\0\0\0\0\0\0\0\0\x01\0\0\0\x01\0\0\0\0\0\0\0\
     TZif2\0\0\0\0\0\0\0\0\0\0\0\0\0\0\0\0\0\0\0\0\0\0\0\0\0\0\0\0\0\0\0\0\0\0\x01\0\0\0\x04\0\0\x0e\x10\0\0CET\0\nCET-1\n";
 
 // Arguments, the number of their calls to the files, and their output.
@@ -58,58 +58,43 @@ const LINES: &[(&str, u64, u8, &str)] = &[
     (PREDICT, 1, 7, "write fault\n"),
 ];
 
-// The files beside the pier's.
-const MORE: &[(&str, &str)] = &[
-    ("o.csv", DOCKS),
-    ("cert", CERTIFICATE),
-    ("hour", HOUR_AHEAD),
-];
+// All files of the runs. A write takes at most ten bytes.
+const ALL: Case<'static> = Case {
+    more: &[
+        ("o.csv", Source::Line(DOCKS, 0, "")),
+        ("cert", Source::Line(CERTIFICATE, 0, "")),
+        ("hour", Source::Bytes(HOUR_AHEAD)),
+    ],
+    most: 10,
+    ..CASE
+};
 
-// Returns the pier, a table, a certificate and a zone.
-fn all_held(alloc: Global) -> Result<Vec<NamedFile>, AllocError> {
-    let mut held = held_with(alloc, 0, "")?;
-    for &(name, text) in MORE {
-        hold(alloc, &mut held, name, text.as_bytes())?;
-    }
-    Ok(held)
-}
-
-// Runs `words` over all files. A write takes at most ten bytes.
-fn run_words(alloc: Global, words: &str, fails: Fails) -> Result<Outcome, AllocError> {
-    run_over(alloc, all_held(alloc)?, words, 10, fails)
-}
-
-fn assert_words(
-    rt: &impl Abort,
-    alloc: Global,
-    words: &str,
-    fails: Fails,
-    expected: (u8, &str, &str),
-) -> Result<(), AllocError> {
-    let outcome = run_words(alloc, words, fails)?;
-    assert_outcome(rt, &outcome, words, expected);
-    Ok(())
-}
-
-// Asserts the output of a run whose call `files` to the files fails, if it makes so many.
-fn assert_call(
-    rt: &impl Abort,
-    alloc: Global,
-    &(words, calls, text): &(&str, u64, &str),
+// A run whose call `files` to the files fails, if it makes so many.
+fn failing_call(
+    &(words, calls, out): &(&'static str, u64, &'static str),
     files: u64,
-) -> Result<(), AllocError> {
+) -> Case<'static> {
     let fails = Fails { files, ..NONE };
-    if files <= calls {
-        return assert_words(rt, alloc, words, fails, (6, "", "read fault\n"));
+    let (status, out, err) = if files <= calls {
+        (6, "", "read fault\n")
+    } else {
+        (0, out, "")
+    };
+    Case {
+        fails,
+        words,
+        status,
+        out,
+        err,
+        ..ALL
     }
-    assert_words(rt, alloc, words, fails, (0, text, ""))
 }
 
 #[test]
 fn each_call_of_the_files_may_fail(rt: HostRuntime) -> Result<(), Fail> {
-    for case in WHOLE {
+    for row in WHOLE {
         for files in 1..8 {
-            assert_call(&rt, rt.alloc(), case, files)?;
+            judge(&rt, rt.alloc(), &failing_call(row, files))?;
         }
     }
     Ok(())
@@ -119,98 +104,101 @@ fn each_call_of_the_files_may_fail(rt: HostRuntime) -> Result<(), Fail> {
 // or none if the first write failed.
 fn assert_cut(rt: &impl Abort, out: &[u8], text: &[u8], before: Option<usize>, case: &str) {
     assert_holds(rt, out.len() < text.len() && text.starts_with(out), case);
-    match before {
-        Some(before) => {
-            let is_more = out.len() > before && out.len() - before <= 10;
-            assert_holds(rt, is_more, case);
-        }
-        None => assert_count(rt, out.len(), 0, case),
-    }
+    let is_next = match before {
+        Some(before) => out.len() > before && out.len() - before <= 10,
+        None => out.is_empty(),
+    };
+    assert_holds(rt, is_next, case);
 }
 
-// Asserts the outcome of a run with a write that fails, and returns the number of bytes written
+// Asserts what a run with a write that fails has left, and returns the number of bytes written
 // before it: None if no write failed.
 fn written_in(
     rt: &impl Abort,
-    outcome: &Outcome,
-    (words, text): (&str, &str),
+    status: u8,
+    desk: &Desk,
+    case: &Case<'_>,
     before: Option<usize>,
 ) -> Option<usize> {
-    if outcome.status.number() == 0 {
-        assert_outcome(rt, outcome, words, (0, text, ""));
+    let out = desk.out.bytes();
+    if status == 0 {
+        assert_bytes(rt, out, case.out.as_bytes(), case.words);
         return None;
     }
-    let out = outcome.left.out.bytes();
-    assert_cut(rt, out, text.as_bytes(), before, words);
-    assert_count(rt, usize::from(outcome.status.number()), 7, words);
-    assert_bytes(rt, outcome.left.err.bytes(), b"write fault\n", words);
+    assert_cut(rt, out, case.out.as_bytes(), before, case.words);
+    assert_count(rt, usize::from(status), 7, case.words);
+    assert_bytes(rt, desk.err.bytes(), b"write fault\n", case.words);
     Some(out.len())
 }
 
 fn written_before(
     rt: &impl Abort,
     alloc: Global,
-    (words, text): (&str, &str),
-    fails: Fails,
+    case: &Case<'_>,
     before: Option<usize>,
 ) -> Result<Option<usize>, AllocError> {
-    let outcome = run_words(alloc, words, fails)?;
-    Ok(written_in(rt, &outcome, (words, text), before))
+    let mut desk = desk_of(alloc, case)?;
+    let status = run_case(alloc, case, &mut desk)?;
+    Ok(written_in(rt, status, &desk, case, before))
+}
+
+fn fail_each_write(
+    rt: &impl Abort,
+    alloc: Global,
+    &(words, _, text): &(&'static str, u64, &'static str),
+) -> Result<(), AllocError> {
+    let mut before = None;
+    for out in 1..100 {
+        let fails = Fails { out, ..NONE };
+        let case = Case {
+            fails,
+            words,
+            out: text,
+            ..ALL
+        };
+        before = written_before(rt, alloc, &case, before)?;
+        if before.is_none() {
+            return Ok(());
+        }
+    }
+    assert_holds(rt, false, words);
+    Ok(())
 }
 
 #[test]
 fn each_write_may_fail(rt: HostRuntime) -> Result<(), Fail> {
-    for &(words, _, text) in WHOLE {
-        let mut before = None;
-        for out in 1..100 {
-            let fails = Fails { out, ..NONE };
-            before = written_before(&rt, rt.alloc(), (words, text), fails, before)?;
-            if before.is_none() {
-                break;
-            }
-        }
-        assert_holds(&rt, before.is_none(), words);
+    for row in WHOLE {
+        fail_each_write(&rt, rt.alloc(), row)?;
     }
     Ok(())
 }
 
-// Asserts what a run has left if `err` failed after ten times `taken` bytes of its line.
-fn assert_front(
-    rt: &impl Abort,
-    outcome: &Outcome,
-    &(words, _, status, line): &(&str, u64, u8, &str),
+// A run whose line is cut: `err` fails after ten times `taken` bytes of it.
+fn cut_line(
+    &(words, out, status, err): &(&'static str, u64, u8, &'static str),
     taken: u8,
-) {
-    let front = line.len().min(usize::from(taken) * 10);
-    let seen = usize::from(outcome.status.number());
-    assert_count(rt, seen, usize::from(status), words);
-    assert_count(rt, outcome.left.out.bytes().len(), 0, words);
-    assert_bytes(
-        rt,
-        outcome.left.err.bytes(),
-        &line.as_bytes()[..front],
+) -> Case<'static> {
+    Case {
+        fails: Fails {
+            out,
+            err: u64::from(taken) + 1,
+            ..NONE
+        },
         words,
-    );
-}
-
-fn assert_line_cut(
-    rt: &impl Abort,
-    alloc: Global,
-    case: &(&str, u64, u8, &str),
-    taken: u8,
-) -> Result<(), AllocError> {
-    let (out, err) = (case.1, u64::from(taken) + 1);
-    let outcome = run_words(alloc, case.0, Fails { out, err, ..NONE })?;
-    assert_front(rt, &outcome, case, taken);
-    Ok(())
+        status,
+        out: "",
+        err,
+        most_err: usize::from(taken) * 10,
+        ..ALL
+    }
 }
 
 #[test]
 fn a_line_that_fails_changes_no_status(rt: HostRuntime) -> Result<(), Fail> {
-    for case in LINES {
+    for row in LINES {
         // a line has at most 90 bytes
         for taken in 0..10_u8 {
-            assert_line_cut(&rt, rt.alloc(), case, taken)?;
+            judge(&rt, rt.alloc(), &cut_line(row, taken))?;
         }
     }
     Ok(())

@@ -1,30 +1,18 @@
-//! Files beside the harmonic constants: the first fault in their order. Expected values are those
-//! of an independent program.
+//! Files beside the harmonic constants, and reports: the first fault in their order. Expected
+//! values are those of an independent program.
 
-/// The number of a line of `pier.txt` and its text, the table `o.csv` and the file `zone` if they
-/// exist, the arguments, the call of the clock that fails, and the status and the line that follow.
-pub struct FileCase {
-    pub line: usize,
-    pub text: &'static str,
-    pub offsets: Option<&'static str>,
-    pub zone: Option<&'static str>,
-    pub words: &'static str,
-    pub clock_fails: u64,
-    pub status: u8,
-    pub line_printed: &'static str,
-}
+use super::{CASE, Case, Fails, NONE, Source};
+use texts_for_tests::PIER;
+
+pub const NO_CLOCK: Fails = Fails { clock: 1, ..NONE };
+
+pub const NO_FILE: Fails = Fails { files: 1, ..NONE };
 
 const OFFSETS: &str =
     "predict|file=pier.txt|offsets=o.csv|station=Lost|begin=2000-01-10T00:00Z|end=2000-01-11T00:00Z";
 
 const ZONE: &str =
     "predict|file=pier.txt|zone=@zone|station=Pier|begin=2000-01-10T00:00Z|end=2000-01-11T00:00Z";
-
-/// A file that is too long, its number of bytes, the arguments, and the line that follows.
-pub const FILE_LIMITS: &[(&str, usize, &str, &str)] = &[
-    ("o.csv", 67_108_865, OFFSETS, "offsets: too long\n"),
-    ("zone", 1_048_577, ZONE, "zone: too long\n"),
-];
 
 const BOTH: &str =
     "heights|file=pier.txt|zone=@zone|offsets=o.csv|station=Pier|begin=2000-01-10T00:00Z|end=2000-01-11T00:00Z";
@@ -39,85 +27,138 @@ const TABLE: &str =
 const SHORT: &str =
     "name,reference,high_add,low_add,high_times,low_times,high_plus,low_plus\nDock,Pier,0:30,-0:10,1.1,0.9,0.1\n";
 
-const CASE: FileCase = FileCase {
-    line: 0,
-    text: "",
-    offsets: None,
-    zone: None,
-    words: OFFSETS,
-    clock_fails: 0,
-    status: 6,
-    line_printed: "read fault\n",
-};
-
-pub const FILE_CASES: &[FileCase] = &[
-    CASE,
+/// Files beside the harmonic constants: the first fault in their order.
+pub static FILES: [Case<'static>; 12] = [
+    Case {
+        words: OFFSETS,
+        status: 6,
+        out: "",
+        err: "read fault\n",
+        ..CASE
+    },
     // the form of the first file is checked before the table is read
-    FileCase {
-        line: 9,
-        text: "2",
+    Case {
+        file: Source::Line(PIER, 9, "2"),
+        words: OFFSETS,
         status: 3,
-        line_printed: "file: line 9: years differ (6)\n",
+        out: "",
+        err: "file: line 9: years differ (6)\n",
         ..CASE
     },
-    FileCase {
-        offsets: Some(""),
+    Case {
+        more: &[("o.csv", Source::Line("", 0, ""))],
+        words: OFFSETS,
         status: 3,
-        line_printed: "offsets: row 1: bad header (1)\n",
+        out: "",
+        err: "offsets: row 1: bad header (1)\n",
         ..CASE
     },
-    FileCase {
-        offsets: Some(SHORT),
+    Case {
+        more: &[("o.csv", Source::Line(SHORT, 0, ""))],
+        words: OFFSETS,
         status: 3,
-        line_printed: "offsets: row 2: field count (2)\n",
+        out: "",
+        err: "offsets: row 2: field count (2)\n",
         ..CASE
     },
-    FileCase {
-        offsets: Some(TABLE),
+    Case {
+        more: &[("o.csv", Source::Line(TABLE, 0, ""))],
+        words: OFFSETS,
         status: 4,
-        line_printed: "refused: no reference Nowhere\n",
+        out: "",
+        err: "refused: no reference Nowhere\n",
         ..CASE
     },
-    FileCase {
+    Case {
         words: ZONE,
+        status: 6,
+        out: "",
+        err: "read fault\n",
         ..CASE
     },
-    FileCase {
-        zone: Some("no zone"),
+    Case {
+        more: &[("zone", Source::Line("no zone", 0, ""))],
         words: ZONE,
         status: 3,
-        line_printed: "zone: bad zone file\n",
+        out: "",
+        err: "zone: bad zone file\n",
         ..CASE
     },
     // the table is read before the zone
-    FileCase {
-        offsets: Some(SHORT),
+    Case {
+        more: &[("o.csv", Source::Line(SHORT, 0, ""))],
         words: BOTH,
         status: 3,
-        line_printed: "offsets: row 2: field count (2)\n",
+        out: "",
+        err: "offsets: row 2: field count (2)\n",
         ..CASE
     },
-    FileCase {
-        offsets: Some(TABLE),
+    Case {
+        more: &[("o.csv", Source::Line(TABLE, 0, ""))],
         words: BOTH,
+        status: 6,
+        out: "",
+        err: "read fault\n",
         ..CASE
     },
-    FileCase {
-        offsets: Some(TABLE),
+    Case {
+        more: &[("o.csv", Source::Line(TABLE, 0, ""))],
         words: CHECK,
+        status: 6,
+        out: "",
+        err: "read fault\n",
         ..CASE
     },
-    FileCase {
+    Case {
+        fails: NO_CLOCK,
         words: CLOCK,
-        clock_fails: 1,
+        status: 6,
+        out: "",
+        err: "read fault\n",
         ..CASE
     },
     // the clock is read before the station is found
-    FileCase {
-        line: 13,
-        text: "Quay",
+    Case {
+        file: Source::Line(PIER, 13, "Quay"),
+        fails: NO_CLOCK,
         words: CLOCK,
-        clock_fails: 1,
+        status: 6,
+        out: "",
+        err: "read fault\n",
+        ..CASE
+    },
+];
+
+/// Files as long as they may be, and longer ones.
+pub static LIMITS: [Case<'static>; 4] = [
+    Case {
+        file: Source::Behind(67_108_864, PIER),
+        words: "stations|file=pier.txt",
+        out: "Ref feet Pier\n",
+        ..CASE
+    },
+    Case {
+        file: Source::Behind(67_108_865, PIER),
+        words: "stations|file=pier.txt",
+        status: 3,
+        out: "",
+        err: "file: too long\n",
+        ..CASE
+    },
+    Case {
+        more: &[("o.csv", Source::Behind(67_108_865, ""))],
+        words: OFFSETS,
+        status: 3,
+        out: "",
+        err: "offsets: too long\n",
+        ..CASE
+    },
+    Case {
+        more: &[("zone", Source::Behind(1_048_577, ""))],
+        words: ZONE,
+        status: 3,
+        out: "",
+        err: "zone: too long\n",
         ..CASE
     },
 ];

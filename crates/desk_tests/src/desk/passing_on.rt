@@ -24,30 +24,33 @@ const PASSED_ON: &[(&str, &str, &str)] = &[
     ),
 ];
 
-// Runs the arguments that certify, and returns the pier's file and the certificate.
-fn held_by(rt: &impl Abort, alloc: Global, certify: &str) -> Result<Vec<NamedFile>, AllocError> {
-    let made = run_over(alloc, held_with(alloc, 0, "")?, certify, 10, NONE)?;
-    assert_count(rt, usize::from(made.status.number()), 0, certify);
-    held_beside(alloc, "cert", made.left.out.bytes())
-}
-
-fn assert_accepted(
+// Asserts that the output of `certify` is accepted by `check`.
+fn pass_on(
     rt: &impl Abort,
     alloc: Global,
-    held: Vec<NamedFile>,
-    check: &str,
-    text: &str,
+    &(certify, check, text): &(&str, &str, &str),
 ) -> Result<(), AllocError> {
-    let outcome = run_over(alloc, held, check, 10, NONE)?;
-    assert_outcome(rt, &outcome, check, (0, text, ""));
-    Ok(())
+    let case = Case {
+        words: certify,
+        most: 10,
+        ..CASE
+    };
+    let mut desk = desk_of(alloc, &case)?;
+    let status = run_case(alloc, &case, &mut desk)?;
+    assert_count(rt, usize::from(status), 0, certify);
+    let checked = Case {
+        more: &[("cert", Source::Bytes(desk.out.bytes()))],
+        words: check,
+        out: text,
+        ..case
+    };
+    judge(rt, alloc, &checked)
 }
 
 #[test]
 fn what_was_written_is_accepted(rt: HostRuntime) -> Result<(), Fail> {
-    for &(certify, check, text) in PASSED_ON {
-        let held = held_by(&rt, rt.alloc(), certify)?;
-        assert_accepted(&rt, rt.alloc(), held, check, text)?;
+    for row in PASSED_ON {
+        pass_on(&rt, rt.alloc(), row)?;
     }
     Ok(())
 }
