@@ -77,17 +77,6 @@ read_then a b failed before between after first second = record {
   faults = second.faults ∙ ap (faults_after failed) first.faults;
 }
 
--- reading within an allowance is within any larger one
-pub read_more : (a b : Allowance) (failed : Bool) (before after : FilesState)
-    → ReadWithin a failed before after → ReadWithin (both a b) failed before after
-read_more a b failed before after read = record {
-  store = read.store;
-  opens = omega (arith, read.opens);
-  ends = omega (arith, read.ends);
-  bytes = omega (arith, read.bytes);
-  faults = read.faults;
-}
-
 -- more than the limit was read of a file that was opened
 pub too_long_came : (limit : ℕ) (name bytes : List ℕ) (is_ended : Bool) → limit < length bytes
     → whole limit (as_came limit (record { name = name; is_open = true; bytes = bytes; is_ended = is_ended })) ≡ Err TooLong
