@@ -1,7 +1,7 @@
 use Rattle.std.proofs.lemmas.Int.{ints}
 use Rattle.std.proofs.Common.{◌≡◌, refl, sym, ◌∙◌, ap, arith}
 use Rattle.std.proofs.lemmas.Result.{err_from_is_err_and}
-use Rattle.station_curve.specs.Curves.{Prediction, prediction_of}
+use Rattle.station_curve.specs.Curves.{Prediction, prediction_of, prediction_over}
 use Rattle.station_span.proofs.FoundLemmas.{HasCurve, curve_allowed, curve_excused, excused_by, refused_span, refused_curve, refused_length, refused_mark, found_whole}
 use Rattle.station_span.proofs.SiteLemmas.{span_reached}
 use Rattle.station_span.proofs.SpanLemmas.{has_offsets}
@@ -93,9 +93,11 @@ invariant_of-result c =
     let station : c.in_ok-curve.curve.station ≡ c.args.station.now = ap (λ (p : Prediction). p.station) is in
     record {
       unit = rw station refl;
-      valid = rw (book, station, c.asked-asked.ensures.exact) found;
+      valid = rw (is, c.asked-asked.ensures.exact) (rw is at found);
       looked = rw c.asked-asked.ensures.exact looked;
-      alone = rw (book, station) is;
+      alone = is
+          ∙ ap (λ b. prediction_over b c.args.station.now c.in_ok-span.span.begin c.in_ok-span.span.end) (sym book)
+          ∙ ap (λ s. prediction_over c.in_ok-curve.curve.book s c.in_ok-span.span.begin c.in_ok-span.span.end) (sym station);
     }
 
 pub returns-clause-exact : goal.returns-clause-exact
