@@ -1,6 +1,6 @@
 //! Levels and slopes of a station.
 
-ghost use Rattle.std.specs.Prelude.{◌≡◌, ◌≤ℤ◌, length, IsTrue, IfSome};
+ghost use Rattle.std.specs.Prelude.{◌≡◌, pos, length, IsTrue, IfSome};
 ghost use Rattle.harmonics_book.specs.Books.{IsBook};
 ghost use Rattle.station_curve.specs.Curves.{IsPredicted};
 ghost use Rattle.year_blend.specs.Places.{InDomain};
@@ -52,15 +52,28 @@ pub fn curve_of(alloc: Global, file: &[u8]) -> Result<StationCurve, CurveFault> 
     }
 }
 
-// Returns true if the minutes from `first` to `last` are of the book's years, or the first one after them.
-fn has_minutes(book: &Book, first: i64, last: i64) -> bool
-    requires { IsBook book.now }
-    ensures first { IsTrue result → InDomain book.now.first_year book.now.years first }
-    ensures last { IsTrue result → InDomain book.now.first_year book.now.years last }
-    ensures forward { IsTrue result → first ≤ℤ last }
+// Returns true if the minute is of the years 1999 to 2001, or the first one after them.
+fn is_in_file(m: i64) -> bool
+    ensures { IsTrue result → InDomain (pos 1999) 3 m }
 {
-    let end = year_start(book.first_year + book.years as i32);
-    year_start(book.first_year) <= first && first <= last && last <= end
+    year_start(1999) <= m && m <= year_start(2002)
+}
+
+// Returns the curve of the one station of a book of the years 1999 to 2001.
+fn minutes_of(alloc: Global, book: &Book, first: i64, last: i64) -> Result<StationCurve, CurveFault>
+    requires book { IsBook book.now }
+    requires one { length book.now.stations ≡ 1 }
+{
+    if book.first_year != 1999 || book.years != 3 {
+        return Err(CurveFault::NoMemory);
+    }
+    if !is_in_file(first) || !is_in_file(last) {
+        return Err(CurveFault::NoMemory);
+    }
+    if last < first {
+        return Err(CurveFault::NoMemory);
+    }
+    StationCurve::over(alloc, book, 0, first, last)
 }
 
 // Returns the same curve for the minutes from `first` to `last`.
@@ -71,10 +84,8 @@ fn curve_over(
     last: i64,
 ) -> Result<StationCurve, CurveFault> {
     match small_book(alloc, file) {
-        Some(book) if has_minutes(&book, first, last) => {
-            StationCurve::over(alloc, &book, 0, first, last)
-        }
-        _ => Err(CurveFault::NoMemory),
+        Some(book) => minutes_of(alloc, &book, first, last),
+        None => Err(CurveFault::NoMemory),
     }
 }
 
