@@ -1,4 +1,4 @@
-//! Requests, and the faults of command lines and queries that are none.
+//! Requests, and the faults of command lines and queries that aren't requests.
 
 use crate::asserts::assert_holds;
 use decimal_text::{Text, Words};
@@ -9,7 +9,7 @@ use question::{
 };
 use std::alloc::{AllocError, Global};
 
-// Arguments, separated by `|`, and their fault.
+/// Arguments, separated by `|`, and their fault.
 const LINES: &[(&str, Option<AskFault>)] = &[
     (
         "predict|file=pier.txt|station=Pier|begin=2000-01-10T00:00Z|end=2000-01-11T00:00Z",
@@ -161,7 +161,7 @@ const LINES: &[(&str, Option<AskFault>)] = &[
     ("predict |file=f", Some(AskFault::UnknownCommand)),
 ];
 
-// The command and the pairs of a query in the same form, and their fault.
+/// The command and the pairs of a query in the same form, and their fault.
 const QUERIES: &[(&str, Option<AskFault>)] = &[
     (
         "predict|station=Pier|begin=2000-01-10T00:00Z|end=2000-01-11T00:00Z",
@@ -225,7 +225,7 @@ fn words_of(alloc: Global, line: &str) -> Result<Words, AllocError> {
     Ok(Words::from_vec(words))
 }
 
-/// Returns the arguments in `line`, as those of `origin`.
+/// Returns the arguments in `line` as arguments of `origin`.
 fn pairs_of(alloc: Global, origin: Origin, line: &str) -> Result<Pairs, AllocError> {
     let words = words_of(alloc, line)?;
     let mut pairs = pairs_of_words(alloc, &words)?;
@@ -275,7 +275,7 @@ fn no_command_is_reported(rt: HostRuntime) {
     assert_holds(&rt, found == Some(AskFault::NoCommand), "no command");
 }
 
-// The values of a question: an empty name for none, and the sheets as their number.
+/// The values of a question: an empty name for none, and the sheets as their number.
 struct Values {
     command: Command,
     file: &'static str,
@@ -294,7 +294,7 @@ struct Values {
     sheets: usize,
 }
 
-// What a question has if its arguments don't say otherwise.
+/// The values of a question if its arguments give none.
 const USUAL: Values = Values {
     command: Command::Predict,
     file: "f",
@@ -313,7 +313,7 @@ const USUAL: Values = Values {
     sheets: 0,
 };
 
-// Arguments, and the values of the question.
+/// Arguments, and the values of the question.
 const VALUES: &[(&str, Values)] = &[
     (
         "predict|file=pier.txt|station=Pier|begin=2000-01-10T00:00Z|end=2000-01-11T00:00Z",
