@@ -32,7 +32,7 @@ use tide_fault::Refusal;
 pub struct FoundEvents {
     pub units: Units,
     pub events: Events,
-    /// The number of cells in which the events were found, over all tracks.
+    /// The number of cells of all tracks over the evaluated minutes of the reference.
     pub cells: u64,
 }
 
