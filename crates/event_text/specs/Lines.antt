@@ -43,6 +43,6 @@ pub record IsListed (units : Units) (event : Event) : Type 0 where
   pub minute : InZoneYears event.minute
   pub named : IsTrue (has_word units event.kind)
 
--- an event's line by the clock of a zone
+-- the line of an event in the local time of a zone
 abbrev pub event_line_in : Zone → Units → Event → List ℕ
 event_line_in zone units event = event_line_of (local_in zone event.minute) event units
