@@ -30,6 +30,8 @@ mod offsets;
 #[cfg(test)]
 mod peak_texts;
 #[cfg(test)]
+mod question_values;
+#[cfg(test)]
 mod questions;
 #[cfg(test)]
 mod samples;
