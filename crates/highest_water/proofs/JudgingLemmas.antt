@@ -93,15 +93,6 @@ verdict-inside c a n peak whole inside =
     let all : (all_minutes peak.cells == n) ≡ true = (Decides-eqb (all_minutes peak.cells) n).1 whole in
     rw (all, inside) refl
 
-pub is_inside-before : (at begin end : ℤ) → begin ≤ℤ end → at <ℤ begin → is_inside at begin (unsigned_abs (end -ℤ begin)) ≡ false
-is_inside-before at begin end forward early = grind (arith, ints)
-
-pub is_inside-after : (at begin end : ℤ) → begin ≤ℤ end → end ≤ℤ at → is_inside at begin (unsigned_abs (end -ℤ begin)) ≡ false
-is_inside-after at begin end forward late = grind (arith, ints)
-
-pub is_inside-within : (at begin end : ℤ) → begin ≤ℤ at → at <ℤ end → is_inside at begin (unsigned_abs (end -ℤ begin)) ≡ true
-is_inside-within at begin end from before = grind (arith, ints)
-
 -- the number of evaluations after i of n cells, and the number of the next cell
 pub few-counted : (count start i n : ℕ) → count ≡ start + i + 1 → i < n → start + n ≤ 2 ^ 62 → count < 2 ^ 63
 few-counted count start i n counted some few = omega arith
