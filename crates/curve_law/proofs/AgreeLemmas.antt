@@ -2,12 +2,11 @@
 use Rattle.std.proofs.Common.{◌≡◌, ℕ, zero, suc, ◌-◌, ◌/◌, ℤ, pos, ◌+ℤ◌, List, [], ◌∷◌, ◌++◌, refl, sym, ap, ◌∙◌}
 use Rattle.curve_law.specs.declared.cell.Cell.{Cell}
 use Rattle.curve_law.specs.declared.cell.Cell.TheVariants.{Quiet, Still, Turn}
-use Rattle.curve_law.specs.declared.verdict.Verdict.{Verdict}
 use Rattle.curve_law.specs.Meaning.{Meaning, at_minutes}
 use Rattle.curve_law.specs.Cells.{minutes_of}
 use Rattle.curve_law.specs.declared.quiet.TheConstants.{MOST_MINUTES}
 use Rattle.curve_law.specs.Cover.{is_quiet, split_within, split, cover_within, cover}
-use Rattle.curve_law.specs.Verdicts.{cell_verdict, cells_verdict, or_next, verdict}
+use Rattle.curve_law.specs.Verdicts.{cell_verdict, cells_verdict, verdict}
 use Rattle.curve_law.proofs.CoverLemmas.{append-same, halved, cover_within-step, split_within-step}
 
 split_within-same : (depth : ℕ) (c : Meaning) (first last a : ℤ) (n : ℕ)

@@ -1,10 +1,9 @@
 -- A station that was found for a highest water.
-use Rattle.std.proofs.Common.{◌≡◌, ℕ, ℤ, pos, ◌+ℤ◌, ◌-ℤ◌, ◌≤ℤ◌, ◌<ℤ◌, ◌≤◌, unsigned_abs, Bool, true, false, List, None, Ok, Err, refl, subst, ap, ◌∙◌, arith}
+use Rattle.std.proofs.Common.{◌≡◌, ℕ, ℤ, pos, ◌+ℤ◌, ◌-ℤ◌, ◌≤ℤ◌, ◌<ℤ◌, ◌≤◌, true, false, List, None, Ok, refl, subst, ◌∙◌, arith}
 use Rattle.std.specs.Bool.{IsTrue}
 use Rattle.std.proofs.lemmas.Int.{ints}
 use Rattle.cert_text.specs.Certificates.{IsStationName}
 use Rattle.curve_law.specs.Meaning.{IsLawful, IsSpan}
-use Rattle.decimal_text.specs.Expected.{Excused}
 use Rattle.harmonics_book.specs.declared.book.Book.{Book}
 use Rattle.highest_water.specs.declared.peak.Peak.{Peak}
 use Rattle.highest_water.specs.declared.verdict.PeakVerdict.TheVariants.{Accepted}
@@ -21,7 +20,6 @@ use Rattle.rate_bound.specs.Workings.MarkLaw.{mark_lawful}
 use Rattle.station_table.specs.declared.basis.Basis.{Basis}
 use Rattle.station_table.specs.Bases.{is_equal}
 use Rattle.station_table.specs.declared.offsets.Offsets.{Offsets}
-use Rattle.tide_fault.specs.declared.refusal.Refusal.{Refusal}
 use Rattle.station_span.specs.declared.asked.Asked.{Asked}
 use Rattle.station_span.specs.declared.reach.Reach.TheVariants.{Highest}
 use Rattle.station_span.specs.Levels.{level_in}
@@ -29,7 +27,6 @@ use Rattle.station_span.specs.Peaks.{first_source, highest_of, highest_site, hig
 use Rattle.station_span.specs.Sites.{Site, lacks_minute, site_in}
 use Rattle.station_span.specs.Workings.Spans.{AreMoments, IsFound}
 use Rattle.station_span.proofs.FollowLemmas.{usual_scale}
-use Rattle.station_span.proofs.FoundLemmas.{excused_then}
 use Rattle.station_span.proofs.LevelLemmas.{level_equal}
 use Rattle.decimal_text.proofs.ExpectedLemmas.{then_ok}
 use Rattle.station_span.proofs.SiteLemmas.{site_minutes, site_unmarked}

@@ -31,12 +31,10 @@ use Rattle.zone_time.specs.declared.zone.Zone.{Zone}
 use Rattle.station_span.specs.declared.asked.Asked.{Asked}
 use Rattle.station_span.specs.declared.reach.Reach.TheVariants.{Events}
 use Rattle.tide_fault.specs.declared.refusal.Refusal.{Refusal}
-use Rattle.station_cells.specs.declared.rejection.Rejection.{Rejection}
 use Rattle.tide_answer.specs.Answers.{checked, judged, version_of}
 use Rattle.tide_answer.specs.Asking.{asked_by_certificate}
 use Rattle.tide_fault.specs.Faults.{refusal_of_cert, refusal_is_out_of_memory}
 use Rattle.station_span.specs.Following.{asks_slack, slack_times, slack_plus, if_asked, followed_by, events_of}
-use Rattle.station_cells.specs.Rejections.{rejection_of}
 use Rattle.station_span.specs.Sites.{Site, site_in}
 use Rattle.station_cells.specs.Rejections.{HasFewCells}
 use Rattle.tide_answer.specs.Workings.Certifying.{judged_in, rejection_in}

@@ -10,7 +10,6 @@ use Rattle.station_span.specs.Workings.Curves.{followed_over}
 use Rattle.station_span.specs.Workings.Finds.{followed_at, site_of}
 use Rattle.station_span.proofs.FreshLemmas.{fresh_turn, fresh_if}
 use Rattle.tide_answer.specs.Answers.{version_of}
-use Rattle.tide_answer.specs.Asking.{asked_by_certificate}
 use Rattle.tide_answer.proofs.CheckLemmas.{span_in}
 use Rattle.tide_answer.proofs.certificate_rejection.find_rejection.Goals as goal
 
