@@ -17,7 +17,7 @@ use Rattle.curve_law.specs.Verdicts.{place_of, same_kind, step_verdict, cell_ver
 use Rattle.curve_law.proofs.TrackLemmas.{plain_list-zero, plain_list-one, plain_list-add, plain_list-none}
 use Rattle.curve_law.proofs.QuietLemmas.{quiet-no_event}
 
-kind_at : ℕ → Kind
+abbrev kind_at : ℕ → Kind
 kind_at zero = High
 kind_at (suc zero) = Low
 kind_at (suc (suc zero)) = FloodBegins

@@ -100,9 +100,14 @@ pub rejection_same : (first last : ℤ) (f : Followed) (s : Span) (t : Tracks) �
 }) s t ≡ rejection_of f s t
 unfolding rejection_of
 rejection_same first last f s t =
-    rw (
-      some_same (at_minutes first last) f.slack,
-      verdict-same f.turn first last s.begin (span_minutes s) t.turn,
-      fault_same first last s Slack f.slack t.slack,
-      fault_same first last s Mark f.mark t.mark,
-    ) refl
+    let fault : Bool → Option Rejection → Option Rejection → Option Rejection → Option Rejection =
+    λ asks turn slack mark. option_or (option_or (option_or (slack_fault asks (is_some t.slack)) turn) slack) mark in
+    let turn = track_fault s Turn (Some (at_minutes first last f.turn)) (Some t.turn) in
+    let turn' = track_fault s Turn (Some f.turn) (Some t.turn) in
+    let slack = track_fault s Slack (option_map (at_minutes first last) f.slack) t.slack in
+    let slack' = track_fault s Slack f.slack t.slack in
+    let mark = track_fault s Mark (option_map (at_minutes first last) f.mark) t.mark in
+    ap (λ asks. fault asks turn slack mark) (some_same (at_minutes first last) f.slack)
+    ∙ ap (λ x. fault (is_some f.slack) x slack mark) (fault_same first last s Turn (Some f.turn) (Some t.turn))
+    ∙ ap (λ x. fault (is_some f.slack) turn' x mark) (fault_same first last s Slack f.slack t.slack)
+    ∙ ap (λ x. fault (is_some f.slack) turn' slack' x) (fault_same first last s Mark f.mark t.mark)

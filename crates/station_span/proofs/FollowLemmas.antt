@@ -23,7 +23,7 @@ use Rattle.harmonics_book.specs.declared.book.Units.TheVariants.{Feet, Meters, K
 use Rattle.event_text.specs.Lines.{IsListed}
 use Rattle.rate_bound.specs.declared.version.Version.{Version}
 use Rattle.rate_bound.specs.declared.version.Version.TheVariants.{Second}
-use Rattle.rate_bound.specs.Meanings.{turn_meaning, mark_meaning}
+use Rattle.rate_bound.specs.Meanings.{turn_meaning, mark_meaning, predicted_mark}
 use Rattle.rate_bound.specs.Scale.{IsScale}
 use Rattle.rate_bound.specs.Workings.TurnLaw.{turn_lawful}
 use Rattle.rate_bound.specs.Workings.MarkLaw.{mark_lawful}
@@ -38,8 +38,8 @@ use Rattle.station_span.specs.declared.asked.Asked.{Asked}
 use Rattle.station_span.specs.declared.reach.Reach.TheVariants.{Events}
 use Rattle.station_span.specs.Following.{asks_slack, slack_times, slack_plus, if_asked, followed, followed_by, events_of, cells_of, tracks_of}
 use Rattle.station_span.specs.Sites.{Site}
-use Rattle.station_span.specs.Workings.Curves.{HasMinutes, followed_over, over}
-use Rattle.station_span.specs.Workings.Spans.{HasLevels, IsBeside, IsFound, IsSpanInRange}
+use Rattle.station_span.specs.Workings.Curves.{HasMinutes, all_over, followed_over, mark_over, over}
+use Rattle.station_span.specs.Workings.Spans.{HasLevels, IsBeside, IsFound, IsSpanInRange, site_with}
 use Rattle.station_span.proofs.MovableLemmas.{millionths_small}
 use Rattle.station_span.proofs.SpanLemmas.{has_offsets, file_minute}
 use Rattle.station_curve.specs.Schureman.{predicted_millionths}
@@ -52,14 +52,51 @@ for_some P v holds x e = let same : v ≡ x = cc in subst P same holds
 
 -- ---- the same curves at the minutes of a prediction
 
+asked_over : (p : Prediction) (asks : Bool) (c : Meaning) → if_asked asks (over p c) ≡ option_map (over p) (if_asked asks c)
+asked_over p true c = refl
+asked_over p false c = refl
+
+marked_over : (p : Prediction) (mark : Option ℤ) (f : ℤ → Meaning)
+    → option_map (λ level. over p (f level)) mark ≡ option_map (over p) (option_map f mark)
+marked_over p None f = refl
+marked_over p (Some level) f = refl
+
+pub followed_is : (version : Version) (p : Prediction) (basis : Basis) (mark : Option ℤ)
+    → followed_over version p basis mark ≡ all_over p (followed_by version p.book (site_with basis p.station) mark)
+unfolding followed_by
+followed_is version p basis mark =
+    let marked = λ (level : ℤ). predicted_mark version p.book p.station basis.high.times basis.high.plus level false in
+    let with_slack = λ (o : Option Meaning). let f : Followed = record {
+      turn = turn_meaning version p;
+      slack = o;
+      mark = mark_over version p basis mark;
+    } in f in
+    let with_mark = λ (o : Option Meaning). let f : Followed = record {
+      turn = turn_meaning version p;
+      slack = option_map (over p) (followed_by version p.book (site_with basis p.station) mark).slack;
+      mark = o;
+    } in f in
+    ap with_slack (asked_over p (asks_slack p.station.units basis)
+    (predicted_mark version p.book p.station (slack_times basis) (slack_plus basis) (pos 0) true))
+    ∙ ap with_mark (marked_over p mark marked)
+
 cover_if_same : (p : Prediction) (s : Span) (o : Option Meaning)
     → option_map (cover_over s) (option_map (over p) o) ≡ option_map (cover_over s) o
 cover_if_same p s None = refl
 cover_if_same p s (Some c) = ap (λ (cells : List Cell). Some cells) (cover-same c p.first p.last s.begin (span_minutes s))
 
-pub covers_same : (p : Prediction) (f : Followed) (s : Span) → covers_of (followed_over p f) s ≡ covers_of f s
-covers_same p f s =
-    rw (cover-same f.turn p.first p.last s.begin (span_minutes s), cover_if_same p s f.slack, cover_if_same p s f.mark) refl
+same_tracks : (t u : Tracks) → t.turn ≡ u.turn → t.slack ≡ u.slack → t.mark ≡ u.mark
+    → record { turn = t.turn; slack = t.slack; mark = t.mark } ≡ u
+same_tracks t u turn slack mark = rw (turn, slack, mark) refl
+
+pub covers_same : (version : Version) (p : Prediction) (basis : Basis) (mark : Option ℤ) (s : Span)
+    → covers_of (followed_over version p basis mark) s
+    ≡ covers_of (followed_by version p.book (site_with basis p.station) mark) s
+covers_same version p basis mark s =
+    let f = followed_by version p.book (site_with basis p.station) mark in
+    ap (λ (g : Followed). covers_of g s) (followed_is version p basis mark)
+    ∙ same_tracks (covers_of (all_over p f) s) (covers_of f s) (cover-same f.turn p.first p.last s.begin (span_minutes s))
+    (cover_if_same p s f.slack) (cover_if_same p s f.mark)
 
 -- ---- the curves are valid over the span
 

@@ -1,16 +1,16 @@
 -- The curves of a station have the minutes of the reference that are evaluated.
-use Rattle.std.proofs.Common.{◌≡◌, ◌≤ℤ◌, List, Option, Some, None, option_map, refl, sym, ap, ◌∙◌, arith}
+use Rattle.std.proofs.Common.{◌≡◌, ◌≤ℤ◌, Option, Some, None, option_map, refl, sym, ap, ◌∙◌, arith}
 use Rattle.std.proofs.lemmas.Int.{ints}
 use Rattle.std.specs.Option.{ForSome}
-use Rattle.curve_law.specs.declared.cell.Cell.{Cell}
 use Rattle.curve_law.specs.Meaning.{Meaning}
-use Rattle.curve_law.proofs.AgreeLemmas.{cover-same}
-use Rattle.event_list.specs.Events.{cover_over, span_minutes}
 use Rattle.curve_law.specs.CurveStates.{CurveState}
 use Rattle.event_list.specs.FreshCurves.{IsFreshOver}
+use Rattle.rate_bound.specs.declared.version.Version.{Version}
 use Rattle.station_curve.specs.Curves.{Prediction}
 use Rattle.station_span.specs.declared.found_station.FoundStation.{FoundStation}
-use Rattle.station_span.specs.Workings.Curves.{over}
+use Rattle.station_span.specs.Following.{asks_slack}
+use Rattle.station_span.specs.Workings.Curves.{mark_over, over, slack_over}
+use Rattle.station_span.proofs.FollowLemmas.{for_asked, for_marked}
 
 fresh_at : (f : FoundStation) (c : CurveState)
     → (c.facts.meaning.first ≡ f.curve.first) × (c.facts.meaning.last ≡ f.curve.last) → c.count ≡ 0 → IsFreshOver f.span c
@@ -26,27 +26,30 @@ pub fresh_turn : (f : FoundStation) (c : CurveState) (d : Meaning) → c.facts.m
     → IsFreshOver f.span c
 fresh_turn f c d same fresh = fresh_at f c (ap (λ (m : Meaning). m.first) same, ap (λ (m : Meaning). m.last) same) fresh
 
-some_over : (p : Prediction) (o : Option Meaning) (c : Meaning) → option_map (over p) o ≡ Some c
-    → (c.first ≡ p.first) × (c.last ≡ p.last)
-some_over p None c is = absurd cc
-some_over p (Some d) c is =
-    let same : c ≡ over p d = cc in (ap (λ (m : Meaning). m.first) same, ap (λ (m : Meaning). m.last) same)
+abbrev IsOver : Prediction → Meaning → Type 0
+IsOver p c = (c.first ≡ p.first) × (c.last ≡ p.last)
 
 -- a curve that may not be followed
-pub fresh_if : {C : Type 0} (f : FoundStation) (state : C → CurveState) (curve : Option C) (o : Option Meaning)
-    → option_map (λ c. (state c).facts.meaning) curve ≡ option_map (over f.curve) o
+fresh_if : {C : Type 0} (f : FoundStation) (state : C → CurveState) (curve : Option C) (o : Option Meaning)
+    → option_map (λ c. (state c).facts.meaning) curve ≡ o → ForSome o (IsOver f.curve)
     → ForSome curve (λ c. (state c).count ≡ 0) → ForSome curve (λ c. IsFreshOver f.span (state c))
-fresh_if f state curve o same fresh x is =
-    fresh_at f (state x)
-    (some_over f.curve o (state x).facts.meaning (sym same ∙ ap (option_map (λ c. (state c).facts.meaning)) is)) (fresh x is)
+fresh_if f state curve o same over fresh x is =
+    fresh_at f (state x) (over (state x).facts.meaning (sym same ∙ ap (option_map (λ c. (state c).facts.meaning)) is)) (fresh x is)
 
-pub covers_if : {C : Type 0} (f : FoundStation) (state : C → CurveState) (curve : Option C) (o : Option Meaning)
-    → option_map (λ c. (state c).facts.meaning) curve ≡ option_map (over f.curve) o
-    → option_map (λ c. cover_over f.span (state c).facts.meaning) curve ≡ option_map (cover_over f.span) o
-covers_if f state None None same = refl
-covers_if f state None (Some d) same = absurd (cc)
-covers_if f state (Some c) None same = absurd (cc)
-covers_if f state (Some c) (Some d) same =
-    let here : (state c).facts.meaning ≡ over f.curve d = cc in
-    ap (λ (cells : List Cell). Some cells)
-    (ap (cover_over f.span) here ∙ cover-same d f.curve.first f.curve.last f.span.begin (span_minutes f.span))
+pub fresh_slack : {C : Type 0} (f : FoundStation) (version : Version) (state : C → CurveState) (curve : Option C)
+    → option_map (λ c. (state c).facts.meaning) curve ≡ slack_over version f.curve f.basis
+    → ForSome curve (λ c. (state c).count ≡ 0) → ForSome curve (λ c. IsFreshOver f.span (state c))
+fresh_slack f version state curve same fresh =
+    fresh_if f state curve (slack_over version f.curve f.basis) same
+    (for_asked (IsOver f.curve) (asks_slack f.curve.station.units f.basis) _ (refl, refl)) fresh
+
+pub fresh_mark : {C : Type 0} (f : FoundStation) (version : Version) (state : C → CurveState) (curve : Option C)
+    → option_map (λ c. (state c).facts.meaning) curve ≡ mark_over version f.curve f.basis f.asked.mark
+    → ForSome curve (λ c. (state c).count ≡ 0) → ForSome curve (λ c. IsFreshOver f.span (state c))
+fresh_mark f version state curve same fresh =
+    fresh_if f state curve (mark_over version f.curve f.basis f.asked.mark) same
+    (for_marked (IsOver f.curve) f.asked.mark _ (λ level is. (refl, refl))) fresh
+
+pub option_map-both : {A B C : Type 0} (f : B → C) (g : A → B) (o : Option A) → option_map (λ x. f (g x)) o ≡ option_map f (option_map g o)
+option_map-both f g None = refl
+option_map-both f g (Some x) = refl

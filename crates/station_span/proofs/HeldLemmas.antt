@@ -17,11 +17,11 @@ use Rattle.station_span.specs.declared.reach.Reach.TheVariants.{Events, Levels, 
 use Rattle.station_span.specs.Following.{cells_of, events_of, tracks_of}
 use Rattle.station_span.specs.Peaks.{first_source, highest_of, highest_verdict, level_curve, minute_count}
 use Rattle.station_span.specs.Sites.{reached}
-use Rattle.station_span.specs.Workings.Curves.{over}
+use Rattle.station_span.specs.Workings.Curves.{followed_over, over}
 use Rattle.station_span.specs.Workings.Finds.{AreLooked, AreReferences, HasPeak, IsLooked, IsSiteList, followed_at, site_of}
 use Rattle.station_span.specs.Workings.Peaks.{IsSourceIn}
 use Rattle.station_span.specs.Workings.Spans.{IsFound}
-use Rattle.station_span.proofs.FollowLemmas.{asked_minute, counted_cells, plain_whole, shifted_whole, site_lines, tracks_movable}
+use Rattle.station_span.proofs.FollowLemmas.{asked_minute, counted_cells, covers_same, plain_whole, shifted_whole, site_lines, tracks_movable}
 use Rattle.station_span.proofs.LevelLemmas.{within_adds, zone_minute}
 use Rattle.station_span.proofs.PeakLemmas.{some_minute}
 use Rattle.curve_law.specs.Meaning.{Meaning}
@@ -43,9 +43,11 @@ span_for f reach is = f.looked ∙ ap (λ r. reached r f.basis f.asked.begin f.a
 
 -- the tracks of the station are the cells of its curves
 pub tracks_for : (f : FoundStation) → f.reach ≡ Events
-    → covers_of (followed_at Second f) f.span ≡ tracks_of f.curve.book (site_of f) f.asked
+    → covers_of (followed_over Second f.curve f.basis f.asked.mark) f.span ≡ tracks_of f.curve.book (site_of f) f.asked
 unfolding tracks_of
-tracks_for f is = ap (λ s. covers_of (followed_at Second f) s) (span_for f Events is)
+tracks_for f is =
+    covers_same Second f.curve f.basis f.asked.mark f.span
+    ∙ ap (λ s. covers_of (followed_at Second f) s) (span_for f Events is)
 
 pub cells_for : (f : FoundStation) → cells_in (tracks_of f.curve.book (site_of f) f.asked) ≡ cells_of f.curve.book (site_of f) f.asked
 cells_for f = counted_cells f.curve.book f.asked (site_of f)

@@ -34,6 +34,7 @@ use Rattle.station_span.proofs.SpanLemmas.{moment}
 use Rattle.station_curve.specs.Curves.{IsWithinLimits, prediction_of}
 use Rattle.station_curve.proofs.Ranges.{all_minutes_valid}
 use Rattle.year_blend.specs.Places.{InDomain}
+use Rattle.year_blend.specs.Years.{year_start_of}
 
 pub some_minute : (begin end : ℤ) → lacks_minute Highest begin end ≡ false → begin <ℤ end
 unfolding lacks_minute
@@ -81,8 +82,8 @@ accepted_certificate name book asked site peak named moments is equal ok =
     let span = level_span book asked site is equal in
     let from = highest.from in
     let before = highest.before in
-    let first = span.first in
-    let last = span.last in
+    let first : year_start_of book.first_year ≤ℤ first_source site asked = span.first in
+    let last : (first_source site asked +ℤ pos (minute_count asked)) ≤ℤ year_start_of (book.first_year +ℤ pos book.years) = span.last in
     record {
       station = named;
       begin = moments.begin;

@@ -4,8 +4,7 @@ ghost use Rattle.std.specs.Prelude.{◌≡◌, option_map};
 ghost use Rattle.std.specs.Option.{ForSome};
 ghost use Rattle.rate_bound.specs.Meanings.{turn_meaning};
 ghost use Rattle.station_span.specs.Following.{asks_slack, slack_times, slack_plus};
-ghost use Rattle.station_span.specs.Workings.Curves.{over};
-ghost use Rattle.station_span.specs.Workings.Finds.{followed_at};
+ghost use Rattle.station_span.specs.Workings.Curves.{mark_over, slack_over};
 
 use crate::found_station::FoundStation;
 use curve_law::Curve;
@@ -22,10 +21,9 @@ pub fn turn_curve<'a>(found: &'a FoundStation, version: Version) -> TurnCurve<'a
 }
 
 /// Returns the curve of a current's slacks, if they are listed.
-#[tactic(auto, unfolding(crate::specs::Following::followed_by))]
 pub fn slack_curve<'a>(found: &'a FoundStation, version: Version) -> Option<MarkCurve<'a>>
     ensures meaning { option_map (λ curve. (⟦<MarkCurve<'a> as Curve>⟧.state curve).facts.meaning) result
-        ≡ option_map (over found.now.curve) (followed_at version found.now).slack }
+        ≡ slack_over version found.now.curve found.now.basis }
     ensures fresh { ForSome result (λ curve. (⟦<MarkCurve<'a> as Curve>⟧.state curve).count ≡ 0) }
 {
     let basis = &found.basis;
@@ -38,10 +36,9 @@ pub fn slack_curve<'a>(found: &'a FoundStation, version: Version) -> Option<Mark
 }
 
 /// Returns the curve of the crossings of the mark, if there is one.
-#[tactic(auto, unfolding(crate::specs::Following::followed_by))]
 pub fn mark_curve<'a>(found: &'a FoundStation, version: Version) -> Option<MarkCurve<'a>>
     ensures meaning { option_map (λ curve. (⟦<MarkCurve<'a> as Curve>⟧.state curve).facts.meaning) result
-        ≡ option_map (over found.now.curve) (followed_at version found.now).mark }
+        ≡ mark_over version found.now.curve found.now.basis found.now.asked.mark }
     ensures fresh { ForSome result (λ curve. (⟦<MarkCurve<'a> as Curve>⟧.state curve).count ≡ 0) }
 {
     match found.asked.mark {

