@@ -85,9 +85,9 @@ cover_if_same : (p : Prediction) (s : Span) (o : Option Meaning)
 cover_if_same p s None = refl
 cover_if_same p s (Some c) = ap (λ (cells : List Cell). Some cells) (cover-same c p.first p.last s.begin (span_minutes s))
 
-same_tracks : (t u : Tracks) → t.turn ≡ u.turn → t.slack ≡ u.slack → t.mark ≡ u.mark
-    → record { turn = t.turn; slack = t.slack; mark = t.mark } ≡ u
-same_tracks t u turn slack mark = rw (turn, slack, mark) refl
+same_tracks : (turn : List Cell) (slack mark : Option (List Cell)) (u : Tracks) → turn ≡ u.turn → slack ≡ u.slack
+    → mark ≡ u.mark → record { turn = turn; slack = slack; mark = mark } ≡ u
+same_tracks turn slack mark u t s m = rw (t, s, m) refl
 
 pub covers_same : (version : Version) (p : Prediction) (basis : Basis) (mark : Option ℤ) (s : Span)
     → covers_of (followed_over version p basis mark) s
@@ -95,8 +95,8 @@ pub covers_same : (version : Version) (p : Prediction) (basis : Basis) (mark : O
 covers_same version p basis mark s =
     let f = followed_by version p.book (site_with basis p.station) mark in
     ap (λ (g : Followed). covers_of g s) (followed_is version p basis mark)
-    ∙ same_tracks (covers_of (all_over p f) s) (covers_of f s) (cover-same f.turn p.first p.last s.begin (span_minutes s))
-    (cover_if_same p s f.slack) (cover_if_same p s f.mark)
+    ∙ same_tracks _ _ _ (covers_of f s) (cover-same f.turn p.first p.last s.begin (span_minutes s)) (cover_if_same p s f.slack)
+    (cover_if_same p s f.mark)
 
 -- ---- the curves are valid over the span
 
