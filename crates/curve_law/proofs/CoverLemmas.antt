@@ -21,15 +21,15 @@ halved-same c a n xs ys same = by_test (nat_le n 1)
     (λ one. rw one refl)
     (λ more. let two : 2 ≤ n = grind (arith, nat_tests) in ap (halved c a n) (same two))
 
-append-same : {A : Type 0} {xs xs' ys ys' : List A} → xs ≡ xs' → ys ≡ ys' → xs ++ ys ≡ xs' ++ ys'
+pub append-same : {A : Type 0} {xs xs' ys ys' : List A} → xs ≡ xs' → ys ≡ ys' → xs ++ ys ≡ xs' ++ ys'
 append-same e f = cc
 
-two_tests : {A : Type 0} (b q : Bool) (x y z : A) → elim b [ true ↦ x | false ↦ elim q [ true ↦ y | false ↦ z ] ] ≡ cond b x (cond q y z)
+pub two_tests : {A : Type 0} (b q : Bool) (x y z : A) → elim b [ true ↦ x | false ↦ elim q [ true ↦ y | false ↦ z ] ] ≡ cond b x (cond q y z)
 two_tests true q x y z = refl
 two_tests false true x y z = refl
 two_tests false false x y z = refl
 
-one_test : {A : Type 0} (b : Bool) (x y : A) → elim b [ true ↦ x | false ↦ y ] ≡ cond b x y
+pub one_test : {A : Type 0} (b : Bool) (x y : A) → elim b [ true ↦ x | false ↦ y ] ≡ cond b x y
 one_test true x y = refl
 one_test false x y = refl
 

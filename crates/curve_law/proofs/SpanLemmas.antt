@@ -10,6 +10,9 @@ pub record IsBetween (c : Meaning) (begin end : ℤ) : Type 0 where
   pub first : c.first ≤ℤ begin
   pub last : end ≤ℤ c.last
 
+pub as-between : (c : Meaning) (begin end : ℤ) → IsLawful c → begin ≤ℤ end → c.first ≤ℤ begin → end ≤ℤ c.last → IsBetween c begin end
+as-between c begin end lawful forward first last = record { lawful = lawful; forward = forward; first = first; last = last }
+
 pub all-of : (n : ℕ) (begin end : ℤ) → n ≡ unsigned_abs (end -ℤ begin) → begin ≤ℤ end → (end -ℤ begin) ≤ℤ pos (2 ^ 61)
     → pos (min n (2 ^ 63 - 1)) ≡ end -ℤ begin
 all-of n begin end is forward few = omega (arith, ints)

@@ -1,5 +1,5 @@
 -- Cells that are accepted, and the events that they have.
-use Rattle.std.proofs.Common.{◌≡◌, ℕ, suc, ◌==◌, ℤ, pos, ◌+ℤ◌, Bool, true, false, cond, List, [], ◌∷◌, refl, sym, arith}
+use Rattle.std.proofs.Common.{◌≡◌, ℕ, zero, suc, ◌==◌, ℤ, pos, ◌+ℤ◌, Bool, true, false, cond, List, [], ◌∷◌, refl, sym, ap, ◌∙◌, arith}
 use Rattle.std.specs.Ordering.{int_eq}
 use Rattle.std.proofs.lemmas.Bool.Decides.{nat_tests, Decides-int_eq, Decides-eqb}
 use Rattle.std.proofs.lemmas.Int.{ints}
@@ -13,47 +13,29 @@ use Rattle.curve_law.specs.Track.{has_event, event_at, plain_list}
 use Rattle.curve_law.specs.Meaning.{Meaning, IsSpan, IsLawful}
 use Rattle.curve_law.specs.Cells.{minutes_of, all_minutes, event_in, cell_events}
 use Rattle.curve_law.specs.Cover.{is_quiet}
-use Rattle.curve_law.specs.Verdicts.{same_kind, step_verdict, cell_verdict, or_next, cells_verdict, verdict}
+use Rattle.curve_law.specs.Verdicts.{place_of, same_kind, step_verdict, cell_verdict, or_next, cells_verdict, verdict}
 use Rattle.curve_law.proofs.TrackLemmas.{plain_list-zero, plain_list-one, plain_list-add, plain_list-none}
 use Rattle.curve_law.proofs.QuietLemmas.{quiet-no_event}
 
+abbrev kind_at : ℕ → Kind
+kind_at zero = High
+kind_at (suc zero) = Low
+kind_at (suc (suc zero)) = FloodBegins
+kind_at (suc (suc (suc zero))) = EbbBegins
+kind_at (suc (suc (suc (suc zero)))) = MarkRising
+kind_at (suc (suc (suc (suc (suc place))))) = MarkFalling
+
+kind_at-place : (k : Kind) → kind_at (place_of k) ≡ k
+kind_at-place High = refl
+kind_at-place Low = refl
+kind_at-place FloodBegins = refl
+kind_at-place EbbBegins = refl
+kind_at-place MarkRising = refl
+kind_at-place MarkFalling = refl
+
 pub one_kind : (k l : Kind) → same_kind k l ≡ true → k ≡ l
-one_kind High High h = refl
-one_kind High Low h = cc
-one_kind High FloodBegins h = cc
-one_kind High EbbBegins h = cc
-one_kind High MarkRising h = cc
-one_kind High MarkFalling h = cc
-one_kind Low High h = cc
-one_kind Low Low h = refl
-one_kind Low FloodBegins h = cc
-one_kind Low EbbBegins h = cc
-one_kind Low MarkRising h = cc
-one_kind Low MarkFalling h = cc
-one_kind FloodBegins High h = cc
-one_kind FloodBegins Low h = cc
-one_kind FloodBegins FloodBegins h = refl
-one_kind FloodBegins EbbBegins h = cc
-one_kind FloodBegins MarkRising h = cc
-one_kind FloodBegins MarkFalling h = cc
-one_kind EbbBegins High h = cc
-one_kind EbbBegins Low h = cc
-one_kind EbbBegins FloodBegins h = cc
-one_kind EbbBegins EbbBegins h = refl
-one_kind EbbBegins MarkRising h = cc
-one_kind EbbBegins MarkFalling h = cc
-one_kind MarkRising High h = cc
-one_kind MarkRising Low h = cc
-one_kind MarkRising FloodBegins h = cc
-one_kind MarkRising EbbBegins h = cc
-one_kind MarkRising MarkRising h = refl
-one_kind MarkRising MarkFalling h = cc
-one_kind MarkFalling High h = cc
-one_kind MarkFalling Low h = cc
-one_kind MarkFalling FloodBegins h = cc
-one_kind MarkFalling EbbBegins h = cc
-one_kind MarkFalling MarkRising h = cc
-one_kind MarkFalling MarkFalling h = refl
+one_kind k l same =
+    sym (kind_at-place k) ∙ ap kind_at ((Decides-eqb (place_of k) (place_of l)).0 same) ∙ kind_at-place l
 
 pub same_kind-refl : (k : Kind) → same_kind k k ≡ true
 same_kind-refl k = grind (arith, nat_tests)
@@ -66,33 +48,33 @@ both_accepted (WrongStep cell) w h = cc
 both_accepted (WrongLevel cell written computed) w h = cc
 
 -- a test that selects acceptance is true
-accepted_true : (b : Bool) (v : Verdict) → (v ≡ Accepted → ⊥) → cond b Accepted v ≡ Accepted → b ≡ true
-accepted_true true v unlike h = refl
-accepted_true false v unlike h = absurd (unlike h)
+pub accepted_true : {V : Type 0} (b : Bool) (ok v : V) → (v ≡ ok → ⊥) → cond b ok v ≡ ok → b ≡ true
+accepted_true true ok v unlike h = refl
+accepted_true false ok v unlike h = absurd (unlike h)
 
-accepted_false : (b : Bool) (v : Verdict) → (v ≡ Accepted → ⊥) → cond b v Accepted ≡ Accepted → b ≡ false
-accepted_false true v unlike h = absurd (unlike h)
-accepted_false false v unlike h = refl
+pub accepted_false : {V : Type 0} (b : Bool) (ok v : V) → (v ≡ ok → ⊥) → cond b v ok ≡ ok → b ≡ false
+accepted_false true ok v unlike h = absurd (unlike h)
+accepted_false false ok v unlike h = refl
 
 -- a test that selects a verdict which may be acceptance
-tested : (b : Bool) (v w : Verdict) → (w ≡ Accepted → ⊥) → cond b v w ≡ Accepted → (b ≡ true) × (v ≡ Accepted)
-tested true v w unlike h = (refl, h)
-tested false v w unlike h = absurd (unlike h)
+pub tested : {V : Type 0} (b : Bool) (ok v w : V) → (w ≡ ok → ⊥) → cond b v w ≡ ok → (b ≡ true) × (v ≡ ok)
+tested true ok v w unlike h = (refl, h)
+tested false ok v w unlike h = absurd (unlike h)
 
 -- an accepted cell has the event of its minutes
 accepted-event : (c : Meaning) (a : ℤ) (number : ℕ) (cell : Cell) → IsLawful c → IsSpan c a (minutes_of cell)
     → cell_verdict c a number cell ≡ Accepted → event_in a cell ≡ plain_list c.track a (minutes_of cell)
 unfolding cell_verdict
 accepted-event c a number (Quiet n) lawful span ok =
-    let quiet = accepted_true (is_quiet c a n) (NotQuiet number) (λ e. cc) ok in
+    let quiet = accepted_true (is_quiet c a n) Accepted (NotQuiet number) (λ e. cc) ok in
     sym (plain_list-none c.track a n (quiet-no_event c a n lawful span quiet))
 accepted-event c a number Still lawful span ok =
-    let still = accepted_false (has_event c.track a) (WrongStep number) (λ e. cc) ok in
+    let still = accepted_false (has_event c.track a) Accepted (WrongStep number) (λ e. cc) ok in
     rw (plain_list-one c.track a, still) refl
 accepted-event c a number (Turn kind level) lawful span ok =
-    let happens = tested (has_event c.track a) (step_verdict c a number kind level) (WrongStep number) (λ e. cc) ok in
-    let alike = tested (same_kind kind (event_at c.track a).kind) _ (WrongStep number) (λ e. cc) happens.1 in
-    let written = accepted_true (int_eq level (c.track.note a)) (WrongLevel number level (c.track.note a)) (λ e. cc) alike.1 in
+    let happens = tested (has_event c.track a) Accepted (step_verdict c a number kind level) (WrongStep number) (λ e. cc) ok in
+    let alike = tested (same_kind kind (event_at c.track a).kind) Accepted _ (WrongStep number) (λ e. cc) happens.1 in
+    let written = accepted_true (int_eq level (c.track.note a)) Accepted (WrongLevel number level (c.track.note a)) (λ e. cc) alike.1 in
     let k = one_kind kind (event_at c.track a).kind alike.0 in
     let l = (Decides-int_eq level (c.track.note a)).0 written in
     rw (plain_list-one c.track a, happens.0, k, l) refl
@@ -116,6 +98,6 @@ pub verdict-exact : (c : Meaning) (a : ℤ) (n : ℕ) (cells : List Cell) → Is
     → verdict c a n cells ≡ Accepted → cell_events a cells ≡ plain_list c.track a n
 unfolding verdict
 verdict-exact c a n cells lawful span ok =
-    let whole = tested (all_minutes cells == n) _ _ (λ e. cc) ok in
+    let whole = tested (all_minutes cells == n) Accepted _ _ (λ e. cc) ok in
     let all : all_minutes cells ≡ n = (Decides-eqb (all_minutes cells) n).0 whole.0 in
     let exact = accepted-cell_events c a 1 cells lawful (rw all span) whole.1 in rw (← all) exact

@@ -47,11 +47,6 @@ pub record IsLawful (c : Meaning) : Type 0 where
   pub values : (m : ℤ) → IsMinute c m → unsigned_abs (c.track.value m) < 10 ^ 37
   pub rates : (a : ℤ) (n : ℕ) (rate : ℤ) → IsCell c a n → c.rate a n ≡ Some rate → IsRate c a n rate
 
--- two curves agree over the n minutes from minute `a` on: in kinds, values, levels, and the rate of each
--- cell
-pub record AgreeOver (c d : Meaning) (a : ℤ) (n : ℕ) : Type 0 where
-  pub rising : c.track.rising ≡ d.track.rising
-  pub falling : c.track.falling ≡ d.track.falling
-  pub values : (k : ℕ) → k ≤ n → c.track.value (a +ℤ pos k) ≡ d.track.value (a +ℤ pos k)
-  pub notes : (k : ℕ) → k ≤ n → c.track.note (a +ℤ pos k) ≡ d.track.note (a +ℤ pos k)
-  pub rates : (k l : ℕ) → k + l ≤ n → 1 ≤ l → l ≤ MOST_MINUTES → c.rate (a +ℤ pos k) l ≡ d.rate (a +ℤ pos k) l
+-- the same curve at other minutes
+abbrev pub at_minutes : ℤ → ℤ → Meaning → Meaning
+at_minutes first last c = record c { first = first; last = last }

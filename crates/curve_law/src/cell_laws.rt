@@ -5,7 +5,7 @@ ghost use Rattle.curve_law.specs.declared.cell.Cell.{Cell};
 ghost use Rattle.curve_law.specs.declared.quiet.TheConstants.{MOST_MINUTES};
 ghost use Rattle.curve_law.specs.declared.verdict.Verdict.{Verdict};
 ghost use Rattle.curve_law.specs.Track.{side_at, has_event, plain_list};
-ghost use Rattle.curve_law.specs.Meaning.{Meaning, IsSpan, IsLawful, AgreeOver};
+ghost use Rattle.curve_law.specs.Meaning.{Meaning, IsSpan, IsLawful, at_minutes};
 ghost use Rattle.curve_law.specs.Cells.{all_minutes, cell_events};
 ghost use Rattle.curve_law.specs.Cover.{is_quiet, unit_cell, split, cover};
 ghost use Rattle.curve_law.specs.Verdicts.{verdict};
@@ -54,12 +54,9 @@ pub fn covers_are_accepted()
         cell_events a (cover c a n) ≡ plain_list c.track a n }
 {}
 
-/// Proves that two curves that agree over a span have the same events, cells and verdicts there, even if
-/// they differ elsewhere.
-pub fn agreeing_curves_have_one_answer()
-    ensures events { (c d : Meaning) (a : ℤ) (n : ℕ) → AgreeOver c d a n →
-        plain_list c.track a n ≡ plain_list d.track a n }
-    ensures cells { (c d : Meaning) (a : ℤ) (n : ℕ) → AgreeOver c d a n → cover c a n ≡ cover d a n }
-    ensures verdicts { (c d : Meaning) (a : ℤ) (n : ℕ) (cells : List Cell) → AgreeOver c d a n →
-        verdict c a n cells ≡ verdict d a n cells }
+/// Proves that the cells and verdicts of a span don't depend on the minutes that a curve has elsewhere.
+pub fn answers_are_those_of_more_minutes()
+    ensures cells { (c : Meaning) (first last a : ℤ) (n : ℕ) → cover (at_minutes first last c) a n ≡ cover c a n }
+    ensures verdicts { (c : Meaning) (first last a : ℤ) (n : ℕ) (cells : List Cell) →
+        verdict (at_minutes first last c) a n cells ≡ verdict c a n cells }
 {}

@@ -27,7 +27,7 @@ mod worked_cells;
 pub use approximate::{is_quiet_from_approximate, unit_cell_from_approximate};
 pub use cell::Cell;
 pub use cell_laws::{
-    accepted_cells_are_exact, agreeing_curves_have_one_answer, cells_are_halved,
+    accepted_cells_are_exact, answers_are_those_of_more_minutes, cells_are_halved,
     covers_are_accepted, quiet_cells_have_no_event, spans_are_cut_into_blocks,
 };
 pub use cells::Cells;

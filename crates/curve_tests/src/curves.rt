@@ -17,7 +17,7 @@ fn laws_and_rows_stand(_rt: HostRuntime) {
     quiet_cells_have_no_event();
     accepted_cells_are_exact();
     covers_are_accepted();
-    agreeing_curves_have_one_answer();
+    answers_are_those_of_more_minutes();
     worked_rows();
     worked_quiet_cells();
     worked_covers();

@@ -51,7 +51,6 @@ fn laws_and_rows_stand(_rt: HostRuntime) {
     plain_bases_move_nothing();
     accepted_events_can_be_moved();
     events_are_named();
-    agreeing_curves_have_one_list();
     worked_words();
     worked_shifts();
     worked_orders();

@@ -9,9 +9,9 @@ use crate::hills::{Hills, Top};
 use curve_law::Curve;
 use curve_law::samples::{Line, Ripple};
 use highest_water::{
-    Peak, PeakCell, PeakCells, PeakVerdict, accepted_highest_waters_are_right,
-    agreeing_curves_have_one_highest_water, blocks_are_halved, check_peak, covers_are_accepted,
-    find_peak, peak_cover, spans_are_cut_into_blocks, spans_have_one_highest_water,
+    Peak, PeakCell, PeakCells, PeakVerdict, accepted_highest_waters_are_right, blocks_are_halved,
+    check_peak, covers_are_accepted, find_peak, highest_waters_are_those_of_more_minutes,
+    peak_cover, spans_are_cut_into_blocks, spans_have_one_highest_water,
     under_cells_hold_nothing_higher, worked_cells_under, worked_covers, worked_minutes,
     worked_verdicts,
 };
@@ -123,7 +123,7 @@ fn laws_and_rows_stand(_rt: HostRuntime) {
     under_cells_hold_nothing_higher();
     accepted_highest_waters_are_right();
     covers_are_accepted();
-    agreeing_curves_have_one_highest_water();
+    highest_waters_are_those_of_more_minutes();
     worked_minutes();
     worked_cells_under();
     worked_covers();

@@ -10,13 +10,12 @@ use Rattle.curve_law.specs.declared.tracks.Tracks.{Tracks}
 use Rattle.curve_law.specs.Cells.{cell_events}
 use Rattle.curve_law.specs.Meaning.{Meaning}
 use Rattle.curve_law.proofs.AcceptedLemmas.{cover-few, cover-accepted}
-use Rattle.curve_law.proofs.AgreeLemmas.{plain_list-agrees, cover-agrees}
 use Rattle.curve_law.proofs.VerdictLemmas.{verdict-exact}
 use Rattle.station_table.specs.declared.basis.Basis.{Basis}
 use Rattle.event_list.specs.declared.span.Span.{Span}
 use Rattle.event_list.specs.Order.{ordered}
 use Rattle.event_list.specs.Shifts.{widened_of, moved_within, shifted_of}
-use Rattle.event_list.specs.Events.{span_minutes, Followed, events_over, station_events, merged_of, cells_in, cover_over, covers_of, cell_count, IsValidOver, AreValidOver, IsAccepted, AreAccepted, AgreeIfFollowed, AllAgree}
+use Rattle.event_list.specs.Events.{span_minutes, Followed, events_over, station_events, merged_of, cells_in, cover_over, covers_of, cell_count, IsValidOver, AreValidOver, IsAccepted, AreAccepted}
 use Rattle.event_list.proofs.ShiftLemmas.{shifted-ordered}
 
 -- the events of the tracks one after the other
@@ -110,39 +109,3 @@ pub count-few : (f : Followed) (s : Span) → cell_count f s ≤ 3 * span_minute
 unfolding cell_count
 count-few f s =
     omega (arith, cells-parts (covers_of f s), cover-few f.turn s.begin (span_minutes s), cover-short s f.slack, cover-short s f.mark)
-
--- ---- curves that agree
-
-agree-events : (s : Span) (o p : Option Meaning) → AgreeIfFollowed s o p
-    → flat_map (events_over s) (option_to_list o) ≡ flat_map (events_over s) (option_to_list p)
-agree-events s None None agree = refl
-agree-events s None (Some d) agree = absurd agree
-agree-events s (Some c) None agree = absurd agree
-agree-events s (Some c) (Some d) agree = ap (λ es. es ++ []) (plain_list-agrees c d s.begin (span_minutes s) agree)
-
-agree-covers : (s : Span) (o p : Option Meaning) → AgreeIfFollowed s o p → option_map (cover_over s) o ≡ option_map (cover_over s) p
-agree-covers s None None agree = refl
-agree-covers s None (Some d) agree = absurd agree
-agree-covers s (Some c) None agree = absurd agree
-agree-covers s (Some c) (Some d) agree = ap Some (cover-agrees c d s.begin (span_minutes s) agree)
-
-pub events-agree : (f g : Followed) (b : Basis) (begin end : ℤ) → AllAgree f g (widened_of b begin end)
-    → station_events f b begin end ≡ station_events g b begin end
-events-agree f g b begin end agree =
-    let s = widened_of b begin end in
-    rw (
-      events-parts f b begin end,
-      events-parts g b begin end,
-      plain_list-agrees f.turn g.turn s.begin (span_minutes s) agree.turn,
-      agree-events s f.slack g.slack agree.slack,
-      agree-events s f.mark g.mark agree.mark,
-    )
-
-pub count-agrees : (f g : Followed) (s : Span) → AllAgree f g s → cell_count f s ≡ cell_count g s
-unfolding cell_count
-count-agrees f g s agree =
-    rw (
-      cover-agrees f.turn g.turn s.begin (span_minutes s) agree.turn,
-      agree-covers s f.slack g.slack agree.slack,
-      agree-covers s f.mark g.mark agree.mark,
-    )

@@ -26,7 +26,7 @@ use Rattle.curve_law.specs.declared.tracks.Tracks.{Tracks}
 use Rattle.curve_law.specs.declared.verdict.Verdict.TheVariants.{Accepted}
 use Rattle.curve_law.specs.Cells.{all_minutes, cell_events}
 use Rattle.curve_law.specs.Cover.{cover}
-use Rattle.curve_law.specs.Meaning.{Meaning, IsMinute, IsSpan, IsLawful, AgreeOver}
+use Rattle.curve_law.specs.Meaning.{Meaning, IsMinute, IsSpan, IsLawful}
 use Rattle.curve_law.specs.Track.{plain_list}
 use Rattle.curve_law.specs.Verdicts.{verdict}
 use Rattle.harmonics_book.specs.declared.book.Units.{Units}
@@ -133,19 +133,6 @@ pub record AreAccepted (f : Followed) (s : Span) (t : Tracks) : Type 0 where
   pub turn : verdict f.turn s.begin (span_minutes s) t.turn ≡ Accepted
   pub slack : IsAccepted s f.slack t.slack
   pub mark : IsAccepted s f.mark t.mark
-
--- both curves are requested and agree over the span, or neither is requested
-abbrev pub AgreeIfFollowed : Span → Option Meaning → Option Meaning → Type 0
-AgreeIfFollowed s None None = Unit {0}
-AgreeIfFollowed s None (Some d) = ⊥
-AgreeIfFollowed s (Some c) None = ⊥
-AgreeIfFollowed s (Some c) (Some d) = AgreeOver c d s.begin (span_minutes s)
-
--- the same curves are requested, and agree over the span
-pub record AllAgree (f g : Followed) (s : Span) : Type 0 where
-  pub turn : AgreeOver f.turn g.turn s.begin (span_minutes s)
-  pub slack : AgreeIfFollowed s f.slack g.slack
-  pub mark : AgreeIfFollowed s f.mark g.mark
 
 -- the events of a curve have names, for both of its kinds
 pub record IsNamed (units : Units) (c : Meaning) : Type 0 where

@@ -20,7 +20,6 @@ ghost use Rattle.event_list.specs.Events.{
   AllHaveLevels,
   AreValidOver,
   AreAccepted,
-  AllAgree,
   AreNamed,
 };
 
@@ -68,12 +67,4 @@ pub fn events_are_named()
         All (λ e. IsTrue (has_word units e.kind)) (station_events f b begin end) }
     ensures small { (b : Basis) (begin end : ℤ) (events : List Event) → HasOffsets b → All IsMovable events →
         All (λ e. unsigned_abs e.level ≤ 1110000000000) (shifted_of b begin end events) }
-{}
-
-/// Proves that curves that agree over the widened span have the same events and the same number of cells
-/// there, even if they differ elsewhere.
-pub fn agreeing_curves_have_one_list()
-    ensures events { (f g : Followed) (b : Basis) (begin end : ℤ) → AllAgree f g (widened_of b begin end) →
-        station_events f b begin end ≡ station_events g b begin end }
-    ensures cells { (f g : Followed) (s : Span) → AllAgree f g s → cell_count f s ≡ cell_count g s }
 {}

@@ -22,8 +22,7 @@ mod worked_events;
 
 pub use event_text::{EventWord, word};
 pub use laws::{
-    accepted_events_can_be_moved, agreeing_curves_have_one_list, cells_give_the_events,
-    events_are_named, plain_bases_move_nothing,
+    accepted_events_can_be_moved, cells_give_the_events, events_are_named, plain_bases_move_nothing,
 };
 pub use merge::Merge;
 pub use merging::merged;

@@ -1,9 +1,9 @@
 -- The cells of a span by the rule don't depend on the number of halvings or blocks that are allowed.
-use Rattle.std.proofs.Common.{◌≡◌, ℕ, zero, suc, ◌-◌, ◌/◌, ◌≤◌, ◌<◌, ℤ, pos, ◌+ℤ◌, Bool, true, false, cond, nat_le, List, [], ◌∷◌, ◌++◌, refl, sym, ap, ◌∙◌, arith}
+use Rattle.std.proofs.Common.{◌≡◌, ℕ, zero, suc, ◌-◌, ◌/◌, ◌≤◌, ◌<◌, ℤ, pos, ◌+ℤ◌, true, false, cond, nat_le, List, [], ◌∷◌, ◌++◌, refl, sym, ap, ◌∙◌, arith}
 use Rattle.std.proofs.lemmas.Bool.Decides.{nat_tests}
 use Rattle.curve_law.specs.Meaning.{Meaning}
 use Rattle.curve_law.specs.declared.quiet.TheConstants.{MOST_MINUTES}
-use Rattle.curve_law.proofs.CoverLemmas.{by_test}
+use Rattle.curve_law.proofs.CoverLemmas.{append-same, by_test, one_test, two_tests}
 use Rattle.highest_water.specs.declared.peak_cell.PeakCell.{PeakCell}
 use Rattle.highest_water.specs.declared.peak_cell.PeakCell.TheVariants.{Under, Single}
 use Rattle.highest_water.specs.Covers.{is_under, split_within, peak_split, cover_within, peak_cover}
@@ -18,18 +18,6 @@ halved-same : (c : Meaning) (at value a : ℤ) (n : ℕ) (xs ys : List PeakCell)
 halved-same c at value a n xs ys same = by_test (nat_le n 1)
     (λ one. rw one refl)
     (λ more. let two : 2 ≤ n = grind (arith, nat_tests) in ap (halved c at value a n) (same two))
-
-append-same : {A : Type 0} {xs xs' ys ys' : List A} → xs ≡ xs' → ys ≡ ys' → xs ++ ys ≡ xs' ++ ys'
-append-same e f = cc
-
-two_tests : {A : Type 0} (b q : Bool) (x y z : A) → elim b [ true ↦ x | false ↦ elim q [ true ↦ y | false ↦ z ] ] ≡ cond b x (cond q y z)
-two_tests true q x y z = refl
-two_tests false true x y z = refl
-two_tests false false x y z = refl
-
-one_test : {A : Type 0} (b : Bool) (x y : A) → elim b [ true ↦ x | false ↦ y ] ≡ cond b x y
-one_test true x y = refl
-one_test false x y = refl
 
 pub split_within-step : (d n : ℕ) (c : Meaning) (at value a : ℤ) → split_within (suc d) c at value a n ≡ halved c
     at value a n (split_within d c at value a (n / 2) ++ split_within d c at value (a +ℤ pos (n / 2)) (n - n / 2))

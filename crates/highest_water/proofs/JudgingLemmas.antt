@@ -1,5 +1,5 @@
 -- The verdict on one cell, and on the cells after it.
-use Rattle.std.proofs.Common.{◌≡◌, ◌≢◌, ℕ, ◌+◌, ◌<◌, ◌≤◌, ◌==◌, ℤ, pos, ◌+ℤ◌, ◌≤ℤ◌, ◌<ℤ◌, unsigned_abs, ◌-ℤ◌, Fits, w32, ◌^◌, List, ◌∷◌, get_or, drop, length, true, false, refl, sym, add-one, drop-cons, arith}
+use Rattle.std.proofs.Common.{◌≡◌, ◌≢◌, ℕ, ◌+◌, ◌<◌, ◌≤◌, ◌==◌, ℤ, pos, ◌+ℤ◌, ◌≤ℤ◌, ◌<ℤ◌, ◌-ℤ◌, Fits, w32, ◌^◌, List, ◌∷◌, get_or, drop, length, true, false, refl, sym, add-one, drop-cons, arith}
 use Rattle.std.proofs.lemmas.Int.{ints}
 use Rattle.std.proofs.lemmas.List.{drop_all}
 use Rattle.std.proofs.lemmas.Bool.Decides.{Decides-eqb}
@@ -92,15 +92,6 @@ unfolding peak_verdict
 verdict-inside c a n peak whole inside =
     let all : (all_minutes peak.cells == n) ≡ true = (Decides-eqb (all_minutes peak.cells) n).1 whole in
     rw (all, inside) refl
-
-pub is_inside-before : (at begin end : ℤ) → begin ≤ℤ end → at <ℤ begin → is_inside at begin (unsigned_abs (end -ℤ begin)) ≡ false
-is_inside-before at begin end forward early = grind (arith, ints)
-
-pub is_inside-after : (at begin end : ℤ) → begin ≤ℤ end → end ≤ℤ at → is_inside at begin (unsigned_abs (end -ℤ begin)) ≡ false
-is_inside-after at begin end forward late = grind (arith, ints)
-
-pub is_inside-within : (at begin end : ℤ) → begin ≤ℤ at → at <ℤ end → is_inside at begin (unsigned_abs (end -ℤ begin)) ≡ true
-is_inside-within at begin end from before = grind (arith, ints)
 
 -- the number of evaluations after i of n cells, and the number of the next cell
 pub few-counted : (count start i n : ℕ) → count ≡ start + i + 1 → i < n → start + n ≤ 2 ^ 62 → count < 2 ^ 63

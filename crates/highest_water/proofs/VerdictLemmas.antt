@@ -1,9 +1,10 @@
 -- Consequences of an accepting verdict.
-use Rattle.std.proofs.Common.{◌≡◌, ℕ, suc, ◌+◌, ◌==◌, ℤ, pos, ◌+ℤ◌, ◌≤ℤ◌, ◌<ℤ◌, int_lt, Bool, true, false, cond, List, [], ◌∷◌, refl, sym, ap, arith, ◌∙◌}
+use Rattle.std.proofs.Common.{◌≡◌, ℕ, suc, ◌+◌, ◌==◌, ℤ, pos, ◌+ℤ◌, ◌≤ℤ◌, ◌<ℤ◌, int_lt, true, false, List, [], ◌∷◌, refl, sym, ap, arith, ◌∙◌}
 use Rattle.std.specs.Ordering.{int_eq}
 use Rattle.std.proofs.lemmas.Bool.{and_parts}
 use Rattle.std.proofs.lemmas.Bool.Decides.{Decides-int_eq, Decides-eqb}
 use Rattle.std.proofs.lemmas.Int.{ints}
+use Rattle.curve_law.proofs.VerdictLemmas.{accepted_false, accepted_true, tested}
 use Rattle.curve_law.specs.Meaning.{Meaning, IsSpan, IsLawful}
 use Rattle.curve_law.proofs.CoverLemmas.{by_test}
 use Rattle.highest_water.specs.declared.peak.Peak.{Peak}
@@ -25,20 +26,6 @@ both_accepted (NotUnder cell) w h = cc
 both_accepted (WrongValue written computed) w h = cc
 both_accepted (Above cell) w h = cc
 both_accepted Accepted w h = (refl, h)
-
--- a test that chooses acceptance is true, if the verdict accepts
-pub accepted_true : (b : Bool) (v : PeakVerdict) → (v ≡ Accepted → ⊥) → cond b Accepted v ≡ Accepted → b ≡ true
-accepted_true true v unlike h = refl
-accepted_true false v unlike h = absurd (unlike h)
-
-accepted_false : (b : Bool) (v : PeakVerdict) → (v ≡ Accepted → ⊥) → cond b v Accepted ≡ Accepted → b ≡ false
-accepted_false true v unlike h = absurd (unlike h)
-accepted_false false v unlike h = refl
-
--- a test that chooses between two verdicts, one of which never accepts
-pub tested : (b : Bool) (v w : PeakVerdict) → (w ≡ Accepted → ⊥) → cond b v w ≡ Accepted → (b ≡ true) × (v ≡ Accepted)
-tested true v w unlike h = (refl, h)
-tested false v w unlike h = absurd (unlike h)
 
 -- no minute of two adjacent spans is higher, if none of each is
 pub below-append : (c : Meaning) (at value a b d : ℤ) → AreBelow c at value a b → AreBelow c at value b d → AreBelow c at value a d
@@ -86,7 +73,7 @@ accepted-cell : (c : Meaning) (at value a : ℤ) (number : ℕ) (cell : PeakCell
     → AreShown c at value a (a +ℤ pos (minutes_of cell))
 unfolding cell_verdict
 accepted-cell c at value a number (Under n) lawful span ok =
-    let under = accepted_true (is_under c at value a n) (NotUnder number) (λ e. cc) ok in
+    let under = accepted_true (is_under c at value a n) Accepted (NotUnder number) (λ e. cc) ok in
     record {
       below = under-below c at value a n lawful span under;
       has = λ from before. absurd (under-other c at value a n under from before);
@@ -94,11 +81,11 @@ accepted-cell c at value a number (Under n) lawful span ok =
 accepted-cell c at value a number Single lawful span ok = by_test (int_eq a at)
     (λ here.
     let at_it : a ≡ at = (Decides-int_eq a at).0 here in
-    let right = accepted_true (int_eq value (c.track.value a)) (WrongValue value (c.track.value a)) (λ e. cc) (rw here at ok) in
+    let right = accepted_true (int_eq value (c.track.value a)) Accepted (WrongValue value (c.track.value a)) (λ e. cc) (rw here at ok) in
     let has : value ≡ c.track.value a = (Decides-int_eq value (c.track.value a)).0 right in
     record { below = below-at c at value a at_it (sym has); has = λ from before. ap c.track.value (sym at_it) ∙ sym has })
     (λ other.
-    let low = accepted_false (is_higher at value a (c.track.value a)) (Above number) (λ e. cc) (rw other at ok) in
+    let low = accepted_false (is_higher at value a (c.track.value a)) Accepted (Above number) (λ e. cc) (rw other at ok) in
     record {
       below = below-one c at value a low;
       has = λ from before.
@@ -139,8 +126,8 @@ pub verdict-highest : (c : Meaning) (a : ℤ) (n : ℕ) (peak : Peak) → IsLawf
     → peak_verdict c a n peak ≡ Accepted → IsHighest c a (a +ℤ pos n) peak.at peak.value
 unfolding peak_verdict
 verdict-highest c a n peak lawful span ok =
-    let whole = tested (all_minutes peak.cells == n) _ _ (λ e. cc) ok in
-    let inside = tested (is_inside peak.at a n) _ _ (λ e. cc) whole.1 in
+    let whole = tested (all_minutes peak.cells == n) Accepted _ _ (λ e. cc) ok in
+    let inside = tested (is_inside peak.at a n) Accepted _ _ (λ e. cc) whole.1 in
     let sides = and_parts _ _ inside.0 in
     let from = int_le-true _ _ sides.0 in
     let before = int_lt-true _ _ sides.1 in

@@ -1,8 +1,7 @@
 -- The highest water of a span: the first minute with the greatest value of the span (this project).
-use Rattle.std.specs.Prelude.{◌≡◌, ℕ, zero, suc, ◌+◌, ◌≤◌, ℤ, pos, ◌+ℤ◌, ◌≤ℤ◌, ◌<ℤ◌, int_lt, Bool, ◌&&◌, ◌||◌, if◌then◌else◌}
+use Rattle.std.specs.Prelude.{◌≡◌, ℕ, zero, suc, ℤ, pos, ◌+ℤ◌, ◌≤ℤ◌, ◌<ℤ◌, int_lt, Bool, ◌&&◌, ◌||◌, if◌then◌else◌}
 use Rattle.std.specs.Ordering.{int_eq}
 use Rattle.curve_law.specs.Meaning.{Meaning}
-use Rattle.curve_law.specs.declared.quiet.TheConstants.{MOST_MINUTES}
 
 -- `at` is the first minute with the greatest value of the minutes from `begin` up to but not including
 -- `end`, and `value` is this value
@@ -27,9 +26,3 @@ higher_minute c earlier later =
 unfoldable pub highest_minute : Meaning → ℤ → ℕ → ℤ
 highest_minute c a zero = a
 highest_minute c a (suc n) = higher_minute c (highest_minute c a n) (a +ℤ pos n)
-
--- two curves agree over n minutes: in the value at each minute and at their end, and in the rate of each
--- cell
-pub record AgreeOnValues (c d : Meaning) (a : ℤ) (n : ℕ) : Type 0 where
-  pub values : (k : ℕ) → k ≤ n → c.track.value (a +ℤ pos k) ≡ d.track.value (a +ℤ pos k)
-  pub rates : (k l : ℕ) → k + l ≤ n → 1 ≤ l → l ≤ MOST_MINUTES → c.rate (a +ℤ pos k) l ≡ d.rate (a +ℤ pos k) l

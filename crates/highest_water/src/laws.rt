@@ -2,11 +2,11 @@
 
 ghost use Rattle.std.specs.Prelude.{◌≡◌, ℕ, ◌+◌, ◌-◌, ◌/◌, ◌<◌, ◌≤◌, ℤ, pos, ◌+ℤ◌, ◌≤ℤ◌, ◌<ℤ◌, true, false, [], ◌∷◌, ◌++◌, length};
 ghost use Rattle.curve_law.specs.declared.quiet.TheConstants.{MOST_MINUTES};
-ghost use Rattle.curve_law.specs.Meaning.{Meaning, IsSpan, IsLawful, AgreeOver};
+ghost use Rattle.curve_law.specs.Meaning.{Meaning, IsSpan, IsLawful, at_minutes};
 ghost use Rattle.highest_water.specs.declared.peak.Peak.{Peak};
 ghost use Rattle.highest_water.specs.declared.peak_cell.PeakCell.{PeakCell};
 ghost use Rattle.highest_water.specs.declared.verdict.PeakVerdict.{PeakVerdict};
-ghost use Rattle.highest_water.specs.Peaks.{IsHighest, highest_minute, AgreeOnValues};
+ghost use Rattle.highest_water.specs.Peaks.{IsHighest, highest_minute};
 ghost use Rattle.highest_water.specs.Covers.{all_minutes, is_under, peak_split, peak_cover, peak_of};
 ghost use Rattle.highest_water.specs.Verdicts.{peak_verdict};
 
@@ -78,13 +78,10 @@ pub fn covers_are_accepted()
         peak_verdict c a n (peak_of c a n) ≡ PeakVerdict.Accepted }
 {}
 
-/// Proves that two curves that agree over a span have the same highest water there, the same cells and
-/// the same verdicts, even if they differ elsewhere.
-pub fn agreeing_curves_have_one_highest_water()
-    ensures highest { (c d : Meaning) (a : ℤ) (n : ℕ) (at value : ℤ) → AgreeOnValues c d a n →
-        IsHighest c a (a +ℤ pos n) at value → IsHighest d a (a +ℤ pos n) at value }
-    ensures peak { (c d : Meaning) (a : ℤ) (n : ℕ) → AgreeOnValues c d a n → peak_of c a n ≡ peak_of d a n }
-    ensures verdicts { (c d : Meaning) (a : ℤ) (n : ℕ) (peak : Peak) → AgreeOnValues c d a n →
-        peak_verdict c a n peak ≡ peak_verdict d a n peak }
-    ensures wider { (c d : Meaning) (a : ℤ) (n : ℕ) → AgreeOver c d a n → AgreeOnValues c d a n }
+/// Proves that the highest water of a span, its cells and the verdicts on it don't depend on the minutes
+/// that a curve has elsewhere.
+pub fn highest_waters_are_those_of_more_minutes()
+    ensures peak { (c : Meaning) (first last a : ℤ) (n : ℕ) → peak_of (at_minutes first last c) a n ≡ peak_of c a n }
+    ensures verdicts { (c : Meaning) (first last a : ℤ) (n : ℕ) (peak : Peak) →
+        peak_verdict (at_minutes first last c) a n peak ≡ peak_verdict c a n peak }
 {}

@@ -26,9 +26,9 @@ pub use checking::check_peak;
 pub use covering::peak_cover;
 pub use finding::{find_peak, highest_point};
 pub use laws::{
-    accepted_highest_waters_are_right, agreeing_curves_have_one_highest_water, blocks_are_halved,
-    covers_are_accepted, spans_are_cut_into_blocks, spans_have_one_highest_water,
-    under_cells_hold_nothing_higher,
+    accepted_highest_waters_are_right, blocks_are_halved, covers_are_accepted,
+    highest_waters_are_those_of_more_minutes, spans_are_cut_into_blocks,
+    spans_have_one_highest_water, under_cells_hold_nothing_higher,
 };
 pub use peak::Peak;
 pub use peak_cell::PeakCell;

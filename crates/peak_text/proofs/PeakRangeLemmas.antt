@@ -10,14 +10,15 @@ use Rattle.highest_water.specs.declared.verdict.PeakVerdict.TheVariants.{NotUnde
 use Rattle.highest_water.specs.Covers.{minutes_of, all_minutes, is_under}
 use Rattle.highest_water.specs.Verdicts.{cell_verdict, cells_verdict, is_inside, peak_verdict}
 use Rattle.highest_water.proofs.UnderLemmas.{under-two, under-few}
-use Rattle.highest_water.proofs.VerdictLemmas.{both_accepted, accepted_true, tested}
+use Rattle.curve_law.proofs.VerdictLemmas.{accepted_true, tested}
+use Rattle.highest_water.proofs.VerdictLemmas.{both_accepted}
 use Rattle.peak_text.specs.PeakTexts.{IsPeakCell}
 
 cell-range : (c : Meaning) (at value a : ℤ) (number : ℕ) (cell : PeakCell)
     → cell_verdict c at value a number cell ≡ Accepted → IsPeakCell cell
 unfolding cell_verdict
 cell-range c at value a number (Under n) ok =
-    let under = accepted_true (is_under c at value a n) (NotUnder number) (λ e. cc) ok in
+    let under = accepted_true (is_under c at value a n) Accepted (NotUnder number) (λ e. cc) ok in
     (under-two c at value a n under, under-few c at value a n under)
 cell-range c at value a number Single ok = tt
 
@@ -37,6 +38,6 @@ pub verdict-cells : (c : Meaning) (a : ℤ) (n : ℕ) (peak : Peak) → peak_ver
     → (all_minutes peak.cells ≡ n) × All IsPeakCell peak.cells
 unfolding peak_verdict
 verdict-cells c a n peak ok =
-    let whole = tested (all_minutes peak.cells == n) _ _ (λ e. cc) ok in
-    let inside = tested (is_inside peak.at a n) _ _ (λ e. cc) whole.1 in
+    let whole = tested (all_minutes peak.cells == n) Accepted _ _ (λ e. cc) ok in
+    let inside = tested (is_inside peak.at a n) Accepted _ _ (λ e. cc) whole.1 in
     ((Decides-eqb (all_minutes peak.cells) n).0 whole.0, cells-range c peak.at peak.value a 1 peak.cells inside.1)

@@ -1,5 +1,5 @@
--- Consequences of tracks without a fault, and the verdicts of curves that agree.
-use Rattle.std.proofs.Common.{◌≡◌, ℕ, ◌≤◌, ◌==◌, ℤ, Bool, true, false, List, Option, Some, None, is_some, refl, ap, ◌∙◌, arith}
+-- Consequences of tracks without a fault, and the faults by curves at other minutes.
+use Rattle.std.proofs.Common.{◌≡◌, ℕ, ◌≤◌, ◌==◌, ℤ, Bool, true, false, List, Option, Some, None, is_some, option_map, refl, ap, ◌∙◌, arith}
 use Rattle.std.specs.Option.{ForSome, option_or}
 use Rattle.std.proofs.lemmas.Bool.Decides.{Decides-eqb}
 use Rattle.cert_text.specs.declared.track_name.TrackName.{TrackName}
@@ -9,11 +9,11 @@ use Rattle.curve_law.specs.declared.tracks.Tracks.{Tracks}
 use Rattle.curve_law.specs.declared.verdict.Verdict.{Verdict}
 use Rattle.curve_law.specs.declared.verdict.Verdict.TheVariants.{Accepted, WrongLength, NotQuiet, WrongStep, WrongLevel}
 use Rattle.curve_law.specs.Cells.{all_minutes}
-use Rattle.curve_law.specs.Meaning.{Meaning}
+use Rattle.curve_law.specs.Meaning.{Meaning, at_minutes}
 use Rattle.curve_law.specs.Verdicts.{verdict}
-use Rattle.curve_law.proofs.AgreeLemmas.{verdict-agrees}
+use Rattle.curve_law.proofs.AgreeLemmas.{verdict-same}
 use Rattle.event_list.specs.declared.span.Span.{Span}
-use Rattle.event_list.specs.Events.{Followed, IsAccepted, AreAccepted, AgreeIfFollowed, AllAgree, AreShort, span_minutes}
+use Rattle.event_list.specs.Events.{Followed, IsAccepted, AreAccepted, AreShort, span_minutes}
 use Rattle.station_cells.specs.declared.rejection.Rejection.{Rejection}
 use Rattle.station_cells.specs.Rejections.{slack_fault, fault_from, track_fault, rejection_of}
 use Rattle.station_cells.proofs.CellLemmas.{accepted_if}
@@ -81,33 +81,33 @@ tracks_short f s t few ok =
       mark = short_if s f.mark t.mark few ok.mark;
     }
 
--- ---- curves that agree
+-- ---- curves at other minutes
 
-some_alike : (s : Span) (c d : Option Meaning) → AgreeIfFollowed s c d → is_some c ≡ is_some d
-some_alike s None None agree = refl
-some_alike s None (Some d) agree = absurd agree
-some_alike s (Some c) None agree = absurd agree
-some_alike s (Some c) (Some d) agree = refl
+some_same : (p : Meaning → Meaning) (o : Option Meaning) → is_some (option_map p o) ≡ is_some o
+some_same p None = refl
+some_same p (Some c) = refl
 
-fault_alike : (s : Span) (track : TrackName) (c d : Option Meaning) (cells : Option (List Cell)) → AgreeIfFollowed s c d
-    → track_fault s track c cells ≡ track_fault s track d cells
-fault_alike s track None None cells agree = refl
-fault_alike s track None (Some d) cells agree = absurd agree
-fault_alike s track (Some c) None cells agree = absurd agree
-fault_alike s track (Some c) (Some d) None agree = refl
-fault_alike s track (Some c) (Some d) (Some cells) agree = ap (fault_from track) (verdict-agrees c d s.begin (span_minutes s) cells agree)
+fault_same : (first last : ℤ) (s : Span) (track : TrackName) (o : Option Meaning) (cells : Option (List Cell))
+    → track_fault s track (option_map (at_minutes first last) o) cells ≡ track_fault s track o cells
+fault_same first last s track None cells = refl
+fault_same first last s track (Some c) None = refl
+fault_same first last s track (Some c) (Some cells) = ap (fault_from track) (verdict-same c first last s.begin (span_minutes s) cells)
 
-pub rejection_alike : (f g : Followed) (s : Span) (t : Tracks) → AllAgree f g s → rejection_of f s t ≡ rejection_of g s t
+pub rejection_same : (first last : ℤ) (f : Followed) (s : Span) (t : Tracks) → rejection_of (record {
+  turn = at_minutes first last f.turn;
+  slack = option_map (at_minutes first last) f.slack;
+  mark = option_map (at_minutes first last) f.mark;
+}) s t ≡ rejection_of f s t
 unfolding rejection_of
-rejection_alike f g s t agree =
+rejection_same first last f s t =
     let fault : Bool → Option Rejection → Option Rejection → Option Rejection → Option Rejection =
     λ asks turn slack mark. option_or (option_or (option_or (slack_fault asks (is_some t.slack)) turn) slack) mark in
-    let turn = track_fault s Turn (Some f.turn) (Some t.turn) in
-    let turn' = track_fault s Turn (Some g.turn) (Some t.turn) in
-    let slack = track_fault s Slack f.slack t.slack in
-    let slack' = track_fault s Slack g.slack t.slack in
-    let mark = track_fault s Mark f.mark t.mark in
-    ap (λ asks. fault asks turn slack mark) (some_alike s f.slack g.slack agree.slack)
-    ∙ ap (λ x. fault (is_some g.slack) x slack mark) (fault_alike s Turn (Some f.turn) (Some g.turn) (Some t.turn) agree.turn)
-    ∙ ap (λ x. fault (is_some g.slack) turn' x mark) (fault_alike s Slack f.slack g.slack t.slack agree.slack)
-    ∙ ap (λ x. fault (is_some g.slack) turn' slack' x) (fault_alike s Mark f.mark g.mark t.mark agree.mark)
+    let turn = track_fault s Turn (Some (at_minutes first last f.turn)) (Some t.turn) in
+    let turn' = track_fault s Turn (Some f.turn) (Some t.turn) in
+    let slack = track_fault s Slack (option_map (at_minutes first last) f.slack) t.slack in
+    let slack' = track_fault s Slack f.slack t.slack in
+    let mark = track_fault s Mark (option_map (at_minutes first last) f.mark) t.mark in
+    ap (λ asks. fault asks turn slack mark) (some_same (at_minutes first last) f.slack)
+    ∙ ap (λ x. fault (is_some f.slack) x slack mark) (fault_same first last s Turn (Some f.turn) (Some t.turn))
+    ∙ ap (λ x. fault (is_some f.slack) turn' x mark) (fault_same first last s Slack f.slack t.slack)
+    ∙ ap (λ x. fault (is_some f.slack) turn' slack' x) (fault_same first last s Mark f.mark t.mark)

@@ -1,5 +1,5 @@
 -- The results of the steps of a station's span.
-use Rattle.std.proofs.Common.{◌≡◌, ℕ, Bool, true, false, List, [], Option, Some, None, ℤ, Result, Ok, Err, slice_get, refl, arith}
+use Rattle.std.proofs.Common.{◌≡◌, ℕ, Bool, true, false, List, Option, Some, None, ℤ, Result, Ok, Err, slice_get, refl, arith}
 use Rattle.decimal_text.specs.Expected.{◌>>=◌, Excused}
 use Rattle.harmonics_book.specs.declared.book.Book.{Book}
 use Rattle.harmonics_book.specs.declared.book.Station.{Station}
@@ -12,11 +12,7 @@ use Rattle.station_table.specs.Bases.{basis_of}
 use Rattle.station_span.specs.declared.asked.Asked.{Asked}
 use Rattle.station_span.specs.declared.reach.Reach.{Reach}
 use Rattle.tide_fault.specs.declared.refusal.Refusal.{Refusal}
-use Rattle.tide_fault.specs.declared.refusal.Refusal.TheVariants.{NoReference, OutOfYears}
-use Rattle.tide_fault.specs.Faults.{IsPrintableRefusal}
 use Rattle.station_span.specs.Sites.{Site, basis_from, level_unit, span_in, curve_from, length_in, mark_in, site_at, site_in, station_in}
-use Rattle.station_span.specs.declared.found_station.FoundStation.{FoundStation}
-use Rattle.station_span.specs.Workings.Finds.{FindsIn}
 
 pub excused_then : {A B : Type 0} (memory : Bool) (step : Result A Refusal) (next : A → Result B Refusal)
     (refusal : Refusal) → Excused memory step refusal → Excused memory (step >>= next) refusal
@@ -140,28 +136,7 @@ pub found_by : (reach : Reach) (book : Book) (table : List Offsets) (name : List
 unfolding site_in
 found_by reach book table name asked basis station from is = rw (from, is) refl
 
-pub finds_by : (reach : Reach) (book : Book) (table : List Offsets) (name : List ℕ) (asked : Asked) (basis : Basis)
-    (station : Station) (result : Result FoundStation Refusal) → basis_from (basis_of book table name) ≡ Ok basis
-    → slice_get book.stations basis.station ≡ Some station
-    → FindsIn reach book asked (site_at reach book (record { basis = basis; station = station }) asked) result
-    → FindsIn reach book asked (site_in reach book table name asked) result
-finds_by reach book table name asked basis station result from is finds =
-    rw (found_by reach book table name asked basis station from is) finds
-
--- the name is refused
 pub excused_by : {A : Type 0} (memory : Bool) (expected : Result A Refusal) (refusal : Refusal) → expected ≡ Err refusal
     → Excused memory expected refusal
 excused_by true expected refusal e = tt
 excused_by false expected refusal e = e
-
-pub refused_name : (memory : Bool) (reach : Reach) (book : Book) (table : List Offsets) (name : List ℕ) (asked : Asked)
-    (refusal : Refusal) → basis_from (basis_of book table name) ≡ Err refusal
-    → Excused memory (site_in reach book table name asked) refusal
-unfolding site_in
-refused_name memory reach book table name asked refusal from = excused_by memory _ refusal (rw from refl)
-
--- a refusal whose line can be printed without a table can be printed with any
-pub printable_any : (rows : List Offsets) (refusal : Refusal) → IsPrintableRefusal [] refusal → IsPrintableRefusal rows refusal
-printable_any rows (NoReference place) printable = absurd (omega (arith, printable))
-printable_any rows (OutOfYears first last) printable = printable
-printable_any rows _ printable = tt

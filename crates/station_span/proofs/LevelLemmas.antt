@@ -1,5 +1,5 @@
 -- The levels of a station.
-use Rattle.std.proofs.Common.{◌≡◌, ◌∷◌, ℕ, suc, ◌+◌, ◌*◌, ◌^◌, ◌<◌, ◌≤◌, ℤ, pos, negsuc, ◌-ℤ◌, ◌*ℤ◌, ◌≤ℤ◌, unsigned_abs, Ok, refl, lit<, arith}
+use Rattle.std.proofs.Common.{◌≡◌, ◌∷◌, ℕ, suc, ◌+◌, ◌*◌, ◌^◌, ◌<◌, ◌≤◌, ℤ, pos, negsuc, ◌-ℤ◌, ◌*ℤ◌, ◌≤ℤ◌, Ok, refl, lit<, arith}
 use Rattle.std.specs.Prelude.{IsTrue}
 use Rattle.std.proofs.Math.Nat.{div-mul-le_self, mul-le-mul_right}
 use Rattle.std.proofs.lemmas.Int.{ints, fold-int_max_bounds, fold-int_min_bounds}
@@ -13,52 +13,24 @@ use Rattle.station_table.specs.declared.basis.Basis.{Basis}
 use Rattle.station_table.specs.declared.offset.Offset.{Offset}
 use Rattle.station_table.specs.Bases.{is_equal}
 use Rattle.station_table.specs.Offsets.{IsOffset}
+use Rattle.year_blend.specs.Places.{AreYears, InDomain}
 use Rattle.year_blend.specs.Weights.{total_weight}
 use Rattle.zone_time.specs.Zones.{InZoneYears}
-use Rattle.station_span.specs.declared.asked.Asked.{Asked}
-use Rattle.station_span.specs.declared.reach.Reach.TheVariants.{Levels}
-use Rattle.station_span.specs.Workings.Tides.{SiteTide}
 use Rattle.station_span.specs.Levels.{level_at, level_in}
 use Rattle.station_span.specs.Sites.{Site}
-use Rattle.station_span.specs.Workings.Levels.{source_of, HasLevel, HasLevelsIn}
-use Rattle.station_span.specs.Workings.Spans.{IsFound}
-use Rattle.station_span.proofs.SpanLemmas.{curve_minute, ends_of}
+use Rattle.station_span.proofs.SpanLemmas.{file_minute}
 
--- ---- minutes whose level the curve has
+-- ---- minutes with a level
 
-pub zone_minute : (found : SiteTide) (minute : ℤ) → HasLevel found minute → InZoneYears minute
-zone_minute found minute has =
-    let file = curve_minute found.curve (source_of found minute) has.valid has.inside in
+-- a minute that the offset moves to one of a harmonics file has a local time by every clock
+pub zone_minute : (book : Book) (offset : Offset) (minute : ℤ) → AreYears book.first_year book.years → IsOffset offset
+    → InDomain book.first_year book.years (minute -ℤ offset.add) → InZoneYears minute
+zone_minute book offset minute are is inside =
+    let file = file_minute book.first_year book.years (minute -ℤ offset.add) are inside in
     let low = file.least in
     let high = file.most in
-    let least = has.offset.add in
+    let least = is.add in
     record { first = omega (arith, ints); last = omega (arith, ints) }
-
-pub minute_in_range : (found : SiteTide) (minute : ℤ) → HasLevel found minute → unsigned_abs minute ≤ 20000000000
-minute_in_range found minute has = let in_years = zone_minute found minute has in omega (arith, ints)
-
--- a minute between two minutes with a level has one
-pub between : (found : SiteTide) (asked : Asked) (minute : ℤ) → HasLevelsIn found asked → asked.begin ≤ℤ minute
-    → minute ≤ℤ asked.end → HasLevel found minute
-between found asked minute has after before =
-    let least = has.first.inside.least in
-    let most = has.last.inside.most in
-    record {
-      offset = has.first.offset;
-      valid = has.first.valid;
-      inside = record { least = omega (arith, ints); most = omega (arith, ints) };
-    }
-
--- the span has levels, if the station was found for levels
-pub found_levels : (book : Book) (asked : Asked) (site : Site) (found : SiteTide) → IsFound Levels book asked site found
-    → IsTrue (is_equal found.basis) → HasLevelsIn found asked
-found_levels book asked site found is equal =
-    let ends = rw equal at (ends_of _ _ _ found.curve is.predicts is.span.in_range.forward) in
-    record {
-      forward = is.span.forward;
-      first = record { offset = is.valid.high; valid = is.within_limits; inside = ends.0 };
-      last = record { offset = is.valid.high; valid = is.within_limits; inside = ends.1 };
-    }
 
 -- the span's first minute has a level, if the station was found for events
 pub within_adds : (basis : Basis) → (least_add basis ≤ℤ basis.high.add) × (basis.high.add ≤ℤ greatest_add basis)

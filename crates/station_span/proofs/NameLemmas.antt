@@ -1,12 +1,11 @@
 -- A name that is found is one that a certificate may have.
-use Rattle.std.proofs.Common.{◌≡◌, ◌≢◌, ℕ, ◌+◌, ◌*◌, ◌/◌, ◌%◌, ◌<◌, ◌≤◌, Bool, List, [], ◌∷◌, length, Option, Some, None, Result, Ok, Err, All, encode_utf8, encode_utf8_all, nat_lt, refl, inl, inr, arith, length-append}
+use Rattle.std.proofs.Common.{◌≡◌, ◌≢◌, ℕ, ◌+◌, ◌*◌, ◌/◌, ◌%◌, ◌<◌, ◌≤◌, List, [], ◌∷◌, length, Option, Some, None, Result, Ok, Err, All, encode_utf8, encode_utf8_all, refl, inl, inr, arith, length-append}
 use lib.Utf8.{encode}
 use Rattle.std.proofs.Math.Utf8.{low_scalar}
 use Rattle.std.specs.List.{position, position_or_len}
 use Rattle.std.specs.Str.{IsUtf8, bytes_eq}
 use Rattle.std.proofs.lemmas.Bool.{lt-ltb, le-ltb}
-use Rattle.std.proofs.lemmas.Bool.Decides.{nat_tests}
-use Rattle.std.proofs.lemmas.List.Elements.{All-nil, All-cons, All-head, All-tail, All-append}
+use Rattle.std.proofs.lemmas.List.Elements.{All-nil, All-cons, All-head, All-tail, All-append, All-weaker}
 use Rattle.std.proofs.lemmas.Slice.Eq.{bytes_eq-Decides}
 use Rattle.std.proofs.lemmas.Str.{IsUtf8-append, IsUtf8-encode, IsUtf8-nil, encode_ascii}
 use Rattle.cert_text.specs.Certificates.{IsStationName}
@@ -24,6 +23,7 @@ use Rattle.station_span.specs.declared.asked.Asked.{Asked}
 use Rattle.station_span.specs.declared.reach.Reach.{Reach}
 use Rattle.tide_fault.specs.declared.refusal.Refusal.{Refusal}
 use Rattle.station_span.specs.Sites.{Site, basis_from, site_in}
+use Rattle.station_span.proofs.SiteLemmas.{position_within}
 
 -- ---- the names of a harmonics file and of a table
 
@@ -107,32 +107,11 @@ named_within T name_of name (x ∷ xs) all within = by_test (bytes_eq (name_of x
     let more = rw other at within in
     named_within T name_of name xs (All-tail (λ (y : T). IsStationName (name_of y)) x xs all) (omega (arith, more)))
 
-none_some : (k : ℕ) → (let o : Option ℕ = None in o) ≡ Some k → ⊥
-none_some k e = cc
-
 named_at : (T : Type 0) (name_of : T → List ℕ) (name : List ℕ) (xs : List T) (place : ℕ)
     → All (λ x. IsStationName (name_of x)) xs → position (λ x. bytes_eq (name_of x) name) xs ≡ Some place
     → IsStationName name
 named_at T name_of name xs place all is =
-    let test : T → Bool = λ x. bytes_eq (name_of x) name in
-    by_test (nat_lt (position_or_len test xs) (length xs))
-    (λ within. named_within T name_of name xs all (grind (arith, nat_tests)))
-    (λ beyond. absurd (none_some place (rw beyond at is)))
-
-stations_named : (count : ℕ) (stations : List Station) → All (IsStation count) stations
-    → All (λ (s : Station). IsStationName s.name) stations
-stations_named count [] all = All-nil (λ (s : Station). IsStationName s.name)
-stations_named count (s ∷ stations) all =
-    All-cons (λ (t : Station). IsStationName t.name) s stations
-    (station_name s.name (All-head (IsStation count) s stations all).name)
-    (stations_named count stations (All-tail (IsStation count) s stations all))
-
-rows_named : (rows : List Offsets) → All IsOffsets rows → All (λ (o : Offsets). IsStationName o.name) rows
-rows_named [] all = All-nil (λ (o : Offsets). IsStationName o.name)
-rows_named (o ∷ rows) all =
-    All-cons (λ (p : Offsets). IsStationName p.name) o rows
-    (row_name o.name (All-head IsOffsets o rows all).name)
-    (rows_named rows (All-tail IsOffsets o rows all))
+    named_within T name_of name xs all (position_within (λ x. bytes_eq (name_of x) name) xs place is).0
 
 -- ---- the name of a station that was found
 
@@ -140,14 +119,16 @@ of_row : (book : Book) (table : List Offsets) (name : List ℕ) (basis : Basis) 
     → row_at table name ≡ place → basis_in book table name ≡ Ok basis → IsStationName name
 unfolding basis_in
 of_row book table name basis (Some place) is found ok =
-    named_at Offsets (λ (o : Offsets). o.name) name table place (rows_named table is.each) found
+    named_at Offsets (λ (o : Offsets). o.name) name table place (All-weaker IsOffsets (λ (o : Offsets). IsStationName o.name)
+    (λ o row. row_name o.name row.name) table is.each) found
 of_row book table name basis None is found ok = absurd (let none = rw found at ok in cc)
 
 of_station : (book : Book) (table : List Offsets) (name : List ℕ) (basis : Basis) (place : Option ℕ) → IsBook book
     → IsTable table → station_at book name ≡ place → reference_or (basis_in book table name) place ≡ Ok basis
     → IsStationName name
 of_station book table name basis (Some place) is rows found ok =
-    named_at Station (λ (s : Station). s.name) name book.stations place (stations_named _ book.stations is.stations) found
+    named_at Station (λ (s : Station). s.name) name book.stations place (All-weaker (IsStation (length book.constituents))
+    (λ (s : Station). IsStationName s.name) (λ s station. station_name s.name station.name) book.stations is.stations) found
 of_station book table name basis None is rows found ok = of_row book table name basis (row_at table name) rows refl ok
 
 pub of_basis : (book : Book) (table : List Offsets) (name : List ℕ) (basis : Basis) → IsBook book → IsTable table

@@ -28,12 +28,10 @@ use Rattle.station_span.specs.declared.asked.Asked.{Asked}
 use Rattle.station_span.specs.declared.reach.Reach.{Reach}
 use Rattle.station_span.specs.declared.reach.Reach.TheVariants.{Events, Levels, Highest}
 use Rattle.tide_fault.specs.declared.refusal.Refusal.TheVariants.{NoStation}
-use Rattle.station_span.specs.Workings.Tides.{SiteTide}
 use Rattle.station_span.specs.Sites.{Site, basis_from, lacks_minute, level_unit, moved, reached, has_span, span_in, curve_from, length_in, mark_in, span_limit, site_at, site_in}
 use Rattle.station_span.specs.Workings.Spans.{HasLevels, IsBeside, IsFound, IsInRange, IsSpanInRange, IsReached}
 use Rattle.station_span.proofs.FoundLemmas.{HasCurve, found_by, found_whole}
 use Rattle.station_span.proofs.SpanLemmas.{has_offsets, reached_span}
-use Rattle.station_curve.proofs.Ranges.{all_minutes_valid}
 use Rattle.station_curve.proofs.WithinLimits.{limits_of}
 
 -- ---- the results of a station's steps
@@ -128,12 +126,14 @@ span_tests reach book basis begin end ok = by_test (int_lt end begin)
 
 -- ---- the offsets
 
-placed : {T : Type 0} (test : T → Bool) (xs : List T) (place : ℕ) → position test xs ≡ Some place → place < length xs
-placed test xs place is = by_test (nat_lt (position_or_len test xs) (length xs))
-    (λ within.
-    let same : position_or_len test xs ≡ place = (let some = rw within at is in cc) in
-    rw (← same) (grind (arith, nat_tests)))
+pub position_within : {T : Type 0} (test : T → Bool) (xs : List T) (place : ℕ) → position test xs ≡ Some place
+    → (position_or_len test xs < length xs) × (position_or_len test xs ≡ place)
+position_within test xs place is = by_test (nat_lt (position_or_len test xs) (length xs))
+    (λ within. (grind (arith, nat_tests), (let some = rw within at is in cc)))
     (λ beyond. absurd (let none = rw beyond at is in cc))
+
+placed : {T : Type 0} (test : T → Bool) (xs : List T) (place : ℕ) → position test xs ≡ Some place → place < length xs
+placed test xs place is = let at = position_within test xs place is in rw (← at.1) at.0
 
 each_got : {T : Type 0} (P : T → Type 0) (xs : List T) (place : ℕ) (x : T) → All P xs → slice_get xs place ≡ Some x → P x
 each_got P [] place x all got = absurd cc
@@ -262,12 +262,9 @@ span_reached reach book basis asked has in_range ok =
 
 -- ---- a station that was found has a curve
 
-abbrev pub found_at : Book → Site → SiteTide
-found_at book site = record { basis = site.basis; units = site.station.units; curve = prediction_of book site.station }
-
 pub found_of_site : (reach : Reach) (book : Book) (table : List Offsets) (name : List ℕ) (asked : Asked) (site : Site)
     → IsBook book → IsTable table → IsInRange asked → site_in reach book table name asked ≡ Ok site
-    → IsFound reach book asked site (found_at book site)
+    → IsFound reach book asked site
 found_of_site reach book table name asked site is rows in_range ok =
     let was = was_found reach book table name asked site ok in
     let steps = was.steps in
@@ -275,13 +272,9 @@ found_of_site reach book table name asked site is rows in_range ok =
     let station = each_got (IsStation (length book.constituents)) book.stations site.basis.station site.station is.stations was.station in
     let span = span_reached reach book site.basis asked (has_offsets _ site.basis valid) in_range steps.curve.span in
     record {
-      basis = refl;
       valid = valid;
-      units = refl;
       levels = unit_levels site.station.units steps.units steps.curve.unit;
-      predicts = record { of_book = refl; of_station = refl; from = span.begins.least; until = span.ends.most };
-      within_limits = all_minutes_valid book site.station
-          (limits_of book site.station is station (curve_none book site.station _ steps.whole refl steps.curve.curve));
+      limits = limits_of book site.station is station (curve_none book site.station _ steps.whole refl steps.curve.curve);
       span = span;
       few = few_minutes asked.begin asked.end steps.few;
       mark = mark_here site.basis asked.mark steps.mark;

@@ -1,23 +1,19 @@
 -- The minutes of a span.
 use Rattle.std.proofs.Common.{◌≤ℤ◌, ◌≡◌, ℕ, ℤ, pos, ◌+ℤ◌, int_lt, Bool, true, false, ◌&&◌, refl, arith}
 use Rattle.std.proofs.lemmas.Int.{ints}
-use Rattle.event_list.specs.declared.span.Span.{Span}
 use Rattle.event_list.specs.Shifts.{HasOffsets}
 use Rattle.jiff_core.proofs.SignedLemmas.{signed_arith}
 use Rattle.harmonics_book.specs.declared.book.Book.{Book}
 use Rattle.harmonics_book.specs.Books.{IsBook}
 use Rattle.station_table.specs.declared.basis.Basis.{Basis}
 use Rattle.station_table.specs.Bases.{IsBasis}
-use Rattle.station_curve.specs.Curves.{Prediction, IsPredicted, IsPrediction}
-use Rattle.station_curve.proofs.Ranges.{in_domain as minute_in_years}
 use Rattle.year_blend.specs.Places.{AreYears, InDomain}
 use Rattle.year_blend.specs.Years.{year_start_of}
 use Rattle.year_blend.proofs.YearLemmas.{year_start_of_low, year_start_of_high, year_start_of_mono}
 use Rattle.zone_time.specs.Moments.{IsMoment}
 use Rattle.station_span.specs.declared.reach.Reach.{Reach}
 use Rattle.station_span.specs.Sites.{lacks_minute, reached, has_minute, has_span}
-use Rattle.station_span.specs.Workings.Spans.{IsBeside, IsFileMinute, IsSpanInRange, IsReached, IsCurveOf}
-use Rattle.harmonics_book.specs.declared.book.Station.{Station}
+use Rattle.station_span.specs.Workings.Spans.{IsBeside, IsFileMinute, IsSpanInRange, IsReached}
 
 -- the minutes of a file's years have dates
 pub file_minute : (first_year : ℤ) (years : ℕ) (m : ℤ) → AreYears first_year years → InDomain first_year years m → IsFileMinute m
@@ -85,20 +81,3 @@ last_moment book is =
     let later = year_start_of_mono book.first_year (book.first_year +ℤ pos book.years) (omega (arith, signed_arith))
     (omega (arith, ints)) in
     moment book.first_year book.years _ are (record { least = later; most = omega (arith, ints) })
-
--- the minutes of a curve
-pub curve_minute : (c : Prediction) (m : ℤ) → IsPrediction c → IsPredicted c m → IsFileMinute m
-curve_minute c m valid at = file_minute c.book.first_year c.book.years m valid.limits.times.years (minute_in_years c m valid at)
-
-pub curve_moment : (c : Prediction) (m : ℤ) → IsPrediction c → IsPredicted c m → IsMoment m
-curve_moment c m valid at = moment c.book.first_year c.book.years m valid.limits.times.years (minute_in_years c m valid at)
-
--- the ends of a span that isn't backward are minutes of the curve
-pub ends_of : (book : Book) (station : Station) (s : Span) (c : Prediction) → IsCurveOf book station s c → s.begin ≤ℤ s.end
-    → IsPredicted c s.begin × IsPredicted c s.end
-ends_of book station s c is forward =
-    let from = is.from in
-    let until = is.until in (
-      record { least = from; most = omega (arith, ints) },
-      record { least = omega (arith, ints); most = until },
-    )

@@ -4,8 +4,7 @@ ghost use Rattle.std.specs.Prelude.{◌≡◌, option_map};
 ghost use Rattle.std.specs.Option.{ForSome};
 ghost use Rattle.rate_bound.specs.Meanings.{turn_meaning};
 ghost use Rattle.station_span.specs.Following.{asks_slack, slack_times, slack_plus};
-ghost use Rattle.station_span.specs.Workings.Finds.{tide_of_found};
-ghost use Rattle.station_span.specs.Workings.TrackMeanings.{tide_slack, tide_mark};
+ghost use Rattle.station_span.specs.Workings.Curves.{mark_over, slack_over};
 
 use crate::found_station::FoundStation;
 use curve_law::Curve;
@@ -26,7 +25,7 @@ pub fn turn_curve<'a>(found: &'a FoundStation, version: Version) -> TurnCurve<'a
 /// `None` if the station's slack waters aren't listed.
 pub fn slack_curve<'a>(found: &'a FoundStation, version: Version) -> Option<MarkCurve<'a>>
     ensures meaning { option_map (λ curve. (⟦<MarkCurve<'a> as Curve>⟧.state curve).facts.meaning) result
-        ≡ tide_slack version (tide_of_found found.now) }
+        ≡ slack_over version found.now.curve found.now.basis }
     ensures fresh { ForSome result (λ curve. (⟦<MarkCurve<'a> as Curve>⟧.state curve).count ≡ 0) }
 {
     let basis = &found.basis;
@@ -42,7 +41,7 @@ pub fn slack_curve<'a>(found: &'a FoundStation, version: Version) -> Option<Mark
 /// `None` if the request has no mark.
 pub fn mark_curve<'a>(found: &'a FoundStation, version: Version) -> Option<MarkCurve<'a>>
     ensures meaning { option_map (λ curve. (⟦<MarkCurve<'a> as Curve>⟧.state curve).facts.meaning) result
-        ≡ tide_mark version (tide_of_found found.now) found.now.asked.mark }
+        ≡ mark_over version found.now.curve found.now.basis found.now.asked.mark }
     ensures fresh { ForSome result (λ curve. (⟦<MarkCurve<'a> as Curve>⟧.state curve).count ≡ 0) }
 {
     match found.asked.mark {

@@ -3,7 +3,7 @@
 ghost use Rattle.std.specs.Prelude.{◌≡◌};
 ghost use Rattle.station_curve.specs.Curves.{prediction_over};
 ghost use Rattle.station_span.specs.Sites.{reached};
-ghost use Rattle.station_span.specs.Workings.Looked.{IsValid};
+ghost use Rattle.station_span.specs.Workings.Spans.{IsFound, site_with};
 
 use crate::asked::Asked;
 use crate::reach::Reach;
@@ -29,7 +29,7 @@ pub struct FoundStation {
     /// The minutes of the reference that are evaluated.
     pub span: Span,
     pub ghost unit: { units ≡ curve.station.units },
-    pub ghost valid: { IsValid reach curve.book asked basis curve.station curve },
+    pub ghost valid: { IsFound reach curve.book asked (site_with basis curve.station) },
     pub ghost looked: { span ≡ reached reach basis asked.begin asked.end },
     pub ghost alone: { curve ≡ prediction_over curve.book curve.station span.begin span.end },
 }

@@ -1,14 +1,14 @@
 //! The level of a station at a minute.
 
-ghost use Rattle.std.specs.Prelude.{◌≡◌, pos, negsuc, [], IsTrue, Ok, Err, IfErr, OnOk};
+ghost use Rattle.std.specs.Prelude.{◌≡◌, ◌-ℤ◌, pos, negsuc, [], IsTrue, Ok, Err, IfErr, OnOk};
 ghost use Rattle.event_list.specs.Shifts.{scaled};
 ghost use Rattle.event_list.specs.Worked.{dock};
 ghost use Rattle.station_table.specs.Bases.{is_equal};
 ghost use Rattle.station_span.specs.declared.reach.Reach.{Reach};
 ghost use Rattle.station_span.specs.Levels.{is_rising_at, level_at, level_in};
 ghost use Rattle.tide_fault.specs.Faults.{IsPrintableRefusal};
-ghost use Rattle.station_span.specs.Workings.Finds.{AreLooked, IsLooked, site_of, tide_of_found};
-ghost use Rattle.station_span.specs.Workings.Levels.{HasLevel, source_of};
+ghost use Rattle.station_span.specs.Workings.Finds.{AreLooked, IsLooked, site_of};
+ghost use Rattle.station_curve.specs.Curves.{IsPredicted};
 
 use crate::found_station::FoundStation;
 use crate::station::earlier;
@@ -57,8 +57,8 @@ pub fn is_rising(found: &FoundStation, minute: i64) -> bool
 /// Returns the reference's minute that the station's offset moves to `minute`.
 pub fn source(found: &FoundStation, minute: i64) -> i64
     requires { IsLooked found.now minute }
-    ensures exact { result ≡ source_of (tide_of_found found.now) minute }
-    ensures level { HasLevel (tide_of_found found.now) minute }
+    ensures exact { result ≡ minute -ℤ found.now.basis.high.add }
+    ensures inside { IsPredicted found.now.curve (minute -ℤ found.now.basis.high.add) }
 {
     earlier(minute, found.basis.high.add)
 }

@@ -1,12 +1,14 @@
 //! The highest water of a station over a span.
 
-ghost use Rattle.std.specs.Prelude.{◌≡◌, ◌<◌, ◌≤◌, ◌^◌, ◌+ℤ◌, length, unsigned_abs, IfErr, IfOk, OnOk};
+ghost use Rattle.std.specs.Prelude.{◌≡◌, ◌<◌, ◌≤◌, ◌^◌, pos, ◌+ℤ◌, length, unsigned_abs, IfErr, IfOk, OnOk};
 ghost use Rattle.cert_text.specs.Certificates.{IsStationName};
 ghost use Rattle.highest_water.specs.declared.verdict.PeakVerdict.{PeakVerdict};
 ghost use Rattle.tide_fault.specs.Faults.{IsPrintableRefusal};
 ghost use Rattle.station_span.specs.Peaks.{highest_of, highest_site, highest_verdict};
-ghost use Rattle.station_span.specs.Workings.Finds.{FindsIn, HasPeak, IsLooked, site_of, tide_of_found};
-ghost use Rattle.station_span.specs.Workings.Peaks.{IsSourceIn, tide_levels};
+ghost use Rattle.rate_bound.specs.declared.version.Version.{Version};
+ghost use Rattle.rate_bound.specs.Meanings.{mark_meaning};
+ghost use Rattle.station_span.specs.Workings.Finds.{FindsIn, HasPeak, IsLooked, site_of};
+ghost use Rattle.station_span.specs.Workings.Peaks.{IsSourceIn};
 
 use crate::found_station::FoundStation;
 use crate::levels::check_level;
@@ -58,7 +60,7 @@ pub fn find_level(
 pub fn find_highest(alloc: Global, found: &FoundStation) -> Result<Peak, AllocError>
     requires { HasPeak found.now }
     ensures exact { IfOk result (λ peak. peak ≡ highest_of found.now.curve.book (site_of found.now) found.now.asked) }
-    ensures inside { IfOk result (λ peak. IsSourceIn (tide_of_found found.now) found.now.asked peak.at) }
+    ensures inside { IfOk result (λ peak. IsSourceIn (site_of found.now) found.now.asked peak.at) }
 {
     let peak = find_peak(
         alloc,
@@ -74,7 +76,7 @@ pub fn find_highest(alloc: Global, found: &FoundStation) -> Result<Peak, AllocEr
 pub fn highest_minute(found: &FoundStation) -> i64
     requires { HasPeak found.now }
     ensures exact { result ≡ (highest_of found.now.curve.book (site_of found.now) found.now.asked).at }
-    ensures inside { IsSourceIn (tide_of_found found.now) found.now.asked result }
+    ensures inside { IsSourceIn (site_of found.now) found.now.asked result }
 {
     highest_point(&mut level_curve(found), found.span.begin, found.span.end).minute
 }
@@ -87,7 +89,7 @@ pub fn judge_highest(found: &FoundStation, peak: &Peak) -> PeakVerdict
     requires size { unsigned_abs peak.now.value < 10 ^ 37 }
     requires count_bound { length peak.now.cells < 2 ^ 32 }
     ensures exact { result ≡ highest_verdict found.now.curve.book (site_of found.now) found.now.asked peak.now }
-    ensures inside { result ≡ PeakVerdict.Accepted → IsSourceIn (tide_of_found found.now) found.now.asked peak.now.at }
+    ensures inside { result ≡ PeakVerdict.Accepted → IsSourceIn (site_of found.now) found.now.asked peak.now.at }
 {
     check_peak(
         &mut level_curve(found),
@@ -100,7 +102,7 @@ pub fn judge_highest(found: &FoundStation, peak: &Peak) -> PeakVerdict
 /// Returns the station's minute to which the offset moves the reference's minute `at`.
 pub fn moved_minute(found: &FoundStation, at: i64) -> i64
     requires peak { HasPeak found.now }
-    requires inside { IsSourceIn (tide_of_found found.now) found.now.asked at }
+    requires inside { IsSourceIn (site_of found.now) found.now.asked at }
     ensures exact { result ≡ at +ℤ found.now.basis.high.add }
     ensures level { IsLooked found.now result }
 {
@@ -118,7 +120,8 @@ fn later(minute: i64, add: i32) -> i64
 
 /// Returns the curve of the reference's level; its greatest value is the highest water.
 fn level_curve<'a>(found: &'a FoundStation) -> MarkCurve<'a>
-    ensures meaning { (⟦<MarkCurve<'a> as Curve>⟧.state result).facts.meaning ≡ tide_levels (tide_of_found found.now) }
+    ensures meaning { (⟦<MarkCurve<'a> as Curve>⟧.state result).facts.meaning
+        ≡ mark_meaning Version.Second found.now.curve (pos 1000000) (pos 0) (pos 0) true }
     ensures fresh { (⟦<MarkCurve<'a> as Curve>⟧.state result).count ≡ 0 }
 {
     MarkCurve::blended(&found.curve, 1_000_000, 0, 0, true)

@@ -41,8 +41,7 @@ ghost use Rattle.station_span.specs.Sites.{
   span_limit,
 };
 ghost use Rattle.station_span.specs.Workings.Finds.{FindsIn};
-ghost use Rattle.station_span.specs.Workings.Looked.{site_with};
-ghost use Rattle.station_span.specs.Workings.Spans.{HasLevels};
+ghost use Rattle.station_span.specs.Workings.Spans.{HasLevels, site_with};
 ghost use Rattle.year_blend.specs.Years.{year_start_of};
 ghost use Rattle.zone_time.specs.Moments.{IsMoment};
 

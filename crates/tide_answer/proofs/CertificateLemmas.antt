@@ -21,34 +21,29 @@ use Rattle.event_list.proofs.EventLemmas.{covers-accepted}
 use Rattle.harmonics_book.specs.declared.book.Book.{Book}
 use Rattle.rate_bound.specs.declared.version.Version.{Version}
 use Rattle.rate_bound.specs.declared.version.Version.TheVariants.{Second}
-use Rattle.station_curve.specs.Curves.{IsPrediction, Prediction}
+use Rattle.station_curve.specs.Curves.{IsPrediction, IsWithinLimits, Prediction, prediction_of}
+use Rattle.station_curve.proofs.Ranges.{all_minutes_valid}
 use Rattle.station_curve.specs.Schureman.{predicted_millionths}
 use Rattle.station_table.specs.declared.offsets.Offsets.{Offsets}
 use Rattle.zone_time.specs.Moments.{IsMoment}
 use Rattle.station_span.specs.declared.asked.Asked.{Asked}
 use Rattle.station_span.specs.declared.reach.Reach.TheVariants.{Events}
-use Rattle.station_span.specs.Workings.Tides.{SiteTide}
 use Rattle.station_span.specs.declared.found_station.FoundStation.{FoundStation}
-use Rattle.station_span.specs.Workings.Finds.{site_of, tide_of_found}
+use Rattle.station_span.specs.Workings.Finds.{site_of}
 use Rattle.tide_answer.specs.Answers.{certified}
-use Rattle.station_span.specs.Following.{if_asked, tracks_of, cells_of}
+use Rattle.station_span.specs.Following.{if_asked, followed, followed_by, tracks_of, cells_of}
 use Rattle.station_span.specs.Sites.{Site, site_in}
 use Rattle.tide_answer.specs.Workings.Certifying.{certificate_in}
-use Rattle.station_span.specs.Workings.Curves.{followed_tide, IsReady}
+use Rattle.station_span.specs.Workings.Spans.{IsBeside, IsFound}
 use Rattle.station_cells.proofs.CellLemmas.{IsOf, accepted_track, few_track, usual_track}
-use Rattle.station_span.proofs.FollowLemmas.{ready_valid_over, few_cells}
-use Rattle.station_span.proofs.HeldLemmas.{ready_for, tracks_tide}
+use Rattle.station_span.proofs.FollowLemmas.{few_cells, found_valid_over}
+use Rattle.station_span.proofs.HeldLemmas.{found_for}
 use Rattle.station_span.proofs.MovableLemmas.{millionths_small}
 
 -- ---- the number of cells
 
-pub tracks_few : (asked : Asked) (found : SiteTide) (tracks : Tracks) → IsReady asked found
-    → tracks ≡ covers_of (followed_tide Second found asked.mark) (widened_of found.basis asked.begin asked.end)
-    → cells_in tracks < 2 ^ 64
-tracks_few asked found tracks ready same = rw same (few_cells asked found ready)
-
 pub few_for : (f : FoundStation) → f.reach ≡ Events → cells_in (tracks_of f.curve.book (site_of f) f.asked) < 2 ^ 64
-few_for f is = tracks_few f.asked (tide_of_found f) _ (ready_for f is) (tracks_tide f is)
+few_for f is = few_cells f.curve.book f.asked (site_of f) (found_for f Events is)
 
 -- ---- the parts are within their ranges
 
@@ -80,14 +75,17 @@ record AreOf (f : Followed) : Type 0 where
   pub slack : ForSome f.slack (IsOf Slack)
   pub mark : ForSome f.mark (IsOf Mark)
 
-followed_of : (version : Version) (found : SiteTide) (mark : Option ℤ) → IsPrediction found.curve
-    → AreOf (followed_tide version found mark)
-unfolding followed_tide
-followed_of version found mark within_limits = record {
-  turn = of_notes Turn found.curve _ within_limits refl refl refl refl refl;
-  slack = of_if_asked _ _ (of_notes Slack found.curve _ within_limits refl refl refl refl refl);
-  mark = of_if_marked mark _ (λ level. of_notes Mark found.curve _ within_limits refl refl refl refl refl);
-}
+followed_of : (version : Version) (book : Book) (site : Site) (mark : Option ℤ) → IsWithinLimits book site.station
+    → AreOf (followed_by version book site mark)
+unfolding followed_by
+followed_of version book site mark limits =
+    let p = prediction_of book site.station in
+    let valid = all_minutes_valid book site.station limits in
+    record {
+      turn = of_notes Turn p _ valid refl refl refl refl refl;
+      slack = of_if_asked _ _ (of_notes Slack p _ valid refl refl refl refl refl);
+      mark = of_if_marked mark _ (λ level. of_notes Mark p _ valid refl refl refl refl refl);
+    }
 
 -- a fact of an accepted track holds of one that may be absent
 track_if : (P : List Cell → Type 0) (track : TrackName) (s : Span) (curve : Option Meaning) (cells : Option (List Cell))
@@ -115,23 +113,22 @@ marked_alike : (mark : Option ℤ) (f : ℤ → Meaning) (g : Meaning → List C
 marked_alike (Some level) f g = refl
 marked_alike None f g = refl
 
-pub certificate_valid : (name : List ℕ) (asked : Asked) (found : SiteTide) (tracks : Tracks) → IsStationName name
-    → IsMoment asked.begin → IsMoment asked.end → IsReady asked found
-    → tracks ≡ covers_of (followed_tide Second found asked.mark) (widened_of found.basis asked.begin asked.end)
+pub certificate_valid : (name : List ℕ) (book : Book) (asked : Asked) (site : Site) (tracks : Tracks) → IsStationName name
+    → IsMoment asked.begin → IsMoment asked.end → IsFound Events book asked site → tracks ≡ tracks_of book site asked
     → IsCertificate (certificate_in name asked tracks)
-unfolding followed_tide
-certificate_valid name asked found tracks named begin end ready same =
-    let s = widened_of found.basis asked.begin asked.end in
-    let f = followed_tide Second found asked.mark in
-    let valid_over = ready_valid_over Second asked found ready in
+unfolding tracks_of followed_by
+certificate_valid name book asked site tracks named begin end is same =
+    let s = widened_of site.basis asked.begin asked.end in
+    let f = followed book site asked in
+    let valid_over = found_valid_over Second book asked site is in
     let accepted = covers-accepted f s in
-    let of = followed_of Second found asked.mark ready.within_limits in
+    let of = followed_of Second book site asked.mark is.limits in
     rw same (record {
       version = inr refl;
       station = named;
       begin = begin;
       end = end;
-      mark = if_some (λ level. unsigned_abs level ≤ 10000000000) asked.mark ready.mark;
+      mark = if_some (λ level. unsigned_abs level ≤ 10000000000) asked.mark is.in_range.mark;
       turn = accepted_track Turn f.turn s (cover_over s f.turn) of.turn valid_over.turn.span accepted.turn;
       slack = track_valid Slack s f.slack (option_map (cover_over s) f.slack) of.slack valid_over.slack accepted.slack;
       crossings = track_valid Mark s f.mark (option_map (cover_over s) f.mark) of.mark valid_over.mark accepted.mark;
@@ -140,13 +137,13 @@ certificate_valid name asked found tracks named begin end ready same =
 
 -- ---- the text is short, whoever wrote it
 
-pub accepted_usual : (version : Version) (asked : Asked) (found : SiteTide) (c : Certificate) → IsReady asked found
-    → AreAccepted (followed_tide version found asked.mark) (widened_of found.basis asked.begin asked.end) c.tracks → HasUsualLevels c
-accepted_usual version asked found c ready accepted =
-    let s = widened_of found.basis asked.begin asked.end in
-    let f = followed_tide version found asked.mark in
-    let valid_over = ready_valid_over version asked found ready in
-    let of = followed_of version found asked.mark ready.within_limits in
+pub accepted_usual : (version : Version) (book : Book) (asked : Asked) (site : Site) (c : Certificate) → IsFound Events book asked site
+    → AreAccepted (followed_by version book site asked.mark) (widened_of site.basis asked.begin asked.end) c.tracks → HasUsualLevels c
+accepted_usual version book asked site c is accepted =
+    let s = widened_of site.basis asked.begin asked.end in
+    let f = followed_by version book site asked.mark in
+    let valid_over = found_valid_over version book asked site is in
+    let of = followed_of version book site asked.mark is.limits in
     record {
       turn = usual_track Turn f.turn s c.tracks.turn of.turn valid_over.turn.span accepted.turn;
       slack = track_usual Slack s f.slack c.tracks.slack of.slack valid_over.slack accepted.slack;
@@ -154,13 +151,14 @@ accepted_usual version asked found c ready accepted =
     }
 
 -- the number of minutes of the longest span with a day at both ends
-pub looked_few : (asked : Asked) (found : SiteTide) → IsReady asked found
-    → span_minutes (widened_of found.basis asked.begin asked.end) ≤ 5273280
-looked_few asked found ready =
-    let few = ready.few in
-    let forward = ready.forward in
-    let begins = ready.beside.begins in
-    let ends = ready.beside.ends in
+pub looked_few : (book : Book) (asked : Asked) (site : Site) → IsFound Events book asked site
+    → span_minutes (widened_of site.basis asked.begin asked.end) ≤ 5273280
+looked_few book asked site is =
+    let few = is.few in
+    let forward = is.span.forward in
+    let beside : IsBeside asked.begin asked.end (widened_of site.basis asked.begin asked.end) = is.span.beside in
+    let begins = beside.begins in
+    let ends = beside.ends in
     omega (arith, ints)
 
 track_few : (s : Span) (curve : Option Meaning) (cells : Option (List Cell)) → IsAccepted s curve cells
@@ -170,32 +168,32 @@ track_few s None (Some cells) accepted = absurd accepted
 track_few s (Some c) None accepted = absurd accepted
 track_few s (Some c) (Some cells) accepted = few_track c s cells accepted
 
-pub accepted_few : (version : Version) (asked : Asked) (found : SiteTide) (c : Certificate) → IsReady asked found
-    → AreAccepted (followed_tide version found asked.mark) (widened_of found.basis asked.begin asked.end) c.tracks
+pub accepted_few : (version : Version) (book : Book) (asked : Asked) (site : Site) (c : Certificate) → IsFound Events book asked site
+    → AreAccepted (followed_by version book site asked.mark) (widened_of site.basis asked.begin asked.end) c.tracks
     → cells_of_all c ≤ 15819840
-accepted_few version asked found c ready accepted =
-    let s = widened_of found.basis asked.begin asked.end in
-    let f = followed_tide version found asked.mark in
+accepted_few version book asked site c is accepted =
+    let s = widened_of site.basis asked.begin asked.end in
+    let f = followed_by version book site asked.mark in
     let turn = few_track f.turn s c.tracks.turn accepted.turn in
     let slack = track_few s f.slack c.tracks.slack accepted.slack in
     let crossings = track_few s f.mark c.tracks.mark accepted.mark in
-    omega (arith, looked_few asked found ready, turn, slack, crossings)
+    omega (arith, looked_few book asked site is, turn, slack, crossings)
 
-pub certificate_usual : (name : List ℕ) (asked : Asked) (found : SiteTide) (tracks : Tracks) → IsReady asked found
-    → tracks ≡ covers_of (followed_tide Second found asked.mark) (widened_of found.basis asked.begin asked.end)
-    → HasUsualLevels (certificate_in name asked tracks)
-certificate_usual name asked found tracks ready same =
-    let s = widened_of found.basis asked.begin asked.end in
-    let f = followed_tide Second found asked.mark in
-    rw same (accepted_usual Second asked found (certificate_in name asked (covers_of f s)) ready (covers-accepted f s))
+pub certificate_usual : (name : List ℕ) (book : Book) (asked : Asked) (site : Site) → IsFound Events book asked site
+    → HasUsualLevels (certificate_in name asked (tracks_of book site asked))
+unfolding tracks_of
+certificate_usual name book asked site is =
+    let f = followed book site asked in
+    let s = widened_of site.basis asked.begin asked.end in
+    accepted_usual Second book asked site (certificate_in name asked (covers_of f s)) is (covers-accepted f s)
 
-pub certificate_few : (name : List ℕ) (asked : Asked) (found : SiteTide) (tracks : Tracks) → IsReady asked found
-    → tracks ≡ covers_of (followed_tide Second found asked.mark) (widened_of found.basis asked.begin asked.end)
-    → cells_of_all (certificate_in name asked tracks) ≤ 15819840
-certificate_few name asked found tracks ready same =
-    let s = widened_of found.basis asked.begin asked.end in
-    let f = followed_tide Second found asked.mark in
-    rw same (accepted_few Second asked found (certificate_in name asked (covers_of f s)) ready (covers-accepted f s))
+pub certificate_few : (name : List ℕ) (book : Book) (asked : Asked) (site : Site) → IsFound Events book asked site
+    → cells_of_all (certificate_in name asked (tracks_of book site asked)) ≤ 15819840
+unfolding tracks_of
+certificate_few name book asked site is =
+    let f = followed book site asked in
+    let s = widened_of site.basis asked.begin asked.end in
+    accepted_few Second book asked site (certificate_in name asked (covers_of f s)) is (covers-accepted f s)
 
 -- ---- the answer
 

@@ -25,29 +25,25 @@ use Rattle.event_list.proofs.EventLemmas.{events_of as events_in, events-parts, 
 use Rattle.harmonics_book.specs.declared.book.Book.{Book}
 use Rattle.rate_bound.specs.declared.version.Version.{Version}
 use Rattle.rate_bound.specs.declared.version.Version.TheVariants.{Second}
-use Rattle.rate_bound.specs.Meanings.{mark_meaning}
+use Rattle.rate_bound.specs.Meanings.{predicted_mark}
 use Rattle.station_table.specs.declared.offsets.Offsets.{Offsets}
 use Rattle.zone_time.specs.declared.zone.Zone.{Zone}
 use Rattle.station_span.specs.declared.asked.Asked.{Asked}
 use Rattle.station_span.specs.declared.reach.Reach.TheVariants.{Events}
 use Rattle.tide_fault.specs.declared.refusal.Refusal.{Refusal}
-use Rattle.station_cells.specs.declared.rejection.Rejection.{Rejection}
-use Rattle.station_span.specs.Workings.Tides.{SiteTide}
 use Rattle.tide_answer.specs.Answers.{checked, judged, version_of}
 use Rattle.tide_answer.specs.Asking.{asked_by_certificate}
 use Rattle.tide_fault.specs.Faults.{refusal_of_cert, refusal_is_out_of_memory}
 use Rattle.station_span.specs.Following.{asks_slack, slack_times, slack_plus, if_asked, followed_by, events_of}
-use Rattle.station_cells.specs.Rejections.{rejection_of}
 use Rattle.station_span.specs.Sites.{Site, site_in}
 use Rattle.station_cells.specs.Rejections.{HasFewCells}
 use Rattle.tide_answer.specs.Workings.Certifying.{judged_in, rejection_in}
-use Rattle.station_span.specs.Workings.Curves.{followed_tide, tide_events, IsReady}
 use Rattle.station_span.specs.Workings.Spans.{IsFound, IsInRange}
-use Rattle.station_cells.proofs.RejectionLemmas.{all_accepted, rejection_alike, tracks_short}
+use Rattle.station_cells.proofs.RejectionLemmas.{all_accepted, tracks_short}
 use Rattle.tide_answer.proofs.CertificateLemmas.{looked_few}
 use Rattle.station_span.specs.declared.found_station.FoundStation.{FoundStation}
-use Rattle.station_span.specs.Workings.Finds.{site_of, tide_of_found}
-use Rattle.station_span.proofs.FollowLemmas.{found_alike, found_events, ready_valid_over, ready_movable, ready_of_found, tide_lines}
+use Rattle.station_span.specs.Workings.Finds.{site_of}
+use Rattle.station_span.proofs.FollowLemmas.{found_valid_over, site_lines, site_movable}
 use Rattle.station_span.proofs.HeldLemmas.{found_for, span_for}
 use Rattle.event_text.specs.Lines.{IsListed}
 use Rattle.station_span.proofs.FoundLemmas.{excused_then}
@@ -100,29 +96,17 @@ few_read c bytes text few =
 
 -- ---- no fault
 
--- the first fault by the tide that was found
-abbrev pub tide_rejection : SiteTide → Certificate → Option Rejection
-tide_rejection found cert =
-    rejection_of (followed_tide (version_of cert) found cert.mark) (widened_of found.basis cert.begin cert.end) cert.tracks
+mark_followed : (version : Version) (book : Book) (site : Site) (mark : Option ℤ)
+    → is_some (followed_by version book site mark).mark ≡ is_some mark
+unfolding followed_by
+mark_followed version book site (Some level) = refl
+mark_followed version book site None = refl
 
-mark_followed : (version : Version) (found : SiteTide) (mark : Option ℤ) → is_some (followed_tide version found mark).mark ≡ is_some mark
-unfolding followed_tide
-mark_followed version found (Some level) = refl
-mark_followed version found None = refl
-
-pub tide_accepted : (found : SiteTide) (cert : Certificate) → IsCertificate cert → tide_rejection found cert ≡ None
-    → AreAccepted (followed_tide (version_of cert) found cert.mark) (widened_of found.basis cert.begin cert.end) cert.tracks
-tide_accepted found cert valid none =
-    all_accepted (followed_tide (version_of cert) found cert.mark) (widened_of found.basis cert.begin cert.end) cert.tracks
-    (mark_followed (version_of cert) found cert.mark ∙ sym valid.marked) none
-
--- ---- accepted tracks are short
-
-pub ready_short : (found : SiteTide) (cert : Certificate) → IsReady (asked_by_certificate cert) found
-    → IsCertificate cert → tide_rejection found cert ≡ None → AreShort cert.tracks
-ready_short found cert ready valid none =
-    tracks_short (followed_tide (version_of cert) found cert.mark) (widened_of found.basis cert.begin cert.end) cert.tracks
-    (omega (arith, looked_few (asked_by_certificate cert) found ready)) (tide_accepted found cert valid none)
+pub site_accepted : (book : Book) (site : Site) (cert : Certificate) → IsCertificate cert → rejection_in book site cert ≡ None
+    → AreAccepted (followed_by (version_of cert) book site cert.mark) (widened_of site.basis cert.begin cert.end) cert.tracks
+site_accepted book site cert valid none =
+    all_accepted (followed_by (version_of cert) book site cert.mark) (widened_of site.basis cert.begin cert.end) cert.tracks
+    (mark_followed (version_of cert) book site cert.mark ∙ sym valid.marked) none
 
 -- the result of a step under another name
 pub ok_same : (A E : Type 0) (r : Result A E) (x y : A) → x ≡ y → IfOk r (λ v. v ≡ x) → IfOk r (λ v. v ≡ y)
@@ -147,34 +131,37 @@ mark_events : (s : Span) (mark : Option ℤ) (f g : ℤ → Meaning) → ((level
 mark_events s (Some level) f g same = ap (λ t. plain_list t s.begin (span_minutes s) ++ []) (same level)
 mark_events s None f g same = refl
 
-version_events : (v : Version) (found : SiteTide) (mark : Option ℤ) (s : Span)
-    → events_in s (followed_tide v found mark) ≡ events_in s (followed_tide Second found mark)
-unfolding followed_tide
-version_events v found mark s =
-    let slack = slack_events s (asks_slack found.units found.basis)
-    (mark_meaning v found.curve (slack_times found.basis) (slack_plus found.basis) (pos 0) true)
-    (mark_meaning Second found.curve (slack_times found.basis) (slack_plus found.basis) (pos 0) true) refl in
+version_events : (v : Version) (book : Book) (site : Site) (mark : Option ℤ) (s : Span)
+    → events_in s (followed_by v book site mark) ≡ events_in s (followed_by Second book site mark)
+unfolding followed_by
+version_events v book site mark s =
+    let station = site.station in
+    let basis = site.basis in
+    let slack = slack_events s (asks_slack station.units basis)
+    (predicted_mark v book station (slack_times basis) (slack_plus basis) (pos 0) true)
+    (predicted_mark Second book station (slack_times basis) (slack_plus basis) (pos 0) true) refl in
     let mark = mark_events s mark
-    (λ level. mark_meaning v found.curve found.basis.high.times found.basis.high.plus level false)
-    (λ level. mark_meaning Second found.curve found.basis.high.times found.basis.high.plus level false) (λ level. refl) in
+    (λ level. predicted_mark v book station basis.high.times basis.high.plus level false)
+    (λ level. predicted_mark Second book station basis.high.times basis.high.plus level false) (λ level. refl) in
     rw (slack, mark) refl
 
-one_list : (v : Version) (found : SiteTide) (mark : Option ℤ) (begin end : ℤ)
-    → station_events (followed_tide v found mark) found.basis begin end
-    ≡ station_events (followed_tide Second found mark) found.basis begin end
-one_list v found mark begin end =
-    events-parts (followed_tide v found mark) found.basis begin end
-    ∙ ap (λ es. ordered (moved_within found.basis begin end es)) (version_events v found mark (widened_of found.basis begin end))
-    ∙ sym (events-parts (followed_tide Second found mark) found.basis begin end)
+one_list : (v : Version) (book : Book) (site : Site) (mark : Option ℤ) (begin end : ℤ)
+    → station_events (followed_by v book site mark) site.basis begin end
+    ≡ station_events (followed_by Second book site mark) site.basis begin end
+one_list v book site mark begin end =
+    events-parts (followed_by v book site mark) site.basis begin end
+    ∙ ap (λ es. ordered (moved_within site.basis begin end es)) (version_events v book site mark (widened_of site.basis begin end))
+    ∙ sym (events-parts (followed_by Second book site mark) site.basis begin end)
 
-accepted_events : (found : SiteTide) (cert : Certificate) → IsReady (asked_by_certificate cert) found
-    → IsCertificate cert → tide_rejection found cert ≡ None → shifted_of found.basis cert.begin cert.end
-    (merged_of (widened_of found.basis cert.begin cert.end).begin cert.tracks)
-    ≡ tide_events found (asked_by_certificate cert)
-accepted_events found cert ready valid none =
-    shifted-events (followed_tide (version_of cert) found cert.mark) found.basis cert.begin cert.end cert.tracks
-    (ready_valid_over (version_of cert) (asked_by_certificate cert) found ready) (tide_accepted found cert valid none)
-    ∙ one_list (version_of cert) found cert.mark cert.begin cert.end
+accepted_events : (book : Book) (site : Site) (cert : Certificate) → IsFound Events book (asked_by_certificate cert) site
+    → IsCertificate cert → rejection_in book site cert ≡ None → shifted_of site.basis cert.begin cert.end
+    (merged_of (widened_of site.basis cert.begin cert.end).begin cert.tracks)
+    ≡ events_of book site (asked_by_certificate cert)
+unfolding events_of
+accepted_events book site cert is valid none =
+    shifted-events (followed_by (version_of cert) book site cert.mark) site.basis cert.begin cert.end cert.tracks
+    (found_valid_over (version_of cert) book (asked_by_certificate cert) site is) (site_accepted book site cert valid none)
+    ∙ one_list (version_of cert) book site cert.mark cert.begin cert.end
 
 -- ---- the station, the span and the mark
 
@@ -189,13 +176,6 @@ read_in_range cert valid =
     record { begin = omega (arith, ints); end = omega (arith, ints); mark = marks_in_range cert.mark valid.mark }
 
 -- ---- the answer
-
-pub site_rejection : (book : Book) (cert : Certificate) (site : Site) (found : SiteTide)
-    → IsFound Events book (asked_by_certificate cert) site found
-    → tide_rejection found cert ≡ rejection_in book site cert
-site_rejection book cert site found is =
-    rejection_alike _ _ _ cert.tracks (found_alike (version_of cert) book (asked_by_certificate cert) site found cert.mark is)
-    ∙ ap (λ b. rejection_of (followed_by (version_of cert) book site cert.mark) (widened_of b cert.begin cert.end) cert.tracks) is.basis
 
 pub judged_by : (book : Book) (table : List Offsets) (cert : Certificate) (zone : Zone) (site : Site)
     → site_in Events book table cert.station (asked_by_certificate cert) ≡ Ok site
@@ -225,39 +205,32 @@ checked_by book table bytes zone cert is = rw is refl
 -- ---- a station that was found
 
 found_in : (found : FoundStation) (cert : Certificate) → found.reach ≡ Events → found.asked ≡ asked_by_certificate cert
-    → IsFound Events found.curve.book (asked_by_certificate cert) (site_of found) (tide_of_found found)
+    → IsFound Events found.curve.book (asked_by_certificate cert) (site_of found)
 found_in found cert reach same =
-    subst (λ a. IsFound Events found.curve.book a (site_of found) (tide_of_found found)) same (found_for found Events reach)
-
-ready_in : (found : FoundStation) (cert : Certificate) → found.reach ≡ Events → found.asked ≡ asked_by_certificate cert
-    → IsReady (asked_by_certificate cert) (tide_of_found found)
-ready_in found cert reach same = ready_of_found found.curve.book (asked_by_certificate cert) (site_of found)
-    (tide_of_found found) (found_in found cert reach same)
-
--- the first fault by the tide is the first fault
-pub rejection_for : (found : FoundStation) (cert : Certificate) → found.reach ≡ Events
-    → found.asked ≡ asked_by_certificate cert
-    → tide_rejection (tide_of_found found) cert ≡ rejection_in found.curve.book (site_of found) cert
-rejection_for found cert reach same =
-    site_rejection found.curve.book cert (site_of found) (tide_of_found found) (found_in found cert reach same)
+    subst (λ a. IsFound Events found.curve.book a (site_of found)) same (found_for found Events reach)
 
 pub span_in : (found : FoundStation) (cert : Certificate) → found.reach ≡ Events
     → found.asked ≡ asked_by_certificate cert → found.span ≡ widened_of found.basis cert.begin cert.end
 span_in found cert reach same = span_for found Events reach ∙ ap (λ (a : Asked). widened_of found.basis a.begin a.end) same
 
+-- accepted tracks are short
 pub found_short : (found : FoundStation) (cert : Certificate) → found.reach ≡ Events
     → found.asked ≡ asked_by_certificate cert → IsCertificate cert
     → rejection_in found.curve.book (site_of found) cert ≡ None → AreShort cert.tracks
 found_short found cert reach same valid none =
-    ready_short (tide_of_found found) cert (ready_in found cert reach same) valid (rejection_for found cert reach same ∙ none)
+    let book = found.curve.book in
+    let site = site_of found in
+    let few = looked_few book (asked_by_certificate cert) site (found_in found cert reach same) in
+    tracks_short (followed_by (version_of cert) book site cert.mark) (widened_of site.basis cert.begin cert.end) cert.tracks
+    (omega (arith, few)) (site_accepted book site cert valid none)
 
 pub found_movable : (found : FoundStation) (cert : Certificate) (events : List Event) → found.reach ≡ Events
     → found.asked ≡ asked_by_certificate cert → events ≡ merged_of found.span.begin cert.tracks → IsCertificate cert
     → rejection_in found.curve.book (site_of found) cert ≡ None → All IsMovable events
 found_movable found cert events reach same is valid none =
     rw (is, span_in found cert reach same)
-    (ready_movable (version_of cert) (asked_by_certificate cert) (tide_of_found found) cert.tracks (ready_in found cert reach same)
-    (tide_accepted (tide_of_found found) cert valid (rejection_for found cert reach same ∙ none)))
+    (site_movable (version_of cert) found.curve.book (asked_by_certificate cert) (site_of found) cert.tracks
+    (found_in found cert reach same) (site_accepted found.curve.book (site_of found) cert valid none))
 
 pub found_list : (found : FoundStation) (cert : Certificate) (events : List Event) → found.reach ≡ Events
     → found.asked ≡ asked_by_certificate cert → events ≡ merged_of found.span.begin cert.tracks → IsCertificate cert
@@ -266,12 +239,10 @@ pub found_list : (found : FoundStation) (cert : Certificate) (events : List Even
     ≡ events_of found.curve.book (site_of found) (asked_by_certificate cert)
 found_list found cert events reach same is valid none =
     rw (is, span_in found cert reach same, same)
-    (accepted_events (tide_of_found found) cert (ready_in found cert reach same) valid (rejection_for found cert reach same ∙ none)
-    ∙ found_events found.curve.book (asked_by_certificate cert) (site_of found) (tide_of_found found) (found_in found cert reach same))
+    (accepted_events found.curve.book (site_of found) cert (found_in found cert reach same) valid none)
 
 pub found_lines : (found : FoundStation) (cert : Certificate) → found.reach ≡ Events
     → found.asked ≡ asked_by_certificate cert → All (IsListed found.curve.station.units)
     (events_of found.curve.book (site_of found) (asked_by_certificate cert))
 found_lines found cert reach same =
-    rw (← found_events found.curve.book (asked_by_certificate cert) (site_of found) (tide_of_found found) (found_in found cert reach same))
-    (tide_lines (asked_by_certificate cert) (tide_of_found found) (ready_in found cert reach same))
+    site_lines found.curve.book (asked_by_certificate cert) (site_of found) (found_in found cert reach same)

@@ -12,10 +12,9 @@ use Rattle.cert_text.specs.Readings.{certificate_of}
 use Rattle.cert_text.specs.Spelling.{IsTextOf, Reads}
 use Rattle.curve_law.specs.declared.cell.Cell.{Cell}
 use Rattle.curve_law.specs.Meaning.{Meaning}
-use Rattle.curve_law.proofs.AgreeLemmas.{plain_list-agrees}
 use Rattle.curve_law.proofs.VerdictLemmas.{verdict-exact}
 use Rattle.event_list.specs.declared.span.Span.{Span}
-use Rattle.event_list.specs.Events.{Followed, IsValidOver, IsAccepted, AgreeIfFollowed, span_minutes, covers_of}
+use Rattle.event_list.specs.Events.{Followed, IsValidOver, IsAccepted, span_minutes, covers_of}
 use Rattle.event_list.specs.Shifts.{widened_of}
 use Rattle.event_list.proofs.EventLemmas.{covers-accepted}
 use Rattle.harmonics_book.specs.declared.book.Book.{Book}
@@ -23,14 +22,13 @@ use Rattle.harmonics_book.specs.Books.{IsBook}
 use Rattle.question.specs.declared.layout.Layout.TheVariants.{Plain}
 use Rattle.rate_bound.specs.declared.version.Version.{Version}
 use Rattle.rate_bound.specs.declared.version.Version.TheVariants.{Second}
-use Rattle.rate_bound.specs.Meanings.{mark_meaning}
+use Rattle.rate_bound.specs.Meanings.{predicted_mark}
 use Rattle.station_table.specs.declared.offsets.Offsets.{Offsets}
 use Rattle.station_table.specs.Offsets.{IsTable}
 use Rattle.zone_time.specs.declared.zone.Zone.{Zone}
 use Rattle.station_span.specs.declared.asked.Asked.{Asked}
 use Rattle.station_span.specs.declared.reach.Reach.TheVariants.{Events}
 use Rattle.station_cells.specs.declared.rejection.Rejection.{Rejection}
-use Rattle.station_span.specs.Workings.Tides.{SiteTide}
 use Rattle.tide_answer.specs.declared.text.Answer.{Answer}
 use Rattle.listing.specs.ByLayout.{events_text}
 use Rattle.tide_answer.specs.Answers.{predicted, certified, checked, certificate_by, certificate_from, version_of, judged, text_of_events}
@@ -40,15 +38,14 @@ use Rattle.tide_answer.specs.Laws.{IsAskable, AcceptsListing, ListsTrack, ListsE
 use Rattle.station_cells.specs.Rejections.{slack_fault, fault_from, track_fault, rejection_of}
 use Rattle.station_span.specs.Sites.{Site, site_in}
 use Rattle.tide_answer.specs.Workings.Certifying.{rejection_in}
-use Rattle.station_span.specs.Workings.Curves.{followed_tide, IsReady}
 use Rattle.station_span.specs.Workings.Spans.{IsFound, IsInRange}
 use Rattle.tide_answer.proofs.AnswerLemmas.{moment_in_range}
 use Rattle.tide_answer.proofs.CertificateLemmas.{accepted_few, accepted_usual, certificate_few, certificate_valid, certificate_usual}
-use Rattle.tide_answer.proofs.CheckLemmas.{checked_by, judged_by, read_in_range, site_rejection, tide_accepted, tide_rejection}
-use Rattle.station_span.proofs.FollowLemmas.{found_alike, ready_valid_over, ready_of_found, tracks_alike}
+use Rattle.tide_answer.proofs.CheckLemmas.{checked_by, judged_by, read_in_range, site_accepted}
+use Rattle.station_span.proofs.FollowLemmas.{found_valid_over}
 use Rattle.station_span.proofs.NameLemmas.{site_name}
 use Rattle.decimal_text.proofs.ExpectedLemmas.{then_ok}
-use Rattle.station_span.proofs.SiteLemmas.{found_at, found_of_site}
+use Rattle.station_span.proofs.SiteLemmas.{found_of_site}
 
 -- ---- accepted tracks have exactly the events
 
@@ -59,14 +56,6 @@ valid_lists s None (Some cells) valid_over ok = absurd ok
 valid_lists s (Some c) None valid_over ok = absurd ok
 valid_lists s (Some c) (Some cells) valid_over ok =
     let is = valid_over c refl in verdict-exact c s.begin (span_minutes s) cells is.lawful is.span ok
-
-alike_lists : (s : Span) (c d : Option Meaning) (cells : Option (List Cell)) → AgreeIfFollowed s c d
-    → ListsTrack s c cells → ListsTrack s d cells
-alike_lists s None None cells agree listed = listed
-alike_lists s None (Some d) cells agree listed = absurd agree
-alike_lists s (Some c) None cells agree listed = absurd agree
-alike_lists s (Some c) (Some d) None agree listed = listed
-alike_lists s (Some c) (Some d) (Some cells) agree listed = listed ∙ plain_list-agrees c d s.begin (span_minutes s) agree
 
 if_asked_lists : (s : Span) (asks : Bool) (c d : Meaning) (cells : Option (List Cell)) → c.track ≡ d.track
     → ListsTrack s (if_asked asks c) cells → ListsTrack s (if_asked asks d) cells
@@ -84,47 +73,37 @@ if_marked_lists s None f g None same listed = listed
 if_marked_lists s None f g (Some cells) same listed = listed
 
 -- the versions differ in their rates alone
-version_lists : (v : Version) (found : SiteTide) (cert : Certificate) (s : Span)
-    → ListsEvents s (followed_tide v found cert.mark) cert.tracks
-    → ListsEvents s (followed_tide Second found cert.mark) cert.tracks
-unfolding followed_tide
-version_lists v found cert s listed = record {
-  turn = listed.turn;
-  slack = if_asked_lists s (asks_slack found.units found.basis)
-      (mark_meaning v found.curve (slack_times found.basis) (slack_plus found.basis) (pos 0) true)
-      (mark_meaning Second found.curve (slack_times found.basis) (slack_plus found.basis) (pos 0) true) cert.tracks.slack refl listed.slack;
-  mark = if_marked_lists s cert.mark
-      (λ level. mark_meaning v found.curve found.basis.high.times found.basis.high.plus level false)
-      (λ level. mark_meaning Second found.curve found.basis.high.times found.basis.high.plus level false)
-      cert.tracks.mark (λ level. refl) listed.mark;
-}
+version_lists : (v : Version) (book : Book) (site : Site) (cert : Certificate) (s : Span)
+    → ListsEvents s (followed_by v book site cert.mark) cert.tracks
+    → ListsEvents s (followed_by Second book site cert.mark) cert.tracks
+unfolding followed_by
+version_lists v book site cert s listed =
+    let station = site.station in
+    let basis = site.basis in
+    record {
+      turn = listed.turn;
+      slack = if_asked_lists s (asks_slack station.units basis)
+          (predicted_mark v book station (slack_times basis) (slack_plus basis) (pos 0) true)
+          (predicted_mark Second book station (slack_times basis) (slack_plus basis) (pos 0) true) cert.tracks.slack refl listed.slack;
+      mark = if_marked_lists s cert.mark
+          (λ level. predicted_mark v book station basis.high.times basis.high.plus level false)
+          (λ level. predicted_mark Second book station basis.high.times basis.high.plus level false)
+          cert.tracks.mark (λ level. refl) listed.mark;
+    }
 
-accepted_lists : (book : Book) (cert : Certificate) (site : Site)
-    → IsFound Events book (asked_by_certificate cert) site (found_at book site) → IsCertificate cert
-    → tide_rejection (found_at book site) cert ≡ None → ListsEvents (widened_of site.basis cert.begin cert.end)
+accepted_lists : (book : Book) (cert : Certificate) (site : Site) → IsFound Events book (asked_by_certificate cert) site
+    → IsCertificate cert → rejection_in book site cert ≡ None → ListsEvents (widened_of site.basis cert.begin cert.end)
     (followed book site (asked_by_certificate cert)) cert.tracks
 accepted_lists book cert site is valid none =
-    let found = found_at book site in
     let s = widened_of site.basis cert.begin cert.end in
-    let in_range = read_in_range cert valid in
-    let valid_over = ready_valid_over (version_of cert) (asked_by_certificate cert) found
-    (ready_of_found book (asked_by_certificate cert) site found is) in
-    let accepted = tide_accepted found cert valid none in
-    let f = followed_tide (version_of cert) found cert.mark in
-    let listed : ListsEvents s f cert.tracks = record {
+    let valid_over = found_valid_over (version_of cert) book (asked_by_certificate cert) site is in
+    let accepted = site_accepted book site cert valid none in
+    let f = followed_by (version_of cert) book site cert.mark in
+    version_lists (version_of cert) book site cert s (record {
       turn = verdict-exact f.turn s.begin (span_minutes s) cert.tracks.turn valid_over.turn.lawful valid_over.turn.span accepted.turn;
       slack = valid_lists s f.slack cert.tracks.slack valid_over.slack accepted.slack;
       mark = valid_lists s f.mark cert.tracks.mark valid_over.mark accepted.mark;
-    } in
-    let second = version_lists (version_of cert) found cert s listed in
-    let alike = found_alike Second book (asked_by_certificate cert) site found cert.mark is in
-    let g = followed_tide Second found cert.mark in
-    let h = followed_by Second book site cert.mark in
-    record {
-      turn = second.turn ∙ plain_list-agrees g.turn h.turn s.begin (span_minutes s) alike.turn;
-      slack = alike_lists s g.slack h.slack cert.tracks.slack alike.slack second.slack;
-      mark = alike_lists s g.mark h.mark cert.tracks.mark alike.mark second.mark;
-    }
+    })
 
 -- ---- what is accepted is true
 
@@ -186,7 +165,7 @@ accepted_true reads only book table bytes zone answer is rows ok accepted =
       site = site;
       written = written;
       asked = was.found;
-      tracks = accepted_lists book cert site found valid (site_rejection book cert site (found_at book site) found ∙ none);
+      tracks = accepted_lists book cert site found valid none;
       listing = subst (AcceptsListing (predicted book table cert.station (asked_by_certificate cert) Plain zone))
           answered (lists book table cert zone site was.found);
     }
@@ -226,10 +205,7 @@ record WasCertified (book : Book) (table : List Offsets) (name : List ℕ) (aske
   pub site : Site
   pub expected : site_in Events book table name asked ≡ Ok site
   pub text : certificate.text ≡ certificate_text (certificate_by book site name asked)
-  pub found : IsFound Events book asked site (found_at book site)
-  pub ready : IsReady asked (found_at book site)
-  pub tracks : tracks_of book site asked
-      ≡ covers_of (followed_tide Second (found_at book site) asked.mark) (widened_of site.basis asked.begin asked.end)
+  pub found : IsFound Events book asked site
   pub valid : IsCertificate (certificate_by book site name asked)
 
 site_certified : (book : Book) (table : List Offsets) (name : List ℕ) (asked : Asked) (certificate : Answer)
@@ -249,30 +225,27 @@ was_certified book table name asked certificate is rows askable ok =
     let site = was.0 in
     let in_range = askable_in_range asked askable in
     let found = found_of_site Events book table name asked site is rows in_range was.1 in
-    let ready = ready_of_found book asked site (found_at book site) found in
-    let tracks = sym (tracks_alike book asked site (found_at book site)
-    (covers_of (followed_tide Second (found_at book site) asked.mark) (widened_of site.basis asked.begin asked.end)) found refl) in
     record {
       site = site;
       expected = was.1;
       text = was.2;
       found = found;
-      ready = ready;
-      tracks = tracks;
-      valid = certificate_valid name asked (found_at book site) (tracks_of book site asked)
-          (site_name Events book table name asked site is rows was.1) askable.begin askable.end ready tracks;
+      valid = certificate_valid name book asked site (tracks_of book site asked)
+          (site_name Events book table name asked site is rows was.1) askable.begin askable.end found refl;
     }
+
+certified_none : (book : Book) (site : Site) (name : List ℕ) (asked : Asked)
+    → rejection_in book site (certificate_by book site name asked) ≡ None
+unfolding tracks_of
+certified_none book site name asked = all_none (followed book site asked) (widened_of site.basis asked.begin asked.end)
 
 pub certified_accepted : ((c : Certificate) → IsCertificate c → certificate_of (certificate_text c) ≡ Ok c) → AcceptsWhatIsCertified
 certified_accepted again book table name asked zone certificate is rows askable ok =
     let was = was_certified book table name asked certificate is rows askable ok in
     let site = was.site in
-    let found = found_at book site in
     let cert = certificate_by book site name asked in
-    let none : tide_rejection found cert ≡ None = rw was.tracks
-    (all_none (followed_tide Second found asked.mark) (widened_of found.basis asked.begin asked.end)) in
     let judges = judged_by book table cert zone site was.expected
-    ∙ ap (λ r. Ok (judged book site cert zone r)) (sym (site_rejection book cert site found was.found) ∙ none) in (
+    ∙ ap (λ r. Ok (judged book site cert zone r)) (certified_none book site name asked) in (
       judged book site cert zone None,
       ap (λ text. checked book table text zone) was.text
           ∙ checked_by book table (certificate_text cert) zone cert (again cert was.valid) ∙ judges,
@@ -285,12 +258,9 @@ pub certified_short : ((c : Certificate) → IsCertificate c → HasUsualLevels 
     → length (certificate_text c) < 333000000) → CertifiesInShort
 certified_short fits book table name asked certificate is rows askable ok =
     let was = was_certified book table name asked certificate is rows askable ok in
-    let found = found_at book was.site in
-    let tracks = tracks_of book was.site asked in
     rw was.text
     (fits (certificate_by book was.site name asked) was.valid
-    (certificate_usual name asked found tracks was.ready was.tracks)
-    (certificate_few name asked found tracks was.ready was.tracks))
+    (certificate_usual name book asked was.site was.found) (certificate_few name book asked was.site was.found))
 
 -- ---- what is accepted is short
 
@@ -302,15 +272,13 @@ accepted_short reads only fits book table bytes zone answer is rows ok accepted 
     let was = was_judged book table bytes zone answer ok in
     let cert = was.certificate in
     let site = was.site in
-    let found = found_at book site in
     let written : IsTextOf cert bytes = rw was.read at (reads bytes) in
     let one = only cert bytes written in
-    let valid = found_of_site Events book table cert.station (asked_by_certificate cert) site is rows
+    let found = found_of_site Events book table cert.station (asked_by_certificate cert) site is rows
     (read_in_range cert one.0) was.found in
-    let ready = ready_of_found book (asked_by_certificate cert) site found valid in
     let none = unrejected book site cert zone _ answer was.judged accepted in
-    let right = tide_accepted found cert one.0 (site_rejection book cert site found valid ∙ none) in
+    let right = site_accepted book site cert one.0 none in
     subst (λ text. length text < 333000000) one.1
     (fits cert one.0
-    (accepted_usual (version_of cert) (asked_by_certificate cert) found cert ready right)
-    (accepted_few (version_of cert) (asked_by_certificate cert) found cert ready right))
+    (accepted_usual (version_of cert) book (asked_by_certificate cert) site cert found right)
+    (accepted_few (version_of cert) book (asked_by_certificate cert) site cert found right))

@@ -24,12 +24,12 @@ use Rattle.station_span.specs.declared.asked.Asked.{Asked}
 use Rattle.station_span.specs.declared.reach.Reach.TheVariants.{Highest}
 use Rattle.station_span.specs.Peaks.{first_source, highest_of, highest_site, highest_verdict, level_curve, minute_count}
 use Rattle.station_span.specs.Sites.{Site}
-use Rattle.station_span.specs.Workings.Peaks.{HasHighest}
+use Rattle.station_span.specs.Workings.Spans.{IsFound}
 use Rattle.station_span.proofs.LevelLemmas.{level_order}
 use Rattle.station_span.proofs.NameLemmas.{site_name}
-use Rattle.station_span.proofs.PeakLemmas.{IsHighestAt, accepted_certificate, accepted_highest, has_highest, highest_found, highest_minutes, highest_of_accepted, highest_parts, highest_unmarked, verdict_alike}
+use Rattle.station_span.proofs.PeakLemmas.{IsHighestAt, accepted_certificate, accepted_highest, highest_found, highest_minutes, highest_of_accepted, highest_parts, highest_unmarked}
 use Rattle.decimal_text.proofs.ExpectedLemmas.{then_ok}
-use Rattle.station_span.proofs.SiteLemmas.{found_at, found_of_site, site_basis}
+use Rattle.station_span.proofs.SiteLemmas.{found_of_site, site_basis}
 use Rattle.tide_answer.specs.declared.text.Answer.{Answer}
 use Rattle.tide_answer.specs.Answers.{text_alone, highest, highest_text_at, peak_certificate_by, peak_certified, peak_checked, peak_from, peak_judged, text_accepted}
 use Rattle.tide_answer.specs.Asking.{asked_by_peak_certificate}
@@ -185,7 +185,8 @@ record WasCertified (book : Book) (table : List Offsets) (name : List ℕ) (aske
   pub site : Site
   pub expected : highest_site book table name asked ≡ Ok site
   pub text : certificate.text ≡ peak_text (peak_certificate_by book site name asked)
-  pub highest : HasHighest (found_at book site) asked
+  pub found : IsFound Highest book asked site
+  pub some : asked.begin <ℤ asked.end
   pub valid : IsPeakCertificate (peak_certificate_by book site name asked)
 
 site_certified : (book : Book) (table : List Offsets) (name : List ℕ) (asked : Asked) (certificate : Answer)
@@ -205,16 +206,16 @@ was_certified book table name asked certificate is rows askable ok =
     let site = was.0 in
     let parts = highest_parts book table name asked site was.1 in
     let found = found_of_site Highest book table name asked site is rows (askable_in_range asked askable) parts.0 in
-    let has = has_highest book asked site (found_at book site) found parts.1 in
-    let peak = highest_of book site asked in
-    let right = verdict_alike book asked site (found_at book site) peak found parts.1 has ∙ highest_of_accepted book site asked has.some in
+    let some = highest_minutes book table name asked site was.1 in
     record {
       site = site;
       expected = was.1;
       text = was.2;
-      highest = has;
-      valid = accepted_certificate name asked (found_at book site) peak (site_name Highest book table name asked site is rows parts.0)
-          (record { begin = askable.begin; end = askable.end }) found.within_limits has right;
+      found = found;
+      some = some;
+      valid = accepted_certificate name book asked site (highest_of book site asked)
+          (site_name Highest book table name asked site is rows parts.0) (record { begin = askable.begin; end = askable.end })
+          found parts.1 (highest_of_accepted book site asked some);
     }
 
 checked_by : (book : Book) (table : List Offsets) (bytes : List ℕ) (cert : PeakCertificate) (site : Site)
@@ -234,7 +235,7 @@ peak_accepted again book table name asked certificate is rows askable ok =
     let was = was_certified book table name asked certificate is rows askable ok in
     let site = was.site in
     let cert = peak_certificate_by book site name asked in
-    let some = was.highest.some in
+    let some = was.some in
     let found = highest_unmarked book table name asked site was.expected in
     let right = verdict_unmarked book site asked (highest_of book site asked) ∙ highest_of_accepted book site asked some in (
       peak_judged book site cert Accepted,
@@ -255,8 +256,8 @@ pub peak_short :
     → PeakCertifiesInShort
 peak_short fits book table name asked certificate is rows askable ok =
     let was = was_certified book table name asked certificate is rows askable ok in
-    let some = was.highest.some in
-    let few = was.highest.few in
+    let some = was.some in
+    let few = was.found.few in
     let whole = whole_cells book was.site asked (highest_of book was.site asked) (highest_of_accepted book was.site asked some) in
     rw was.text (fits (peak_certificate_by book was.site name asked) was.valid (omega (arith, ints)))
 

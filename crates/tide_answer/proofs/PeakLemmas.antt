@@ -1,5 +1,5 @@
 -- The answers about a highest water: its listing, its certificate, and the check of one that was read.
-use Rattle.std.proofs.Common.{◌≡◌, ℕ, ◌+◌, ◌<◌, ◌≤◌, ◌^◌, List, [], ◌∷◌, map, length, length-append, Ok, refl, sym, ap, ◌∙◌, arith}
+use Rattle.std.proofs.Common.{◌≡◌, ℕ, ◌+◌, ◌<◌, ◌≤◌, ◌^◌, List, [], ◌∷◌, map, length, length-append, Ok, refl, ap, ◌∙◌, arith}
 use Rattle.std.proofs.lemmas.List.{length-map}
 use Rattle.cert_text.specs.Certificates.{IsStationName}
 use Rattle.cert_text.specs.Lines.{last_line}
@@ -13,11 +13,11 @@ use Rattle.station_table.specs.declared.offsets.Offsets.{Offsets}
 use Rattle.station_span.specs.declared.found_station.FoundStation.{FoundStation}
 use Rattle.station_span.specs.Peaks.{highest_of, highest_site, highest_verdict}
 use Rattle.station_span.specs.Sites.{Site}
-use Rattle.station_span.specs.Workings.Finds.{HasPeak, site_of, tide_of_found}
-use Rattle.station_span.specs.Workings.Peaks.{tide_peak}
+use Rattle.station_span.specs.Workings.Finds.{HasPeak, site_of}
+use Rattle.station_span.specs.declared.reach.Reach.TheVariants.{Highest}
 use Rattle.station_span.specs.Workings.Spans.{AreMoments, IsInRange}
-use Rattle.station_span.proofs.HeldLemmas.{highest_for, peak_for}
-use Rattle.station_span.proofs.PeakLemmas.{accepted_certificate, tide_peak_accepted}
+use Rattle.station_span.proofs.HeldLemmas.{found_for}
+use Rattle.station_span.proofs.PeakLemmas.{accepted_certificate, highest_of_accepted, some_minute}
 use Rattle.tide_answer.specs.Answers.{peak_judged}
 use Rattle.tide_answer.specs.Asking.{asked_by_peak_certificate}
 use Rattle.tide_answer.specs.Workings.Peaks.{peak_certificate_in, peak_judged_in}
@@ -31,11 +31,10 @@ pub certificate_valid : (name : List ℕ) (found : FoundStation) (peak : Peak) �
     → AreMoments found.asked → HasPeak found → peak ≡ highest_of found.curve.book (site_of found) found.asked
     → IsPeakCertificate (peak_certificate_in name found.asked peak)
 certificate_valid name found peak named moments has same =
-    let tide = tide_of_found found in
-    let highest = highest_for found has in
-    let found_peak : peak ≡ tide_peak tide found.asked = same ∙ sym (peak_for found has) in
-    accepted_certificate name found.asked tide peak named moments found.valid.within_limits highest
-    (rw found_peak (tide_peak_accepted tide found.asked highest))
+    let is = found_for found Highest has.reach in
+    let some = some_minute found.asked.begin found.asked.end is.span.some in
+    accepted_certificate name found.curve.book found.asked (site_of found) peak named moments is has.equal
+    (rw same (highest_of_accepted found.curve.book (site_of found) found.asked some))
 
 -- ---- a certificate that was read
 

@@ -8,9 +8,8 @@ use Rattle.std.proofs.Math.Nat.{div-mul-le_self, mul-le-mul_right}
 use Rattle.listing.specs.declared.row.Row.{Row}
 use Rattle.zone_time.specs.Zones.{InZoneYears}
 use Rattle.station_span.specs.declared.found_station.FoundStation.{FoundStation}
-use Rattle.station_span.specs.Workings.Finds.{AreLooked, IsLooked, site_of, tide_of_found}
-use Rattle.station_span.proofs.HeldLemmas.{looked_level}
-use Rattle.station_span.proofs.LevelLemmas.{zone_minute}
+use Rattle.station_span.specs.Workings.Finds.{AreLooked, IsLooked, site_of}
+use Rattle.station_span.proofs.HeldLemmas.{looked_zone}
 use Rattle.tide_answer.specs.Answers.{row_at, row_count}
 use Rattle.tide_answer.specs.Workings.Rows.{AreRows, IsStep}
 
@@ -46,7 +45,7 @@ row_added found step count rows more row looked is below are next added =
     let here = row_at found.curve.book (site_of found) found.asked.begin step in
     let next_rows = map-range_with_len_more here 0 count count (omega arith) in
     let minute : InZoneYears (here count).minute =
-    zone_minute (tide_of_found found) _ (looked_level found _ (row_level found step count looked is below)) in
+    looked_zone found _ (row_level found step count looked is below) in
     let listed = are.listed in
     let alone : All (λ (row : Row). InZoneYears row.minute) (here count ∷ []) =
     All-cons (λ row. InZoneYears row.minute) _ [] minute (λ place default past. absurd (omega (arith, past))) in

@@ -27,8 +27,8 @@ use Rattle.station_span.specs.declared.asked.Asked.{Asked}
 use Rattle.station_span.specs.declared.found_station.FoundStation.{FoundStation}
 use Rattle.station_span.specs.declared.reach.Reach.TheVariants.{Events}
 use Rattle.station_span.specs.Following.{followed, tracks_of}
-use Rattle.station_span.specs.Workings.Finds.{AreReferences, site_of, tide_of_found}
-use Rattle.station_span.proofs.HeldLemmas.{found_for, ready_for, tracks_tide}
+use Rattle.station_span.specs.Workings.Finds.{AreReferences, site_of}
+use Rattle.station_span.proofs.HeldLemmas.{found_for}
 use Rattle.station_cells.specs.Sending.{left_count}
 use Rattle.tide_answer.specs.Workings.Streaming.{head_text, tracks_text, HasCells}
 use Rattle.tide_answer.specs.Workings.Certifying.{certificate_in}
@@ -160,8 +160,8 @@ pub has_cells : (name : List ℕ) (found : FoundStation) → found.reach ≡ Eve
     → AreMoments found.asked → HasCells (tracks_of found.curve.book (site_of found) found.asked)
 has_cells name found reach named moments =
     let tracks = tracks_of found.curve.book (site_of found) found.asked in
-    let is = certificate_valid name found.asked (tide_of_found found) tracks named moments.begin moments.end
-    (ready_for found reach) (tracks_tide found reach) in
+    let is = certificate_valid name found.curve.book found.asked (site_of found) tracks named moments.begin moments.end
+    (found_for found Events reach) refl in
     record {
       turn = All-weaker (IsCellOf names.Turn) IsCell (cell_of names.Turn) tracks.turn is.turn;
       slack = if_cells names.Slack tracks.slack is.slack;

@@ -6,7 +6,7 @@ ghost use Rattle.decimal_text.specs.Expected.{ReturnsUnless};
 ghost use Rattle.tide_answer.specs.Answers.{highest, highest_text_at, peak_certified};
 ghost use Rattle.tide_answer.specs.Workings.Peaks.{peak_certificate_in};
 ghost use Rattle.tide_fault.specs.Faults.{refusal_is_out_of_memory, IsPrintableRefusal};
-ghost use Rattle.station_span.specs.Workings.Finds.{HasPeak, site_of, tide_of_found};
+ghost use Rattle.station_span.specs.Workings.Finds.{HasPeak, site_of};
 ghost use Rattle.station_span.specs.Workings.Peaks.{IsSourceIn};
 ghost use Rattle.station_span.specs.Workings.Spans.{AreMoments};
 
@@ -56,7 +56,7 @@ pub fn highest_text_at(
     zone: &ZoneClock<'_>,
 ) -> Result<Bytes, AllocError>
     requires peak { HasPeak found.now }
-    requires inside { IsSourceIn (tide_of_found found.now) found.now.asked at }
+    requires inside { IsSourceIn (site_of found.now) found.now.asked at }
     ensures { IfOk result (λ text. text ≡ highest_text_at found.now.curve.book (site_of found.now) name.now at zone.now) }
 {
     let minute = moved_minute(found, at);

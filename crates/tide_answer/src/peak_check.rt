@@ -9,7 +9,7 @@ ghost use Rattle.highest_water.specs.declared.verdict.PeakVerdict.{PeakVerdict};
 ghost use Rattle.tide_answer.specs.Answers.{peak_checked, peak_from, peak_judged};
 ghost use Rattle.tide_answer.specs.Workings.Peaks.{peak_judged_in};
 ghost use Rattle.tide_fault.specs.Faults.{refusal_is_out_of_memory, IsPrintableRefusal};
-ghost use Rattle.station_span.specs.Workings.Finds.{HasPeak, site_of, tide_of_found};
+ghost use Rattle.station_span.specs.Workings.Finds.{HasPeak, site_of};
 ghost use Rattle.station_span.specs.Workings.Peaks.{IsSourceIn};
 
 use crate::highest::highest_text_at;
@@ -88,7 +88,7 @@ fn accept_peak(
     cert: &PeakCertificate,
 ) -> Result<Answer, AllocError>
     requires peak { HasPeak found.now }
-    requires inside { IsSourceIn (tide_of_found found.now) found.now.asked cert.now.peak.at }
+    requires inside { IsSourceIn (site_of found.now) found.now.asked cert.now.peak.at }
     ensures { IfOk result (λ answer. answer ≡ peak_judged found.now.curve.book (site_of found.now) cert.now PeakVerdict.Accepted) }
 {
     let zone = Zone::Utc;

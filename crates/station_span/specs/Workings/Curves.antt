@@ -1,60 +1,40 @@
--- The curves of a station's tracks, at the minutes of its curve.
-use Rattle.std.specs.Prelude.{◌≡◌, ℕ, ℤ, ◌-ℤ◌, ◌≤ℤ◌, ◌≤◌, unsigned_abs, List, Option}
-use Rattle.std.specs.Option.{ForSome}
-use Rattle.curve_law.specs.declared.event.Event.{Event}
+-- The curves that are followed, at the minutes that are evaluated.
+use Rattle.std.specs.Prelude.{ℤ, pos, ◌≤ℤ◌, true, false, Option, option_map}
+use Rattle.curve_law.specs.Meaning.{Meaning, at_minutes}
 use Rattle.event_list.specs.declared.span.Span.{Span}
-use Rattle.event_list.specs.Events.{Followed, station_events, cell_count, covers_of, merged_of}
-use Rattle.event_list.specs.Shifts.{HasOffsets, widened_of}
+use Rattle.event_list.specs.Events.{Followed}
+use Rattle.harmonics_book.specs.declared.book.Book.{Book}
 use Rattle.rate_bound.specs.declared.version.Version.{Version}
-use Rattle.rate_bound.specs.declared.version.Version.TheVariants.{Second}
-use Rattle.rate_bound.specs.Meanings.{turn_meaning}
-use Rattle.station_span.specs.declared.asked.Asked.{Asked}
-use Rattle.station_span.specs.Workings.Tides.{SiteTide}
-use Rattle.station_span.specs.Sites.{span_limit}
-use Rattle.station_span.specs.Workings.Spans.{HasLevels, IsBeside, IsSpanInRange}
-use Rattle.station_span.specs.Workings.TrackMeanings.{tide_slack, tide_mark}
-use Rattle.station_curve.specs.Curves.{IsPredicted, IsPrediction, Prediction}
+use Rattle.rate_bound.specs.Meanings.{mark_meaning, turn_meaning}
+use Rattle.station_curve.specs.Curves.{Prediction}
+use Rattle.station_table.specs.declared.basis.Basis.{Basis}
+use Rattle.station_span.specs.Following.{asks_slack, if_asked, slack_plus, slack_times}
+use Rattle.year_blend.specs.Places.{InDomain}
 
--- the curves of a station's tracks, equal to the curves by every constituent of the harmonics file
-unfoldable pub followed_tide : Version → SiteTide → Option ℤ → Followed
-followed_tide version found mark = record {
-  turn = turn_meaning version found.curve;
-  slack = tide_slack version found;
-  mark = tide_mark version found mark;
-}
+-- a curve at the minutes of a prediction
+abbrev pub over : Prediction → Meaning → Meaning
+over p c = at_minutes p.first p.last c
 
--- the events of a span
-abbrev pub tide_events : SiteTide → Asked → List Event
-tide_events found asked =
-    station_events (followed_tide Second found asked.mark) found.basis asked.begin asked.end
+-- curves at the minutes of a prediction
+abbrev pub all_over : Prediction → Followed → Followed
+all_over p f = record { turn = over p f.turn; slack = option_map (over p) f.slack; mark = option_map (over p) f.mark }
 
--- the number of cells of a span
-abbrev pub tide_cells : SiteTide → Asked → ℕ
-tide_cells found asked =
-    cell_count (followed_tide Second found asked.mark) (widened_of found.basis asked.begin asked.end)
+-- the curve of the slacks, if they are listed
+abbrev pub slack_over : Version → Prediction → Basis → Option Meaning
+slack_over version p basis =
+    if_asked (asks_slack p.station.units basis) (mark_meaning version p (slack_times basis) (slack_plus basis) (pos 0) true)
 
--- a span that the curves can be searched over: its end isn't before its beginning, it isn't too long,
--- and the curve has the evaluated minutes
-pub record IsReady (asked : Asked) (found : SiteTide) : Type 0 where
-  pub offsets : HasOffsets found.basis
-  pub levels : HasLevels found.units
-  pub within_limits : IsPrediction found.curve
-  pub forward : asked.begin ≤ℤ asked.end
-  pub few : (asked.end -ℤ asked.begin) ≤ℤ span_limit
-  pub begins : IsPredicted found.curve (widened_of found.basis asked.begin asked.end).begin
-  pub ends : IsPredicted found.curve (widened_of found.basis asked.begin asked.end).end
-  pub in_range : IsSpanInRange (widened_of found.basis asked.begin asked.end)
-  pub beside : IsBeside asked.begin asked.end (widened_of found.basis asked.begin asked.end)
-  pub mark : ForSome asked.mark (λ level. unsigned_abs level ≤ 10000000000)
+-- the curve of the mark, if there is one
+abbrev pub mark_over : Version → Prediction → Basis → Option ℤ → Option Meaning
+mark_over version p basis mark = option_map (λ level. mark_meaning version p basis.high.times basis.high.plus level false) mark
 
--- a span all of whose minutes a curve has
-pub record HasMinutes (c : Prediction) (span : Span) : Type 0 where
+-- the curves that are followed
+abbrev pub followed_over : Version → Prediction → Basis → Option ℤ → Followed
+followed_over version p basis mark =
+    record { turn = turn_meaning version p; slack = slack_over version p basis; mark = mark_over version p basis mark }
+
+-- a span whose minutes a harmonics file has
+pub record HasMinutes (book : Book) (span : Span) : Type 0 where
   pub forward : span.begin ≤ℤ span.end
-  pub begins : IsPredicted c span.begin
-  pub ends : IsPredicted c span.end
-
--- the events of the reference's curves over the evaluated minutes
-abbrev pub AreMerged : Asked → SiteTide → List Event → Type 0
-AreMerged asked found events =
-    let span = widened_of found.basis asked.begin asked.end in
-    events ≡ merged_of span.begin (covers_of (followed_tide Second found asked.mark) span)
+  pub begins : InDomain book.first_year book.years span.begin
+  pub ends : InDomain book.first_year book.years span.end

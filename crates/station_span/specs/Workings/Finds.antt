@@ -2,9 +2,10 @@
 use Rattle.std.specs.Prelude.{◌≡◌, All, ℤ, ◌-ℤ◌, ◌≤ℤ◌, List, IsTrue, Result, Ok, Err}
 use Rattle.curve_law.specs.declared.event.Event.{Event}
 use Rattle.decimal_text.specs.Expected.{Excused}
-use Rattle.event_list.specs.Events.{merged_of}
+use Rattle.event_list.specs.Events.{Followed, merged_of}
 use Rattle.event_text.specs.Lines.{IsListed}
 use Rattle.harmonics_book.specs.declared.book.Book.{Book}
+use Rattle.rate_bound.specs.declared.version.Version.{Version}
 use Rattle.station_curve.specs.Curves.{IsPrediction, prediction_of}
 use Rattle.station_table.specs.Bases.{is_equal}
 use Rattle.station_span.specs.declared.asked.Asked.{Asked}
@@ -13,11 +14,9 @@ use Rattle.station_span.specs.declared.found_station.FoundStation.{FoundStation}
 use Rattle.station_span.specs.declared.reference_station.ReferenceStation.{ReferenceStation}
 use Rattle.station_span.specs.declared.reach.Reach.{Reach}
 use Rattle.station_span.specs.declared.reach.Reach.TheVariants.{Highest}
-use Rattle.station_span.specs.Following.{cells_of, events_of, tracks_of}
+use Rattle.station_span.specs.Following.{cells_of, events_of, followed_by, tracks_of}
 use Rattle.station_span.specs.Sites.{Site}
-use Rattle.station_span.specs.Workings.Looked.{site_with, tide_with}
-use Rattle.station_span.specs.Workings.Spans.{HasLevels}
-use Rattle.station_span.specs.Workings.Tides.{SiteTide}
+use Rattle.station_span.specs.Workings.Spans.{HasLevels, site_with}
 use Rattle.tide_fault.specs.declared.refusal.Refusal.{Refusal}
 use Rattle.tide_fault.specs.Faults.{refusal_is_out_of_memory}
 use Rattle.zone_time.specs.Zones.{InZoneYears}
@@ -26,9 +25,9 @@ use Rattle.zone_time.specs.Zones.{InZoneYears}
 abbrev pub site_of : FoundStation → Site
 site_of found = site_with found.basis found.curve.station
 
--- the curve of a station that was found
-abbrev pub tide_of_found : FoundStation → SiteTide
-tide_of_found found = tide_with found.basis found.curve.station found.curve
+-- the curves that are followed at a station that was found
+abbrev pub followed_at : Version → FoundStation → Followed
+followed_at version found = followed_by version found.curve.book (site_of found) found.asked.mark
 
 -- ---- a station that was found
 

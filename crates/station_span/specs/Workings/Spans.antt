@@ -5,14 +5,13 @@ use Rattle.event_list.specs.declared.span.Span.{Span}
 use Rattle.harmonics_book.specs.declared.book.Book.{Book}
 use Rattle.harmonics_book.specs.declared.book.Units.{Units}
 use Rattle.harmonics_book.specs.declared.book.Units.TheVariants.{Feet, Meters, Knots, KnotsSquared}
-use Rattle.station_curve.specs.Curves.{IsPrediction, Prediction}
+use Rattle.station_curve.specs.Curves.{IsWithinLimits}
 use Rattle.station_table.specs.declared.basis.Basis.{Basis}
 use Rattle.station_table.specs.Bases.{IsBasis, is_equal}
 use Rattle.year_blend.specs.Places.{InDomain}
 use Rattle.zone_time.specs.Moments.{IsMoment}
 use Rattle.station_span.specs.declared.asked.Asked.{Asked}
 use Rattle.station_span.specs.declared.reach.Reach.{Reach}
-use Rattle.station_span.specs.Workings.Tides.{SiteTide}
 use Rattle.station_span.specs.Sites.{Site, lacks_minute, reached, span_limit}
 use Rattle.harmonics_book.specs.declared.book.Station.{Station}
 
@@ -64,28 +63,16 @@ pub record IsFileMinute (minute : ℤ) : Type 0 where
   pub least : negsuc 1035067679 ≤ℤ minute
   pub most : minute ≤ℤ pos 3855208320
 
--- a curve of a station that has the minutes of a span
-pub record IsCurveOf (book : Book) (station : Station) (s : Span) (c : Prediction) : Type 0 where
-  pub of_book : c.book ≡ book
-  pub of_station : c.station ≡ station
-  pub from : c.first ≤ℤ s.begin
-  pub until : s.end ≤ℤ c.last
-
--- a curve that predicts a station over the minutes that are needed
-abbrev pub PredictsReached : Reach → Book → Asked → Site → SiteTide → Type 0
-PredictsReached reach book asked site found =
-    let span = reached reach found.basis asked.begin asked.end in
-    IsCurveOf book site.station span found.curve
-
--- a station with a curve that has the minutes that are needed
-pub record IsFound (reach : Reach) (book : Book) (asked : Asked) (site : Site) (found : SiteTide) : Type 0 where
-  pub basis : found.basis ≡ site.basis
-  pub valid : IsBasis (length book.stations) found.basis
-  pub units : found.units ≡ site.station.units
-  pub levels : HasLevels found.units
-  pub predicts : PredictsReached reach book asked site found
-  pub within_limits : IsPrediction found.curve
-  pub span : IsReached reach book found.basis asked.begin asked.end
+-- a station with a curve, for which the harmonics file has the minutes that are needed
+pub record IsFound (reach : Reach) (book : Book) (asked : Asked) (site : Site) : Type 0 where
+  pub valid : IsBasis (length book.stations) site.basis
+  pub levels : HasLevels site.station.units
+  pub limits : IsWithinLimits book site.station
+  pub span : IsReached reach book site.basis asked.begin asked.end
   pub few : (asked.end -ℤ asked.begin) ≤ℤ span_limit
-  pub mark : ForSome asked.mark (λ level. IsTrue (is_equal found.basis))
+  pub mark : ForSome asked.mark (λ level. IsTrue (is_equal site.basis))
   pub in_range : IsInRange asked
+
+-- a station with the offsets from it
+abbrev pub site_with : Basis → Station → Site
+site_with basis station = record { basis = basis; station = station }

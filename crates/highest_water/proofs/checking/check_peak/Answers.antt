@@ -2,7 +2,7 @@ use Rattle.std.proofs.Common.{◌≡◌, ℕ, ◌+◌, ◌≤◌, ℤ, w64, Fits
 use Rattle.std.proofs.lemmas.Int.{to_z-of_z}
 use mir.Syntax.{w128}
 use Rattle.highest_water.proofs.VerdictLemmas.{verdict-highest}
-use Rattle.curve_law.proofs.SpanLemmas.{IsBetween, counted-whole, within-span}
+use Rattle.curve_law.proofs.SpanLemmas.{as-between, counted-whole, within-span}
 use Rattle.highest_water.specs.declared.verdict.PeakVerdict.TheVariants.{WrongLength, Outside, Accepted}
 use Rattle.highest_water.proofs.SpanLemmas.{wanted-fits, wrong-length, span-end}
 use Rattle.highest_water.proofs.JudgingLemmas.{verdict-outside, verdict-inside}
@@ -19,21 +19,13 @@ outside_not_accepted h = cc
 
 pub overflow_sub-wanted : goal.overflow_sub-wanted
 overflow_sub-wanted g c =
-    wanted-fits (g.C.Curve.state c.args.curve.now).facts.meaning c.args.begin c.args.end (record {
-      lawful = g.met.C.Curve.lawful c.args.curve.now;
-      forward = c.requires.forward;
-      first = c.requires.first;
-      last = c.requires.last;
-    })
+    wanted-fits (g.C.Curve.state c.args.curve.now).facts.meaning c.args.begin c.args.end
+    (as-between (g.C.Curve.state c.args.curve.now).facts.meaning c.args.begin c.args.end (g.met.C.Curve.lawful c.args.curve.now) c.requires.forward c.requires.first c.requires.last)
 
 pub returns-then-covered-wanted-clause-verdict : goal.returns-then-covered-wanted-clause-verdict
 returns-then-covered-wanted-clause-verdict g c =
-    let between : IsBetween (g.C.Curve.state c.args.curve.now).facts.meaning c.args.begin c.args.end = record {
-      lawful = g.met.C.Curve.lawful c.args.curve.now;
-      forward = c.requires.forward;
-      first = c.requires.first;
-      last = c.requires.last;
-    } in
+    let between = as-between (g.C.Curve.state c.args.curve.now).facts.meaning c.args.begin c.args.end
+    (g.met.C.Curve.lawful c.args.curve.now) c.requires.forward c.requires.first c.requires.last in
     wrong-length _ _ _ _ c.args.peak.now between (rw c.as_slice.ensures at c.covered_by-covered.ensures) c.if-covered-wanted.true
 
 pub returns-then-covered-wanted-clause-highest : goal.returns-then-covered-wanted-clause-highest
@@ -54,12 +46,8 @@ returns-then-not-is_inside-clause-count g c = later _ _
 
 pub returns-then-not-is_inside-clause-verdict : goal.returns-then-not-is_inside-clause-verdict
 returns-then-not-is_inside-clause-verdict g c =
-    let between : IsBetween (g.C.Curve.state c.args.curve.now).facts.meaning c.args.begin c.args.end = record {
-      lawful = g.met.C.Curve.lawful c.args.curve.now;
-      forward = c.requires.forward;
-      first = c.requires.first;
-      last = c.requires.last;
-    } in
+    let between = as-between (g.C.Curve.state c.args.curve.now).facts.meaning c.args.begin c.args.end
+    (g.met.C.Curve.lawful c.args.curve.now) c.requires.forward c.requires.first c.requires.last in
     let whole = counted-whole _ _ _ _ _ between (rw c.as_slice.ensures at c.covered_by-covered.ensures) c.if-covered-wanted.false in
     let at : FitsSigned w64 c.args.peak.now.at = search rules in
     let begin = to_z-of_z w64 c.args.begin c.ranges.begin in
@@ -81,23 +69,15 @@ first_finding-requires-clause-count g c = rw c.as_slice-2.ensures c.requires.cou
 
 pub first_finding-requires-clause-span : goal.first_finding-requires-clause-span
 first_finding-requires-clause-span g c =
-    let between : IsBetween (g.C.Curve.state c.args.curve.now).facts.meaning c.args.begin c.args.end = record {
-      lawful = g.met.C.Curve.lawful c.args.curve.now;
-      forward = c.requires.forward;
-      first = c.requires.first;
-      last = c.requires.last;
-    } in
+    let between = as-between (g.C.Curve.state c.args.curve.now).facts.meaning c.args.begin c.args.end
+    (g.met.C.Curve.lawful c.args.curve.now) c.requires.forward c.requires.first c.requires.last in
     let whole = counted-whole _ _ _ _ _ between (rw c.as_slice.ensures at c.covered_by-covered.ensures) c.if-covered-wanted.false in
     rw (to_z-of_z w64 c.args.begin c.ranges.begin, c.as_slice-2.ensures) (within-span _ _ _ _ between whole)
 
 pub returns-clause-verdict : goal.returns-clause-verdict
 returns-clause-verdict g c =
-    let between : IsBetween (g.C.Curve.state c.args.curve.now).facts.meaning c.args.begin c.args.end = record {
-      lawful = g.met.C.Curve.lawful c.args.curve.now;
-      forward = c.requires.forward;
-      first = c.requires.first;
-      last = c.requires.last;
-    } in
+    let between = as-between (g.C.Curve.state c.args.curve.now).facts.meaning c.args.begin c.args.end
+    (g.met.C.Curve.lawful c.args.curve.now) c.requires.forward c.requires.first c.requires.last in
     let whole = counted-whole _ _ _ _ _ between (rw c.as_slice.ensures at c.covered_by-covered.ensures) c.if-covered-wanted.false in
     let at : FitsSigned w64 c.args.peak.now.at = search rules in
     let begin = to_z-of_z w64 c.args.begin c.ranges.begin in
@@ -110,12 +90,8 @@ returns-clause-verdict g c =
 
 pub returns-clause-highest : goal.returns-clause-highest
 returns-clause-highest g c = λ accepted.
-    let between : IsBetween (g.C.Curve.state c.args.curve.now).facts.meaning c.args.begin c.args.end = record {
-      lawful = g.met.C.Curve.lawful c.args.curve.now;
-      forward = c.requires.forward;
-      first = c.requires.first;
-      last = c.requires.last;
-    } in
+    let between = as-between (g.C.Curve.state c.args.curve.now).facts.meaning c.args.begin c.args.end
+    (g.met.C.Curve.lawful c.args.curve.now) c.requires.forward c.requires.first c.requires.last in
     rw (span-end c.args.begin c.args.end c.requires.forward) at
     (verdict-highest _ _ _ c.args.peak.now between.lawful (within-span _ _ _ _ between refl) (sym (returns-clause-verdict g c) ∙ accepted))
 

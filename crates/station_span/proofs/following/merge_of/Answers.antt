@@ -15,4 +15,4 @@ returns-clause-plain c = λ plain. (
 pub returns-clause-all : goal.returns-clause-all
 returns-clause-all c =
     let same = tracks_are c.args.found.now _ _ _ c.turn_search.ensures.left c.slack_search.ensures.left c.mark_search.ensures.left in
-    rw (c.new.ensures.all, same) (cells_for c.args.found.now c.requires)
+    rw (c.new.ensures.all, same) (cells_for c.args.found.now)

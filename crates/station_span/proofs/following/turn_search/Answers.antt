@@ -1,9 +1,7 @@
 use Rattle.std.proofs.Common.{◌∙◌, ap, rules}
 use Rattle.curve_law.specs.declared.tracks.Tracks.{Tracks}
 use Rattle.station_span.proofs.HeldLemmas.{tracks_for}
-use Rattle.station_span.specs.Workings.Curves.{followed_tide}
 use Rattle.station_span.proofs.following.turn_search.Goals as goal
 
 pub returns-clause-left : goal.returns-clause-left
-unfolding followed_tide
 returns-clause-left c = (search rules) ∙ ap (λ (t : Tracks). t.turn) (tracks_for c.args.found.now c.requires)

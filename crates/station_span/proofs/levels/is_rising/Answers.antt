@@ -1,8 +1,6 @@
-use Rattle.std.proofs.Common.{◌≡◌, w64, rules, FitsSigned, int_lt, pos, ap, ◌∙◌}
+use Rattle.std.proofs.Common.{◌≡◌, ◌-ℤ◌, w64, rules, FitsSigned, int_lt, pos, ap, ◌∙◌}
 use mir.Syntax.{w128}
 use Rattle.std.proofs.lemmas.Int.{to_z-of_z}
-use Rattle.station_span.specs.Workings.Finds.{tide_of_found}
-use Rattle.station_span.specs.Workings.Levels.{source_of}
 use Rattle.station_curve.specs.Schureman.{predicted_slope}
 use Rattle.station_span.proofs.levels.is_rising.Goals as goal
 
@@ -11,7 +9,7 @@ returns c =
     let found = c.args.found.now in
     let minute : FitsSigned w64 c.args.minute = search rules in
     let source : FitsSigned w64 c.source.result = search rules in
-    let at : c.source.result ≡ source_of (tide_of_found found) c.args.minute = simp to_z-of_z at c.source.ensures.exact in
+    let at : c.source.result ≡ c.args.minute -ℤ found.basis.high.add = simp to_z-of_z at c.source.ensures.exact in
     let slope : c.slope.result ≡ predicted_slope found.curve.book found.curve.station c.source.result = simp to_z-of_z at c.slope.ensures.value in
     let fits : FitsSigned w128 c.slope.result = search rules in
     ap (λ s. int_lt (pos 0) s) (to_z-of_z w128 _ fits ∙ slope ∙ ap (predicted_slope found.curve.book found.curve.station) at)

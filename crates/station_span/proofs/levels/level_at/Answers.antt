@@ -1,8 +1,6 @@
-use Rattle.std.proofs.Common.{◌≡◌, w64, rules, FitsSigned, ap, ◌∙◌}
+use Rattle.std.proofs.Common.{◌≡◌, ◌-ℤ◌, w64, rules, FitsSigned, ap, ◌∙◌}
 use Rattle.std.proofs.lemmas.Int.{to_z-of_z}
 use Rattle.event_list.specs.Shifts.{scaled}
-use Rattle.station_span.specs.Workings.Finds.{tide_of_found}
-use Rattle.station_span.specs.Workings.Levels.{source_of}
 use Rattle.station_curve.specs.Schureman.{predicted_millionths}
 use Rattle.station_span.proofs.levels.level_at.Goals as goal
 
@@ -12,7 +10,7 @@ returns c =
     let minute : FitsSigned w64 c.args.minute = search rules in
     let source : FitsSigned w64 c.source.result = search rules in
     let level : FitsSigned w64 c.millionths-level.result = search rules in
-    let at : c.source.result ≡ source_of (tide_of_found found) c.args.minute = simp to_z-of_z at c.source.ensures.exact in
+    let at : c.source.result ≡ c.args.minute -ℤ found.basis.high.add = simp to_z-of_z at c.source.ensures.exact in
     let millionths : c.millionths-level.result ≡ predicted_millionths found.curve.book found.curve.station c.source.result =
     simp to_z-of_z at c.millionths-level.ensures.value in
     let all : c.scaled.result ≡ scaled found.basis.high c.millionths-level.result = simp to_z-of_z at c.scaled.ensures in

@@ -1,4 +1,3 @@
-use Rattle.std.proofs.lemmas.Int.{ints}
 use Rattle.std.proofs.Common.{◌≡◌, refl, sym, ◌∙◌, ap, arith}
 use Rattle.std.proofs.lemmas.Result.{err_from_is_err_and}
 use Rattle.station_curve.specs.Curves.{Prediction, prediction_of, prediction_over}
@@ -6,7 +5,7 @@ use Rattle.station_span.proofs.FoundLemmas.{HasCurve, curve_allowed, curve_excus
 use Rattle.station_span.proofs.SiteLemmas.{span_reached}
 use Rattle.station_span.proofs.SpanLemmas.{has_offsets}
 use Rattle.station_span.specs.Sites.{Site}
-use Rattle.station_span.specs.Workings.Looked.{IsValid}
+use Rattle.station_span.specs.Workings.Spans.{IsFound, site_with}
 use Rattle.station_span.proofs.station.find_at.Goals as goal
 
 pub span_looked_at-requires : goal.span_looked_at-requires
@@ -77,13 +76,10 @@ invariant_of-result c =
     let span = span_reached c.args.reach c.args.book.now c.args.basis c.args.request.now.asked (has_offsets _ _ c.requires.basis)
     c.asked-asked.ensures.in_range c.in_ok-span.ensures.found in
     let looked = c.in_ok-span.ensures.exact in
-    let found : IsValid c.args.reach c.args.book.now c.args.request.now.asked c.args.basis c.args.station.now c.in_ok-curve.curve = record {
-      basis = refl;
+    let found : IsFound c.args.reach c.args.book.now c.args.request.now.asked (site_with c.args.basis c.args.station.now) = record {
       valid = c.requires.basis;
-      units = refl;
       levels = c.in_ok-level_units.ensures.levels;
-      predicts = rw (is, looked) (record { of_book = refl; of_station = refl; from = omega (arith, ints); until = omega (arith, ints) });
-      within_limits = c.in_ok-curve.ensures.valid;
+      limits = (rw is at c.in_ok-curve.ensures.valid).limits;
       span = span;
       few = c.in_ok-check_length.ensures.count_bound;
       mark = c.in_ok-check_mark.ensures.here;
@@ -93,7 +89,7 @@ invariant_of-result c =
     let station : c.in_ok-curve.curve.station ≡ c.args.station.now = ap (λ (p : Prediction). p.station) is in
     record {
       unit = rw station refl;
-      valid = rw (is, c.asked-asked.ensures.exact) (rw is at found);
+      valid = rw (is, c.asked-asked.ensures.exact) found;
       looked = rw c.asked-asked.ensures.exact looked;
       alone = is
           ∙ ap (λ b. prediction_over b c.args.station.now c.in_ok-span.span.begin c.in_ok-span.span.end) (sym book)

@@ -127,7 +127,7 @@ returns-clause-sends g c =
     let n = length c.turn_search.result.left in
     let k = left_count c.slack_search.result in
     let total = all_counted c.turn_search.result.left c.slack_search.result c.mark_search.result ∙ ap cells_in same
-    ∙ cells_for c.args.found.now c.requires.reach in
+    ∙ cells_for c.args.found.now in
     let t = joined (track_lines_of Turn c.turn_search.result.left) in
     let s = joined (lines_if_there Slack (cells_left c.slack_search.result)) in
     let m = joined (lines_if_there Mark (cells_left c.mark_search.result)) in

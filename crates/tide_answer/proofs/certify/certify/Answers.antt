@@ -1,6 +1,6 @@
-use Rattle.station_span.specs.Workings.Finds.{site_of, tide_of_found}
-use Rattle.station_span.proofs.HeldLemmas.{ready_for, tracks_tide}
-use Rattle.std.proofs.Common.{◌∙◌}
+use Rattle.station_span.specs.Workings.Finds.{site_of}
+use Rattle.station_span.specs.declared.reach.Reach.TheVariants.{Events}
+use Rattle.station_span.proofs.HeldLemmas.{found_for}
 use Rattle.tide_answer.proofs.CertificateLemmas.{certificate_valid, certified_whole, few_for}
 use Rattle.tide_answer.proofs.certify.certify.Goals as goal
 
@@ -11,9 +11,9 @@ pub write_certificate-requires : goal.write_certificate-requires
 write_certificate-requires c =
     let found = c.in_ok-found.found in
     let is = c.in_ok-found.ensures.exact in
-    let valid = certificate_valid c.args.request.now.name found.asked (tide_of_found found) c.in_ok-tracks.tracks
-    c.in_ok-found.ensures.named (rw is.asked c.requires.begin) (rw is.asked c.requires.end) (ready_for found is.reach)
-    (c.in_ok-tracks.ensures ∙ tracks_tide found is.reach) in
+    let valid = certificate_valid c.args.request.now.name found.curve.book found.asked (site_of found) c.in_ok-tracks.tracks
+    c.in_ok-found.ensures.named (rw is.asked c.requires.begin) (rw is.asked c.requires.end) (found_for found Events is.reach)
+    c.in_ok-tracks.ensures in
     rw c.in_ok-cert.ensures (rw is.asked at valid)
 
 pub returns-clause-exact : goal.returns-clause-exact

@@ -2,10 +2,9 @@ use Rattle.std.proofs.Common.{FitsSigned, w64, rules, sym, subst}
 use Rattle.std.proofs.lemmas.Int.{to_z-of_z}
 use Rattle.std.proofs.lemmas.Result.{err_from_is_err_and}
 use Rattle.station_span.specs.declared.asked.Asked.{Asked}
-use Rattle.station_span.specs.Workings.Finds.{IsLooked, site_of, tide_of_found}
+use Rattle.station_span.specs.Workings.Finds.{IsLooked, site_of}
 use Rattle.station_span.proofs.FoundLemmas.{excused_by}
-use Rattle.station_span.proofs.HeldLemmas.{looked_level}
-use Rattle.station_span.proofs.LevelLemmas.{zone_minute}
+use Rattle.station_span.proofs.HeldLemmas.{looked_zone}
 use Rattle.tide_answer.proofs.LevelSteps.{refused_level, whole_clock}
 use Rattle.tide_answer.proofs.clock.clock_answer.Goals as goal
 
@@ -39,7 +38,7 @@ clock_text-requires-clause-now c =
     let request = simp to_z-of_z at c.day_from-request.ensures in
     let is = rw request at c.in_ok-found.ensures.exact in
     let looked = subst (λ (a : Asked). IsLooked c.in_ok-found.found a.begin) is.asked (c.in_ok-check_level.ensures.first is.reach) in
-    simp to_z-of_z (zone_minute (tide_of_found c.in_ok-found.found) c.args.now (looked_level c.in_ok-found.found c.args.now looked))
+    simp to_z-of_z (looked_zone c.in_ok-found.found c.args.now looked)
 
 pub clock_text-requires-clause-listed : goal.clock_text-requires-clause-listed
 clock_text-requires-clause-listed c = rw (c.in_ok-found.found.unit, ← c.in_ok-listed.ensures.units) c.in_ok-listed.ensures.lines

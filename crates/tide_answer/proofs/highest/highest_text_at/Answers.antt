@@ -1,14 +1,12 @@
 use Rattle.std.proofs.Common.{FitsSigned, w64, rules}
 use Rattle.std.proofs.lemmas.Int.{to_z-of_z}
-use Rattle.station_span.specs.Workings.Finds.{tide_of_found}
-use Rattle.station_span.proofs.HeldLemmas.{looked_level}
-use Rattle.station_span.proofs.LevelLemmas.{zone_minute}
+use Rattle.station_span.proofs.HeldLemmas.{looked_zone}
 use Rattle.tide_answer.proofs.highest.highest_text_at.Goals as goal
 
 pub highest_text-requires-clause-minute : goal.highest_text-requires-clause-minute
 highest_text-requires-clause-minute c =
     let minute : FitsSigned w64 c.moved_minute-minute.result = search rules in
-    simp to_z-of_z (zone_minute (tide_of_found c.args.found.now) _ (looked_level c.args.found.now _ c.moved_minute-minute.ensures.level))
+    simp to_z-of_z (looked_zone c.args.found.now _ c.moved_minute-minute.ensures.level)
 
 pub returns : goal.returns
 returns c =
