@@ -25,8 +25,8 @@ sines =
     996194698 ∷ 997564050 ∷ 998629535 ∷ 999390827 ∷ 999847695 ∷
     1000000000 ∷ []
 
--- the sine of any whole degree up to 180, in billionths: the table mirrored at 90 degrees, and negated
--- below 0
+-- the sine of a whole number of degrees from -90 to 180, in billionths: the table mirrored at 90
+-- degrees, and negated below 0
 unfoldable pub sine_at : ℤ → ℤ
 sine_at (pos k) = pos (slice_index sines (if nat_le k 90 then k else 180 - k))
 sine_at (negsuc k) = neg_ℤ (pos (slice_index sines (suc k)))

@@ -28,8 +28,8 @@ const UNSURE: u64 = 1 << 51;
 /// A factor 2^52 is applied in two steps of 2^26, so that products fit 64 bits.
 const STEP: u64 = 1 << 26;
 
-/// Returns the angle of `units`, from 0 to `CIRCLE - 1`, in 2^-64 of a turn, rounded up. A unit is
-/// 1/600,000,000 degree; the result is within the same unit.
+/// Returns the angle of `units` units of 1/600,000,000 degree, from 0 to `CIRCLE - 1`, in 2^-64 of a
+/// turn. It is rounded up, but never into the next unit.
 pub fn binary_angle_of(units: u64) -> u64
     requires { units < circle }
     ensures { result ≡ binary_angle_of units }
@@ -97,8 +97,8 @@ fn place_of(spot: Spot) -> i64
     (spot.degrees as u64 * UNITS + spot.r) as i64
 }
 
-/// Returns the mean change of the sine per unit over the first `r` units of a degree, in 2^-64 of a
-/// billionth.
+/// Returns the mean change of the sine over the first `r` units of 1/600,000,000 degree after a whole
+/// degree. The result is the change for each such unit, in 2^-64 of a billionth.
 fn mean_slope(slope: i64, bend: i32, r: u64) -> i64
     requires slope { unsigned_abs slope ≤ 540000000000000000 }
     requires bend { unsigned_abs bend ≤ 2000000000 }

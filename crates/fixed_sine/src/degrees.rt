@@ -7,11 +7,14 @@ ghost use Rattle.fixed_sine.specs.Workings.Degrees.{slope_at, bend_at, IsReady};
 /// The row of one degree in the table of all 360, with slopes prepared for fast sums.
 #[derive(Clone, Copy)]
 pub struct Degree {
-    /// The change of the sine per unit at the start of the degree, in 2^-64 of a billionth, rounded up.
+    /// The change of the sine for each unit of 1/600,000,000 degree at the start of the degree, in
+    /// 2^-64 of a billionth, rounded up.
     pub slope: i64,
-    /// The decrease of `slope` per unit over the degree, in 2^-72 of a billionth, rounded down.
+    /// The decrease of `slope` for each unit of 1/600,000,000 degree over the degree, in 2^-72 of a
+    /// billionth, rounded down.
     pub bend: i32,
-    /// The sine at the start of the degree, in billionths. From 180 degrees on it is one greater.
+    /// The sine at the start of the degree, in billionths; for a degree that begins at 180 degrees or
+    /// later, plus 1.
     pub sine: i32,
 }
 

@@ -7,7 +7,7 @@ ghost use Rattle.fixed_sine.specs.Sine.{half_of, isin_of, icos_of};
 use crate::circle::{CIRCLE, DEGREE};
 use crate::table::row_of;
 
-/// The number of units of angle in a degree, as an unsigned number.
+/// The number of units of angle, of 1/600,000,000 degree each, in a degree, as an unsigned number.
 pub const UNITS: u64 = DEGREE as u64;
 
 /// The number of units in 180 degrees.
@@ -16,8 +16,8 @@ const HALF: u64 = 180 * UNITS;
 /// The divisor of the interpolation formula between two degrees.
 const SQUARE: i128 = 4 * UNITS as i128 * UNITS as i128;
 
-/// Returns the sine of the angle `p`, in billionths from -1,000,000,000 to 1,000,000,000. `p` is in units,
-/// from 0 to `CIRCLE - 1`.
+/// Returns the sine of the angle `p`, in billionths from -1,000,000,000 to 1,000,000,000. `p` is in
+/// units of 1/600,000,000 degree, from 0 to `CIRCLE - 1`.
 ///
 /// # Examples
 /// ```
@@ -37,8 +37,8 @@ pub fn isin(p: i64) -> i64
     }
 }
 
-/// Returns the cosine of the angle `p`, in billionths from -1,000,000,000 to 1,000,000,000: the sine of the
-/// angle plus 90 degrees. `p` is in units, from 0 to `CIRCLE - 1`.
+/// Returns the cosine of the angle `p`, in billionths from -1,000,000,000 to 1,000,000,000: the sine of
+/// the angle plus 90 degrees. `p` is in units of 1/600,000,000 degree, from 0 to `CIRCLE - 1`.
 ///
 /// The program doesn't call it: it evaluates the sine at angles that are a quarter further on.
 pub fn icos(p: i64) -> i64
@@ -63,7 +63,8 @@ fn half(place: u64) -> i64
     between((place / UNITS) as usize, place % UNITS)
 }
 
-/// Returns the sine `r` units after `degrees`, from 0 to 179.
+/// Returns the sine, in billionths, `r` units of 1/600,000,000 degree after `degrees` whole degrees,
+/// from 0 to 179.
 fn between(degrees: usize, r: u64) -> i64
     requires degrees { degrees < 180 }
     requires part { r < degree }
@@ -74,7 +75,8 @@ fn between(degrees: usize, r: u64) -> i64
     i64::from(row.sine) + gain(r, mean_slope(row.slope, row.correction, r))
 }
 
-/// Returns the mean change of the sine per unit over the first `r` units of a degree, times `SQUARE`.
+/// Returns the mean change of the sine for each unit of 1/600,000,000 degree over the first `r` such
+/// units after a whole degree, in billionths times `SQUARE`.
 fn mean_slope(slope: i64, correction: u32, r: u64) -> i64
     requires slope { unsigned_abs slope ≤ 41943040000000000 }
     requires part { r < degree }
@@ -94,7 +96,8 @@ fn gain(r: u64, slope: i64) -> i64
     product(r, slope).div_euclid(SQUARE) as i64
 }
 
-/// Returns `r * slope`; it can't overflow.
+/// Returns `r * slope`, which can't overflow: `r` is below 600,000,000, and `slope` at most
+/// 550,000,000,000,000,000 in size.
 pub fn product(r: u64, slope: i64) -> i128
     requires part { r < degree }
     requires slope { unsigned_abs slope ≤ 550000000000000000 }

@@ -7,12 +7,12 @@ ghost use Rattle.fixed_sine.specs.Table.{sine_at, rise, correction};
 /// The row of one degree in the table of sines: slope, sine and correction.
 #[derive(Clone, Copy)]
 pub struct SineRow {
-    /// The change of the sine per unit at the start of the degree, in billionths, times 4 * degree *
-    /// degree.
+    /// The change of the sine for each unit of 1/600,000,000 degree at the start of the degree, in
+    /// billionths times 4 * 600,000,000^2.
     pub slope: i64,
     /// The sine at the start of the degree, in billionths.
     pub sine: u32,
-    /// The size of the correction over the degree, in billionths; the correction is negative.
+    /// The size of the correction over the degree, in billionths; the correction is negative or 0.
     pub correction: u32,
 }
 

@@ -25,24 +25,26 @@ use Rattle.year_blend.specs.declared.parts.Place.{Place}
 use Rattle.year_blend.specs.declared.parts.Place.TheVariants.{Plain, Blend}
 use Rattle.year_blend.specs.Years.{year_start_of}
 
--- the first year, from 2 to 8800, and the number of years, from 1 to 500, that a file can have
+-- the ranges of a file's years: the first year is from 2 to 8800, and the number of years from 1 to 500
 pub record AreYears (first_year : ℤ) (years : ℕ) : Type 0 where
   pub least : pos 2 ≤ℤ first_year
   pub most : first_year ≤ℤ pos 8800
   pub some : 1 ≤ years
   pub few : years ≤ 500
 
--- the first minute of year `year`, counted from 0
+-- the first minute, since 1970-01-01T00:00Z, of year `year`, counted from 0 among the years from
+-- `first_year` on
 abbrev pub start_of : ℤ → ℕ → ℤ
 start_of first_year year = year_start_of (first_year +ℤ pos year)
 
--- the domain: the minutes of these years, and the first minute after them
+-- minute m, since 1970-01-01T00:00Z, is in the domain of `years` years from `first_year` on: from the
+-- first minute of the first year to the first minute after the last year, both included
 pub record InDomain (first_year : ℤ) (years : ℕ) (m : ℤ) : Type 0 where
   pub least : year_start_of first_year ≤ℤ m
   pub most : m ≤ℤ year_start_of (first_year +ℤ pos years)
 
--- minute m is in the blend at the start of year `year`: less than an hour from it, and x minutes after
--- it; the first year has no blend
+-- minute m is in the blend at the start of year `year`, counted from 0: less than an hour from that
+-- start, and x minutes after it (before it, if x is negative); the first year has no blend
 pub record IsInBlend (first_year : ℤ) (years : ℕ) (m : ℤ) (year : ℕ) (x : ℤ) : Type 0 where
   pub later : 0 < year
   pub inner : year < years
@@ -50,8 +52,8 @@ pub record IsInBlend (first_year : ℤ) (years : ℕ) (m : ℤ) (year : ℕ) (x 
   pub above : negsuc 59 <ℤ x
   pub below : x <ℤ pos 60
 
--- minute m is in year `year`: from its start up to but not including the next year's start; the last
--- year also has the domain's last minute
+-- minute m is in year `year`, counted from 0: from its start up to but not including the next year's
+-- start; the last year also has the first minute after it
 pub record IsInYear (first_year : ℤ) (years : ℕ) (m : ℤ) (year : ℕ) : Type 0 where
   pub one_of : year < years
   pub begun : start_of first_year year ≤ℤ m
@@ -64,12 +66,13 @@ IsPlaceOf first_year years m (Plain year) =
     × ((other : ℕ) (x : ℤ) → ¬ IsInBlend first_year years m other x)
 IsPlaceOf first_year years m (Blend year x) = IsInBlend first_year years m year x
 
--- the last of the first n years that has begun at minute m
+-- the index of the last of the first n years that has begun at minute m, counted from 0
 unfoldable pub year_at : ℤ → ℕ → ℤ → ℕ
 year_at first_year zero m = 0
 year_at first_year (suc n) m = if int_le (start_of first_year n) m then n else year_at first_year n m
 
--- the position of a minute of year `year`, by its distances from both ends of the year
+-- the position of minute m, which is in year `year`: the blend at a new year between two of the years
+-- if the minute is less than an hour from it, else the plain part of `year`
 unfoldable pub place_in : ℤ → ℕ → ℤ → ℕ → Place
 place_in first_year years m year =
     let since = m -ℤ start_of first_year year in
@@ -78,11 +81,13 @@ place_in first_year years m year =
     else (if nat_lt (suc year) years && int_lt (negsuc 59) left then Blend (suc year) left
     else Plain year)
 
--- the position of a minute of the domain
+-- the position of minute m among `years` years from `first_year` on: in the plain part of a year, or in
+-- the blend at a new year
 unfoldable pub place_of : ℤ → ℕ → ℤ → Place
 place_of first_year years m = place_in first_year years m (year_at first_year years m)
 
--- the last minute of the plain part of a year: an hour before the next year, or the domain's last minute
+-- the last minute of the plain part of year `year`, counted from 0: an hour before the next year starts
+-- or, for the last year, the first minute after it
 unfoldable pub plain_end_of : ℤ → ℕ → ℕ → ℤ
 plain_end_of first_year years year =
     if nat_lt (suc year) years then start_of first_year (suc year) -ℤ pos 60 else start_of first_year (suc year)

@@ -7,13 +7,14 @@ use Rattle.year_blend.specs.declared.parts.Stretch.{Stretch}
 use Rattle.year_blend.specs.declared.parts.Stretch.TheVariants.{Within, Across}
 use Rattle.year_blend.specs.Places.{IsInBlend, place_of, plain_end_of}
 
--- a position in the blend at a new year, or in the plain part of one of the two years next to it
+-- a position in the blend at the start of year `year`, or in the plain part of that year or of the year
+-- before
 abbrev pub IsBeside : ℕ → Place → Type 0
 IsBeside year (Plain other) = (suc other ≡ year) ⊎ (other ≡ year)
 IsBeside year (Blend other x) = other ≡ year
 
--- the rule for the minutes from `a` to n minutes later, both included: all in one plain part, or some in
--- a blend and the others next to it
+-- the rule for the minutes from `a` to `a + n`, both included: all are in the plain part of one year;
+-- or some are in the blend at a new year, and the others in the plain parts next to it
 abbrev pub IsStretchOf : ℤ → ℕ → ℤ → ℕ → Stretch → Type 0
 IsStretchOf first_year years a n (Within year) =
     (k : ℕ) → k ≤ n → place_of first_year years (a +ℤ pos k) ≡ Plain year
@@ -21,14 +22,15 @@ IsStretchOf first_year years a n (Across year) =
     ((k : ℕ) × (x : ℤ) × (k ≤ n) × IsInBlend first_year years (a +ℤ pos k) year x)
     × ((k : ℕ) → k ≤ n → IsBeside year (place_of first_year years (a +ℤ pos k)))
 
--- the stretch of minutes, from the position of the first minute: a plain part contains the minutes up to
--- its end
+-- the stretch of the minutes up to `end`, from the position of the first one: the plain part of a year
+-- contains them if it ends no earlier; else they are across a new year
 abbrev pub stretch_from : ℤ → ℕ → ℤ → Place → Stretch
 stretch_from first_year years end (Plain year) =
     if int_le end (plain_end_of first_year years year) then Within year else Across (suc year)
 stretch_from first_year years end (Blend year x) = Across year
 
--- the stretch of the minutes from `a` to n minutes later, both included; n is at most 1,024
+-- which years' constants the minutes from `a` to `a + n`, both included, use: those of one year, or
+-- those of the two years around one new year; n is at most 1,024
 unfoldable pub stretch_of : ℤ → ℕ → ℤ → ℕ → Stretch
 stretch_of first_year years a n =
     stretch_from first_year years (a +ℤ pos n) (place_of first_year years a)

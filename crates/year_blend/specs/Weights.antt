@@ -2,11 +2,12 @@
 -- degree 5 with first and second derivatives of 0 at both ends).
 use Rattle.std.specs.Prelude.{ℕ, ℤ, pos, negsuc, ◌+ℤ◌, ◌-ℤ◌, ◌*ℤ◌, ◌≤ℤ◌}
 
--- the sum of the weights of both years
+-- the total weight of a blend: the sum of the weights of the earlier and the later year
 abbrev pub total_weight : ℕ
 total_weight = 4147200000
 
--- x is a number of minutes from the new year, from -60 to 60
+-- x is a number of minutes from the new year, from -60 to 60, both included; negative before the new
+-- year
 pub record IsWithinHourOfNewYear (x : ℤ) : Type 0 where
   pub least : negsuc 59 ≤ℤ x
   pub most : x ≤ℤ pos 60
@@ -17,7 +18,8 @@ square x = x *ℤ x
 abbrev pub cube : ℤ → ℤ
 cube x = x *ℤ square x
 
--- the weight of the later year, x minutes from the new year: 2073600000 + 64800000 x - 12000 x^3 + x^5
+-- the weight of the later year, of 4147200000 in all, x minutes from the new year: 2073600000 +
+-- 64800000 x - 12000 x^3 + x^5
 unfoldable pub weight_of : ℤ → ℤ
 weight_of x =
     ((pos 2073600000 +ℤ (pos 64800000 *ℤ x)) -ℤ (pos 12000 *ℤ cube x)) +ℤ (square x *ℤ cube x)

@@ -11,10 +11,11 @@ use crate::years::{DAY, year_of_day, year_start};
 /// Half the minutes of a blend.
 const HOUR: i64 = 60;
 
-/// Returns the position of minute `m` among `years` years from `first_year` on: the blend at a new year
-/// between two of them if the minute is less than an hour from it, else the plain part of its year.
-/// `first_year` is from 2 to 8800, `years` from 1 to 500, and `m`, since 1970-01-01T00:00Z, from the
-/// start of the first year to the end of the last, both included.
+/// Returns the position of minute `m` among `years` years from `first_year` on. Less than an hour
+/// before or after the start of a year other than the first, this is the blend at that start; elsewhere
+/// it is the plain part of the minute's year. `first_year` is from 2 to 8800 and `years` from 1 to 500.
+/// `m`, since 1970-01-01T00:00Z, is from the first minute of the first year to the first minute after
+/// the last year, both included.
 pub fn place(first_year: i32, years: u32, m: i64) -> Place
     requires years { AreYears first_year years }
     requires domain { InDomain first_year years m }
@@ -36,8 +37,8 @@ pub fn place(first_year: i32, years: u32, m: i64) -> Place
 }
 
 /// Returns the last minute of the plain part of year `year`, counted from 0 among `years` years from
-/// `first_year` on: 60 minutes before the next year starts, or the last minute of the domain for the last
-/// year. Minutes are counted from 1970-01-01T00:00Z.
+/// `first_year` on. This is the minute 60 minutes before the next year starts or, for the last year,
+/// the first minute after it. Minutes are counted from 1970-01-01T00:00Z.
 pub fn plain_end(first_year: i32, years: u32, year: u32) -> i64
     requires years { AreYears first_year years }
     requires year { year < years }
@@ -58,15 +59,15 @@ fn minutes_from(first_year: i32, year: u32, m: i64) -> i64
     m - year_start(first_year + year as i32)
 }
 
-/// Returns true if a year other than the first starts within an hour of the minute `x` minutes from its
-/// start.
+/// Returns true if year `year`, counted from 0, is one of `years` years but not the first, and `x`
+/// minutes after its start (before it, if `x` is negative) is less than an hour from that start.
 fn is_blend(years: u32, year: u32, x: i64) -> bool
     ensures { IsTrue result ↔ ((0 < year) × (year < years) × (negsuc 59 <ℤ x) × (x <ℤ pos 60)) }
 {
     0 < year && year < years && -HOUR < x && x < HOUR
 }
 
-/// Returns the last year, counted from 0, that has begun at minute `m`.
+/// Returns the last of `years` years from `first_year` on that has begun at minute `m`, counted from 0.
 fn year_among(first_year: i32, years: u32, m: i64) -> u32
     requires years { AreYears first_year years }
     requires domain { InDomain first_year years m }

@@ -10,7 +10,8 @@ ghost use Rattle.year_blend.specs.declared.spanning.TheConstants.{LONGEST_SPAN};
 ghost use Rattle.year_blend.specs.Stretches.{IsStretchOf, stretch_of};
 ghost use Rattle.year_blend.specs.Weights.{weight_of, weight_slope_of, total_weight, IsWithinHourOfNewYear};
 
-/// Proves that consecutive years start 365 or 366 days apart, from the year 2 to the year 9300.
+/// Proves for each UTC year from 2 to 9300 that the next one starts 365 or 366 days later, and bounds
+/// on the year's first minute, counted from 1970-01-01T00:00Z.
 pub fn year_lengths()
     ensures lengths { (y : ℤ) → IsYearInReach y
         → ((year_start_of (y +ℤ pos 1) -ℤ year_start_of y) ≡ pos 525600)
@@ -19,8 +20,8 @@ pub fn year_lengths()
     ensures most { (y : ℤ) → IsYearInReach y → year_start_of y ≤ℤ pos 3855208320 }
 {}
 
-/// Proves that each minute of a run of years is in exactly one position: in the plain part of one year,
-/// or in one blend.
+/// Proves that each minute of a run of years, and the first minute after them, has exactly one
+/// position: the plain part of one year, or the blend at one new year.
 pub fn unique_places()
     ensures some { (first_year : ℤ) (years : ℕ) (m : ℤ) → AreYears first_year years → InDomain first_year years m
         → IsPlaceOf first_year years m (place_of first_year years m) }
@@ -28,8 +29,8 @@ pub fn unique_places()
         → (p : Place) → IsPlaceOf first_year years m p → p ≡ place_of first_year years m }
 {}
 
-/// Proves that all minutes from a plain minute, one outside the blends at new years, to the end of its
-/// year's plain part are plain minutes of the same year, and that this end isn't before the minute.
+/// Proves for a minute outside the blends at new years that each minute from it to the last one of its
+/// year's plain part is in the same plain part, and that this last minute isn't before it.
 pub fn plain_parts()
     ensures rest { (first_year : ℤ) (years : ℕ) (m later : ℤ) (year : ℕ) → AreYears first_year years → InDomain first_year years m
         → place_of first_year years m ≡ Plain year → m ≤ℤ later → later ≤ℤ plain_end_of first_year years year
@@ -38,8 +39,9 @@ pub fn plain_parts()
         → place_of first_year years m ≡ Plain year → m ≤ℤ plain_end_of first_year years year }
 {}
 
-/// Proves that consecutive minutes of the domain, at most `LONGEST_SPAN` of them, are in exactly one
-/// stretch.
+/// Proves that the minutes from `m` to `m + n`, both included, are in exactly one stretch: in the plain
+/// part of one year, or across one new year. Both ends are in the years or the first minute after them,
+/// and `n` is at most `LONGEST_SPAN`.
 pub fn unique_stretches()
     ensures some { (first_year : ℤ) (years : ℕ) (m : ℤ) (n : ℕ) → AreYears first_year years → InDomain first_year years m
         → InDomain first_year years (m +ℤ pos n) → n ≤ LONGEST_SPAN → IsStretchOf first_year years m n (stretch_of first_year years m n) }
@@ -48,8 +50,9 @@ pub fn unique_stretches()
         → (s : Stretch) → IsStretchOf first_year years m n s → s ≡ stretch_of first_year years m n }
 {}
 
-/// Proves bounds on the weight of the later year in a blend and on its slope, and on the change of each
-/// in a minute.
+/// Proves that from 60 minutes before a new year to 60 minutes after it the weight of the later year is
+/// from 0 to 4,147,200,000, its slope, in weight per minute, from 0 to 64,800,000, and that in a minute
+/// the weight changes by at most 64,800,000 and the slope by at most 1,663,000.
 pub fn weight_steps()
     ensures weight { (x : ℤ) → IsWithinHourOfNewYear x → (pos 0 ≤ℤ weight_of x) × (weight_of x ≤ℤ pos total_weight) }
     ensures slope { (x : ℤ) → IsWithinHourOfNewYear x → (pos 0 ≤ℤ weight_slope_of x) × (weight_slope_of x ≤ℤ pos 64800000) }
@@ -59,8 +62,8 @@ pub fn weight_steps()
         → unsigned_abs (weight_slope_of (x +ℤ pos 1) -ℤ weight_slope_of x) ≤ 1663000 }
 {}
 
-/// Proves examples of positions of minutes among three years from 1999 on: at both ends, and near a new
-/// year.
+/// Proves examples of positions of minutes among the years 1999 to 2001: the first minute of 2000 and
+/// minutes near it, the first minute of 1999, and the first minute after 2001.
 pub fn worked_places()
     ensures first { place_of (pos 1999) 3 (pos 15252480) ≡ Place.Plain 0 }
     ensures hour_before { place_of (pos 1999) 3 (pos 15778020) ≡ Place.Plain 0 }
@@ -71,8 +74,9 @@ pub fn worked_places()
     ensures last { place_of (pos 1999) 3 (pos 16830720) ≡ Place.Plain 2 }
 {}
 
-/// Proves examples of stretches of hours among three years from 1999 on: up to the end of a plain part,
-/// past it, next to a blend, over it, in it, and up to the last minute of the domain.
+/// Proves examples of stretches of minutes among the years 1999 to 2001: up to the end of the plain
+/// part of 1999, a minute past it, over the blend at the start of 2000, from its last minute on, from
+/// the minute after it on, and up to the first minute after 2001.
 pub fn worked_stretches()
     ensures up_to_the_end { stretch_of (pos 1999) 3 (pos 15776996) 1024 ≡ Stretch.Within 0 }
     ensures past_the_end { stretch_of (pos 1999) 3 (pos 15776997) 1024 ≡ Stretch.Across 1 }
@@ -82,7 +86,8 @@ pub fn worked_stretches()
     ensures up_to_the_last { stretch_of (pos 1999) 3 (pos 16829696) 1024 ≡ Stretch.Within 2 }
 {}
 
-/// Proves examples of starts of years and of weights, with values that another program computed.
+/// Proves examples that another program computed: first minutes of years since 1970-01-01T00:00Z, and
+/// the weight of the later year in a blend and its slope.
 #[tactic(auto, unfolding(crate::specs::Weights::weight_of, crate::specs::Weights::weight_slope_of))]
 pub fn worked_rows()
     ensures epoch { year_start_of (pos 1970) ≡ pos 0 }
@@ -96,7 +101,8 @@ pub fn worked_rows()
     ensures last_slope { weight_slope_of (pos 60) ≡ pos 0 }
 {}
 
-/// Proves that a stretch has at most 1,024 minutes.
+/// Proves that `LONGEST_SPAN`, the most minutes from the first minute of a stretch to its last, is
+/// 1,024.
 pub fn worked_limits()
     ensures minutes { LONGEST_SPAN ≡ 1024 }
 {}

@@ -8,11 +8,14 @@ ghost use Rattle.year_blend.specs.Stretches.{IsStretchOf, stretch_of};
 use crate::finding::{place, plain_end};
 use crate::parts::{Place, Stretch};
 
-/// The most minutes of a stretch: the greatest length of consecutive minutes that [`stretch`] accepts.
+/// The most minutes from the first minute of a stretch to its last one: the greatest `n` that
+/// [`stretch`] accepts.
 pub const LONGEST_SPAN: u32 = 1024;
 
-/// Returns the stretch of the minutes from `m` to `m + n`, both included and of the domain, among `years`
-/// years from `first_year` on: the plain part of one year, or across one new year. `n` is at most
+/// Returns which years' constants the minutes from `m` to `m + n`, both included, use, among `years`
+/// years from `first_year` on. It is one year if none of these minutes is less than an hour from a new
+/// year between two of the years, and otherwise the two years around that new year. `m` and `m + n` are
+/// from the first minute of the years to the first minute after them, and `n` is at most
 /// [`LONGEST_SPAN`].
 #[cold]
 #[inline(never)]

@@ -4,16 +4,19 @@ use Rattle.std.specs.Prelude.{ℕ, ◌-◌, ◌*◌, ◌^◌, min, ℤ, pos, ◌
 use Rattle.fixed_sine.specs.Circle.{degree}
 use Rattle.fixed_sine.specs.Table.{rise, correction}
 
--- the size of the correction over a degree of the first half of the circle, mirrored after 89
+-- the size of the correction, in billionths, over the degree that begins at k degrees, from 0 to 179:
+-- after 89 the corrections mirror the ones before
 abbrev pub bend_at : ℕ → ℕ
 bend_at k = unsigned_abs (correction (min k (179 - k)))
 
--- the change of the sine per unit at the start of degree k, times 4 * degree * degree
+-- the change of the sine, in billionths, for each unit of 1/600,000,000 degree at the start of degree
+-- k, times 4 * degree * degree
 abbrev pub slope_at : ℕ → ℤ
 slope_at k = (pos (4 * degree) *ℤ rise k) +ℤ pos (degree * bend_at k)
 
--- a slope in 2^-64, rounded up, and its decrease per unit in 2^-72, rounded down, both made from the
--- table's
+-- `slope` and `bend` are the table's, times 4 * degree * degree; the ready slope is the same in 2^-64
+-- of a billionth for each unit, rounded up, and the ready bend its decrease for each unit in 2^-72,
+-- rounded down
 pub record IsReady (slope bend ready_slope ready_bend : ℤ) : Type 0 where
   pub slope_least : (slope *ℤ pos (2 ^ 64)) ≤ℤ (ready_slope *ℤ pos (4 * degree * degree))
   pub slope_most : (ready_slope *ℤ pos (4 * degree * degree)) ≤ℤ ((slope *ℤ pos (2 ^ 64)) +ℤ pos (4 * degree * degree))
