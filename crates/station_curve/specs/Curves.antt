@@ -15,7 +15,8 @@ use Rattle.station_curve.specs.Sums.{sums_of}
 use Rattle.station_curve.specs.Limits.{most_amount, most_steepness}
 use Rattle.station_curve.specs.Schureman.{constituents_of, speed_of, amplitude_of, phase_of}
 
--- the wave of constituent k in a year, counted from 0
+-- the wave of constituent k in a year, both counted from 0: its phase is that at an hour before the
+-- year's start
 abbrev pub wave_of : Book → Station → ℕ → ℕ → Harmonic
 wave_of b s year k = record {
   amplitude = amplitude_of b s year k;
@@ -23,56 +24,60 @@ wave_of b s year k = record {
   phase = phase_of b s year (start_of b.first_year year -ℤ pos 60) k;
 }
 
--- the waves of all constituents in a year, absent ones included
+-- the waves of all constituents in a year, counted from 0, also of those with an amplitude of 0
 unfoldable pub waves_of : Book → Station → ℕ → List Harmonic
 waves_of b s year = map (wave_of b s year) (constituents_of b)
 
--- the year is at most an hour from the minutes from `first` to `last`: only such years are needed for
--- these minutes
+-- year `year`, counted from 0, is at most an hour from the minutes from `first` to `last`, both
+-- included: only such years are needed for these minutes
 unfoldable pub is_touched : Book → ℤ → ℤ → ℕ → Bool
 is_touched b first last year =
     int_le (start_of b.first_year year) (last +ℤ pos 60) && int_le first (start_of b.first_year (suc year) +ℤ pos 60)
 
--- the waves of a year for these minutes: none if the year isn't needed
+-- the waves of a year, counted from 0, for the minutes from `first` to `last`: none if the year is more
+-- than an hour from them
 unfoldable pub waves_over : Book → Station → ℤ → ℤ → ℕ → List Harmonic
 waves_over b s first last year = if is_touched b first last year then waves_of b s year else []
 
--- a prediction: a station of a book, and the minutes from `first` to `last`
+-- a prediction: a station of a book, and the minutes from `first` to `last`, both included, since
+-- 1970-01-01T00:00Z
 pub record Prediction : Type 0 where
   pub book : Book
   pub station : Station
   pub first : ℤ
   pub last : ℤ
 
--- a minute that is predicted
+-- minute m is one of the prediction's minutes, both ends included
 pub record IsPredicted (c : Prediction) (m : ℤ) : Type 0 where
   pub least : c.first ≤ℤ m
   pub most : m ≤ℤ c.last
 
--- the prediction of a station at these minutes
+-- the prediction of a station at the minutes from `first` to `last`, both included
 abbrev pub prediction_over : Book → Station → ℤ → ℤ → Prediction
 prediction_over b s first last = record { book = b; station = s; first = first; last = last }
 
--- the prediction of a station at all minutes of the book's years
+-- the prediction of a station at all minutes of the book's years and the first minute after them
 abbrev pub prediction_of : Book → Station → Prediction
 prediction_of b s = prediction_over b s (year_start_of b.first_year) (year_start_of (b.first_year +ℤ pos b.years))
 
--- the waves of a year in a prediction: none if the prediction doesn't need the year
+-- the waves of a year, counted from 0, in a prediction: none if the year is more than an hour from its
+-- minutes
 abbrev pub waves_for : Prediction → ℕ → List Harmonic
 waves_for c year = waves_over c.book c.station c.first c.last year
 
--- the sums of a year in a prediction: 0 if the prediction doesn't need the year
+-- the four sums over the waves of a year, counted from 0, in a prediction: 0 if the year is more than
+-- an hour from its minutes
 abbrev pub sums_for : Prediction → ℕ → Sums
 sums_for c year = sums_of (waves_for c year)
 
--- the limit that a year exceeds, if any
+-- the limit on amplitudes or speeds that a station's constants exceed in a year, counted from 0, if any
 unfoldable pub year_fault : Book → Station → ℕ → Option CurveFault
 year_fault b s year =
     if nat_lt most_amount (amount_of (waves_of b s year)) then Some (TooLarge (b.first_year +ℤ pos year))
     else if nat_lt most_steepness (steepness_of (waves_of b s year)) then Some (TooSteep (b.first_year +ℤ pos year))
     else None
 
--- the first fault of the first `year` years
+-- the first limit that a station's constants exceed in the first `year` years, if any
 unfoldable pub first_fault : Book → Station → ℕ → Option CurveFault
 first_fault b s zero = None
 first_fault b s (suc year) = option_or (first_fault b s year) (year_fault b s year)
@@ -84,17 +89,19 @@ is_hydraulic Feet = false
 is_hydraulic Meters = false
 is_hydraulic Knots = false
 
--- the prediction, or the fault if there is one
+-- the prediction if there is no fault, else the fault
 abbrev pub unless_fault : Prediction → Option CurveFault → Result Prediction CurveFault
 unless_fault c None = Ok c
 unless_fault c (Some fault) = Err fault
 
--- the curve for these minutes, if each year of the book is within the limits
+-- the curve of a station for the minutes from `first` to `last`, or the reason why it has none: it is a
+-- hydraulic current, or a year of the book exceeds a limit
 unfoldable pub curve_over : Book → Station → ℤ → ℤ → Result Prediction CurveFault
 curve_over b s first last =
     if is_hydraulic s.units then Err Hydraulic else unless_fault (prediction_over b s first last) (first_fault b s b.years)
 
--- the curve of a station for all minutes
+-- the curve of a station for all minutes of the book's years and the first minute after them, or the
+-- reason why it has none
 unfoldable pub curve_of : Book → Station → Result Prediction CurveFault
 curve_of b s = curve_over b s (year_start_of b.first_year) (year_start_of (b.first_year +ℤ pos b.years))
 
@@ -103,20 +110,22 @@ abbrev pub is_out_of_memory : CurveFault → Bool
 is_out_of_memory NoMemory = true
 is_out_of_memory _ = false
 
--- the years of a book and the speeds of its constituents are in their ranges
+-- the book's first year is from 2 to 8800, its years are from 1 to 500, and each speed is from 0 to
+-- 3,600,000,000 units of 1/600,000,000 degree a minute
 pub record AreTimes (b : Book) : Type 0 where
   pub years : AreYears b.first_year b.years
   pub speeds : (k : ℕ) → k < length b.constituents → (pos 0 ≤ℤ speed_of b k) × (speed_of b k ≤ℤ pos 3600000000)
 
--- a station with no year beyond a limit
+-- a station within the limits of a curve: of its mean level, and in each year of the book of its
+-- amplitudes and speeds
 pub record IsWithinLimits (b : Book) (s : Station) : Type 0 where
   pub times : AreTimes b
   pub datum : unsigned_abs s.datum ≤ 10 ^ 10
   pub amounts : (year : ℕ) → year < b.years → amount_of (waves_of b s year) ≤ most_amount
   pub steepnesses : (year : ℕ) → year < b.years → steepness_of (waves_of b s year) ≤ most_steepness
 
--- a prediction that a curve can have: the station is within the limits, and the minutes are in the
--- book's years
+-- a prediction that a curve can have: the station's constants are within the limits, and the minutes
+-- are in the book's years or the first minute after them
 pub record IsPrediction (c : Prediction) : Type 0 where
   pub limits : IsWithinLimits c.book c.station
   pub forward : c.first ≤ℤ c.last

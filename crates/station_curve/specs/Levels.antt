@@ -6,18 +6,19 @@ use Rattle.year_blend.specs.declared.parts.Place.TheVariants.{Plain, Blend}
 use Rattle.year_blend.specs.Places.{start_of}
 use Rattle.year_blend.specs.Weights.{total_weight, weight_of, weight_slope_of}
 
--- the minutes from an hour before the year to minute m
+-- the number of minutes from an hour before the start of year `year`, counted from 0, to minute m
 abbrev pub minutes_into : ℤ → ℕ → ℤ → ℕ
 minutes_into first_year year m = unsigned_abs ((m -ℤ start_of first_year year) +ℤ pos 60)
 
--- a value at a position, from each year's value: the year's own outside blends; in a blend both years'
--- by their weights
+-- a level or slope at a position, from each year's: outside the blends at new years the year's own
+-- times the total weight of a blend; in a blend both years' times their weights
 abbrev pub blended : (ℕ → ℤ) → Place → ℤ
 blended value (Plain year) = pos total_weight *ℤ value year
 blended value (Blend year x) =
     ((pos total_weight -ℤ weight_of x) *ℤ value (year - 1)) +ℤ (weight_of x *ℤ value year)
 
--- the part of the slope that is due to the changing weight
+-- the part of the slope that is due to the changing weight in a blend, from each year's level; 0
+-- outside the blends at new years
 abbrev pub drift : (ℕ → ℤ) → Place → ℤ
 drift level (Plain year) = pos 0
 drift level (Blend year x) =

@@ -3,16 +3,17 @@
 use Rattle.std.specs.Prelude.{ℕ, ◌*◌, ◌^◌, ◌≤◌, unsigned_abs}
 use Rattle.station_curve.specs.declared.year_sums.Sums.{Sums}
 
--- the greatest sum of the amplitudes of a year, in millionths of the unit
+-- the greatest sum of the sizes of the amplitudes that a station may have in a year, in millionths of
+-- its unit
 abbrev pub most_amount : ℕ
 most_amount = 10 ^ 9
 
--- the greatest sum of the amplitudes times the speeds of a year, in millionths times units of the circle
--- a minute
+-- the greatest sum of the sizes of the amplitudes times the speeds that a station may have in a year,
+-- in millionths of its unit times units of 1/600,000,000 degree a minute
 abbrev pub most_steepness : ℕ
 most_steepness = 10 ^ 17
 
--- the sums of a year within the limits
+-- the four sums of a year are within the limits that a station with a curve must meet
 pub record AreWithinLimits (s : Sums) : Type 0 where
   pub amount : unsigned_abs s.amount ≤ most_amount
   pub steep : unsigned_abs s.steep ≤ most_steepness

@@ -5,19 +5,25 @@ use Rattle.fixed_sine.specs.Rate.{step_of}
 use Rattle.station_curve.specs.declared.year_sums.Sums.{Sums}
 use Rattle.station_curve.specs.Waves.{Harmonic, amount_of, steepness_of}
 
--- the most that a wave's height (its part of the level) changes in a minute
+-- the most that a wave's height (its part of the level) changes in a minute, in billionths of a
+-- millionth of the station's unit
 abbrev pub height_rate_of : Harmonic → ℕ
 height_rate_of h = unsigned_abs h.amplitude * step_of h.speed
 
--- the most that a wave's fall (minus its part of the slope) changes in a minute
+-- the most that a wave's fall (minus its part of the slope) changes in a minute; a fall is in
+-- billionths of a millionth of the station's unit a minute, times 34,377,467,708 (the units of angle in
+-- a radian)
 abbrev pub fall_rate_of : Harmonic → ℕ
 fall_rate_of h = unsigned_abs h.amplitude * h.speed * step_of h.speed
 
--- the most that the sum of the heights changes in a minute
+-- the most that the sum of the waves' heights changes in a minute, in billionths of a millionth of the
+-- station's unit
 abbrev pub near_of : List Harmonic → ℕ
 near_of hs = sum_by height_rate_of hs
 
--- the most that the sum of the falls changes in a minute
+-- the most that the sum of the waves' falls (minus the slope) changes in a minute; a fall is in
+-- billionths of a millionth of the station's unit a minute, times 34,377,467,708 (the units of angle in
+-- a radian)
 abbrev pub far_of : List Harmonic → ℕ
 far_of hs = sum_by fall_rate_of hs
 

@@ -6,8 +6,8 @@ use Rattle.harmonics_book.specs.declared.book.Station.{Station}
 use Rattle.harmonics_book.specs.declared.book.Book.{Book}
 use Rattle.station_curve.specs.Waves.{Harmonic}
 
--- a book of one constituent with this speed and three years from 1999 on; its argument is 0 in the first
--- year
+-- a book for 1999 to 2001 with one constituent of this speed, in ten-millionths of a degree an hour;
+-- its equilibrium argument, in ten-millionths of a degree, is 0 in 1999, and then as given
 abbrev pub small_book : ℤ → ℤ → Book
 small_book speed argument = record {
   constituents = record { name = codes "S2"; speed = speed } ∷ [];
@@ -18,7 +18,8 @@ small_book speed argument = record {
   stations = [];
 }
 
--- a station of small_book with this amplitude, mean level 0, at Greenwich
+-- a station of small_book with this amplitude, in millionths of its unit, and mean level 0, at
+-- Greenwich
 abbrev pub small_station : ℤ → Units → Station
 small_station amplitude units = record {
   name = codes "Pier";
@@ -30,15 +31,16 @@ small_station amplitude units = record {
   epoch = pos 0 ∷ [];
 }
 
--- a wave with an amplitude of one unit and half a degree a minute, with phase 0
+-- a wave with an amplitude of one unit that turns by half a degree a minute, with phase 0 an hour
+-- before the year begins
 abbrev pub small_wave : Harmonic
 small_wave = record { amplitude = pos 1000000; speed = 300000000; phase = 0 }
 
--- a tide of 12 hours, highest at noon and midnight, the same in all years
+-- a book for 1999 to 2001: a tide of 12 hours, highest at noon and midnight, the same in all years
 abbrev pub pier_book : Book
 pier_book = small_book (pos 300000000) (pos 0)
 
--- the book of pier_book's tide, but 60 degrees ahead from the second year on
+-- a book for 1999 to 2001: the tide of pier_book, but 60 degrees ahead from 2000 on
 abbrev pub shifted_book : Book
 shifted_book = small_book (pos 300000000) (pos 600000000)
 
@@ -46,7 +48,7 @@ shifted_book = small_book (pos 300000000) (pos 600000000)
 abbrev pub pier : Station
 pier = small_station (pos 1000000) Feet
 
--- two constituents for 2000 and 2001
+-- a book for 2000 and 2001 with the two constituents M2 and S2
 abbrev pub harbour_book : Book
 harbour_book = record {
   constituents = record { name = codes "M2"; speed = pos 289841042 } ∷ record { name = codes "S2"; speed = pos 300000000 } ∷ [];
@@ -57,7 +59,7 @@ harbour_book = record {
   stations = [];
 }
 
--- the station of harbour_book, west of Greenwich and with a mean level
+-- the station of harbour_book, five hours west of Greenwich, with a mean level of 2.5 feet
 abbrev pub harbour : Station
 harbour = record {
   name = codes "Harbour";

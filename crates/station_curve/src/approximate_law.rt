@@ -6,7 +6,8 @@ ghost use Rattle.station_curve.specs.Schureman.{predicted_level, predicted_slope
 ghost use Rattle.station_curve.specs.Approximate.{approximate_level_of, approximate_slope_of};
 ghost use Rattle.station_curve.specs.Errors.{level_error_of, slope_error_of};
 
-/// Proves that the approximate level and slope are within their errors at each minute that a curve predicts.
+/// Proves that at each minute that a curve predicts, the approximate level differs from the level by at
+/// most `level_error_of`, and the approximate slope from the slope by at most `slope_error_of`.
 pub fn approximate_values()
     ensures level { (c : Prediction) (m : ℤ) → IsPrediction c → IsPredicted c m
         → unsigned_abs (approximate_level_of c.book c.station m -ℤ predicted_level c.book c.station m) ≤ level_error_of c }

@@ -13,7 +13,8 @@ use year_blend::{TOTAL_WEIGHT, weight_slope};
 /// of 2^9 units.
 const SPEED_ERROR: i128 = 512_000_000_000;
 
-/// Returns `weight * value`, a year's part in a blend; it can't overflow.
+/// Returns `weight * value`, a year's part of a level or slope in a blend. `weight` is from 0 to
+/// 4,147,200,000, and `value` at most 10^26 in size, so this can't overflow.
 pub fn weighted(weight: i64, value: i128) -> i128
     requires value { unsigned_abs value ≤ 10 ^ 26 }
     requires least { pos 0 ≤ℤ weight }
@@ -24,8 +25,8 @@ pub fn weighted(weight: i64, value: i128) -> i128
     i128::from(weight) * value
 }
 
-/// Returns the values of the earlier and the later year, mixed by the `weight` of the later year: the
-/// sum of each value times its year's weight.
+/// Returns the values of the earlier and the later year, blended: the later year's value times
+/// `weight`, plus the earlier year's times the rest of the total weight of 4,147,200,000.
 pub fn mixed(earlier: i128, later: i128, weight: i64) -> i128
     requires earlier { unsigned_abs earlier ≤ 10 ^ 26 }
     requires later { unsigned_abs later ≤ 10 ^ 26 }
@@ -37,8 +38,11 @@ pub fn mixed(earlier: i128, later: i128, weight: i64) -> i128
     weighted(TOTAL_WEIGHT - weight, earlier) + weighted(weight, later)
 }
 
-/// Returns the part of the slope that is due to the changing weight, `x` minutes from the new year;
-/// `change` is the later year's level less the earlier year's.
+/// Returns the part of the slope that is due to the changing weight, `x` minutes from the new year; `x`
+/// is from -60 to 60. `change` is the later year's level less the earlier year's, in billionths of a
+/// millionth of the station's unit. The result is in billionths of a millionth of the station's unit a
+/// minute, times 34,377,467,708 (the units of angle in a radian) and 4,147,200,000 (the total weight of
+/// a blend).
 pub fn drift(change: i64, x: i64) -> i128
     requires change { unsigned_abs change ≤ 2 * 10 ^ 18 }
     requires in_range { IsWithinHourOfNewYear x }
@@ -57,7 +61,8 @@ fn weight_rise(x: i64) -> i64
     weight_slope(x) * RADIAN
 }
 
-/// Returns `value` times the total weight of both years of a blend.
+/// Returns `value`, a level or slope by the constants of one year, times 4,147,200,000, the total
+/// weight of a blend.
 pub fn by_full_weight(value: i128) -> i128
     requires { unsigned_abs value ≤ 2 * 10 ^ 26 }
     ensures { result ≡ pos total_weight *ℤ value }
@@ -65,8 +70,9 @@ pub fn by_full_weight(value: i128) -> i128
     i128::from(TOTAL_WEIGHT) * value
 }
 
-/// Returns a bound on the difference between a sum of approximate sines and the same sum of sines, in
-/// the unit of a blend; `size` is the sum of the absolute values of the factors.
+/// Returns a bound on the difference between a sum of approximate sines and the same sum of sines, each
+/// in billionths times a factor. `size` is the sum of the absolute values of the factors. The result is
+/// in billionths, times 4,147,200,000 (the total weight of a blend).
 pub fn error_of(size: i128) -> i128
     requires { unsigned_abs size ≤ 10 ^ 17 }
     ensures { result ≡ pos (total_weight * approximate_error) *ℤ size }
@@ -74,8 +80,11 @@ pub fn error_of(size: i128) -> i128
     i128::from(TOTAL_WEIGHT) * i128::from(APPROXIMATE_ERROR) * size
 }
 
-/// Returns the most that a slope changes if each speed is rounded down to a multiple of 2^9 units, in
-/// the unit of a blend; `amount` is the sum of the absolute values of the amplitudes.
+/// Returns the most that a slope changes if each speed is rounded down to a multiple of 2^9 units of
+/// 1/600,000,000 degree a minute. `amount` is the sum of the absolute values of the amplitudes, in
+/// millionths of the station's unit. The result is in billionths of a millionth of the station's unit a
+/// minute, times 34,377,467,708 (the units of angle in a radian) and 4,147,200,000 (the total weight of
+/// a blend).
 pub fn speed_error_of(amount: i128) -> i128
     requires { unsigned_abs amount ≤ 10 ^ 9 }
     ensures { result ≡ pos (total_weight * speed_error) *ℤ amount }

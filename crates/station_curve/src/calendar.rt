@@ -5,7 +5,8 @@ ghost use Rattle.station_curve.specs.Workings.NumberRanges.{IsPlainYear};
 
 use year_blend::{Place, place};
 
-/// Returns the year whose plain part contains minute `m`, or `None` in a blend.
+/// Returns the year, counted from 0 among `years` years from `first_year` on, whose plain part contains
+/// minute `m`. Returns `None` if `m` is less than an hour from a new year between two of these years.
 #[cold]
 #[inline(never)]
 pub fn calendar_year_of(first_year: i32, years: u32, m: i64) -> Option<u32>

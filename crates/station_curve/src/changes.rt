@@ -11,8 +11,9 @@ ghost use Rattle.station_curve.specs.Limits.{AreWithinLimits};
 ghost use Rattle.station_curve.specs.Curves.{waves_of, IsWithinLimits};
 ghost use Rattle.station_curve.specs.Schureman.{predicted_year_level, predicted_year_slope};
 
-/// Proves that, by one year's constants, the level changes by at most the sum `near` of the year in a
-/// minute, and the slope by at most `far`, from an hour before the year on.
+/// Proves bounds on the change in a minute of level and slope by one year's constants, from an hour
+/// before the year on. The level changes by at most `near_of`, and the slope by at most `far_of`, of
+/// the year's waves.
 pub fn year_changes()
     ensures level { (b : Book) (s : Station) (m : ℤ) (year : ℕ) → IsBook b → pos 0 ≤ℤ ((m -ℤ start_of b.first_year year) +ℤ pos 60)
         → unsigned_abs (predicted_year_level b s (m +ℤ pos 1) year -ℤ predicted_year_level b s m year) ≤ near_of (waves_of b s year) }
@@ -20,8 +21,10 @@ pub fn year_changes()
         → unsigned_abs (predicted_year_slope b s (m +ℤ pos 1) year -ℤ predicted_year_slope b s m year) ≤ far_of (waves_of b s year) }
 {}
 
-/// Proves bounds on the sizes of level and slope by one year's constants. The mean level cancels in the
-/// difference of two years' levels.
+/// Proves bounds on the sizes of level and slope by one year's constants, and of the difference of two
+/// years' levels, in which the mean level cancels. The levels are in billionths of a millionth of the
+/// station's unit, the slopes in billionths of a millionth of the station's unit a minute, times
+/// 34,377,467,708 (the units of angle in a radian).
 pub fn year_sizes()
     ensures level { (b : Book) (s : Station) (m : ℤ) (year : ℕ) →
         unsigned_abs (predicted_year_level b s m year) ≤ 10 ^ 9 * (unsigned_abs s.datum + amount_of (waves_of b s year)) }

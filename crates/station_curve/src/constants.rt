@@ -40,14 +40,16 @@ use harmonics_book::{Station, ValidBook};
 use std::alloc::{AllocError, Global};
 
 /// The greatest sum of the sizes of the amplitudes that a station may have in a year, in millionths of
-/// the unit.
+/// the station's unit.
 pub const MOST_AMOUNT: u64 = 1_000_000_000;
 
-/// The greatest sum of the sizes of the amplitudes times the speeds that a station may have in a year,
-/// in millionths of the unit times units of the circle a minute.
+/// The greatest sum of the sizes of the amplitudes times the speeds that a station may have in a year.
+/// Amplitudes are in millionths of the station's unit, speeds in units of 1/600,000,000 degree a
+/// minute.
 pub const MOST_STEEPNESS: u128 = 100_000_000_000_000_000;
 
-/// Returns the indices of the constituents that have an amplitude at `station`.
+/// Returns the indices, in the book's list and in its order, of the constituents that have an amplitude
+/// other than 0 at `station`.
 ///
 /// # Errors
 /// [`AllocError`] if memory runs out.
@@ -69,12 +71,13 @@ pub fn present_places(
     Ok(places)
 }
 
-/// Checks that year `year`, counted from 0, is within the limits; `present` are the indices of the
-/// constituents with an amplitude.
+/// Checks that the constants of year `year`, counted from 0 in the book, don't exceed [`MOST_AMOUNT`]
+/// or [`MOST_STEEPNESS`]. `present` are the indices of the constituents with an amplitude other than 0.
 ///
 /// # Errors
-/// [`CurveFault::TooLarge`] if the sizes of the amplitudes sum to more than 1,000,000,000 millionths;
-/// otherwise [`CurveFault::TooSteep`] if the sizes times the speeds sum to more than 10^17.
+/// [`CurveFault::TooLarge`] if the sizes of the amplitudes sum to more than 1,000,000,000 millionths of
+/// the station's unit; otherwise [`CurveFault::TooSteep`] if the sizes times the speeds, in units of
+/// 1/600,000,000 degree a minute, sum to more than 10^17.
 pub fn check_year(
     book: &ValidBook<'_>,
     station: &Station,
@@ -100,8 +103,8 @@ pub fn check_year(
     Ok(())
 }
 
-/// Returns the calendar year of the book's year `year`, counted from 0; `year` may be the one after the
-/// last.
+/// Returns the calendar year, such as 2000, of the book's year `year`, counted from 0; `year` may be
+/// one past the last.
 pub fn calendar_year(book: &ValidBook<'_>, year: u32) -> i32
     requires { year ≤ book.now.years }
     ensures value { result ≡ book.now.first_year +ℤ pos year }
@@ -138,8 +141,9 @@ fn sums(book: &ValidBook<'_>, station: &Station, present: &[usize], year: u32) -
     (amount, steepness)
 }
 
-/// Returns the waves of year `year` if `is_asked`, which says that the year is needed for the requested
-/// minutes, and otherwise no waves.
+/// Returns the waves of year `year`, counted from 0, if `is_asked`, and otherwise no waves. `is_asked`
+/// says that the year is needed for the minutes of the curve. `present` are the indices of the
+/// constituents with an amplitude other than 0.
 ///
 /// # Errors
 /// [`AllocError`] if memory runs out.
@@ -225,7 +229,8 @@ fn place_in_table(book: &ValidBook<'_>, year: u32, k: usize) -> usize
     k * book.get().years as usize + year as usize
 }
 
-/// Returns the speed of constituent `k`, in units of 1/600,000,000 degree a minute.
+/// Returns the speed of the constituent at index `k` in the book, in units of 1/600,000,000 degree a
+/// minute.
 pub fn speed(book: &ValidBook<'_>, k: usize) -> u64
     requires place { k < length book.now.constituents }
     ensures value { pos result ≡ speed_of book.now k }

@@ -44,8 +44,9 @@ use year_blend::{Place, Stretch, TOTAL_WEIGHT, place, stretch, weight};
 /// them.
 ///
 /// Minutes are counted from 1970-01-01T00:00Z. Levels are in billionths of a millionth of the station's
-/// unit, times the total weight of a blend ([`TOTAL_WEIGHT`]); slopes are the change of such a level in a
-/// minute, times the units of a radian. Only `new` and `over` allocate.
+/// unit, times 4,147,200,000, the total weight of a blend ([`TOTAL_WEIGHT`]). Slopes are the change of
+/// such a level in a minute, times 34,377,467,708 (the units of angle in a radian). Only `new` and
+/// `over` allocate.
 #[derive(Drop)]
 pub struct StationCurve {
     origin: Origin,
@@ -81,11 +82,12 @@ impl StationCurve {
     ghost use Rattle.station_curve.specs.Limits.{AreWithinLimits};
     ghost use Rattle.station_curve.specs.Workings.NumberRanges.{IsPlaceUsed, IsPlainYearOf, IsAround};
 
-    /// Returns the curve of the station with index `station` in the book's list.
+    /// Returns the curve, for all minutes of the book's years, of the station with index `station` in
+    /// the book's list.
     ///
     /// # Errors
-    /// [`CurveFault::Hydraulic`] for a hydraulic current; otherwise the fault of the first year beyond a
-    /// limit, in which [`CurveFault::TooLarge`] precedes [`CurveFault::TooSteep`];
+    /// [`CurveFault::Hydraulic`] for a hydraulic current; otherwise the fault of the first year with
+    /// constants beyond a limit: [`CurveFault::TooLarge`], which precedes [`CurveFault::TooSteep`];
     /// [`CurveFault::NoMemory`] if memory runs out.
     ///
     /// # Examples
@@ -109,16 +111,17 @@ impl StationCurve {
         StationCurve::of_station(alloc, &book, station, all_minutes(&book))
     }
 
-    /// Returns the curve of the station with index `station` for the minutes from `first` to `last`,
-    /// which are in the book's years or the first minute after them.
+    /// Returns the curve of the station with index `station` in the book's list, for the minutes from
+    /// `first` to `last`, both included. Each of the two is in the book's years or the first minute
+    /// after them.
     ///
     /// A year that is more than an hour from these minutes has no waves, so the curve has no other
     /// minutes. It is made faster than the curve of all minutes.
     ///
     /// # Errors
     /// [`CurveFault::Hydraulic`] for a hydraulic current; otherwise the fault of the first year of the
-    /// book beyond a limit, in which [`CurveFault::TooLarge`] precedes [`CurveFault::TooSteep`];
-    /// [`CurveFault::NoMemory`] if memory runs out.
+    /// book with constants beyond a limit: [`CurveFault::TooLarge`], which precedes
+    /// [`CurveFault::TooSteep`]; [`CurveFault::NoMemory`] if memory runs out.
     pub fn over(
         alloc: Global,
         book: &Book,
@@ -191,16 +194,16 @@ impl StationCurve {
         }
     }
 
-    /// Returns the first minute that has a level. For a curve of all minutes this is the first minute of
-    /// the book's years.
+    /// Returns the first minute, since 1970-01-01T00:00Z, for which the curve has a level. For a curve
+    /// of all minutes this is the first minute of the book's years.
     pub fn first(&self) -> i64
         ensures { result ≡ self.now.first }
     {
         self.minutes.first
     }
 
-    /// Returns the last minute that has a level. For a curve of all minutes this is the first minute
-    /// after the book's years.
+    /// Returns the last minute, since 1970-01-01T00:00Z, for which the curve has a level. For a curve
+    /// of all minutes this is the first minute after the book's years.
     pub fn last(&self) -> i64
         ensures { result ≡ self.now.last }
     {
@@ -222,7 +225,8 @@ impl StationCurve {
     }
 
     /// Returns the four sums (`amount`, `steep`, `near`, `far`) over the waves of the year with index
-    /// `year`, counted from 0: all are 0 if the year is more than an hour from the curve's minutes.
+    /// `year`, counted from 0. All are 0 if the year is more than an hour from the curve's minutes. The
+    /// units are at the fields of [`Sums`].
     pub fn sums(&self, year: u32) -> Sums
         requires { year < self.now.book.years }
         ensures value { result ≡ sums_for self.now year }
@@ -231,16 +235,17 @@ impl StationCurve {
         self.years[year as usize].sums
     }
 
-    /// Does nothing. Its contract says that the station is within the limits, and that the minutes are
-    /// in the book's years.
+    /// Does nothing. Its contract says that no year of the station exceeds the limits on amplitudes and
+    /// speeds, and that the curve's minutes are in the book's years or the first minute after them.
     pub fn limits_hold(&self)
         ensures { IsPrediction self.now }
     {
         let _first_year = self.first_year;
     }
 
-    /// Returns the level at minute `m`, in billionths of a millionth of the unit, times
-    /// [`TOTAL_WEIGHT`]. `m` is from [`first`](StationCurve::first) to [`last`](StationCurve::last).
+    /// Returns the level at minute `m`, in billionths of a millionth of the station's unit, times
+    /// [`TOTAL_WEIGHT`] (4,147,200,000). `m` is from [`first`](StationCurve::first) to
+    /// [`last`](StationCurve::last), both included.
     pub fn level(&self, m: i64) -> i128
         requires { IsPredicted self.now m }
         ensures value { result ≡ predicted_level self.now.book self.now.station m }
@@ -256,8 +261,10 @@ impl StationCurve {
         }
     }
 
-    /// Returns the slope at minute `m`: the change of the level in a minute, times the units of a
-    /// radian. `m` is from [`first`](StationCurve::first) to [`last`](StationCurve::last).
+    /// Returns the slope at minute `m`: the change of the level in a minute, in billionths of a
+    /// millionth of the station's unit, times [`TOTAL_WEIGHT`] (4,147,200,000) and 34,377,467,708 (the
+    /// units of angle in a radian). `m` is from [`first`](StationCurve::first) to
+    /// [`last`](StationCurve::last), both included.
     pub fn slope(&self, m: i64) -> i128
         requires { IsPredicted self.now m }
         ensures value { result ≡ predicted_slope self.now.book self.now.station m }
@@ -276,9 +283,9 @@ impl StationCurve {
         }
     }
 
-    /// Returns the level at minute `m` to within [`level_error`](StationCurve::level_error). It is
-    /// faster than [`level`](StationCurve::level): outside new-year blends it uses the approximate sine;
-    /// inside them it is exact.
+    /// Returns the level at minute `m`, in the unit of [`level`](StationCurve::level), to within
+    /// [`level_error`](StationCurve::level_error). It is faster than [`level`](StationCurve::level).
+    /// Outside the blends at new years it uses the approximate sine; inside them it is exact.
     #[inline(always)]
     pub fn approximate_level(&self, m: i64) -> i128
         requires { IsPredicted self.now m }
@@ -292,9 +299,9 @@ impl StationCurve {
         }
     }
 
-    /// Returns the slope at minute `m` to within [`slope_error`](StationCurve::slope_error). It is
-    /// faster than [`slope`](StationCurve::slope): outside new-year blends it uses the approximate sine;
-    /// inside them it is exact.
+    /// Returns the slope at minute `m`, in the unit of [`slope`](StationCurve::slope), to within
+    /// [`slope_error`](StationCurve::slope_error). It is faster than [`slope`](StationCurve::slope).
+    /// Outside the blends at new years it uses the approximate sine; inside them it is exact.
     #[inline(always)]
     pub fn approximate_slope(&self, m: i64) -> i128
         requires { IsPredicted self.now m }
@@ -308,8 +315,8 @@ impl StationCurve {
         }
     }
 
-    /// Returns the most that an approximate level differs from the level, in billionths of a millionth
-    /// of the unit, times [`TOTAL_WEIGHT`].
+    /// Returns the most that an approximate level of the curve differs from the level, in billionths of
+    /// a millionth of the station's unit, times [`TOTAL_WEIGHT`] (4,147,200,000).
     pub fn level_error(&self) -> i128
         ensures value { result ≡ pos (level_error_of self.now) }
         ensures size { unsigned_abs result ≤ 2 * 10 ^ 24 }
@@ -317,8 +324,9 @@ impl StationCurve {
         error_of(self.greatest.amount)
     }
 
-    /// Returns the most that an approximate slope differs from the slope, in the unit of
-    /// [`slope`](StationCurve::slope).
+    /// Returns the most that an approximate slope of the curve differs from the slope, in billionths of
+    /// a millionth of the station's unit a minute, times [`TOTAL_WEIGHT`] (4,147,200,000) and
+    /// 34,377,467,708 (the units of angle in a radian).
     pub fn slope_error(&self) -> i128
         ensures value { result ≡ pos (slope_error_of self.now) }
         ensures size { unsigned_abs result ≤ 2 * 10 ^ 32 }
@@ -336,9 +344,10 @@ impl StationCurve {
         rounded(self.level(m), TOTAL_WEIGHT as u64 * 1_000_000_000) as i64
     }
 
-    /// Returns which years the minutes from `m` to `m + n`, both included, are in: the plain part of one
-    /// year, or both sides of one new year. Both are minutes of the curve, and `n` is at most
-    /// [`LONGEST_SPAN`](year_blend::LONGEST_SPAN).
+    /// Returns which years' constants the minutes from `m` to `m + n`, both included, use. It is one
+    /// year if none of them is less than an hour from a new year between two of the book's years, and
+    /// otherwise the two years around that new year. `m` and `m + n` are minutes of the curve, and `n`
+    /// is at most [`LONGEST_SPAN`](year_blend::LONGEST_SPAN).
     #[inline(always)]
     pub fn stretch(&self, m: i64, n: u32) -> Stretch
         requires first { IsPredicted self.now m }

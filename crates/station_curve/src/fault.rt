@@ -13,12 +13,13 @@ pub enum CurveFault {
     /// The station's unit is `knots^2`: it is a hydraulic current.
     #[error("a hydraulic current")]
     Hydraulic,
-    /// The sizes of the amplitudes sum to more than 1,000,000,000 millionths in the calendar year `year`,
-    /// and in none before it.
+    /// In the calendar year `year`, the first beyond a limit, the sizes of the amplitudes sum to more
+    /// than 1,000,000,000 millionths of the station's unit.
     #[error("too large in {year}")]
     TooLarge { year: i32 },
-    /// The sizes of the amplitudes times the speeds sum to more than 10^17 in the calendar year `year`,
-    /// and in none before it.
+    /// In the calendar year `year`, the first beyond a limit, the sizes of the amplitudes in millionths
+    /// of the station's unit, times the speeds in units of 1/600,000,000 degree a minute, sum to more
+    /// than 10^17.
     #[error("too steep in {year}")]
     TooSteep { year: i32 },
     #[error("no memory")]

@@ -11,7 +11,10 @@ ghost use Rattle.station_curve.specs.Errors.{level_error_of, slope_error_of};
 ghost use Rattle.station_curve.specs.Sums.{sums_of};
 ghost use Rattle.station_curve.specs.Worked.{small_book, small_station, small_wave, pier_book, shifted_book, pier, harbour_book, harbour};
 
-/// Proves heights and falls of a wave that turns by half a degree a minute.
+/// Proves heights and falls of a wave with an amplitude of one unit that turns by half a degree a
+/// minute. Heights are in billionths of a millionth of the station's unit. A fall, minus the wave's
+/// part of the slope, is in billionths of a millionth of the station's unit a minute, times
+/// 34,377,467,708 (the units of angle in a radian).
 pub fn worked_waves()
     ensures top { heights_of 0 (small_wave ∷ []) ≡ pos (10 ^ 15) }
     ensures sixty_degrees { heights_of 120 (small_wave ∷ []) ≡ pos (5 * 10 ^ 14) }
@@ -21,7 +24,8 @@ pub fn worked_waves()
     ensures steepest { falls_of 180 (small_wave ∷ []) ≡ pos (3 * 10 ^ 23) }
 {}
 
-/// Proves examples of stations that have a curve, and of each reason why a station has none.
+/// Proves examples of stations that have a curve, because their constants are within the limits in each
+/// year, and of each reason why a station has none.
 pub fn worked_limits()
     ensures steepest { curve_of (small_book (pos 300000000) (pos 0)) (small_station (pos 333333333) Feet)
         ≡ Ok (prediction_of (small_book (pos 300000000) (pos 0)) (small_station (pos 333333333) Feet)) }
@@ -35,8 +39,9 @@ pub fn worked_limits()
         ≡ Err Hydraulic }
 {}
 
-/// Proves which of three years are needed for minutes from an hour after a new year to an hour before
-/// the next one, and for the same minutes with one more at the end or at the beginning.
+/// Proves which of the years 1999 (year 0) to 2001 (year 2) are needed for some minutes: from an hour
+/// after the first minute of 2000 to an hour before the first of 2001, both included, and for these
+/// without the first one or the last one. A year is needed if it is at most an hour from these minutes.
 pub fn worked_reach()
     ensures hour_after { is_touched pier_book (pos 15778140) (pos 16305060) 0 ≡ true }
     ensures between { is_touched pier_book (pos 15778140) (pos 16305060) 1 ≡ true }
@@ -46,7 +51,9 @@ pub fn worked_reach()
     ensures no_waves { waves_over pier_book pier (pos 15778141) (pos 16305060) 0 ≡ [] }
 {}
 
-/// Proves amplitudes and phases by the constants of a year: a phase of 75.5 degrees and one of 60.
+/// Proves amplitudes in millionths of a foot, each times the node factor of its year, and phases in
+/// units of 1/600,000,000 degree: one of 75.5 degrees, and one of 60 degrees that has turned by half a
+/// degree a minute later.
 pub fn worked_constants()
     ensures first_year { amplitude_of harbour_book harbour 0 0 ≡ pos 1215490 }
     ensures second_year { amplitude_of harbour_book harbour 1 0 ≡ pos 1249234 }
@@ -56,7 +63,9 @@ pub fn worked_constants()
     ensures a_minute_later { phase_of harbour_book harbour 0 (pos 15778381) 1 ≡ 36300000000 }
 {}
 
-/// Proves levels outside blends and across a new year that another program computed.
+/// Proves levels that another program computed, most in millionths of the station's unit, at minutes
+/// outside the blends at new years and inside them. The `predicted_level` is in billionths of a
+/// millionth of the station's unit, times 4,147,200,000 (the total weight of a blend).
 pub fn worked_levels()
     ensures noon { predicted_millionths pier_book pier (pos 15791759) ≡ pos 999962 }
     ensures two_hours_before { predicted_millionths shifted_book pier (pos 15777960) ≡ pos 500000 }
@@ -70,7 +79,9 @@ pub fn worked_levels()
     ensures harbour_2001 { predicted_millionths harbour_book harbour (pos 16390080) ≡ pos 1303827 }
 {}
 
-/// Proves slopes outside blends and across a new year that another program computed.
+/// Proves slopes that another program computed, at minutes outside the blends at new years and inside
+/// them. They are in billionths of a millionth of the station's unit a minute, times 34,377,467,708
+/// (the units of angle in a radian) and 4,147,200,000 (the total weight of a blend).
 pub fn worked_slopes()
     ensures before_noon { predicted_slope pier_book pier (pos 15791759) ≡ pos 10857205785600000000000000000000 }
     ensures noon { predicted_slope pier_book pier (pos 15791760) ≡ pos 0 }
@@ -81,7 +92,8 @@ pub fn worked_slopes()
     ensures harbour_2001 { predicted_slope harbour_book harbour (pos 16390080) ≡ pos 802828425453686744053872844800000 }
 {}
 
-/// Proves the four sums over the waves of a year, for one wave, for no wave, and for two waves.
+/// Proves the four sums (`amount`, `steep`, `near`, `far`) over the waves of a year, for one wave, for
+/// no wave, and for two waves in each of two years. The units are at the fields of `Sums`.
 pub fn worked_sums()
     ensures one_wave { sums_of (small_wave ∷ [])
         ≡ record { amount = pos 1000000; steep = pos (3 * 10 ^ 14); near = pos 8727001000000; far = pos 2618100300000000000000 } }
@@ -92,8 +104,9 @@ pub fn worked_sums()
         ≡ record { amount = pos 1449234; steep = pos 422079284261828; near = pos 12278286689384; far = pos 3576482855350780498128 } }
 {}
 
-/// Proves approximate levels: a minute before noon and at noon, one in a blend, which is exact, and
-/// levels of two waves, below and above the exact ones.
+/// Proves approximate levels: of one wave a minute before noon, at noon, and in a blend at a new year,
+/// where it is exact; and of two waves, in 2000 below the exact level and in 2001 above it. They are in
+/// billionths of a millionth of the station's unit, times 4,147,200,000 (the total weight of a blend).
 pub fn worked_approximate_levels()
     ensures before_noon { approximate_level_of pier_book pier (pos 15791759) ≡ pos 4146985539993600000000000 }
     ensures noon { approximate_level_of pier_book pier (pos 15791760) ≡ pos 4147257330892800000000000 }
@@ -102,8 +115,10 @@ pub fn worked_approximate_levels()
     ensures harbour_2001 { approximate_level_of harbour_book harbour (pos 16390080) ≡ pos 5407510534932765081600000 }
 {}
 
-/// Proves approximate slopes: a minute before noon and at noon, one in a blend, which is exact, and
-/// slopes of two waves.
+/// Proves approximate slopes: of one wave a minute before noon and at noon; and of two waves in a blend
+/// at a new year, where it is exact, and outside it. They are in billionths of a millionth of the
+/// station's unit a minute, times 34,377,467,708 (the units of angle in a radian) and 4,147,200,000
+/// (the total weight of a blend).
 pub fn worked_approximate_slopes()
     ensures before_noon { approximate_slope_of pier_book pier (pos 15791759) ≡ pos 10966753424415758745600000000000 }
     ensures noon { approximate_slope_of pier_book pier (pos 15791760) ≡ negsuc 489223201089178828799999999999 }
@@ -113,8 +128,8 @@ pub fn worked_approximate_slopes()
     ensures harbour_2001 { approximate_slope_of harbour_book harbour (pos 16390080) ≡ pos 802807544580466355289980928000000 }
 {}
 
-/// Proves the errors of approximate levels and slopes: for one wave, and for two waves by the year with
-/// the larger ones.
+/// Proves the greatest errors of approximate levels and slopes, each in the unit of the level or slope:
+/// for one wave, and for two waves by the year with the larger amplitudes.
 pub fn worked_errors()
     ensures pier_level { level_error_of (prediction_of pier_book pier) ≡ 1658880000000000000000 }
     ensures pier_slope { slope_error_of (prediction_of pier_book pier) ≡ 499787366400000000000000000000 }

@@ -8,7 +8,7 @@ use crate::years::HOUR;
 use harmonics_book::ValidBook;
 use year_blend::year_start;
 
-/// The minutes from `first` to `last`, both included, that a curve must have.
+/// The minutes that a curve must have: from `first` to `last`, both included, since 1970-01-01T00:00Z.
 #[derive(Clone, Copy, Debug)]
 pub struct MinuteRange {
     pub first: i64,
@@ -16,7 +16,8 @@ pub struct MinuteRange {
 }
 
 impl MinuteRange {
-    /// Returns true if a year from `start` to `end` is at most an hour from these minutes.
+    /// Returns true if the year whose first minute is `start`, and after which the next year begins at
+    /// `end`, is at most 60 minutes from one of these minutes.
     pub fn touches(self, start: i64, end: i64) -> bool
         requires last { unsigned_abs self.last ≤ 10 ^ 12 }
         requires end { unsigned_abs end ≤ 10 ^ 12 }
@@ -34,7 +35,8 @@ fn is_within_hour(minute: i64, other: i64) -> bool
     minute <= other + HOUR
 }
 
-/// Returns the range of all minutes of a book's years, with the first minute after them.
+/// Returns the range of all minutes of a book's years and the first minute after them, which is the
+/// last of the range.
 pub fn all_minutes(book: &ValidBook<'_>) -> MinuteRange
     ensures first { result.first ≡ year_start_of book.now.first_year }
     ensures last { result.last ≡ year_start_of (book.now.first_year +ℤ pos book.now.years) }

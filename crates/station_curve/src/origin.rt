@@ -20,7 +20,8 @@ impl Model for Origin {
 }
 
 impl Origin {
-    /// Returns the origin of a station of a harmonics file.
+    /// Returns the harmonics file `_book` and its station `_station`, for contracts only; at run time
+    /// the result is empty.
     pub(crate) fn of(_book: &Book, _station: &Station) -> Origin
         ensures { (result.book ≡ _book.now) × (result.station ≡ _station.now) }
     {

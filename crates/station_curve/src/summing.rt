@@ -15,8 +15,8 @@ const HEIGHT_UNIT: i128 = 1 << 15;
 /// The unit of an approximate fall, in a fall's unit.
 const FALL_UNIT: i128 = 1 << 24;
 
-/// Returns the sum of the waves' heights, `minutes` after an hour before the year, in billionths of a
-/// millionth of the unit.
+/// Returns the sum of the waves' heights (their parts of the level) `minutes` minutes after the time an
+/// hour before the year's start, in billionths of a millionth of the station's unit.
 pub fn heights(waves: &[Wave], minutes: u64) -> i64
     requires time { minutes ≤ 600000 }
     requires amount { amount_of waves.now ≤ 10 ^ 9 }
@@ -30,8 +30,9 @@ pub fn heights(waves: &[Wave], minutes: u64) -> i64
     sum
 }
 
-/// Returns the sum of the waves' falls (minus the slope of each), `minutes` after an hour before the
-/// year, in billionths of a millionth a minute times the units of a radian.
+/// Returns the sum of the waves' falls (minus the slope of each) `minutes` minutes after the time an
+/// hour before the year's start, in billionths of a millionth of the station's unit a minute, times
+/// 34,377,467,708 (the units of angle in a radian).
 pub fn falls(waves: &[Wave], minutes: u64) -> i128
     requires time { minutes ≤ 600000 }
     requires steepness { steepness_of waves.now ≤ 10 ^ 17 }
@@ -45,8 +46,8 @@ pub fn falls(waves: &[Wave], minutes: u64) -> i128
     sum
 }
 
-/// Returns the sum of the waves' approximate heights, `minutes` after an hour before the year, in 2^15
-/// billionths of a millionth.
+/// Returns the sum of the waves' approximate heights (their parts of the level) `minutes` minutes after
+/// the time an hour before the year's start, in units of 2^15 * 10^-15 of the station's unit.
 #[inline(never)]
 pub fn approximate_heights(waves: &[Wave], minutes: u64) -> i64
     requires time { minutes ≤ 600000 }
@@ -61,8 +62,9 @@ pub fn approximate_heights(waves: &[Wave], minutes: u64) -> i64
     sum
 }
 
-/// Returns the sum of the waves' approximate falls (minus the slope of each), `minutes` after an hour
-/// before the year, in 2^24 of a fall's unit.
+/// Returns the sum of the waves' approximate falls (minus the slope of each) `minutes` minutes after
+/// the time an hour before the year's start. The unit is 2^24 times that of a fall, which is 10^-15 of
+/// the station's unit a minute, divided by 34,377,467,708 (the units of angle in a radian).
 #[inline(never)]
 pub fn approximate_falls(waves: &[Wave], minutes: u64) -> i64
     requires time { minutes ≤ 600000 }
@@ -77,7 +79,8 @@ pub fn approximate_falls(waves: &[Wave], minutes: u64) -> i64
     sum
 }
 
-/// Returns `heights`, a sum of approximate heights, in billionths of a millionth.
+/// Returns `heights`, a sum of approximate heights in units of 2^15 * 10^-15 of the station's unit, in
+/// billionths of a millionth of the station's unit: times 2^15.
 pub fn in_billionths(heights: i64) -> i128
     requires { unsigned_abs heights ≤ 30518 * 10 ^ 9 }
     ensures value { result ≡ pos (2 ^ 15) *ℤ heights }
@@ -86,7 +89,9 @@ pub fn in_billionths(heights: i64) -> i128
     HEIGHT_UNIT * i128::from(heights)
 }
 
-/// Returns `falls`, a sum of approximate falls, in the unit of a fall.
+/// Returns `falls`, a sum of approximate falls in 2^24 times the unit of a fall, in the unit of a fall:
+/// times 2^24. That unit is 10^-15 of the station's unit a minute, divided by 34,377,467,708 (the units
+/// of angle in a radian).
 pub fn in_fall_units(falls: i64) -> i128
     requires { unsigned_abs falls ≤ 6 * 10 ^ 18 }
     ensures value { result ≡ pos (2 ^ 24) *ℤ falls }
@@ -95,7 +100,8 @@ pub fn in_fall_units(falls: i64) -> i128
     FALL_UNIT * i128::from(falls)
 }
 
-/// Returns the mean level `datum`, given in millionths, in billionths of a millionth.
+/// Returns the mean level `datum`, given in millionths of the station's unit, in billionths of a
+/// millionth of the station's unit: times 10^9.
 pub fn mean_level(datum: i64) -> i128
     requires { unsigned_abs datum ≤ 10 ^ 10 }
     ensures value { result ≡ pos (10 ^ 9) *ℤ datum }

@@ -18,15 +18,17 @@ const COARSE_UNIT: u64 = 512;
 pub struct Wave {
     /// The amplitude in millionths of the station's unit.
     amplitude: i64,
-    /// The speed in units of the circle a minute.
+    /// The speed in units of 1/600,000,000 degree a minute.
     speed: u64,
-    /// The amplitude times the speed.
+    /// The amplitude times the speed: in millionths of the station's unit times units of 1/600,000,000
+    /// degree a minute.
     steepness: i64,
-    /// The amplitude times the speed in whole 2^9 units of the circle a minute.
+    /// The amplitude in millionths of the station's unit, times the speed in whole multiples of 2^9
+    /// units of 1/600,000,000 degree a minute, rounded down.
     factor: i64,
-    /// The speed as a fraction of a turn a minute.
+    /// The speed in 2^-64 of a turn a minute.
     pace: u64,
-    /// The phase an hour before the year begins, as a fraction of a turn.
+    /// The phase an hour before the year begins, in 2^-64 of a turn.
     start: u64,
     /// `start` plus a quarter of a turn: the sine there is the cosine at `start`.
     ahead: u64,
@@ -45,7 +47,9 @@ impl Model for Wave {
 }
 
 impl Wave {
-    /// Returns the wave of a constituent with this amplitude, speed, and phase an hour before the year.
+    /// Returns the wave of a constituent with this `amplitude`, in millionths of the station's unit,
+    /// this `speed`, in units of 1/600,000,000 degree a minute, and this `phase` an hour before the
+    /// year begins, in units of 1/600,000,000 degree.
     pub fn new(amplitude: i64, speed: u64, phase: u64) -> Wave
         requires amplitude { unsigned_abs amplitude ≤ 10 ^ 9 }
         requires speed { speed ≤ 3600000000 }
@@ -65,8 +69,8 @@ impl Wave {
         }
     }
 
-    /// Returns the wave's part of the level, `minutes` after an hour before the year, in billionths of a
-    /// millionth.
+    /// Returns the wave's height, its part of the level, `minutes` minutes after the time an hour
+    /// before the year's start, in billionths of a millionth of the station's unit.
     pub fn height(&self, minutes: u64) -> i64
         requires { minutes ≤ 600000 }
         ensures value { result ≡ height_at minutes self.now }
@@ -75,8 +79,9 @@ impl Wave {
         self.by_amplitude(binary_angle_sine(self.binary_angle_ahead(minutes)))
     }
 
-    /// Returns the wave's fall, `minutes` after an hour before the year: minus its part of the slope, in
-    /// billionths of a millionth a minute times the units of a radian.
+    /// Returns the wave's fall, minus its part of the slope, `minutes` minutes after the time an hour
+    /// before the year's start, in billionths of a millionth of the station's unit a minute, times
+    /// 34,377,467,708 (the units of angle in a radian).
     pub fn fall(&self, minutes: u64) -> i128
         requires { minutes ≤ 600000 }
         ensures value { result ≡ fall_at minutes self.now }
@@ -86,8 +91,8 @@ impl Wave {
         self.by_steepness(binary_angle_sine(self.binary_angle_after(minutes)))
     }
 
-    /// Returns the approximate height of the wave, `minutes` after an hour before the year, in 2^15
-    /// billionths of a millionth.
+    /// Returns the wave's approximate height, its part of the level, `minutes` minutes after the time
+    /// an hour before the year's start, in units of 2^15 * 10^-15 of the station's unit.
     pub fn approximate_height(&self, minutes: u64) -> i64
         requires { minutes ≤ 600000 }
         ensures value { result ≡ approximate_height_at minutes self.now }
@@ -96,8 +101,9 @@ impl Wave {
         self.by_amplitude(approximate_sine(self.binary_angle_ahead(minutes)))
     }
 
-    /// Returns the approximate fall of the wave (minus its part of the slope), `minutes` after an hour
-    /// before the year, in 2^24 of a fall's unit.
+    /// Returns the wave's approximate fall, minus its part of the slope, `minutes` minutes after the
+    /// time an hour before the year's start. The unit is 2^24 times that of a fall, which is 10^-15 of
+    /// the station's unit a minute, divided by 34,377,467,708 (the units of angle in a radian).
     pub fn approximate_fall(&self, minutes: u64) -> i64
         requires { minutes ≤ 600000 }
         ensures value { result ≡ approximate_fall_at minutes self.now }
@@ -106,7 +112,8 @@ impl Wave {
         self.factor * approximate_sine(self.binary_angle_after(minutes))
     }
 
-    /// Returns what the wave adds to each sum of its year.
+    /// Returns what the wave adds to each of the four sums (`amount`, `steep`, `near`, `far`) of its
+    /// year.
     pub fn sums(&self) -> Sums
         ensures amount { result.amount ≡ pos (unsigned_abs self.now.amplitude) }
         ensures steep { result.steep ≡ pos (unsigned_abs self.now.amplitude * self.now.speed) }

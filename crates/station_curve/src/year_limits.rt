@@ -10,9 +10,10 @@ ghost use Rattle.station_curve.specs.Workings.YearLimits.{factors_of};
 use crate::constants::{MOST_AMOUNT, MOST_STEEPNESS, speed};
 use harmonics_book::{Station, ValidBook};
 
-/// Returns true if each year of the book is proved to be within the limits by the greatest node factor
-/// of each constituent. False doesn't mean that a year exceeds them. `present` are the indices of the
-/// constituents with an amplitude.
+/// Returns true if the greatest node factor of each constituent proves that the station's constants are
+/// within the limits `MOST_AMOUNT` and `MOST_STEEPNESS` in each year of the book. False doesn't mean
+/// that a year exceeds them. `present` are the indices of the constituents with an amplitude other than
+/// 0.
 pub fn are_years_within(book: &ValidBook<'_>, station: &Station, present: &[usize]) -> bool
     requires station { IsStation (length book.now.constituents) station.now }
     requires present { present.now ≡ present_in book.now station.now }

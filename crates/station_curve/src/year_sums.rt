@@ -6,25 +6,31 @@ ghost use Rattle.station_curve.specs.Sums.{sums_of};
 
 use crate::wave::Wave;
 
-/// Sums over the waves of one year: bounds on their size, and on their change in a minute. None is
-/// negative.
+/// Sums over the waves of one year at one station: bounds on the size of the level and of the slope,
+/// and on their change in a minute. None is negative.
 #[derive(Clone, Copy, PartialEq, Eq)]
 pub struct Sums {
-    /// The sum of the sizes of the amplitudes, in millionths of the station's unit. The level of the year
-    /// differs from the mean one by at most 10^9 times this sum.
+    /// The sum of the sizes of the amplitudes, in millionths of the station's unit. The level by the
+    /// year's constants, in billionths of a millionth of the station's unit, differs from the mean
+    /// level by at most 10^9 times this sum.
     pub amount: i128,
-    /// The sum of the sizes of the amplitudes times the speeds. The slope is at most 10^9 times this sum
-    /// in size.
+    /// The sum of the sizes of the amplitudes, in millionths of the station's unit, times the speeds,
+    /// in units of 1/600,000,000 degree a minute. The slope by the year's constants, in billionths of a
+    /// millionth of the station's unit a minute, times 34,377,467,708 (the units of angle in a radian),
+    /// is at most 10^9 times this sum in size.
     pub steep: i128,
     /// The sum of the sizes of the amplitudes times the sine's greatest change in a minute: the most
-    /// that the level changes in a minute.
+    /// that the level by the year's constants changes in a minute, in billionths of a millionth of the
+    /// station's unit.
     pub near: i128,
     /// The sum of the sizes of the amplitudes times the speed times the sine's greatest change in a
-    /// minute: the most that the slope changes in a minute.
+    /// minute: the most that the slope by the year's constants changes in a minute, where the slope is
+    /// in billionths of a millionth of the station's unit a minute, times 34,377,467,708 (the units of
+    /// angle in a radian).
     pub far: i128,
 }
 
-/// Returns the sums over `waves`, the waves of one year.
+/// Returns the four sums over `waves`, which are the waves of one year at one station.
 pub fn sums_of_waves(waves: &[Wave]) -> Sums
     requires amount { amount_of waves.now ≤ 10 ^ 9 }
     requires steepness { steepness_of waves.now ≤ 10 ^ 17 }

@@ -32,7 +32,8 @@ pub struct Year {
 }
 
 impl Year {
-    /// Returns the minutes from an hour before the year to minute `m`.
+    /// Returns the number of minutes from an hour before the year's first minute to minute `m`, which
+    /// is no earlier.
     pub fn minutes_to(&self, m: i64) -> u64
         requires least { pos 0 ≤ℤ ((m -ℤ self.now.start) +ℤ pos 60) }
         requires most { ((m -ℤ self.now.start) +ℤ pos 60) ≤ℤ pos 600000 }
@@ -42,8 +43,8 @@ impl Year {
         (m - self.start + HOUR) as u64
     }
 
-    /// Returns true if the minutes from `first` to `last` are in the year, at least an hour from both its
-    /// ends.
+    /// Returns true if the minutes from `first` to `last`, both included, are in the year, at least 60
+    /// minutes after its first minute and at least 60 minutes before the next year's.
     pub fn surrounds(&self, first: i64, last: i64) -> bool
         requires first { unsigned_abs first ≤ 4000000000 }
         requires last { unsigned_abs last ≤ 4000000000 }
@@ -54,11 +55,12 @@ impl Year {
     }
 }
 
-/// Returns each year with its waves, if all years are within the limits. A year that isn't needed for the
-/// minutes of `minute_range` has no waves.
+/// Returns each year of the book with the waves of `station`, if the constants are within the limits in
+/// all years. A year that is more than an hour from the minutes of `minute_range` isn't needed, and has
+/// no waves.
 ///
 /// # Errors
-/// The fault of the first year beyond a limit, in which [`CurveFault::TooLarge`] precedes
+/// The fault of the first year with constants beyond a limit: [`CurveFault::TooLarge`], which precedes
 /// [`CurveFault::TooSteep`]; [`CurveFault::NoMemory`] if memory runs out.
 pub fn years_of(
     alloc: Global,

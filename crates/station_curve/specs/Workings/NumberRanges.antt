@@ -20,7 +20,8 @@ pub record IsWave (amplitude : ℤ) (speed : ℕ) (steepness factor : ℤ) (pace
   pub started : start ≡ binary_angle_of (units_of start)
   pub turned : ahead ≡ (start + 2 ^ 62) % 2 ^ 64
 
--- a minute at which a year's constants are used: at most an hour before the year or after it
+-- a minute at which the constants of a year, counted from 0, are used: from an hour before its start to
+-- 600,000 minutes after that
 pub record IsWithinHourOfYear (first_year : ℤ) (year : ℕ) (m : ℤ) : Type 0 where
   pub least : pos 0 ≤ℤ ((m -ℤ start_of first_year year) +ℤ pos 60)
   pub most : ((m -ℤ start_of first_year year) +ℤ pos 60) ≤ℤ pos 600000

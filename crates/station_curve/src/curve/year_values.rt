@@ -16,7 +16,8 @@ impl StationCurve {
     ghost use Rattle.station_curve.specs.Waves.{heights_of};
     ghost use Rattle.station_curve.specs.Workings.NumberRanges.{IsUsed};
 
-    /// Returns the level by the constants of year `year`.
+    /// Returns the level at minute `m` by the constants of year `year`, counted from 0, in billionths
+    /// of a millionth of the station's unit.
     pub(super) fn year_level(&self, year: u32, m: i64) -> i128
         requires { IsUsed self.now year m }
         ensures value { result ≡ predicted_year_level self.now.book self.now.station m year }
@@ -25,7 +26,8 @@ impl StationCurve {
         mean_level(self.datum) + i128::from(self.year_heights(year, m))
     }
 
-    /// Returns the approximate level by the constants of year `year`.
+    /// Returns the approximate level at minute `m` by the constants of year `year`, counted from 0, in
+    /// billionths of a millionth of the station's unit.
     #[inline(always)]
     pub(super) fn approximate_year_level(&self, year: u32, m: i64) -> i128
         requires { IsUsed self.now year m }
@@ -37,7 +39,9 @@ impl StationCurve {
             + in_billionths(approximate_heights(year.waves.as_slice(), year.minutes_to(m)))
     }
 
-    /// Returns the approximate slope by the constants of year `year`.
+    /// Returns the approximate slope at minute `m` by the constants of year `year`, counted from 0, in
+    /// billionths of a millionth of the station's unit a minute, times 34,377,467,708 (the units of
+    /// angle in a radian).
     #[inline(always)]
     pub(super) fn approximate_year_slope(&self, year: u32, m: i64) -> i128
         requires { IsUsed self.now year m }
@@ -48,7 +52,9 @@ impl StationCurve {
         -in_fall_units(approximate_falls(year.waves.as_slice(), year.minutes_to(m)))
     }
 
-    /// Returns the slope by the constants of year `year`.
+    /// Returns the slope at minute `m` by the constants of year `year`, counted from 0, in billionths
+    /// of a millionth of the station's unit a minute, times 34,377,467,708 (the units of angle in a
+    /// radian).
     pub(super) fn year_slope(&self, year: u32, m: i64) -> i128
         requires { IsUsed self.now year m }
         ensures value { result ≡ predicted_year_slope self.now.book self.now.station m year }
@@ -58,8 +64,8 @@ impl StationCurve {
         -falls(year.waves.as_slice(), year.minutes_to(m))
     }
 
-    /// Returns the sum of the heights of the waves of year `year` at minute `m`, in billionths of a
-    /// millionth.
+    /// Returns the sum of the heights of the waves of year `year`, counted from 0, at minute `m`: the
+    /// level less the mean level, in billionths of a millionth of the station's unit.
     pub(super) fn year_heights(&self, year: u32, m: i64) -> i64
         requires { IsUsed self.now year m }
         ensures value { result ≡ heights_of (minutes_into self.now.book.first_year year m) (waves_of self.now.book self.now.station year) }
