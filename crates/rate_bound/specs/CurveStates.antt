@@ -7,7 +7,7 @@ use Rattle.rate_bound.specs.declared.mark.MarkCurve.{MarkCurve}
 use Rattle.rate_bound.specs.declared.turn.TurnCurve.{TurnCurve}
 use Rattle.rate_bound.specs.Meanings.{over_mark, mark_meaning, turn_meaning}
 
--- the state of the slope's curve
+-- the state of the slope's curve: its facts, and the number of its evaluations until now
 abbrev pub turn_state : TurnCurve → CurveState
 turn_state c = record {
   facts = record {
@@ -18,7 +18,8 @@ turn_state c = record {
   count = c.evaluations;
 }
 
--- the state of the curve of the level less a mark
+-- the state of the curve of the level less a mark: its facts, and the number of its evaluations until
+-- now
 abbrev pub mark_state : MarkCurve → CurveState
 mark_state c = record {
   facts = record {

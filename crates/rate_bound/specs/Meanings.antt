@@ -12,8 +12,10 @@ use Rattle.year_blend.specs.Years.{year_start_of}
 use Rattle.rate_bound.specs.declared.version.Version.{Version}
 use Rattle.rate_bound.specs.Rates.{predicted_slope_rate, predicted_level_rate}
 
--- the curve whose value is the slope, by every constituent of the book: the slope rises past 0 at a low
--- water, and falls to 0 at a high water
+-- the curve whose value is the slope, in billionths of a millionth of the station's unit a minute,
+-- times 34,377,467,708 (the units of angle in a radian) and 4,147,200,000 (the total weight of a
+-- blend), by every constituent of the book: the slope rises past 0 at a low water, and falls to 0 or
+-- below at a high water
 abbrev pub predicted_turn : Version → Book → Station → Meaning
 predicted_turn version b s = record {
   first = year_start_of b.first_year;
@@ -22,13 +24,16 @@ predicted_turn version b s = record {
   rate = predicted_slope_rate version b s;
 }
 
--- `times` millionths of the level, plus `plus` millionths of the unit, less `mark` millionths
+-- the level times `times` millionths, plus `plus` less `mark`, both in millionths of the station's
+-- unit; the level is in billionths of a millionth of the station's unit, times 4,147,200,000 (the total
+-- weight of a blend), and the result in millionths of that unit
 abbrev pub over_mark : ℤ → ℤ → ℤ → ℤ → ℤ
 over_mark times plus mark level =
     (times *ℤ level) +ℤ (pos (10 ^ 6 * total_weight * 10 ^ 9) *ℤ (plus -ℤ mark))
 
--- the curve whose value is `times` millionths of the level plus `plus` less the mark, by every
--- constituent of the book: it changes sign at each crossing of the mark; for slacks the mark is 0
+-- the curve whose value is the level times `times` millionths, plus `plus` less the mark, both in
+-- millionths of the unit, by every constituent of the book: it changes sign at each crossing of the
+-- mark; for slacks (if the Bool is true) the mark is 0
 abbrev pub predicted_mark : Version → Book → Station → ℤ → ℤ → ℤ → Bool → Meaning
 predicted_mark version b s times plus mark slack = record {
   first = year_start_of b.first_year;

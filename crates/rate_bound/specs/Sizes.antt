@@ -2,14 +2,17 @@
 use Rattle.std.specs.Prelude.{ℕ, ◌*◌, ◌^◌, ◌<◌, ℤ, unsigned_abs}
 use Rattle.curve_law.specs.Meaning.{Meaning, IsMinute}
 
--- the limit on the size of a slope
+-- the limit, not included, on the size of a slope, in billionths of a millionth of the station's unit a
+-- minute, times 34,377,467,708 (the units of angle in a radian) and 4,147,200,000 (the total weight of
+-- a blend)
 abbrev pub slope_limit : ℕ
 slope_limit = 10 ^ 37
 
--- the limit on the size of a level less a mark
+-- the limit, not included, on the size of a level less a mark, in millionths of the level's unit, which
+-- is billionths of a millionth of the station's unit, times 4,147,200,000 (the total weight of a blend)
 abbrev pub mark_limit : ℕ
 mark_limit = 5 * 10 ^ 36
 
--- each value of a curve is below `most` in size
+-- at each minute of a curve its value is below `most` in size
 abbrev pub IsBelow : ℕ → Meaning → Type 0
 IsBelow most c = (m : ℤ) → IsMinute c m → unsigned_abs (c.track.value m) < most

@@ -15,8 +15,9 @@ use curve_law::{Curve, Kind};
 use station_curve::StationCurve;
 use year_blend::Stretch;
 
-/// The curve of a level less a mark; the level is `times` millionths of the station's plus `plus`
-/// millionths of the unit. It changes sign at each crossing of the mark. No call allocates.
+/// The curve of a station's level less a mark. The station's level is the reference's times `times`
+/// millionths, plus `plus` millionths of the unit. The value changes sign at each crossing of the mark.
+/// No call allocates.
 #[derive(Drop)]
 pub struct MarkCurve<'a> {
     station: &'a StationCurve,
@@ -35,9 +36,10 @@ pub struct MarkCurve<'a> {
 impl<'a> MarkCurve<'a> {
     ghost use Rattle.rate_bound.specs.Meanings.{mark_meaning};
 
-    /// Returns the curve of a level less a mark, with rates only outside new-year blends. `times` is
-    /// from 1 to 100,000,000 millionths, `plus` and `mark` are from -10,000,000,000 to 10,000,000,000
-    /// millionths, and `mark` is 0 if `slack`.
+    /// Returns the curve of the reference's level times `times` millionths, plus `plus` less `mark`,
+    /// with rates only outside the blends at new years. `times` is from 1 to 100,000,000, `plus` and
+    /// `mark` are from -10,000,000,000 to 10,000,000,000 millionths of the unit, and `mark` is 0 if
+    /// `slack`.
     ///
     /// The program doesn't call it: it names the version in [`new`](MarkCurve::new).
     pub fn over(station: &'a StationCurve, times: i64, plus: i64, mark: i64, slack: bool) -> Self
@@ -50,9 +52,9 @@ impl<'a> MarkCurve<'a> {
         MarkCurve::new(station, Version::First, times, plus, mark, slack)
     }
 
-    /// Returns the curve of a level less a mark, with rates also across a new year. `times` is from 1 to
-    /// 100,000,000 millionths, `plus` and `mark` are from -10,000,000,000 to 10,000,000,000 millionths,
-    /// and `mark` is 0 if `slack`.
+    /// Returns the curve of the reference's level times `times` millionths, plus `plus` less `mark`,
+    /// with rates also across a new year. `times` is from 1 to 100,000,000, `plus` and `mark` are from
+    /// -10,000,000,000 to 10,000,000,000 millionths of the unit, and `mark` is 0 if `slack`.
     pub fn blended(station: &'a StationCurve, times: i64, plus: i64, mark: i64, slack: bool) -> Self
         requires scale { IsScale times plus mark }
         requires slack { OnTrue slack (mark ≡ pos 0) }
@@ -63,10 +65,10 @@ impl<'a> MarkCurve<'a> {
         MarkCurve::new(station, Version::Second, times, plus, mark, slack)
     }
 
-    /// Returns the curve of the level less `mark`, with the rates of `version`. If `slack`, `mark` is 0,
-    /// and the changes of sign are a current's slacks. `times` is from 1 to 100,000,000 millionths, and
-    /// `plus` and `mark` are from -10,000,000,000 to 10,000,000,000 millionths. The curve is not yet
-    /// evaluated.
+    /// Returns the curve of the reference's level times `times` millionths, plus `plus` less `mark`,
+    /// with the rates of `version`. `times` is from 1 to 100,000,000, and `plus` and `mark` are from
+    /// -10,000,000,000 to 10,000,000,000 millionths of the unit. If `slack`, `mark` is 0, and the
+    /// changes of sign are a current's slacks. The curve is not yet evaluated.
     pub fn new(
         station: &'a StationCurve,
         version: Version,

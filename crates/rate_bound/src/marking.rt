@@ -9,7 +9,9 @@ use year_blend::TOTAL_WEIGHT;
 /// A millionth in the unit of a curve of millionths times the level: the total weight times 10^15.
 const MILLIONTH: i128 = TOTAL_WEIGHT as i128 * 1_000_000_000_000_000;
 
-/// Returns `times` millionths of `level`, plus `plus` millionths, less `mark` millionths.
+/// Returns `level` times `times` millionths, plus `plus` less `mark`, both in millionths of the
+/// station's unit. `level` is in billionths of a millionth of the station's unit, times 4,147,200,000
+/// (the total weight of a blend); the result is in millionths of that unit.
 pub fn over_mark(times: i64, plus: i64, mark: i64, level: i128) -> i128
     requires times { unsigned_abs times ≤ 10 ^ 8 }
     requires plus { unsigned_abs plus ≤ 10 ^ 10 }
@@ -20,7 +22,7 @@ pub fn over_mark(times: i64, plus: i64, mark: i64, level: i128) -> i128
     scaled(times, level) + raised(plus - mark)
 }
 
-/// Returns `times * level`; it also scales the rate of a level.
+/// Returns `times * level`, for a level or for its rate; it can't overflow.
 pub fn scaled(times: i64, level: i128) -> i128
     requires times { unsigned_abs times ≤ 10 ^ 8 }
     requires level { unsigned_abs level ≤ 10 ^ 29 }

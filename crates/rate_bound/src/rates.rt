@@ -34,8 +34,9 @@ const BILLION: i128 = 1_000_000_000;
 /// The greatest rate of a slope across a new year.
 const MOST_RATE: i128 = 40_000_000_000_000_000_000_000_000_000_000_000;
 
-/// Returns the most that the slope changes in a minute outside blends, from the sums of the year: the
-/// rate of a slope.
+/// Returns the most that the slope changes in a minute outside the blends at new years, from the sums
+/// of the year. The slope is in billionths of a millionth of the station's unit a minute, times
+/// 34,377,467,708 (the units of angle in a radian) and 4,147,200,000 (the total weight of a blend).
 pub fn plain_slope_rate(year: &Sums) -> i128
     requires { AreWithinLimits year.now }
     ensures value { result ≡ plain_slope_rate year.now }
@@ -43,8 +44,9 @@ pub fn plain_slope_rate(year: &Sums) -> i128
     WEIGHT * year.far
 }
 
-/// Returns the most that the level changes in a minute outside blends, from the sums of the year: the
-/// rate of a level.
+/// Returns the most that the level changes in a minute outside the blends at new years, from the sums
+/// of the year. The level is in billionths of a millionth of the station's unit, times 4,147,200,000
+/// (the total weight of a blend).
 pub fn plain_level_rate(year: &Sums) -> i128
     requires { AreWithinLimits year.now }
     ensures value { result ≡ plain_level_rate year.now }
@@ -53,7 +55,9 @@ pub fn plain_level_rate(year: &Sums) -> i128
     WEIGHT * year.near
 }
 
-/// Returns the most that the slope changes in a minute across the new year between two years.
+/// Returns the most that the slope changes in a minute across the new year between two years, from the
+/// sums of both. The slope is in billionths of a millionth of the station's unit a minute, times
+/// 34,377,467,708 (the units of angle in a radian) and 4,147,200,000 (the total weight of a blend).
 #[cold]
 #[inline(never)]
 pub fn blended_slope_rate(earlier: &Sums, later: &Sums) -> i128
@@ -67,7 +71,9 @@ pub fn blended_slope_rate(earlier: &Sums, later: &Sums) -> i128
         + MOST_BEND * RADIAN as i128 * BILLION * (earlier.amount + later.amount)
 }
 
-/// Returns the most that the level changes in a minute across the new year between two years.
+/// Returns the most that the level changes in a minute across the new year between two years, from the
+/// sums of both. The level is in billionths of a millionth of the station's unit, times 4,147,200,000
+/// (the total weight of a blend).
 #[cold]
 #[inline(never)]
 pub fn blended_level_rate(earlier: &Sums, later: &Sums) -> i128
@@ -79,7 +85,8 @@ pub fn blended_level_rate(earlier: &Sums, later: &Sums) -> i128
     WEIGHT * earlier.near.max(later.near) + MOST_RISE * BILLION * (earlier.amount + later.amount)
 }
 
-/// Returns `rate`, or `None` if it is too great for a curve: above 4 * 10^34.
+/// Returns `rate`, or `None` if it exceeds 4 * 10^34, which is too great for a curve. It is a rate of a
+/// slope or of a level, in its unit per minute.
 pub fn limited(rate: i128) -> Option<i128>
     ensures { result ≡ limited rate }
 {

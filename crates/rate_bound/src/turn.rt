@@ -12,8 +12,8 @@ use curve_law::{Curve, Kind};
 use station_curve::StationCurve;
 use year_blend::Stretch;
 
-/// The curve of a station's slope: it rises past 0 at a low water, and falls to 0 at a high water. No
-/// call allocates.
+/// The curve of a station's slope. The slope rises past 0 at a low water, and falls to 0 or below at a
+/// high water. No call allocates.
 #[derive(Drop)]
 pub struct TurnCurve<'a> {
     station: &'a StationCurve,
@@ -27,7 +27,8 @@ pub struct TurnCurve<'a> {
 impl<'a> TurnCurve<'a> {
     ghost use Rattle.rate_bound.specs.Meanings.{turn_meaning};
 
-    /// Returns the curve of the slope with rates only outside new-year blends. It is not yet evaluated.
+    /// Returns the curve of the slope of `station` with rates only outside the blends at new years. It
+    /// is not yet evaluated.
     ///
     /// The program doesn't call it: it names the version in [`new`](TurnCurve::new).
     pub fn over(station: &'a StationCurve) -> TurnCurve<'a>
@@ -37,7 +38,8 @@ impl<'a> TurnCurve<'a> {
         TurnCurve::new(station, Version::First)
     }
 
-    /// Returns the curve of the slope with rates also across a new year. It is not yet evaluated.
+    /// Returns the curve of the slope of `station` with rates also across a new year. It is not yet
+    /// evaluated.
     ///
     /// The program doesn't call it: it names the version in [`new`](TurnCurve::new).
     pub fn blended(station: &'a StationCurve) -> TurnCurve<'a>

@@ -4,8 +4,8 @@
 /// a rate; a certificate names the version of its cells.
 #[derive(Clone, Copy, PartialEq, Eq)]
 pub enum Version {
-    /// Only cells outside new-year blends have a rate.
+    /// Only cells in which each minute is outside the blends at new years have a rate.
     First,
-    /// Cells across a new year have a rate too, if it isn't too great.
+    /// Cells with minutes in the blend at a new year have a rate too, if it is at most 4 * 10^34.
     Second,
 }

@@ -9,7 +9,7 @@ pub record IsNeeded (c : Prediction) (year : ℕ) : Type 0 where
   pub below : year < c.book.years
   pub touched : is_touched c.book c.first c.last year ≡ true
 
--- the years of a stretch are needed
+-- the year of a stretch, or the two years around its new year, are years that the prediction needs
 abbrev pub AreNeeded : Prediction → Stretch → Type 0
 AreNeeded c (Within year) = IsNeeded c year
 AreNeeded c (Across year) = (0 < year) × IsNeeded c (year - 1) × IsNeeded c year
