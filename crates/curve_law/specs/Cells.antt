@@ -15,13 +15,13 @@ unfoldable pub all_minutes : List Cell → ℕ
 all_minutes [] = 0
 all_minutes (cell ∷ cells) = minutes_of cell + all_minutes cells
 
--- the event in a cell that begins at minute `a`
+-- the event in a cell that begins at minute `a`, as a list; empty if it has none
 abbrev pub event_in : ℤ → Cell → List Event
 event_in a (Quiet n) = []
 event_in a Still = []
 event_in a (Turn kind level) = record { minute = a; kind = kind; level = level } ∷ []
 
--- the events of consecutive cells, of which the first begins at minute `a`
+-- the events in consecutive cells, of which the first begins at minute `a`
 unfoldable pub cell_events : ℤ → List Cell → List Event
 cell_events a [] = []
 cell_events a (cell ∷ cells) = event_in a cell ++ cell_events (a +ℤ pos (minutes_of cell)) cells

@@ -34,15 +34,16 @@ use Rattle.curve_law.specs.declared.quiet.TheConstants.{MOST_MINUTES}
 use Rattle.curve_law.specs.Track.{Track, has_event, event_at}
 use Rattle.curve_law.specs.Meaning.{Meaning}
 
--- v and w, n minutes apart, are on one side of 0, so far from it that a value between them can't cross 0
--- at this rate (no rate: false)
+-- v and w, the values at two minutes n minutes apart, are on one side of 0, so far from it that a value
+-- between them can't cross 0 if it changes by at most the rate in a minute (None, no rate: false)
 unfoldable pub keeps_side : Option ℤ → ℕ → ℤ → ℤ → Bool
 keeps_side None n v w = false
 keeps_side (Some rate) n v w =
     (int_lt (pos 0) v && int_lt (pos 0) w && int_lt (rate *ℤ pos n) (v +ℤ w))
     || (int_le v (pos 0) && int_le w (pos 0) && int_le (rate *ℤ pos n) (neg_ℤ (v +ℤ w)))
 
--- the n minutes from minute `a` on are a quiet cell: by the rate no event can be in it
+-- the n minutes from minute `a` on can be one quiet cell: n is from 2 to 1,024, and by the rate no
+-- event can be after any of them
 unfoldable pub is_quiet : Meaning → ℤ → ℕ → Bool
 is_quiet c a n =
     nat_le 2 n && nat_le n MOST_MINUTES && keeps_side (c.rate a n) n (c.track.value a) (c.track.value (a +ℤ pos n))

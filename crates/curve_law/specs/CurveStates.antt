@@ -15,6 +15,6 @@ pub record CurveState : Type 0 where
   pub facts : CurveFacts
   pub count : ℕ
 
--- the state after another evaluation
+-- the state after one more evaluation: the facts are the same
 abbrev pub evaluated_once : CurveState → CurveState
 evaluated_once s = record s { count = s.count + 1 }

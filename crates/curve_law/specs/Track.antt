@@ -3,8 +3,8 @@ use Rattle.std.specs.Prelude.{ℕ, zero, suc, ℤ, pos, ◌+ℤ◌, Bool, not, i
 use Rattle.curve_law.specs.declared.kind.Kind.{Kind}
 use Rattle.curve_law.specs.declared.event.Event.{Event}
 
--- a track: the value at each minute, the level of an event after each minute, and the kinds of a rising
--- and a falling event
+-- a track: the value at each minute, the level (`note`, in millionths) that an event after each minute
+-- has, and the kinds of a rising and of a falling event
 pub record Track : Type 0 where
   pub value : ℤ → ℤ
   pub note : ℤ → ℤ
@@ -24,11 +24,11 @@ abbrev pub event_at : Track → ℤ → Event
 event_at t m =
     record { minute = m; kind = if side_at t m then t.falling else t.rising; level = t.note m }
 
--- the n minutes from minute `a` on, as a list
+-- the n minutes from minute `a` on, as a list: from `a` to `a + n - 1`
 unfoldable pub minutes : ℤ → ℕ → List ℤ
 minutes a zero = []
 minutes a (suc n) = a ∷ minutes (a +ℤ pos 1) n
 
--- the events of the n minutes from minute `a` on, by looking at each of them
+-- the events after the n minutes from minute `a` on, by looking at each of them
 unfoldable pub plain_list : Track → ℤ → ℕ → List Event
 plain_list t a n = map (event_at t) (filter (has_event t) (minutes a n))

@@ -26,21 +26,21 @@ place_of MarkFalling = 5
 abbrev pub same_kind : Kind → Kind → Bool
 same_kind kind other = place_of kind == place_of other
 
--- the verdict on an event claimed after minute `a`: it must have the kind and the level of the event
--- there
+-- the verdict on an event with this kind and level that the cell with this number claims after minute
+-- `a`: both must be those of the event there
 abbrev pub step_verdict : Meaning → ℤ → ℕ → Kind → ℤ → Verdict
 step_verdict c a number kind level =
     if same_kind kind (event_at c.track a).kind
     then (if int_eq level (c.track.note a) then Accepted else WrongLevel number level (c.track.note a))
     else WrongStep number
 
--- the verdict on the cell with this number, which begins at minute `a`
+-- the verdict on the cell with this number, counted from 1, which begins at minute `a`
 unfoldable pub cell_verdict : Meaning → ℤ → ℕ → Cell → Verdict
 cell_verdict c a number (Quiet n) = if is_quiet c a n then Accepted else NotQuiet number
 cell_verdict c a number Still = if has_event c.track a then WrongStep number else Accepted
 cell_verdict c a number (Turn kind level) = if has_event c.track a then step_verdict c a number kind level else WrongStep number
 
--- the first fault, or the next verdict if there is none
+-- a verdict if it is a fault, else the next verdict
 abbrev pub or_next : Verdict → Verdict → Verdict
 or_next Accepted next = next
 or_next (WrongLength covered wanted) next = WrongLength covered wanted
@@ -48,13 +48,15 @@ or_next (NotQuiet cell) next = NotQuiet cell
 or_next (WrongStep cell) next = WrongStep cell
 or_next (WrongLevel cell written computed) next = WrongLevel cell written computed
 
--- the first fault of consecutive cells, of which the first has this number and begins at minute `a`
+-- the first fault of consecutive cells, of which the first has this number and begins at minute `a`;
+-- Accepted if there is none
 unfoldable pub cells_verdict : Meaning → ℤ → ℕ → List Cell → Verdict
 cells_verdict c a number [] = Accepted
 cells_verdict c a number (cell ∷ cells) =
     or_next (cell_verdict c a number cell) (cells_verdict c (a +ℤ pos (minutes_of cell)) (suc number) cells)
 
--- the verdict on the cells of the span of n minutes from `a` on; cells are counted from 1
+-- the verdict on the cells of the span of n minutes from minute `a` on: their length is judged first;
+-- cells are counted from 1
 unfoldable pub verdict : Meaning → ℤ → ℕ → List Cell → Verdict
 verdict c a n cells =
     if all_minutes cells == n then cells_verdict c a 1 cells

@@ -11,10 +11,10 @@ use crate::cell::Cell;
 use crate::curve::Curve;
 use crate::quiet::{MOST_MINUTES, cell_of_sides, is_quiet, most_change};
 
-/// Returns true if the `n` minutes from `a` on are a quiet cell: the values at both ends are on one side
-/// of 0, so far from it that no value between them can cross 0 at the curve's rate. `approximate` and
-/// `approximate_end` are the approximate values at the ends; the exact values are used only if these
-/// leave it open.
+/// Returns true if the `n` minutes from `a` on can be one quiet cell. `n` is from 2 to 1,024, and the
+/// values at `a` and at `a + n` are on one side of 0, so far from it that no value between them can
+/// cross 0 at the curve's rate. `approximate` and `approximate_end` are the approximate values at these
+/// two minutes; the exact values are used only if the approximate ones leave it open.
 #[inline(always)]
 pub fn is_quiet_from_approximate<C: Curve>(
     curve: &C,
@@ -35,9 +35,10 @@ pub fn is_quiet_from_approximate<C: Curve>(
     }
 }
 
-/// Returns the cell of the single minute `a`: with an event if the value changes its side of 0 by the
-/// next minute. `approximate` and `approximate_next` are the approximate values at `a` and at the next
-/// minute; the exact values are used only if these leave a side open.
+/// Returns the cell of the single minute `a`: with an event if the value is above 0 at `a` and not at
+/// `a + 1`, or not above 0 at `a` and above 0 at `a + 1`. `approximate` and `approximate_next` are the
+/// approximate values at these two minutes; the exact values are used only if the approximate ones
+/// leave it open.
 pub fn unit_cell_from_approximate<C: Curve>(
     curve: &C,
     a: i64,

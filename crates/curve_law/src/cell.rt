@@ -2,15 +2,16 @@
 
 use crate::kind::Kind;
 
-/// A cell: some consecutive minutes of a track, and the claim about their events. It begins where the
-/// cell before it ends.
+/// A cell: some consecutive minutes of a track, and the claim about the events after them. It begins
+/// where the cell before it ends.
 #[derive(Clone, Copy, Debug, PartialEq, Eq)]
 pub enum Cell {
-    /// A quiet cell: this number of minutes, from 2 to 1,024, with no event after any of them.
+    /// A quiet cell: this number of minutes, from 2 to 1,024, both included, with no event after any of
+    /// them.
     Quiet(u32),
     /// A cell of one minute with no event after it.
     Still,
-    /// One minute with an event of this kind after it, and the level at the minute, in millionths of the
-    /// station's unit.
+    /// A cell of one minute with an event of this kind after it. The number is the level at the minute,
+    /// in millionths of the station's unit.
     Turn(Kind, i64),
 }

@@ -10,8 +10,9 @@ ghost use Rattle.curve_law.specs.Cells.{all_minutes, cell_events};
 ghost use Rattle.curve_law.specs.Cover.{is_quiet, unit_cell, split, cover};
 ghost use Rattle.curve_law.specs.Verdicts.{verdict};
 
-/// Proves how a block of minutes is cut: into one cell if it is a single minute or quiet, and otherwise
-/// into the cells of its first half, rounded down, followed by the cells of the rest.
+/// Proves how a block of minutes is cut into cells. A single minute or a quiet block is one cell. Any
+/// other block is cut into the cells of its first half, of `n / 2` minutes rounded down, followed by
+/// the cells of the rest.
 pub fn cells_are_halved()
     ensures one_minute { (c : Meaning) (a : ℤ) → split c a 1 ≡ unit_cell c.track a ∷ [] }
     ensures quiet { (c : Meaning) (a : ℤ) (n : ℕ) → is_quiet c a n ≡ true → split c a n ≡ Cell.Quiet n ∷ [] }
@@ -19,8 +20,9 @@ pub fn cells_are_halved()
         split c a n ≡ split c a (n / 2) ++ split c (a +ℤ pos (n / 2)) (n - n / 2) }
 {}
 
-/// Proves how a span is cut: an empty span has no cells; from a longer one blocks of 1,024 minutes are
-/// cut off until at most 1,024 minutes remain, which are the last block.
+/// Proves how a span is cut into cells. An empty span has none. From a span of more than 1,024 minutes
+/// the first 1,024 are cut off as a block, and so on, until at most 1,024 minutes remain, which are the
+/// last block.
 pub fn spans_are_cut_into_blocks()
     ensures no_minute { (c : Meaning) (a : ℤ) → cover c a 0 ≡ [] }
     ensures last_block { (c : Meaning) (a : ℤ) (n : ℕ) → n ≤ MOST_MINUTES → cover c a n ≡ split c a n }
@@ -28,8 +30,8 @@ pub fn spans_are_cut_into_blocks()
         cover c a n ≡ split c a MOST_MINUTES ++ cover c (a +ℤ pos MOST_MINUTES) (n - MOST_MINUTES) }
 {}
 
-/// Proves that each value in a quiet cell is on the same side of zero as the values at its ends, and
-/// that there is no event after any of its minutes.
+/// Proves that each value in a quiet cell, both ends included, is on the same side of zero as the value
+/// at the cell's begin, and that there is no event after any of the cell's minutes.
 pub fn quiet_cells_have_no_event()
     ensures sides { (c : Meaning) (a : ℤ) (n : ℕ) → IsLawful c → IsSpan c a n → is_quiet c a n ≡ true →
         (k : ℕ) → k ≤ n → side_at c.track (a +ℤ pos k) ≡ side_at c.track a }
@@ -37,15 +39,16 @@ pub fn quiet_cells_have_no_event()
         (k : ℕ) → k < n → has_event c.track (a +ℤ pos k) ≡ false }
 {}
 
-/// Proves that the events of cells that the check accepts are exactly the events of the span, however
-/// the cells were made.
+/// Proves that the events in cells that the check accepts for a span are exactly the events of the
+/// span, however the cells were made.
 pub fn accepted_cells_are_exact()
     ensures { (c : Meaning) (a : ℤ) (n : ℕ) (cells : List Cell) → IsLawful c → IsSpan c a n →
         verdict c a n cells ≡ Verdict.Accepted → cell_events a cells ≡ plain_list c.track a n }
 {}
 
-/// Proves that the cells that the halving rule makes for a span have all its minutes, number at most one
-/// a minute, and are accepted, so that they have exactly the events of the span.
+/// Proves that the cells that the halving rule makes for a span cover all its minutes, that there are
+/// no more cells than minutes, and that the check accepts them, so that they have exactly the events of
+/// the span.
 pub fn covers_are_accepted()
     ensures minutes { (c : Meaning) (a : ℤ) (n : ℕ) → all_minutes (cover c a n) ≡ n }
     ensures count_bound { (c : Meaning) (a : ℤ) (n : ℕ) → length (cover c a n) ≤ n }
@@ -54,7 +57,8 @@ pub fn covers_are_accepted()
         cell_events a (cover c a n) ≡ plain_list c.track a n }
 {}
 
-/// Proves that the cells and verdicts of a span don't depend on the minutes that a curve has elsewhere.
+/// Proves that the cells of a span and the verdicts on cells don't depend on the curve's first and last
+/// minute, only on its values and rates.
 pub fn answers_are_those_of_more_minutes()
     ensures cells { (c : Meaning) (first last a : ℤ) (n : ℕ) → cover (at_minutes first last c) a n ≡ cover c a n }
     ensures verdicts { (c : Meaning) (first last a : ℤ) (n : ℕ) (cells : List Cell) →

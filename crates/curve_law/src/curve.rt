@@ -6,7 +6,7 @@ ghost use Rattle.curve_law.specs.CurveStates.{CurveState, evaluated_once};
 
 use crate::kind::Kind;
 
-/// A track that is evaluated minute by minute, with bounds on how fast its value changes.
+/// A track that is evaluated minute by minute, with bounds (its rates) on how fast its value changes.
 ///
 /// Minutes are counted from 1970-01-01T00:00Z. The state of a curve has its facts, which no call changes
 /// (the first and last minute, values, levels, kinds and rates, the approximate values and their error),
@@ -74,13 +74,15 @@ pub trait Curve {
     fn evaluations(&self) -> u64
         ensures { result ≡ (state self.now).count };
 
-    /// Each rate bounds each step, and all numbers are within their limits.
+    /// Each rate of a cell bounds the change of the value in each minute of the cell, and minutes,
+    /// values and rates are within the limits of `IsLawful`.
     ghost lawful: { (curve : Self) → IsLawful (state curve).facts.meaning };
 
-    /// The error is small enough to add approximate values without overflow.
+    /// The error of approximate values is at most 10^36, small enough to add two such values without
+    /// overflow.
     ghost narrow: { (curve : Self) → (state curve).facts.error ≤ 10 ^ 36 };
 
-    /// Each approximate value differs from the value by at most the error.
+    /// At each minute of the curve, the approximate value differs from the value by at most the error.
     ghost close: { (curve : Self) → (m : ℤ) → IsMinute (state curve).facts.meaning m
         → IsApproximateValue (state curve).facts.meaning (state curve).facts.error m ((state curve).facts.approximate m) };
 }

@@ -2,10 +2,10 @@
 
 use crate::kind::Kind;
 
-/// An event of a track. It happens after its minute and no later than the next one.
+/// An event of a track. It happens after its minute and no later than the next minute.
 #[derive(Clone, Copy, PartialEq, Eq)]
 pub struct Event {
-    /// The minute after which the event happens, since 1970-01-01T00:00Z.
+    /// The minute after which the event happens, in minutes since 1970-01-01T00:00Z.
     pub minute: i64,
     pub kind: Kind,
     /// The level at the event's minute, in millionths of the station's unit.

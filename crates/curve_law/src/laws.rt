@@ -3,16 +3,17 @@
 ghost use Rattle.std.specs.Prelude.{◌≡◌, ℕ, suc, ◌+◌, ◌<◌, ℤ, pos, ◌+ℤ◌, ◌≤ℤ◌, ◌<ℤ◌, true, false, if◌then◌else◌, [], ◌∷◌, ◌++◌};
 ghost use Rattle.curve_law.specs.Track.{Track, has_event, event_at, plain_list};
 
-/// Proves that a span of no minutes has no event, and that a span of one minute has at most the event
-/// after that minute.
+/// Proves that the list of a span of no minutes is empty, and that the list of a span of one minute has
+/// at most the event after that minute.
 pub fn plain_list_of_one_minute()
     ensures none { (t : Track) (a : ℤ) → plain_list t a 0 ≡ [] }
     ensures one { (t : Track) (a : ℤ) →
         plain_list t a 1 ≡ (if has_event t a then event_at t a ∷ [] else []) }
 {}
 
-/// Proves that the events of a span are the events of its first minute followed by the events of the
-/// rest, and the same for any two spans of which the second begins at the end of the first.
+/// Proves that the events of a span are those of its first minute followed by those of the rest, and
+/// that the events of any two spans of which the second begins at the end of the first are those of the
+/// joined span.
 pub fn plain_list_of_two_spans()
     ensures first { (t : Track) (a : ℤ) (n : ℕ) →
         plain_list t a (suc n) ≡ plain_list t a 1 ++ plain_list t (a +ℤ pos 1) n }
@@ -20,7 +21,7 @@ pub fn plain_list_of_two_spans()
         plain_list t a (n + k) ≡ plain_list t a n ++ plain_list t (a +ℤ pos n) k }
 {}
 
-/// Proves that a span has no event if none of its minutes has one.
+/// Proves that a span has no event if there is no event after any of its minutes.
 pub fn plain_list_of_quiet_minutes()
     ensures { (t : Track) (a : ℤ) (n : ℕ) →
         ((k : ℕ) → k < n → has_event t (a +ℤ pos k) ≡ false) → plain_list t a n ≡ [] }

@@ -4,8 +4,8 @@ ghost use Rattle.std.specs.Prelude.{◌≡◌, if◌then◌else◌};
 
 use crate::kind::Kind;
 
-/// Returns the kind of the event after a minute that has one: `falling` if its value is above 0, else
-/// `rising`.
+/// Returns the kind of the event after a minute that has one: `falling` if `is_above`, which says that
+/// the value at the minute is above 0, and otherwise `rising`.
 pub fn kind_after(is_above: bool, rising: Kind, falling: Kind) -> Kind
     ensures { result ≡ (if is_above then falling else rising) }
 {

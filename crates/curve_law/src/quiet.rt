@@ -13,9 +13,10 @@ use crate::passing::kind_after;
 /// cut into.
 pub const MOST_MINUTES: u32 = 1024;
 
-/// Returns true if the `n` minutes from `a` on are a quiet cell: the values at both ends are on one side
-/// of 0, so far from it that no value between them can cross 0 at the curve's rate. `value` and
-/// `end_value` are the values at the ends. The rate is evaluated only if both are on one side of 0.
+/// Returns true if the `n` minutes from `a` on can be one quiet cell. `n` is from 2 to 1,024, and the
+/// values at `a` and at `a + n` are on one side of 0, so far from it that no value between them can
+/// cross 0 at the curve's rate. `value` and `end_value` are these two values. The rate is evaluated
+/// only if both are on one side of 0.
 pub fn is_quiet<C: Curve>(curve: &C, a: i64, n: u32, value: i128, end_value: i128) -> bool
     requires span { IsSpan (C.state curve.now).facts.meaning a n }
     requires value { value ≡ (C.state curve.now).facts.meaning.track.value a }
@@ -43,8 +44,9 @@ fn is_quiet_by_rate<C: Curve>(curve: &C, a: i64, n: u32, value: i128, end_value:
     }
 }
 
-/// Returns the cell of the single minute `a`; `is_above` and `is_above_next` say whether the values at
-/// `a` and at the next minute are above 0.
+/// Returns the cell of the single minute `a`: with an event if the value changes its side of 0 by the
+/// next minute. `is_above` and `is_above_next` say whether the values at `a` and at `a + 1` are above
+/// 0.
 pub fn cell_of_sides<C: Curve>(curve: &C, a: i64, is_above: bool, is_above_next: bool) -> Cell
     requires minute { IsMinute (C.state curve.now).facts.meaning a }
     requires side { is_above ≡ side_at (C.state curve.now).facts.meaning.track a }
@@ -79,8 +81,8 @@ fn keeps_side(rate: i128, n: u32, value: i128, end_value: i128) -> bool
     }
 }
 
-/// Returns `rate * n`, the most that a value changes in `n` minutes, at most [`MOST_MINUTES`]. `rate` is
-/// not negative, and below 5 * 10^37 / [`MOST_MINUTES`].
+/// Returns `rate * n`, the most that a value changes in `n` minutes, from 0 to [`MOST_MINUTES`].
+/// `rate`, the most in a minute, is not negative and below 5 * 10^37 / [`MOST_MINUTES`].
 pub fn most_change(rate: i128, n: u32) -> i128
     requires positive { pos 0 ≤ℤ rate }
     requires rate { (rate *ℤ pos MOST_MINUTES) <ℤ pos (5 * 10 ^ 37) }

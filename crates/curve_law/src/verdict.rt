@@ -6,22 +6,23 @@
 pub enum Verdict {
     /// The cells cover the span, and the claim of each cell is true.
     Accepted,
-    /// The cells have a different number of minutes than the span. If that number exceeds an `i64`,
-    /// `covered` is the greatest `i64`.
+    /// The cells have `covered` minutes, and the span has `wanted`, a different number. If the first
+    /// exceeds an `i64`, `covered` is the greatest `i64`.
     WrongLength {
         covered: i64,
         wanted: i64,
     },
-    /// A cell marked quiet isn't quiet, or its length isn't from 2 to 1,024.
+    /// A cell marked quiet isn't: by the rate an event can be in it, or it has fewer than 2 or more
+    /// than 1,024 minutes.
     NotQuiet {
         cell: u32,
     },
-    /// A still minute that has an event, or an event that the track doesn't have or has with another
-    /// kind.
+    /// A cell of one minute is wrong: there is an event after a minute claimed to have none, or there
+    /// is none of the claimed kind.
     WrongStep {
         cell: u32,
     },
-    /// An event doesn't have the track's level.
+    /// The claimed level of an event, in millionths, isn't the track's at that minute.
     WrongLevel {
         cell: u32,
         written: i64,

@@ -10,8 +10,9 @@ ghost use Rattle.curve_law.specs.Cover.{is_quiet, cover};
 ghost use Rattle.curve_law.specs.Samples.{line, ripple};
 ghost use Rattle.curve_law.specs.Verdicts.{verdict};
 
-/// Proves examples of quiet cells. Below 0, end values whose sum is exactly the rate times the minutes
-/// are quiet; above 0 they aren't. Values of 0 are quiet if they never change.
+/// Proves examples of quiet cells of lines that rise or fall by 1 each minute. If the size of the sum
+/// of both end values is exactly the rate times the minutes, a cell below 0 is quiet and one above 0
+/// isn't. Values of 0 are quiet if they never change.
 #[tactic(auto, unfolding(crate::specs::Cover::keeps_side, crate::specs::Cover::is_quiet))]
 pub fn worked_quiet_cells()
     ensures exactly_above { is_quiet (line (pos 1) false (pos 3)) (pos 1) 2 ≡ false }
@@ -33,8 +34,9 @@ pub fn worked_quiet_cells()
         is_quiet c (pos 0) 1025 ≡ false }
 {}
 
-/// Proves examples of the cells of spans: halved until they are quiet, with the shorter half of an odd
-/// number of minutes first, down to single minutes if there is no rate, and in blocks of 1,024 minutes.
+/// Proves examples of the cells of spans: a block is halved until its parts are quiet, with the shorter
+/// half of an odd number of minutes first. Without a rate it is halved down to single minutes. A long
+/// span is cut into blocks of 1,024 minutes.
 #[tactic(auto, unfolding(crate::specs::Cover::keeps_side, crate::specs::Cover::is_quiet, crate::specs::Cover::unit_cell, crate::specs::Cover::split_within, crate::specs::Cover::split, crate::specs::Cover::cover_within, crate::specs::Cover::cover))]
 pub fn worked_covers()
     ensures halved { cover (line (pos 1) false (pos 3)) (pos 0) 8 ≡ Cell.Still ∷ Cell.Still ∷ Cell.Quiet 2 ∷ Cell.Quiet 4 ∷ [] }
@@ -50,8 +52,8 @@ pub fn worked_covers()
         cover c (pos 0) 2049 ≡ Cell.Quiet 1024 ∷ Cell.Quiet 1024 ∷ Cell.Still ∷ [] }
 {}
 
-/// Proves examples of verdicts on the cells of a line over the minutes from 0 to 8. The line rises past 0
-/// after minute 2, where its level is 2.
+/// Proves examples of verdicts on claimed cells of a line, for the 8 minutes from minute 0 on. The line
+/// rises past 0 after minute 2, where its level is 2.
 #[tactic(auto, unfolding(crate::specs::Cover::keeps_side, crate::specs::Cover::is_quiet, crate::specs::Cells::all_minutes, crate::specs::Verdicts::cell_verdict, crate::specs::Verdicts::cells_verdict, crate::specs::Verdicts::verdict))]
 pub fn worked_verdicts()
     ensures by_halves { verdict (line (negsuc 1) false (pos 1)) (pos 0) 8
@@ -76,7 +78,7 @@ pub fn worked_verdicts()
     ensures no_minute { verdict ripple (pos 0) 0 [] ≡ Verdict.Accepted }
 {}
 
-/// Proves the limit on the length of a quiet cell, which is also the length of a block.
+/// Proves that a quiet cell has at most 1,024 minutes, which is also the length of a block.
 pub fn worked_limits()
     ensures minutes { MOST_MINUTES ≡ 1024 }
 {}

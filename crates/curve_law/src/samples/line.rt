@@ -5,8 +5,9 @@ ghost use Rattle.std.specs.Prelude.{◌≡◌, ◌^◌, ◌≤◌, unsigned_abs,
 use crate::curve::Curve;
 use crate::kind::Kind;
 
-/// A value that rises or falls by 1 each minute, over the minutes from -1,000,000 to 1,000,000. Its level
-/// is the minute, its rate may be greater than necessary, and each approximate value is 1 too high.
+/// A curve for tests: its value rises or falls by 1 each minute, over the minutes from -1,000,000 to
+/// 1,000,000, both included. Its level is the minute, its rate may be greater than necessary, and each
+/// approximate value is 1 too high.
 #[derive(Drop)]
 pub struct Line {
     start: i64,
@@ -21,8 +22,9 @@ pub struct Line {
 impl Line {
     ghost use Rattle.curve_law.specs.Samples.{line_facts};
 
-    /// Returns the line that has the value `start` at minute 0; it falls by 1 each minute if `falls`,
-    /// and otherwise rises. It is not yet evaluated.
+    /// Returns the line that has the value `start` at minute 0, and falls by 1 each minute if `falls`,
+    /// and otherwise rises by 1. `rate` is the bound on its change in a minute. It is not yet
+    /// evaluated.
     pub fn new(start: i64, falls: bool, rate: i64) -> Line
         requires in_range { unsigned_abs start ≤ 10 ^ 12 }
         requires at_least_one { pos 1 ≤ℤ rate }

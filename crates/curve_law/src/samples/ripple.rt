@@ -6,8 +6,8 @@ ghost use Rattle.curve_law.specs.Samples.{ripple};
 use crate::curve::Curve;
 use crate::kind::Kind;
 
-/// A curve that is 1 at even minutes and -1 at odd ones, from -1,000,000 to 1,000,000, with no rate. Each
-/// approximate value is 0, which decides nothing.
+/// A curve for tests: its value is 1 at even minutes and -1 at odd ones, from -1,000,000 to 1,000,000,
+/// both included. It has no rate. Each approximate value is 0, which decides nothing.
 #[derive(Default, Drop)]
 pub struct Ripple {
     asked: u64,
@@ -16,7 +16,7 @@ pub struct Ripple {
 impl Ripple {
     ghost use Rattle.curve_law.specs.Samples.{ripple_facts};
 
-    /// Returns a ripple that is not yet evaluated.
+    /// Returns this curve, not yet evaluated.
     pub fn new() -> Ripple
         ensures { ⟦<Ripple as Curve>⟧.state result ≡ record { facts = ripple_facts; count = 0 } }
     {
