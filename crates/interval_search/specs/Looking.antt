@@ -4,16 +4,16 @@ use Rattle.curve_law.specs.declared.cell.Cell.{Cell}
 use Rattle.curve_law.specs.Cells.{minutes_of}
 use Rattle.interval_search.specs.declared.found.Found.{Found}
 
--- a search: its curve, the minute that it has reached, the remaining cells, and the greatest number of
--- evaluations of the curve at the end of the search
+-- a search: its curve, the minute that it has reached, the remaining cells, and the most evaluations of
+-- the curve that there can be when no cell remains
 pub record Looking (C : Type 0) : Type 0 where
   pub curve : C
   pub at : ℤ
   pub left : List Cell
   pub most : ℕ
 
--- a step returns the first of the remaining cells and moves to its end; it returns None if no cell
--- remains
+-- a step of a search returns the first of the remaining cells and moves to its end; it returns None if
+-- no cell remains
 abbrev pub StepsOn : {C : Type 0} → Looking C → Option Found → Looking C → Type 0
 StepsOn old None new = (old.left ≡ []) × (new.left ≡ []) × (new.at ≡ old.at)
 StepsOn old (Some found) new =

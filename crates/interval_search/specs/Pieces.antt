@@ -3,7 +3,7 @@
 use Rattle.std.specs.Prelude.{ℕ, zero, suc, ◌-◌, ◌/◌, ℤ, pos, ◌+ℤ◌, nat_le, Bool, true, false, ◌||◌, List, [], ◌∷◌, ◌++◌}
 use Rattle.curve_law.specs.declared.quiet.TheConstants.{MOST_MINUTES}
 
--- an interval of a span: its first minute, and the number of its minutes
+-- an interval of a span: its first minute, `begin`, and the number of its minutes
 pub record Interval : Type 0 where
   pub begin : ℤ
   pub minutes : ℕ
@@ -39,7 +39,7 @@ blocks_within (suc blocks) test a n =
       | false ↦ pieces_of_block test a MOST_MINUTES ++ blocks_within blocks test (a +ℤ pos MOST_MINUTES) (n - MOST_MINUTES)
     ]
 
--- the pieces of the span of n minutes from `a` on, cut into blocks of 1,024 minutes from its beginning
--- on; the last block may be shorter
+-- the pieces of the span of n minutes from `a` on: it is cut into blocks of 1,024 minutes, of which the
+-- last may be shorter, and each block is halved until the test leaves its parts whole
 unfoldable pub pieces_of : (ℤ → ℕ → Bool) → ℤ → ℕ → List Interval
 pieces_of test a n = blocks_within n test a n

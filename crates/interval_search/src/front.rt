@@ -64,8 +64,8 @@ fn nearest_piece<C: Curve, R: PieceRule>(
     }
 }
 
-/// The state of a search over a span: the point that it has reached, the known end points of the pending
-/// pieces after it, the nearest first, and the end of the span.
+/// The state of a search over a span: the point that it has reached, the end points of the pieces after
+/// it that are already known, the nearest first, and the end of the span, which isn't part of it.
 #[derive(Drop)]
 pub struct Front {
     pub at: Point,
@@ -73,7 +73,8 @@ pub struct Front {
     pub end: i64,
 }
 
-/// Returns the state of a search at the beginning of its span.
+/// Returns the state of a search at the beginning of the span of the minutes from `begin` up to but not
+/// including `end`. It evaluates the curve once. Both ends are minutes of `curve`.
 pub fn front_at<C: Curve, R: PieceRule>(curve: &mut C, rule: &R, begin: i64, end: i64) -> Front
     requires forward { begin ≤ℤ end }
     requires first { (C.state curve.old).facts.meaning.first ≤ℤ begin }
@@ -94,7 +95,8 @@ pub fn front_at<C: Curve, R: PieceRule>(curve: &mut C, rule: &R, begin: i64, end
     }
 }
 
-/// Returns the next piece that isn't halved, or `None` if the search has reached the end.
+/// Moves the search past the next piece that isn't halved, and returns this piece, or `None` if the
+/// search has reached the end of its span.
 #[inline(always)]
 pub fn next_piece<C: Curve, R: PieceRule>(
     curve: &mut C,

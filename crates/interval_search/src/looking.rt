@@ -15,7 +15,7 @@ use std::marker::Model;
 /// allocate.
 ///
 /// In contracts its value is the curve, the minute that it has reached, the remaining cells, and the
-/// greatest number of evaluations at the end of the search.
+/// most evaluations of the curve that there can be when no cell remains.
 #[derive(Drop)]
 pub struct Search<C: Curve> {
     curve: C,
@@ -35,8 +35,9 @@ impl<C: Curve> Model for Search<C> {
 }
 
 impl<C: Curve> Search<C> {
-    /// Returns a search over the minutes from `begin` on and before `end`, all of them minutes of
-    /// `curve`, which was evaluated at most 2^62 times.
+    /// Returns a search over the minutes from `begin` up to but not including `end`, and evaluates the
+    /// curve once. `begin` and `end` are both minutes of `curve`, which was evaluated at most 2^62
+    /// times before.
     ///
     /// # Examples
     /// ```

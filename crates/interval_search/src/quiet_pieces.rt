@@ -15,7 +15,7 @@ use curve_law::{
     Cell, Curve, Point, approximate_point_at, is_quiet_from_approximate, unit_cell_from_approximate,
 };
 
-/// The rule that leaves quiet pieces of a span whole, by approximate values of the curve.
+/// The rule that leaves a piece whole if it is one quiet cell, by approximate values of the curve.
 pub struct QuietPieces;
 
 impl PieceRule for QuietPieces {
@@ -55,7 +55,8 @@ fn cell_of<C: Curve>(curve: &C, piece: Piece) -> Cell
     }
 }
 
-/// Returns the next cell and the minute at which it begins, or `None` if the search has reached the end.
+/// Moves the search past the next cell, and returns this cell and the minute at which it begins, or
+/// `None` if the search has reached the end of its span.
 #[inline(always)]
 pub fn next_found<C: Curve>(curve: &mut C, front: &mut Front) -> Option<Found>
     requires { IsFront (C.state curve.old).facts.approximate (C.state curve.old) front.old }

@@ -8,12 +8,14 @@ ghost use Rattle.interval_search.specs.Workings.Ahead.{IsPiece};
 use crate::piece::Piece;
 use curve_law::{Curve, Point};
 
-/// A rule for the pieces of a span: which of them are left whole, and by which values of a curve.
+/// A rule for the pieces of a span: which of them are left whole, and which values of a curve it uses
+/// for that.
 ///
 /// In contracts a rule is a test and values. The test may differ from rule to rule, and so may change in
 /// the course of a search; the values are the same for all rules of a type.
 pub trait PieceRule {
-    /// True if the given minutes, 2 to 1,024 from the given minute on, are left whole.
+    /// True if, on this curve, the given number of minutes, 2 to 1,024, from the given minute on are
+    /// left whole.
     ghost whole: { Self → Meaning → ℤ → ℕ → Bool };
 
     /// The value of a curve at a minute, exact or approximate.

@@ -8,7 +8,7 @@ use crate::quiet_pieces::{QuietPieces, next_found};
 use curve_law::{Cells, Curve};
 use std::alloc::{AllocError, Global};
 
-/// Returns the cells of the minutes from `begin` up to but not including `end`, all of them minutes of
+/// Returns the cells of the minutes from `begin` up to but not including `end`, both minutes of
 /// `curve`. Before the call the curve may have been evaluated at most 2^62 times; the call evaluates it
 /// at most once per cell, plus once.
 ///
