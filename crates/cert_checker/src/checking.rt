@@ -12,8 +12,8 @@ use crate::covering::{covered_by, minutes_of};
 use crate::finding::finding_on;
 use curve_law::{Cell, Cells, Curve, Point, Verdict, approximate_point_at};
 
-/// Checks that `cells` are true of the minutes from `begin` up to but not including `end`, all of them
-/// minutes of `curve`: first their number of minutes, then each cell. Accepted cells have exactly the
+/// Checks that `cells` are true of the minutes from `begin` up to but not including `end`, both minutes
+/// of `curve`: first their number of minutes, then each cell in turn. Accepted cells have exactly the
 /// events of the span.
 ///
 /// There are fewer than 2^32 cells, and the cells and the earlier evaluations of the curve together

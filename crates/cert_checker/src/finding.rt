@@ -12,8 +12,9 @@ use curve_law::{
     unit_cell_from_approximate,
 };
 
-/// Returns the verdict on `cell`, the cell with this `number`, by the approximate values at its begin
-/// and its end.
+/// Returns the verdict on `cell`, which has the number `number`, counted from 1, and begins at the
+/// point `at`, which has the approximate value there. `end_value` is the approximate value at the
+/// cell's end.
 #[tactic(auto, using(crate::proofs::FindingLemmas::findings))]
 pub fn finding_on<C: Curve>(
     curve: &C,
