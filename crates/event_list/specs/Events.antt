@@ -36,7 +36,7 @@ use Rattle.event_list.specs.Order.{ordered}
 use Rattle.event_list.specs.Shifts.{widened_of, moved_within}
 use Rattle.event_text.specs.Words.{has_word}
 
--- the number of minutes of a span
+-- the number of minutes of a span, from its begin up to but not including its end
 abbrev pub span_minutes : Span → ℕ
 span_minutes s = unsigned_abs (s.end -ℤ s.begin)
 
@@ -52,23 +52,25 @@ pub record Followed : Type 0 where
 abbrev pub curves_of : Followed → List Meaning
 curves_of f = f.turn ∷ (option_to_list f.slack ++ option_to_list f.mark)
 
--- the events of a curve over a span, by looking at each minute
+-- the events of a curve after each minute of a span, found by looking at each minute
 abbrev pub events_over : Span → Meaning → List Event
 events_over s c = plain_list c.track s.begin (span_minutes s)
 
--- The events of a station: the events of the reference's curves over the widened span, each moved and
--- scaled, and of these the events within the span, in order.
+-- The events of a station from `begin` up to but not including `end`: the events of the reference's
+-- curves over the widened span, each moved and scaled by the offset of its kind, and of these the ones
+-- within the span, in the order in which they are listed.
 unfoldable pub station_events : Followed → Basis → ℤ → ℤ → List Event
 station_events f b begin end =
     ordered (moved_within b begin end (flat_map (events_over (widened_of b begin end)) (curves_of f)))
 
 -- ---- the events in cells
 
--- the requested tracks as a list
+-- the cells of each requested track, as a list
 abbrev pub tracks_of : Tracks → List (List Cell)
 tracks_of t = t.turn ∷ (option_to_list t.slack ++ option_to_list t.mark)
 
--- the events in the cells of all tracks, which begin at the minute `begin`, in order
+-- the events in the cells of all tracks, of which each begins at the minute `begin`, in the order in
+-- which they are listed
 unfoldable pub merged_of : ℤ → Tracks → List Event
 merged_of begin t = ordered (flat_map (cell_events begin) (tracks_of t))
 
@@ -100,22 +102,24 @@ pub record AreShort (t : Tracks) : Type 0 where
   pub slack : ForSome t.slack (λ cells. all_minutes cells ≤ 6000000)
   pub mark : ForSome t.mark (λ cells. all_minutes cells ≤ 6000000)
 
--- a lawful curve whose minutes include the span
+-- a lawful curve whose minutes include the span and the span's end
 pub record IsValidOver (s : Span) (c : Meaning) : Type 0 where
   pub lawful : IsLawful c
   pub span : IsSpan c s.begin (span_minutes s)
 
--- all requested curves are lawful, and their minutes include the span
+-- all requested curves are lawful, and their minutes include the span and its end
 pub record AreValidOver (f : Followed) (s : Span) : Type 0 where
   pub turn : IsValidOver s f.turn
   pub slack : ForSome f.slack (IsValidOver s)
   pub mark : ForSome f.mark (IsValidOver s)
 
--- the levels of a curve's events are at most 11,000,000,000 millionths in size
+-- at each minute of a curve, the level of an event is at most 11,000,000,000 millionths of the unit in
+-- size
 abbrev pub HasLevels : Meaning → Type 0
 HasLevels c = (m : ℤ) → IsMinute c m → unsigned_abs (c.track.note m) ≤ 11000000000
 
--- the levels of the events of all requested curves are at most 11,000,000,000 millionths in size
+-- at each minute of each requested curve, the level of an event is at most 11,000,000,000 millionths of
+-- the unit in size
 pub record AllHaveLevels (f : Followed) : Type 0 where
   pub turn : HasLevels f.turn
   pub slack : ForSome f.slack HasLevels
@@ -134,12 +138,12 @@ pub record AreAccepted (f : Followed) (s : Span) (t : Tracks) : Type 0 where
   pub slack : IsAccepted s f.slack t.slack
   pub mark : IsAccepted s f.mark t.mark
 
--- the events of a curve have names, for both of its kinds
+-- in this unit the events of a curve have names, both the rising and the falling ones
 pub record IsNamed (units : Units) (c : Meaning) : Type 0 where
   pub rising : IsTrue (has_word units c.track.rising)
   pub falling : IsTrue (has_word units c.track.falling)
 
--- the events of all requested curves have names
+-- in this unit the events of all requested curves have names
 pub record AreNamed (units : Units) (f : Followed) : Type 0 where
   pub turn : IsNamed units f.turn
   pub slack : ForSome f.slack (IsNamed units)

@@ -18,7 +18,7 @@ pub record Waiting : Type 0 where
   pub at : ℤ
   pub cells : List Cell
 
--- the minute that a search has reached; 0 without a search
+-- the minute that a search has reached, since 1970-01-01T00:00Z; 0 without a search
 abbrev pub minute_of : {C : Type 0} → Option (Looking C) → ℤ
 minute_of None = pos 0
 minute_of (Some search) = search.at
@@ -44,7 +44,8 @@ cells_to_come w = length w.turn.cells + length w.slack.cells + length w.mark.cel
 
 -- ---- how far a step runs the searches
 
--- a search after it has advanced up to the first cell with an event, or to its end
+-- a search at minute `a` with these remaining cells, after it has advanced up to and past the first
+-- cell with an event, or to its end
 unfoldable pub searched : ℤ → List Cell → Waiting
 searched a [] = record { found = None; at = a; cells = [] }
 searched a (Quiet n ∷ cells) = searched (a +ℤ pos n) cells
@@ -69,13 +70,14 @@ looked w = looked_event w.found w
 abbrev pub given : Waiting → Waiting
 given w = record { found = None; at = w.at; cells = w.cells }
 
--- the second event, if there is one, isn't before the first
+-- the first event leads: the second one, if there is one, isn't listed before it
 abbrev pub leads : Option Event → Option Event → Bool
 leads a None = true
 leads None (Some e) = false
 leads (Some d) (Some e) = not (comes_before e d)
 
--- the track with the first event, if any track has one; the earlier track if two events are equal
+-- the track whose event is listed first, if any track has one; of equal events the one of the earlier
+-- track
 abbrev pub leading : Option Event → Option Event → Option Event → Leading
 leading turn slack mark =
     if leads turn slack

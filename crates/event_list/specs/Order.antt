@@ -13,7 +13,7 @@ comes_before d e =
     && (nat_lt (place_of d.kind) (place_of e.kind)
     || (place_of d.kind == place_of e.kind && int_lt d.level e.level)))
 
--- inserts an event into events that are in order
+-- inserts an event into events that are in the order in which they are listed
 unfoldable pub with_event : Event → List Event → List Event
 with_event e [] = e ∷ []
 with_event e (d ∷ ds) = if comes_before d e then d ∷ with_event e ds else e ∷ d ∷ ds

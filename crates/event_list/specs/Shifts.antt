@@ -36,7 +36,8 @@ use Rattle.station_table.specs.Offsets.{IsOffset, IsSlack}
 use Rattle.event_list.specs.declared.span.Span.{Span}
 use Rattle.event_list.specs.Order.{ordered}
 
--- the offsets of a basis are in the ranges of a table
+-- the offsets of a basis are in the ranges of a table: minutes from -1,440 to 1,440, factors from 1 to
+-- 100,000,000 millionths, and heights from -10,000,000,000 to 10,000,000,000 millionths
 pub record HasOffsets (b : Basis) : Type 0 where
   pub high : IsOffset b.high
   pub low : IsOffset b.low
@@ -49,15 +50,18 @@ abbrev pub slack_adds : Option Slack → List ℤ
 slack_adds None = []
 slack_adds (Some slack) = slack.flood_add ∷ slack.ebb_add ∷ []
 
--- the most minutes by which an event is moved: the greatest of the offsets' minutes
+-- the most minutes by which an event is moved later (or least earlier, if negative): the greatest of
+-- the offsets' minutes
 abbrev pub greatest_add : Basis → ℤ
 greatest_add b = fold int_max b.high.add (b.low.add ∷ slack_adds b.slack)
 
--- the least minutes by which an event is moved
+-- the least minutes by which an event is moved later (or most earlier, if negative): the least of the
+-- offsets' minutes
 abbrev pub least_add : Basis → ℤ
 least_add b = fold int_min b.high.add (b.low.add ∷ slack_adds b.slack)
 
--- the reference's span that determines all events of the station's span
+-- the reference's span that determines all events of the station's span from `begin` up to but not
+-- including `end`
 abbrev pub widened_of : Basis → ℤ → ℤ → Span
 widened_of b begin end = record { begin = begin -ℤ greatest_add b; end = end -ℤ least_add b }
 
@@ -67,12 +71,14 @@ widened_of b begin end = record { begin = begin -ℤ greatest_add b; end = end -
 abbrev pub later_by : ℤ → Offset
 later_by add = record usual { add = add }
 
--- the offset of a slack before flood
+-- the offset of a slack before a flood: that of the times of slack water, if there are any, else that
+-- of high waters
 abbrev pub flood_offset : Option Slack → Offset → Offset
 flood_offset None high = high
 flood_offset (Some slack) high = later_by slack.flood_add
 
--- the offset of a slack before ebb
+-- the offset of a slack before an ebb: that of the times of slack water, if there are any, else that of
+-- high waters
 abbrev pub ebb_offset : Option Slack → Offset → Offset
 ebb_offset None high = high
 ebb_offset (Some slack) high = later_by slack.ebb_add
@@ -87,15 +93,16 @@ offset_of b EbbBegins = ebb_offset b.slack b.high
 offset_of b MarkRising = b.high
 offset_of b MarkFalling = b.high
 
--- a level in millionths, times the offset's factor, rounded to whole millionths, plus the added level
+-- a level in millionths of the unit, times the offset's factor in millionths, rounded to whole
+-- millionths, plus the offset's height
 abbrev pub scaled : Offset → ℤ → ℤ
 scaled offset level = rounded_of (level *ℤ offset.times) 1000000 +ℤ offset.plus
 
--- an event moved and scaled by an offset
+-- an event moved by the minutes of an offset, and scaled by its factor and height
 abbrev pub moved_by : Offset → Event → Event
 moved_by offset e = record { minute = e.minute +ℤ offset.add; kind = e.kind; level = scaled offset e.level }
 
--- an event moved and scaled by the offset of its kind
+-- an event moved and scaled by the offset that the basis has for its kind
 abbrev pub moved : Basis → Event → Event
 moved b e = moved_by (offset_of b e.kind) e
 
@@ -105,15 +112,18 @@ moved b e = moved_by (offset_of b e.kind) e
 abbrev pub is_within : ℤ → ℤ → Event → Bool
 is_within begin end e = int_le begin e.minute && int_lt e.minute end
 
--- the events, moved and scaled, that are then within the span
+-- the events, moved and scaled by the offsets of their kinds, that are then from `begin` up to but not
+-- including `end`
 abbrev pub moved_within : Basis → ℤ → ℤ → List Event → List Event
 moved_within b begin end events = filter (is_within begin end) (map (moved b) events)
 
--- the events of a station, made from the events of its reference, in order
+-- the events of a station from `begin` up to but not including `end`, made from the events of its
+-- reference, in the order in which they are listed
 unfoldable pub shifted_of : Basis → ℤ → ℤ → List Event → List Event
 shifted_of b begin end events = ordered (moved_within b begin end events)
 
--- an event with a minute and a level small enough to be moved
+-- an event small enough to be moved: its minute is at most 10^12, and its level at most 11,000,000,000
+-- millionths of the unit in size
 pub record IsMovable (e : Event) : Type 0 where
   pub minute : unsigned_abs e.minute ≤ 10 ^ 12
   pub level : unsigned_abs e.level ≤ 11000000000

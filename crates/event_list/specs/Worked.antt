@@ -16,7 +16,8 @@ event minute kind level = record { minute = minute; kind = kind; level = level }
 
 -- ---- the pier
 
--- the pier's high and low waters for a day, from the minute before midnight on
+-- the pier's high and low waters for a day, from the minute before midnight on; levels are in
+-- millionths of a foot
 abbrev pub waters : List Event
 waters =
     event (negsuc 0) High (pos 999962)
@@ -41,8 +42,8 @@ marks = event (pos 119) MarkFalling (pos 507538) ∷ event (pos 600) MarkRising 
 
 -- ---- the stations near it
 
--- a dock: its highs are 30 minutes later at 1.1 times the level plus 0.1, and its lows 10 minutes
--- earlier at 0.9 times the level
+-- a dock: its highs are 30 minutes later than the pier's at 1.1 times the level plus 0.1 foot, and its
+-- lows 10 minutes earlier at 0.9 times the level
 abbrev pub dock : Basis
 dock = record { station = 0; row = Some 0; high = dock_high; low = dock_low; slack = None }
 
@@ -50,13 +51,13 @@ dock = record { station = 0; row = Some 0; high = dock_high; low = dock_low; sla
 abbrev pub gate : Basis
 gate = record dock { slack = Some (record { flood_add = pos 5; ebb_add = negsuc 4 }) }
 
--- an outer harbour: each event is 30 minutes later at twice the level plus 0.5
+-- an outer harbour: each event is 30 minutes later than the pier's at twice the level plus 0.5 foot
 abbrev pub harbour : Basis
 harbour = record { station = 0; row = Some 1; high = outer; low = outer; slack = None }
 
 -- ---- small tracks and curves
 
--- the cells of three tracks
+-- the cells of three tracks over 8 minutes
 abbrev pub tracks : Tracks
 tracks = record {
   turn = Quiet 2 ∷ Turn High (pos 7) ∷ Turn Low (pos 6) ∷ Quiet 4 ∷ [];

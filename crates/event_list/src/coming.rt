@@ -41,8 +41,8 @@ impl<C: Curve> Model for Coming<C> {
 impl<C: Curve> Coming<C> {
     ghost use Rattle.event_list.specs.Workings.Coming.{events_ahead, cells_ahead, first_of};
 
-    /// Wraps `search`, which may have advanced already, as a stream of the events in its remaining
-    /// cells.
+    /// Returns the events in the remaining cells of `search`, which may have advanced already; no event
+    /// without a search.
     pub fn new(search: Option<Search<C>>) -> Coming<C>
         ensures left { result.left ≡ events_ahead search }
         ensures waiting { result.waiting ≡ waiting None search }
@@ -58,8 +58,8 @@ impl<C: Curve> Coming<C> {
         }
     }
 
-    /// Returns the next event without removing it. If there is none, the search has returned all its
-    /// cells.
+    /// Returns the next event without removing it, or `None` if no event remains; then the search has
+    /// returned all its cells. The search advances to its next event, if it hasn't yet.
     pub fn peek(&mut self) -> Option<Event>
         ensures first { result ≡ first_of self.old.left }
         ensures found { result ≡ (looked self.old.waiting).found }
@@ -93,7 +93,7 @@ impl<C: Curve> Coming<C> {
         }
     }
 
-    /// Returns the number of cells that the search has returned until now.
+    /// Returns the number of cells that the search has returned since [`Coming::new`].
     pub fn cells(&self) -> u64
         ensures { result ≡ self.now.cells }
     {

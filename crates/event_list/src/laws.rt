@@ -23,8 +23,9 @@ ghost use Rattle.event_list.specs.Events.{
   AreNamed,
 };
 
-/// Proves that the events of accepted cells over the widened span, merged and shifted, are the station's
-/// events, and that the cells made by the halving rule are accepted and number at most three a minute.
+/// Proves that the events in accepted cells over the widened span, merged and then moved by the
+/// station's offsets, are the station's events. Also proves that the cells made by the halving rule are
+/// accepted, and that there are at most three cells for each minute of the span.
 pub fn cells_give_the_events()
     ensures accepted { (f : Followed) (b : Basis) (begin end : ℤ) (t : Tracks) →
         AreValidOver f (widened_of b begin end) → AreAccepted f (widened_of b begin end) t →
@@ -36,8 +37,8 @@ pub fn cells_give_the_events()
     ensures count_bound { (f : Followed) (s : Span) → cell_count f s ≤ 3 * span_minutes s }
 {}
 
-/// Proves that without offsets the widened span is the span, and the merged events are the station's
-/// unchanged.
+/// Proves that for a station without offsets the widened span is the span itself, and the merged events
+/// in accepted cells are the station's events, unchanged.
 pub fn plain_bases_move_nothing()
     ensures span { (b : Basis) (begin end : ℤ) → IsTrue (is_plain b) →
         widened_of b begin end ≡ record { begin = begin; end = end } }
@@ -49,17 +50,18 @@ pub fn plain_bases_move_nothing()
         merged_of begin (covers_of f (record { begin = begin; end = end })) ≡ station_events f b begin end }
 {}
 
-/// Proves that the events of accepted cells can be moved by a station's offsets, if both ends of the
-/// span are from -10^12 to 10^12 and the levels of each requested curve are at most 11,000,000,000
-/// millionths in size.
+/// Proves that the events in accepted cells are small enough to be moved by a station's offsets, if
+/// both ends of the span are from -10^12 to 10^12, and at each minute the levels of each requested
+/// curve are at most 11,000,000,000 millionths of the unit in size.
 pub fn accepted_events_can_be_moved()
     ensures { (f : Followed) (s : Span) (t : Tracks) → s.begin ≤ℤ s.end →
         unsigned_abs s.begin ≤ 10 ^ 12 → unsigned_abs s.end ≤ 10 ^ 12 →
         AreValidOver f s → AllHaveLevels f → AreAccepted f s t → All IsMovable (merged_of s.begin t) }
 {}
 
-/// Proves that each event of a station is in its span, and has a name if both kinds of each requested
-/// curve have one.
+/// Proves that each event of a station is from `begin` up to but not including `end`, and has a name if
+/// both kinds of each requested curve have one. Also proves that moved levels are at most
+/// 1,110,000,000,000 millionths of the unit in size.
 pub fn events_are_named()
     ensures within { (f : Followed) (b : Basis) (begin end : ℤ) →
         All (λ e. (begin ≤ℤ e.minute) × (e.minute <ℤ end)) (station_events f b begin end) }

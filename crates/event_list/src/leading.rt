@@ -7,7 +7,8 @@ ghost use Rattle.event_list.specs.Workings.Coming.{IsLeading};
 use crate::rank::comes_before;
 use curve_law::Event;
 
-/// The track whose next event is the first in the order of events.
+/// The track whose next event is the first of three tracks' next events, in the order in which events
+/// are listed.
 #[derive(Clone, Copy)]
 pub enum Leading {
     Turn,
@@ -15,7 +16,8 @@ pub enum Leading {
     Mark,
 }
 
-/// Returns the track with the first event in the order of events, if any track has one.
+/// Returns the track whose event is listed first: by minute, then by kind, then by level. Of equal
+/// events the one of the earlier track leads. If no track has an event, this is [`Leading::Turn`].
 pub fn leading_of(turn: Option<Event>, slack: Option<Event>, mark: Option<Event>) -> Leading
     ensures first { IsLeading result turn slack mark }
     ensures which { result ≡ leading turn slack mark }

@@ -11,8 +11,8 @@ use curve_law::{Curve, Event};
 use interval_search::Search;
 use std::marker::Model;
 
-/// The events of a station's searches in order, one at a time. A merge doesn't allocate, and a search
-/// advances only when its next event is needed.
+/// The events of a station's up to three searches in the order in which they are listed, one at a time.
+/// A merge doesn't allocate, and a search advances only when its next event is needed.
 ///
 /// In contracts its value is the remaining events, for each search its pending event and its remaining
 /// cells, the number of cells that the searches have returned until now, and the number of all their
@@ -36,8 +36,8 @@ impl<A: Curve, B: Curve> Model for Merge<A, B> {
 }
 
 impl<A: Curve, B: Curve> Merge<A, B> {
-    /// Returns a merge of searches that have reached the same minute. A track without a search has no
-    /// events.
+    /// Returns a merge of searches that have all reached the same minute. A track without a search has
+    /// no events.
     pub fn new(turn: Search<A>, slack: Option<Search<B>>, mark: Option<Search<B>>) -> Merge<A, B>
         requires slack_at { ForSome slack (λ search. search.at ≡ turn.at) }
         requires mark_at { ForSome mark (λ search. search.at ≡ turn.at) }
@@ -71,7 +71,7 @@ impl<A: Curve, B: Curve> Merge<A, B> {
         }
     }
 
-    /// Returns the number of cells that the searches have returned until now.
+    /// Returns the number of cells that the searches have returned since [`Merge::new`].
     pub fn cells(&self) -> u64
         ensures value { result ≡ self.now.cells }
         ensures given { result + cells_to_come self.now.waiting ≡ self.now.all }

@@ -8,8 +8,9 @@ use crate::turning::{add_followed_events, add_track_events};
 use curve_law::{Events, Tracks};
 use std::alloc::{AllocError, Global};
 
-/// Returns the events in the cells of all tracks, in order. The cells of each track begin at the minute
-/// `begin`, from -10^12 to 10^12, and the cells of one track have at most 6,000,000 minutes together.
+/// Returns the events in the cells of all tracks, by minute, then by kind, then by level. The first
+/// cell of each track begins at the minute `begin`, from -10^12 to 10^12, and the cells of one track
+/// have at most 6,000,000 minutes together.
 ///
 /// # Errors
 /// [`AllocError`] if memory runs out.

@@ -8,8 +8,9 @@ use crate::scaling::scaled;
 use curve_law::{Event, Kind};
 use station_table::{Basis, Offset};
 
-/// Returns the station's event for an event of its reference: the minutes of its kind's offset later, and
-/// the level times the factor, rounded to millionths of the unit, plus the added level.
+/// Returns the station's event for an event of its reference, by the offset of its kind. The minute is
+/// that of the reference plus the offset's minutes. The level is the reference's times the offset's
+/// factor, rounded to whole millionths of the unit, plus the offset's height.
 pub fn moved(basis: &Basis, event: &Event) -> Event
     requires offsets { HasOffsets basis.now }
     requires event { IsMovable event.now }

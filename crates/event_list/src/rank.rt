@@ -20,7 +20,8 @@ fn place(kind: Kind) -> u8
     kind as u8
 }
 
-/// Returns true if `first` is listed before `second`.
+/// Returns true if `first` is listed before `second`: at an earlier minute, or at the same minute with
+/// a kind of lower rank, or with the same minute and kind at a lower level.
 pub fn comes_before(first: &Event, second: &Event) -> bool
     ensures { result ≡ comes_before first.now second.now }
 {

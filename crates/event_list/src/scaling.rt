@@ -7,8 +7,9 @@ ghost use Rattle.event_list.specs.Shifts.{scaled};
 use decimal_text::rounded;
 use station_table::Offset;
 
-/// Returns the station's level for a `level` of its reference of up to 11,000,000,000 millionths of the
-/// unit in size: times the factor, rounded to millionths, plus the added level.
+/// Returns the station's level, in millionths of the unit, for a `level` of its reference of at most
+/// 11,000,000,000 millionths in size: times the offset's factor, rounded to whole millionths, plus the
+/// offset's height.
 pub fn scaled(offset: &Offset, level: i64) -> i64
     requires range { IsOffset offset.now }
     requires level { unsigned_abs level ≤ 11000000000 }

@@ -7,10 +7,11 @@ ghost use Rattle.curve_law.specs.Cells.{minutes_of, event_in, all_minutes, cell_
 use curve_law::{Cell, Cells, Event, Events};
 use std::alloc::{AllocError, Global};
 
-/// Returns the events in `cells`, of which the first begins at the minute `begin`, from -10^12 to 10^12,
-/// and which have at most 6,000,000 minutes together.
+/// Returns the events of one track's `cells`. The first cell begins at the minute `begin`, from -10^12
+/// to 10^12. The cells have at most 6,000,000 minutes together.
 ///
-/// The program doesn't call it: it lists the events of all tracks together.
+/// The program doesn't call this function: it lists the events of all tracks together, with
+/// [`merged`](crate::merged).
 ///
 /// # Errors
 /// [`AllocError`] if memory runs out.
@@ -24,7 +25,7 @@ pub fn track_events(alloc: Global, cells: &Cells, begin: i64) -> Result<Events, 
     Ok(Events::from_vec(events))
 }
 
-/// Appends the events of a track's `cells`, which begin at the minute `begin`.
+/// Appends the events of one track's `cells`, of which the first begins at the minute `begin`.
 ///
 /// # Errors
 /// [`AllocError`] if memory runs out.
@@ -59,7 +60,8 @@ fn add_event(events: &mut Vec<Event>, minute: i64, cell: Cell) -> Result<(), All
     Ok(())
 }
 
-/// Appends the events of an optional track.
+/// Appends the events of one track's `cells`, of which the first begins at the minute `begin`; nothing
+/// if there is no track.
 ///
 /// # Errors
 /// [`AllocError`] if memory runs out.

@@ -7,10 +7,11 @@ ghost use Rattle.event_list.specs.Events.{span_minutes};
 use crate::span::Span;
 use station_table::Basis;
 
-/// Returns the span of the reference that determines all events of a station's span: `begin` less the
-/// most and `end` less the least minutes by which the basis moves an event. `begin` and `end` are from
-/// -10^12 to 10^12, and `begin` isn't later. Offsets in the ranges of a table move each end by at most
-/// 1,440 minutes. It doesn't allocate.
+/// Returns the span of the reference that determines all events of a station's span from `begin` up to
+/// but not including `end`. It begins at `begin` less the most minutes by which the basis moves an
+/// event, and ends at `end` less the least. `begin` and `end` are from -10^12 to 10^12, and `begin`
+/// isn't later. If the offsets of `basis` are from -1,440 to 1,440 minutes, so are both moves. It
+/// doesn't allocate.
 pub fn widened(basis: &Basis, begin: i64, end: i64) -> Span
     requires forward { begin ≤ℤ end }
     requires begin { unsigned_abs begin ≤ 10 ^ 12 }

@@ -7,9 +7,9 @@ ghost use Rattle.event_list.specs.Shifts.{moved, shifted_of, widened_of};
 ghost use Rattle.event_list.specs.Events.{cell_count, cells_in, merged_of, station_events};
 ghost use Rattle.event_list.specs.Worked.{dock, event, gate, harbour, lines, marks, slacks, tracks, waters};
 
-/// Proves the spans of the reference of two subordinate stations, the dock and the gate, and how the
-/// events of their reference, the pier, are moved for the dock, the gate and the harbour: the dock's
-/// first high is a high of the day before, and its last is outside the span.
+/// Proves the spans of the reference, the pier, for a day of two subordinate stations, the dock and the
+/// gate. Also proves how the pier's events are moved for the dock, the gate and the harbour. The dock's
+/// first high is a high of the day before at the pier, and the dock's last high is after the span.
 #[tactic(auto, unfolding(decimal_text::specs::Rounding::rounded_of, crate::specs::Order::with_event, crate::specs::Order::ordered, crate::specs::Shifts::shifted_of))]
 pub fn worked_shifts()
     ensures dock_span { widened_of dock (pos 0) (pos 1440) ≡ record { begin = negsuc 29; end = pos 1450 } }
@@ -30,7 +30,8 @@ pub fn worked_shifts()
     ensures ends_before_it { shifted_of dock (pos 29) (pos 350) waters ≡ event (pos 29) Kind.High (pos 1199958) ∷ [] }
 {}
 
-/// Proves the order of some events, and the events of three tracks from their cells.
+/// Proves the order in which some events of two minutes are listed, and the events and the number of
+/// cells of three tracks of which the first cells begin at minute 10.
 #[tactic(auto, unfolding(curve_law::specs::Cells::cell_events, crate::specs::Order::with_event, crate::specs::Order::ordered, crate::specs::Events::merged_of, crate::specs::Events::cells_in))]
 pub fn worked_orders()
     ensures one_minute { ordered (event (pos 5) Kind.MarkFalling (pos 0) ∷ event (pos 5) Kind.Low (pos 9)
@@ -44,7 +45,8 @@ pub fn worked_orders()
     ensures cells { cells_in tracks ≡ 14 }
 {}
 
-/// Proves the events of two lines, at the dock and without offsets, and the number of their cells.
+/// Proves the events of two lines at the dock, which lists each high 30 minutes later and each low 10
+/// minutes earlier, and the number of cells of the lines over 8 minutes.
 #[tactic(auto, unfolding(decimal_text::specs::Rounding::rounded_of, curve_law::specs::Track::minutes, curve_law::specs::Track::plain_list, curve_law::specs::Cover::keeps_side, curve_law::specs::Cover::is_quiet, curve_law::specs::Cover::unit_cell, curve_law::specs::Cover::split_within, curve_law::specs::Cover::split, curve_law::specs::Cover::cover_within, curve_law::specs::Cover::cover, crate::specs::Order::with_event, crate::specs::Order::ordered, crate::specs::Events::station_events, crate::specs::Events::cells_in, crate::specs::Events::cell_count))]
 pub fn worked_stations()
     ensures dock { station_events lines dock (negsuc 9) (pos 32)
