@@ -44,36 +44,38 @@ unfoldable pub all_minutes : List PeakCell → ℕ
 all_minutes [] = 0
 all_minutes (cell ∷ cells) = minutes_of cell + all_minutes cells
 
--- twice the greatest value that a rate allows between two values n minutes apart: the sum of both values
--- and of the rate times the minutes
+-- twice the greatest value that a rate, a bound on the change in a minute, allows between two values n
+-- minutes apart: the sum of both values and of the rate times n
 abbrev pub twice_most : ℤ → ℕ → ℤ → ℤ → ℤ
 twice_most rate n v w = v +ℤ w +ℤ (rate *ℤ pos n)
 
--- by the rate, every value between two values n minutes apart is below `value`
+-- by the rate, every value between the values v and w, n minutes apart, is below `value`; false without
+-- a rate
 unfoldable pub stays_below : Option ℤ → ℕ → ℤ → ℤ → ℤ → Bool
 stays_below None n v w value = false
 stays_below (Some rate) n v w value = int_lt (twice_most rate n v w) (pos 2 *ℤ value)
 
--- by the rate, every value between two values n minutes apart is at most `value`
+-- by the rate, every value between the values v and w, n minutes apart, is at most `value`; false
+-- without a rate
 unfoldable pub stays_within : Option ℤ → ℕ → ℤ → ℤ → ℤ → Bool
 stays_within None n v w value = false
 stays_within (Some rate) n v w value = int_le (twice_most rate n v w) (pos 2 *ℤ value)
 
--- the n minutes from minute a on end by the minute `at`, and by the rate their values are all below
--- `value`
+-- the n minutes from minute `a` on are all before the minute `at`, and by the rate their values are all
+-- below `value`
 abbrev pub ends_below : Meaning → ℤ → ℤ → ℤ → ℕ → Bool
 ends_below c at value a n =
     int_le (a +ℤ pos n) at && stays_below (c.rate a n) n (c.track.value a) (c.track.value (a +ℤ pos n)) value
 
--- the n minutes from minute a on begin after the minute `at`, and by the rate their values are all at
--- most `value`
+-- the n minutes from minute `a` on are all after the minute `at`, and by the rate their values are all
+-- at most `value`
 abbrev pub begins_within : Meaning → ℤ → ℤ → ℤ → ℕ → Bool
 begins_within c at value a n =
     int_lt at a && stays_within (c.rate a n) n (c.track.value a) (c.track.value (a +ℤ pos n)) value
 
--- the n minutes from minute a on, 2 to 1,024, are under the value of the minute `at`: they end before it
--- with lower values, or begin after it with values that aren't greater; minutes that include `at` do
--- neither
+-- the n minutes from minute `a` on, n from 2 to 1,024, are under the point of the minute `at` and its
+-- value: by the rate they are all before `at` with lower values, or all after `at` with values that
+-- aren't greater; minutes that include `at` are neither
 unfoldable pub is_under : Meaning → ℤ → ℤ → ℤ → ℕ → Bool
 is_under c at value a n =
     nat_le 2 n && nat_le n MOST_MINUTES && (ends_below c at value a n || begins_within c at value a n)
@@ -90,8 +92,8 @@ split_within (suc halvings) c at value a n =
       ]
     ]
 
--- the cells of n minutes from minute a on: one that is under the highest water, or one of a single
--- minute, or the cells of the two halves, the shorter half first
+-- the cells of the n minutes from minute `a` on, for a highest water: one cell that is under it, or one
+-- of a single minute, or the cells of the two halves, the shorter half first
 unfoldable pub peak_split : Meaning → ℤ → ℤ → ℤ → ℕ → List PeakCell
 peak_split c at value a n = split_within n c at value a n
 
@@ -109,7 +111,7 @@ cover_within (suc blocks) c at value a n =
 unfoldable pub peak_cover : Meaning → ℤ → ℤ → ℤ → ℕ → List PeakCell
 peak_cover c at value a n = cover_within n c at value a n
 
--- the highest water of a span of n minutes, with its cells
+-- the highest water of the span of n minutes from minute `a` on, with the cells that show it
 unfoldable pub peak_of : Meaning → ℤ → ℕ → Peak
 peak_of c a n =
     let at = highest_minute c a n in

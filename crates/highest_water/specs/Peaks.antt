@@ -12,8 +12,8 @@ pub record IsHighest (c : Meaning) (begin end at value : ℤ) : Type 0 where
   pub greatest : (m : ℤ) → begin ≤ℤ m → m <ℤ end → c.track.value m ≤ℤ value
   pub first : (m : ℤ) → begin ≤ℤ m → m <ℤ at → c.track.value m <ℤ value
 
--- the minute m with the value v is higher than the minute `at` with `value`: v is greater, or v is equal
--- and m is earlier
+-- the minute m with the value v is higher than the minute `at` with `value`: v is greater, or v is
+-- equal and m is earlier than `at`
 abbrev pub is_higher : ℤ → ℤ → ℤ → ℤ → Bool
 is_higher at value m v = int_lt value v || (int_eq value v && int_lt m at)
 
@@ -22,7 +22,8 @@ abbrev pub higher_minute : Meaning → ℤ → ℤ → ℤ
 higher_minute c earlier later =
     if int_lt (c.track.value earlier) (c.track.value later) then later else earlier
 
--- the minute of the highest water of the n minutes from minute a on, by looking at each of them
+-- the minute of the highest water of the n minutes from minute `a` on, the first with their greatest
+-- value, by looking at each of them
 unfoldable pub highest_minute : Meaning → ℤ → ℕ → ℤ
 highest_minute c a zero = a
 highest_minute c a (suc n) = higher_minute c (highest_minute c a n) (a +ℤ pos n)

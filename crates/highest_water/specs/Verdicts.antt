@@ -11,8 +11,8 @@ use Rattle.highest_water.specs.declared.verdict.PeakVerdict.TheVariants.{WrongLe
 use Rattle.highest_water.specs.Peaks.{is_higher}
 use Rattle.highest_water.specs.Covers.{minutes_of, all_minutes, is_under}
 
--- the verdict on the cell with this number, which begins at minute a; the minute and the value are the
--- written ones
+-- the verdict on the cell with this number, counted from 1, which begins at minute `a`, for a claimed
+-- highest water with this minute and value
 unfoldable pub cell_verdict : Meaning → ℤ → ℤ → ℤ → ℕ → PeakCell → PeakVerdict
 cell_verdict c at value a number (Under n) = if is_under c at value a n then Accepted else NotUnder number
 cell_verdict c at value a number Single =
@@ -30,17 +30,18 @@ or_next (Above cell) next = Above cell
 or_next Accepted next = next
 
 -- the first verdict that doesn't accept on consecutive cells, of which the first has this number and
--- begins at minute a
+-- begins at minute `a`; Accepted if there is none
 unfoldable pub cells_verdict : Meaning → ℤ → ℤ → ℤ → ℕ → List PeakCell → PeakVerdict
 cells_verdict c at value a number [] = Accepted
 cells_verdict c at value a number (cell ∷ cells) =
     or_next (cell_verdict c at value a number cell) (cells_verdict c at value (a +ℤ pos (minutes_of cell)) (suc number) cells)
 
--- a minute is one of the n minutes from minute a on
+-- a minute is one of the n minutes from minute `a` on; `a + n` isn't
 abbrev pub is_inside : ℤ → ℤ → ℕ → Bool
 is_inside at a n = int_le a at && int_lt at (a +ℤ pos n)
 
--- the verdict on a highest water of the n minutes from minute a on; cells are counted from 1
+-- the verdict on a claimed highest water of the n minutes from minute `a` on: its cells' number of
+-- minutes is judged first, then its minute, then each cell; cells are counted from 1
 unfoldable pub peak_verdict : Meaning → ℤ → ℕ → Peak → PeakVerdict
 peak_verdict c a n peak =
     if all_minutes peak.cells == n

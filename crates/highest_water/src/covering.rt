@@ -10,8 +10,8 @@ use curve_law::{Curve, Point};
 use std::alloc::{AllocError, Global};
 
 /// Returns the cells showing that `value`, at minute `at`, is the highest water of the minutes from
-/// `begin` up to but not including `end`, all of them minutes of `curve`. Before the call the curve may
-/// have been evaluated at most 2^62 times; the call evaluates it at most once per cell, plus once.
+/// `begin` up to but not including `end`, both minutes of `curve`. Before the call the curve may have
+/// been evaluated at most 2^62 times; the call evaluates it at most once per cell, plus once.
 ///
 /// The program doesn't call it: the search for the highest water makes these cells.
 pub fn peak_cover<C: Curve>(
@@ -36,8 +36,8 @@ pub fn peak_cover<C: Curve>(
     cells_by(alloc, curve, begin, end, Point { minute: at, value })
 }
 
-/// Returns the cells of a span that the rule makes for the point `highest`, which need not be the
-/// highest water.
+/// Returns the cells that the halving rule makes for the point `highest`, which need not be the highest
+/// water, of the minutes from `begin` up to but not including `end`, both minutes of `curve`.
 pub fn cells_by<C: Curve>(
     alloc: Global,
     curve: &mut C,

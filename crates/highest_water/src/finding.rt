@@ -14,10 +14,10 @@ use curve_law::{Curve, Point, point_at};
 use interval_search::block_end;
 use std::alloc::{AllocError, Global};
 
-/// Returns the highest water of the minutes from `begin` up to but not including `end`, all of them
-/// minutes of `curve`: the first minute with the greatest value, this value, and the cells that show it.
-/// There are 1 to 5,270,400 minutes. Before the call the curve may have been evaluated at most 2^62
-/// times; the call evaluates it at most twice per minute and once per cell of the result, plus twice.
+/// Returns the highest water of the minutes from `begin` up to but not including `end`, both minutes of
+/// `curve`: the first minute with the greatest value, this value, and the cells that show it. There are
+/// 1 to 5,270,400 minutes. Before the call the curve may have been evaluated at most 2^62 times; the
+/// call evaluates it at most twice per minute and once per cell of the result, plus twice.
 pub fn find_peak<C: Curve>(
     alloc: Global,
     curve: &mut C,
@@ -44,10 +44,10 @@ pub fn find_peak<C: Curve>(
     })
 }
 
-/// Returns the highest water of the minutes from `begin` up to but not including `end`, all of them
-/// minutes of `curve`: the first minute with the greatest value, and this value. There are 1 to
-/// 5,270,400 minutes. Before the call the curve may have been evaluated at most 2^62 times; the call
-/// evaluates it at most twice per minute, plus once. It makes no cells and doesn't allocate.
+/// Returns the highest water of the minutes from `begin` up to but not including `end`, both minutes of
+/// `curve`: the first minute with the greatest value, and this value. There are 1 to 5,270,400 minutes.
+/// Before the call the curve may have been evaluated at most 2^62 times; the call evaluates it at most
+/// twice per minute, plus once. It makes no cells and doesn't allocate.
 pub fn highest_point<C: Curve>(curve: &mut C, begin: i64, end: i64) -> Point
     requires some { begin <ℤ end }
     requires length_bound { (end -ℤ begin) ≤ℤ pos 5270400 }

@@ -10,8 +10,8 @@ ghost use Rattle.highest_water.specs.Peaks.{IsHighest, highest_minute};
 ghost use Rattle.highest_water.specs.Covers.{all_minutes, is_under, peak_split, peak_cover, peak_of};
 ghost use Rattle.highest_water.specs.Verdicts.{peak_verdict};
 
-/// Proves that a span has exactly one highest water, and that an evaluation of each of its minutes finds
-/// it.
+/// Proves that a span of at least one minute has exactly one highest water, and that an evaluation of
+/// each of its minutes finds it.
 pub fn spans_have_one_highest_water()
     ensures some { (c : Meaning) (a : ℤ) (n : ℕ) → 1 ≤ n →
         IsHighest c a (a +ℤ pos n) (highest_minute c a n) (c.track.value (highest_minute c a n)) }
@@ -20,8 +20,9 @@ pub fn spans_have_one_highest_water()
         (at ≡ other_at) × (value ≡ other_value) }
 {}
 
-/// Proves how a block is cut: into one cell if it is a single minute or under the highest water, and
-/// otherwise into the cells of its first half, rounded down, followed by the cells of the rest.
+/// Proves how a block of minutes is cut into cells for a highest water. A single minute, or a block
+/// that is under the highest water, is one cell. Any other block is cut into the cells of its first
+/// half, of `n / 2` minutes rounded down, followed by the cells of the rest.
 pub fn blocks_are_halved()
     ensures one_minute { (c : Meaning) (at value a : ℤ) → peak_split c at value a 1 ≡ PeakCell.Single ∷ [] }
     ensures under { (c : Meaning) (at value a : ℤ) (n : ℕ) → is_under c at value a n ≡ true →
@@ -31,8 +32,9 @@ pub fn blocks_are_halved()
         ≡ peak_split c at value a (n / 2) ++ peak_split c at value (a +ℤ pos (n / 2)) (n - n / 2) }
 {}
 
-/// Proves how a span is cut: an empty span has no cells; from a longer one blocks of 1,024 minutes are
-/// cut off until at most 1,024 minutes remain, which are the last block.
+/// Proves how a span is cut into cells for a highest water. An empty span has none. From a span of more
+/// than 1,024 minutes the first 1,024 are cut off as a block, and so on, until at most 1,024 minutes
+/// remain, which are the last block.
 pub fn spans_are_cut_into_blocks()
     ensures no_minute { (c : Meaning) (at value a : ℤ) → peak_cover c at value a 0 ≡ [] }
     ensures last_block { (c : Meaning) (at value a : ℤ) (n : ℕ) → n ≤ MOST_MINUTES →
@@ -56,8 +58,8 @@ pub fn under_cells_hold_nothing_higher()
         a ≤ℤ at → (a +ℤ pos n) ≤ℤ at }
 {}
 
-/// Proves that a highest water that the check accepts is the span's, however it was made: it is the one
-/// that an evaluation of each minute finds.
+/// Proves that a highest water that the check accepts for a span is the span's, however it was made:
+/// its minute and value are those that an evaluation of each minute finds.
 pub fn accepted_highest_waters_are_right()
     ensures highest { (c : Meaning) (a : ℤ) (n : ℕ) (peak : Peak) → IsLawful c → IsSpan c a n →
         peak_verdict c a n peak ≡ PeakVerdict.Accepted → IsHighest c a (a +ℤ pos n) peak.at peak.value }
@@ -66,8 +68,8 @@ pub fn accepted_highest_waters_are_right()
         (peak.at ≡ highest_minute c a n) × (peak.value ≡ c.track.value (highest_minute c a n)) }
 {}
 
-/// Proves that the cells that the rule makes for a span have all its minutes and number at most one a
-/// minute, and that with them the span's highest water is accepted.
+/// Proves that the cells that the halving rule makes for a span cover all its minutes, that there are
+/// no more cells than minutes, and that the check accepts the span's highest water with these cells.
 pub fn covers_are_accepted()
     ensures minutes { (c : Meaning) (at value a : ℤ) (n : ℕ) → all_minutes (peak_cover c at value a n) ≡ n }
     ensures count_bound { (c : Meaning) (at value a : ℤ) (n : ℕ) → length (peak_cover c at value a n) ≤ n }
@@ -78,8 +80,8 @@ pub fn covers_are_accepted()
         peak_verdict c a n (peak_of c a n) ≡ PeakVerdict.Accepted }
 {}
 
-/// Proves that the highest water of a span, its cells and the verdicts on it don't depend on the minutes
-/// that a curve has elsewhere.
+/// Proves that the highest water of a span, its cells and the verdicts on it don't depend on the
+/// curve's first and last minute, only on its values and rates.
 pub fn highest_waters_are_those_of_more_minutes()
     ensures peak { (c : Meaning) (first last a : ℤ) (n : ℕ) → peak_of (at_minutes first last c) a n ≡ peak_of c a n }
     ensures verdicts { (c : Meaning) (first last a : ℤ) (n : ℕ) (peak : Peak) →

@@ -5,7 +5,7 @@ use crate::peak_cells::PeakCells;
 /// The highest water of a span, with the cells that show it.
 #[derive(Drop)]
 pub struct Peak {
-    /// The first minute with the greatest value of the span, since 1970-01-01T00:00Z.
+    /// The first minute of the span with the greatest value, in minutes since 1970-01-01T00:00Z.
     pub at: i64,
     /// The greatest value of the span.
     pub value: i128,

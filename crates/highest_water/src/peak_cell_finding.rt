@@ -12,8 +12,8 @@ use crate::under::is_under;
 use crate::verdict::PeakVerdict;
 use curve_law::{Curve, Point};
 
-/// Returns the verdict on `cell`, which has the number `number` and begins at the point `at`;
-/// `end_value` is the value at its end and `highest` the written highest water.
+/// Returns the verdict on `cell`, which has the number `number`, counted from 1, and begins at the
+/// point `at`. `end_value` is the value at the cell's end, and `highest` the claimed highest water.
 pub fn finding_on<C: Curve>(
     curve: &C,
     highest: Point,

@@ -6,7 +6,7 @@ use crate::under::is_under;
 use curve_law::{Curve, Point, point_at};
 use interval_search::{Piece, PieceRule};
 
-/// The rule that leaves pieces whole that are under `highest`, by exact values.
+/// The rule that leaves a piece whole if it is under the point `highest`, by exact values of the curve.
 #[derive(Drop)]
 pub struct UnderPieces {
     pub highest: Point,

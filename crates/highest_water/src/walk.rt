@@ -30,8 +30,9 @@ fn cell_of(piece: Piece) -> PeakCell
     }
 }
 
-/// Returns the start of a walk over the minutes from `begin` up to `end`. `highest` is the highest point
-/// found until now.
+/// Returns the start of a walk over the cells of the minutes from `begin` up to but not including
+/// `end`, both minutes of `curve`, which is evaluated once. `highest` is the highest point found until
+/// now.
 pub fn walk_from<C: Curve>(curve: &mut C, highest: Point, begin: i64, end: i64) -> Front
     requires size { unsigned_abs highest.value < 10 ^ 37 }
     requires forward { begin ≤ℤ end }
@@ -49,8 +50,8 @@ pub fn walk_from<C: Curve>(curve: &mut C, highest: Point, begin: i64, end: i64) 
     front_at(curve, &UnderPieces { highest }, begin, end)
 }
 
-/// Returns the next cell for the point `highest`, with the point at which it begins, or `None` at
-/// the end.
+/// Moves the walk past the next cell, and returns this cell with the point at which it begins, or
+/// `None` at the end. A cell of several minutes is under the point `highest`.
 pub fn next_cell<C: Curve>(curve: &mut C, front: &mut Front, highest: Point) -> Option<LocatedCell>
     requires size { unsigned_abs highest.value < 10 ^ 37 }
     requires walk_invariant { IsFront (C.state curve.old).facts.meaning.track.value (C.state curve.old) front.old }
