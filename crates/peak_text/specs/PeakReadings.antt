@@ -47,7 +47,8 @@ abbrev pub with_fault : {C : Type 0} → Result C ReadingFault → Result C Peak
 with_fault (Ok said) = Ok said
 with_fault (Err fault) = Err (fault_of fault)
 
--- the certificate of a highest water that the bytes are the text of, or the line of the fault
+-- the certificate of a highest water that the bytes are the text of or, if there is none, the line of
+-- the fault, counted from 1
 unfoldable pub peak_of : List ℕ → Result PeakCertificate PeakFault
 peak_of bytes = with_fault (read_by peak_part bytes)
 

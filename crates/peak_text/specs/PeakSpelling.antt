@@ -14,16 +14,16 @@ use Rattle.peak_text.specs.PeakTexts.{IsPeakValue}
 
 -- ---- the lines of a certificate
 
--- a line spells the value
+-- a line spells the value of a highest water: `value ` and the number, below 10^37 in size
 abbrev pub SpellsValue : ℤ → List ℕ → Type 0
 SpellsValue value line = IsPeakValue value × (line ≡ codes "value " ++ signed_decimal value)
 
--- a line spells a cell
+-- a line spells a cell: `u ` and a number of minutes from 2 to 1,024, or `m` for a single minute
 abbrev pub SpellsPeakCell : PeakCell → List ℕ → Type 0
 SpellsPeakCell (Under n) line = (2 ≤ n) × (n ≤ MOST_MINUTES) × (line ≡ codes "u " ++ decimal n)
 SpellsPeakCell Single line = line ≡ codes "m"
 
--- lines spell the cells, with the last line after them
+-- lines spell the cells, one each, with the last line, `done`, after them
 abbrev pub SpellsPeakCells : List PeakCell → List (List ℕ) → Type 0
 SpellsPeakCells cells [] = ⊥
 SpellsPeakCells [] (line ∷ lines) = (line ≡ codes "done") × (lines ≡ [])
@@ -48,8 +48,8 @@ SpellsPeak c [] = ⊥
 abbrev pub IsPeakTextOf : PeakCertificate → List ℕ → Type 0
 IsPeakTextOf c bytes = IsTextBy SpellsPeak c bytes
 
--- the bytes aren't the text of a certificate of a highest water, and this is the line of their first
--- fault
+-- the bytes aren't the text of a certificate of a highest water, and this is the line, counted from 1,
+-- of their first fault
 abbrev pub IsPeakFaultLine : List ℕ → ℕ → Type 0
 IsPeakFaultLine bytes line = IsFaultBy SpellsPeak bytes line
 

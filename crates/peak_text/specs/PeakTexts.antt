@@ -13,7 +13,8 @@ use Rattle.highest_water.specs.declared.peak_cell.PeakCell.TheVariants.{Under, S
 
 -- ---- the ranges of a certificate's parts
 
--- the value of a highest water, below 10^37 in size
+-- the value of a highest water, in 10^-21 of the reference's unit, times 4,147,200,000 (the total
+-- weight of a blend): below 10^37 in size
 abbrev pub IsPeakValue : ℤ → Type 0
 IsPeakValue value = unsigned_abs value < 10 ^ 37
 
@@ -22,7 +23,8 @@ abbrev pub IsPeakCell : PeakCell → Type 0
 IsPeakCell (Under n) = (2 ≤ n) × (n ≤ MOST_MINUTES)
 IsPeakCell Single = Unit {0}
 
--- a certificate of a highest water that has a text: its parts are in their ranges
+-- a certificate of a highest water that has a text: its name, its minutes, its value and its cells are
+-- in their ranges
 pub record IsPeakCertificate (c : PeakCertificate) : Type 0 where
   pub station : IsStationName c.station
   pub begin : IsMoment c.begin
@@ -33,7 +35,7 @@ pub record IsPeakCertificate (c : PeakCertificate) : Type 0 where
 
 -- ---- the lines
 
--- the first line
+-- the first line of a certificate
 unfoldable pub peak_title : List ℕ
 peak_title = codes "peak certificate 1"
 
@@ -54,7 +56,8 @@ peak_cell_line_of Single = codes "m"
 abbrev pub cell_lines_of : List PeakCell → List (List ℕ)
 cell_lines_of cells = map peak_cell_line_of cells ++ last_line ∷ []
 
--- the first six lines
+-- the first six lines: title, station, begin and end of the span, and minute and value of the highest
+-- water
 abbrev pub peak_head_lines_of : PeakCertificate → List (List ℕ)
 peak_head_lines_of c =
     peak_title ∷ (station_lines_of c.station c.begin c.end ++ at_line_of c.peak.at ∷ value_line_of c.peak.value ∷ [])

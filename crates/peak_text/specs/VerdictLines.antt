@@ -4,11 +4,11 @@ use Rattle.std.specs.Fmt.{signed_decimal}
 use Rattle.highest_water.specs.declared.verdict.PeakVerdict.{PeakVerdict}
 use Rattle.highest_water.specs.declared.verdict.PeakVerdict.TheVariants.{WrongLength, Outside, NotUnder, WrongValue, Above, Accepted}
 
--- the line for a cell by its number, counted from 1
+-- the line that rejects a cell, by its number, counted from 1, and what is wrong with it
 abbrev pub cell_line : ℕ → List ℕ → List ℕ
 cell_line cell what = codes "Rejected: cell " ++ decimal cell ++ what
 
--- the line of a verdict
+-- the line of a verdict on a claimed highest water, with its LF
 unfoldable pub verdict_line : PeakVerdict → List ℕ
 verdict_line (WrongLength covered wanted) =
     (codes "Rejected: cells cover " ++ signed_decimal covered) ++ (codes " of " ++ signed_decimal wanted ++ codes " minutes\n")

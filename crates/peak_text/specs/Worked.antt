@@ -5,7 +5,8 @@ use Rattle.cert_text.specs.Worked.{Change, change}
 use Rattle.peak_text.specs.declared.certificate.PeakCertificate.{PeakCertificate}
 use Rattle.highest_water.specs.declared.peak_cell.PeakCell.TheVariants.{Under, Single}
 
--- a certificate of 64 minutes at Pier, the first of which is the highest
+-- a certificate of 64 minutes at Pier from 2000-01-10T00:00Z on, the first of which is the highest, at
+-- one foot
 abbrev pub pier : PeakCertificate
 pier = record {
   station = codes "Pier";

@@ -11,7 +11,8 @@ pub enum PeakFault {
     #[error("no memory for the certificate")]
     NoMemory,
     /// The bytes aren't the text of a certificate of a highest water. `line`, counted from 1, is the
-    /// first line such that no such certificate begins with the lines up to it.
+    /// first line such that no certificate of a highest water begins with the lines up to and including
+    /// it.
     #[error("line {line} is of no certificate")]
     NotACertificate { line: u32 },
 }

@@ -13,7 +13,9 @@ const VALUE_DIGITS: usize = 37;
 /// The greatest number of digits of a cell's minutes.
 const MINUTE_DIGITS: usize = 4;
 
-/// Reads the highest water's value from its line, or returns `None` if `line` isn't such a line.
+/// Returns the highest water's value in `line`, which is `value ` and a whole number of at most 37
+/// digits. Returns `None` if `line` isn't such a line. The value is in 10^-21 of the reference's unit,
+/// times 4,147,200,000 (the total weight of a blend).
 #[tactic(auto, unfolding(crate::specs::Workings::PeakLineReading::value_of))]
 pub fn value_of(line: &[u8]) -> Option<i128>
     ensures { result ≡ value_of line.now }
@@ -40,7 +42,8 @@ fn under_of(line: &[u8]) -> Option<PeakCell>
     under_for(size_of(after(b"u ".as_slice(), line)?, MINUTE_DIGITS)?)
 }
 
-/// Reads a cell of a highest water from its line, or returns `None` if `line` isn't such a line.
+/// Returns the cell in `line`, which is `m` for a single minute, or `u ` and a number of minutes from 2
+/// to 1,024 for a cell under the highest water. Returns `None` if `line` isn't such a line.
 #[tactic(auto, unfolding(crate::specs::Workings::PeakLineReading::cell_of))]
 pub fn cell_of(line: &[u8]) -> Option<PeakCell>
     ensures { result ≡ cell_of line.now }

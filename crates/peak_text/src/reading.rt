@@ -73,9 +73,9 @@ fn read_lines(alloc: Global, lines: &mut LineCursor<'_>) -> Result<PeakCertifica
 ///
 /// # Errors
 /// [`PeakFault::NotACertificate`] exactly if `bytes` isn't the text of such a certificate. Its line is
-/// the first, counted from 1, such that no certificate begins with the lines up to it, each with its LF:
-/// bytes after the last LF aren't a line, and if the bytes end too early the line is one past the last.
-/// If memory runs out, [`PeakFault::NoMemory`] is returned in place of any other result.
+/// the first, counted from 1, such that no certificate begins with the lines up to and including it,
+/// each with its LF. Bytes after the last LF aren't a line. If the bytes end too early, the line is one
+/// past the last. If memory runs out, [`PeakFault::NoMemory`] is returned in place of any other result.
 pub fn read_peak(alloc: Global, bytes: &[u8]) -> Result<PeakCertificate, PeakFault>
     requires { length bytes.now ≤ MOST_BYTES }
     ensures exact { ReturnsUnless is_out_of_memory (peak_of bytes.now) result }

@@ -8,8 +8,8 @@ use decimal_text::Bytes;
 use highest_water::PeakVerdict;
 use std::alloc::{AllocError, Global};
 
-/// Returns the line that reports `verdict` on a highest water, with its LF: `Accepted`, or `Rejected`
-/// and the fault.
+/// Returns the line that reports `verdict` on a claimed highest water, with its LF: `Accepted`, or
+/// `Rejected` and the first fault.
 #[tactic(auto, unfolding(crate::specs::VerdictLines::verdict_line))]
 pub fn verdict_line(alloc: Global, verdict: PeakVerdict) -> Result<Bytes, AllocError>
     ensures { IfOk result (λ line. line ≡ verdict_line verdict) }

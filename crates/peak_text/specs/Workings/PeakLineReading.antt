@@ -6,7 +6,7 @@ use Rattle.curve_law.specs.declared.quiet.TheConstants.{MOST_MINUTES}
 use Rattle.highest_water.specs.declared.peak_cell.PeakCell.{PeakCell}
 use Rattle.highest_water.specs.declared.peak_cell.PeakCell.TheVariants.{Under, Single}
 
--- the value on its line
+-- the value of a highest water on its line, or None for another line
 unfoldable pub value_of : List ℕ → Option ℤ
 value_of line = option_and_then (number_of 37) (after (codes "value ") line)
 
@@ -18,6 +18,6 @@ under_for n = if nat_le 2 n && nat_le n MOST_MINUTES then Some (Under n) else No
 unfoldable pub under_of : List ℕ → Option PeakCell
 under_of line = option_and_then under_for (option_and_then (size_of 4) (after (codes "u ") line))
 
--- the cell of a line
+-- the cell of a line, `m` or such as `u 1024`, or None for another line
 unfoldable pub cell_of : List ℕ → Option PeakCell
 cell_of line = if bytes_eq line (codes "m") then Some Single else under_of line
