@@ -15,18 +15,21 @@ use Rattle.station_table.specs.Bases.{is_equal}
 use Rattle.station_span.specs.declared.asked.Asked.{Asked}
 use Rattle.station_span.specs.Sites.{Site}
 
--- slack waters are listed: for a current if its slack waters have separate offsets, or if its highs and
--- lows have the same offsets
+-- a station's slack waters are listed: it is a current, and its slack waters have separate offsets, or
+-- its high and low waters have the same offsets
 abbrev pub asks_slack : Units → Basis → Bool
 asks_slack Knots basis = is_some basis.slack || is_equal basis
 asks_slack _ basis = false
 
--- the factor of a slack's level, in millionths: a slack with separate offsets has the reference's level;
--- any other is where the station's level crosses 0
+-- the factor, in millionths, from the reference's level to a level whose crossings of 0 are the slacks:
+-- 1,000,000 if slack waters have separate offsets, since these move the reference's slacks; otherwise
+-- the high waters' factor, which is also the low waters'
 abbrev pub slack_times : Basis → ℤ
 slack_times basis = if is_some basis.slack then pos 1000000 else basis.high.times
 
--- the level added to a slack's level, in millionths of the unit
+-- the height, in millionths of the unit, added to the reference's level to get a level whose crossings
+-- of 0 are the slacks: 0 if slack waters have separate offsets, otherwise the high waters' height,
+-- which is also the low waters'
 abbrev pub slack_plus : Basis → ℤ
 slack_plus basis = if is_some basis.slack then pos 0 else basis.high.plus
 
@@ -35,8 +38,9 @@ abbrev pub if_asked : {A : Type 0} → Bool → A → Option A
 if_asked true curve = Some curve
 if_asked false curve = None
 
--- the curves of a station's tracks, with the rates of a version: of turns always, of slack waters if
--- they are listed, and of the mark if there is one
+-- the curves of a station's tracks, with the rates of a version: of high and low waters (or a current's
+-- greatest and least streams) always, of slack waters if they are listed, and of the mark if there is
+-- one
 unfoldable pub followed_by : Version → Book → Site → Option ℤ → Followed
 followed_by version book site mark = record {
   turn = predicted_turn version book site.station;
@@ -50,7 +54,7 @@ followed_by version book site mark = record {
 abbrev pub followed : Book → Site → Asked → Followed
 followed book site asked = followed_by Second book site asked.mark
 
--- the station's events over the span
+-- the station's events over the span of the request
 unfoldable pub events_of : Book → Site → Asked → List Event
 events_of book site asked = station_events (followed book site asked) site.basis asked.begin asked.end
 

@@ -24,24 +24,26 @@ highest_site book table name asked = do
   level ← level_in site.basis
   Ok site
 
--- the curve of the reference's level, unscaled and with a mark of 0
+-- the curve of the reference's level, without offsets and with a mark of 0: its values are in 10^-21 of
+-- the reference's unit, times 4,147,200,000 (the total weight of a blend)
 abbrev pub level_curve : Book → Site → Meaning
 level_curve book site = predicted_mark Second book site.station (pos 1000000) (pos 0) (pos 0) true
 
--- the reference's minute that the offset moves to the first minute of the span
+-- the reference's minute that the high-water offset moves to the first minute of the span
 abbrev pub first_source : Site → Asked → ℤ
 first_source site asked = asked.begin -ℤ site.basis.high.add
 
--- the number of minutes of the span
+-- the number of minutes of the span of the request, from its begin up to but not including its end
 abbrev pub minute_count : Asked → ℕ
 minute_count asked = unsigned_abs (asked.end -ℤ asked.begin)
 
--- the highest water among the minutes of the reference that the offset moves into the span, with its
--- cells
+-- the highest water of the reference among the minutes that the high-water offset moves into the span,
+-- with the cells that show it
 unfoldable pub highest_of : Book → Site → Asked → Peak
 highest_of book site asked = peak_of (level_curve book site) (first_source site asked) (minute_count asked)
 
--- the verdict on a highest water of the span, however it was made
+-- the verdict on a claimed highest water of the reference among the minutes that the high-water offset
+-- moves into the span, however it was made
 unfoldable pub highest_verdict : Book → Site → Asked → Peak → PeakVerdict
 highest_verdict book site asked peak =
     peak_verdict (level_curve book site) (first_source site asked) (minute_count asked) peak

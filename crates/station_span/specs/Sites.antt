@@ -38,7 +38,7 @@ pub record NamedSpan : Type 0 where
   pub name : List ℕ
   pub asked : Asked
 
--- the greatest number of minutes of a span
+-- the greatest number of minutes of a span of a request
 abbrev pub span_limit : ℤ
 span_limit = pos 5270400
 
@@ -56,8 +56,8 @@ level_unit Meters = Ok Meters
 level_unit Knots = Ok Knots
 level_unit KnotsSquared = Err Hydraulic
 
--- the minutes of the reference for levels: if highs and lows have the same offset, the span moved back
--- by it; otherwise the same as for events
+-- the minutes of the reference that are needed for levels: if high and low waters have the same offset,
+-- the span moved back by its minutes; otherwise the same as for events
 abbrev pub moved : Basis → ℤ → ℤ → Span
 moved basis begin end =
     if is_equal basis then record { begin = begin -ℤ basis.high.add; end = end -ℤ basis.high.add }
@@ -80,18 +80,19 @@ needs_minute Highest = true
 unfoldable pub lacks_minute : Reach → ℤ → ℤ → Bool
 lacks_minute reach begin end = needs_minute reach && int_le end begin
 
--- a minute is in the file's years, or is the first one after them
+-- a minute, since 1970-01-01T00:00Z, is in the file's years, or is the first one after them
 abbrev pub has_minute : Book → ℤ → Bool
 has_minute book minute =
     int_le (year_start_of book.first_year) minute
     && int_le minute (year_start_of (book.first_year +ℤ pos book.years))
 
--- the first minute of a span and the minute after its last are in the file's years or at their end
+-- the first minute of a span and its end, which isn't part of it, are in the file's years or the first
+-- minute after them
 abbrev pub has_span : Book → Span → Bool
 has_span book span = has_minute book span.begin && has_minute book span.end
 
--- the step of the span: its end isn't before its beginning, and the file has the minutes of the
--- reference that are needed
+-- the step of the span: its end isn't before its beginning, it has a minute if the request needs one,
+-- and the file has the minutes of the reference that are needed; otherwise it is refused
 unfoldable pub span_in : Reach → Book → Basis → ℤ → ℤ → Result (Unit {0}) Refusal
 span_in reach book basis begin end =
     if int_lt end begin then Err BackwardSpan
@@ -99,12 +100,12 @@ span_in reach book basis begin end =
     else if has_span book (reached reach basis begin end) then Ok tt
     else Err (OutOfYears (year_start_of book.first_year) (year_start_of (book.first_year +ℤ pos book.years)))
 
--- the step of the bounds on the constants: the station's curve, or the refusal
+-- the step of the limits on the constants: the station's curve, or the refusal
 abbrev pub curve_from : Result Prediction CurveFault → Result Prediction Refusal
 curve_from (Ok curve) = Ok curve
 curve_from (Err fault) = Err (refusal_of_curve fault)
 
--- the step of the length: at most 5,270,400 minutes
+-- the step of the length: a span of at most 5,270,400 minutes; a longer one is refused
 unfoldable pub length_in : ℤ → ℤ → Result (Unit {0}) Refusal
 length_in begin end =
     if int_lt span_limit (end -ℤ begin) then Err (SpanTooLong (end -ℤ begin)) else Ok tt
@@ -126,16 +127,16 @@ site_at reach book site asked = do
   mark ← mark_in site.basis asked.mark
   Ok site
 
--- all steps: the station of a name with its offsets, if a request about it has an answer, or the first
--- refusal
+-- all steps: the station called `name` with its offsets, if a request for this purpose over this span
+-- has an answer, or the first refusal
 unfoldable pub site_in : Reach → Book → List Offsets → List ℕ → Asked → Result Site Refusal
 site_in reach book table name asked = do
   basis ← basis_from (basis_of book table name)
   station ← ok_or (slice_get book.stations basis.station) NoStation
   site_at reach book (record { basis = basis; station = station }) asked
 
--- the station of a name with its offsets, if its reference has a curve for all minutes, or the first
--- refusal
+-- the station called `name` with its offsets, if its reference has a curve for all minutes of the file,
+-- or the first refusal
 unfoldable pub station_in : Book → List Offsets → List ℕ → Result Site Refusal
 station_in book table name = do
   basis ← basis_from (basis_of book table name)

@@ -3,10 +3,11 @@
 /// The span and the optional mark of a request about a station.
 #[derive(Clone, Copy)]
 pub struct Asked {
-    /// The first minute of the span, since 1970-01-01T00:00Z.
+    /// The first minute of the span, in minutes since 1970-01-01T00:00Z.
     pub begin: i64,
-    /// The end of the span, since 1970-01-01T00:00Z. It isn't part of the span.
+    /// The end of the span, in minutes since 1970-01-01T00:00Z. It isn't part of the span.
     pub end: i64,
-    /// The level whose crossings are listed, in millionths of the station's unit, or `None` if none are.
+    /// The mark: the level whose crossings are listed, in millionths of the station's unit, or `None`
+    /// if none are.
     pub mark: Option<i64>,
 }

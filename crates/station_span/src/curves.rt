@@ -12,8 +12,8 @@ use harmonics_book::Units;
 use rate_bound::{MarkCurve, TurnCurve, Version};
 use station_table::Basis;
 
-/// Returns the curve whose sign changes are the high and low waters of `found`'s reference, or a
-/// current's maximum floods and ebbs, with the rates of `version`.
+/// Returns the curve whose sign changes are the high and low waters of the reference of `found`, or a
+/// current's greatest and least streams, with the rates of `version`. It is not yet evaluated.
 pub fn turn_curve<'a>(found: &'a FoundStation, version: Version) -> TurnCurve<'a>
     ensures meaning { (⟦<TurnCurve<'a> as Curve>⟧.state result).facts.meaning ≡ turn_meaning version found.now.curve }
     ensures fresh { (⟦<TurnCurve<'a> as Curve>⟧.state result).count ≡ 0 }
@@ -21,8 +21,8 @@ pub fn turn_curve<'a>(found: &'a FoundStation, version: Version) -> TurnCurve<'a
     TurnCurve::new(&found.curve, version)
 }
 
-/// Returns the curve whose sign changes are a current's slack waters, with the rates of `version`, or
-/// `None` if the station's slack waters aren't listed.
+/// Returns the curve whose sign changes are a current's slack waters, with the rates of `version`, not
+/// yet evaluated. Returns `None` if the slack waters of the station `found` aren't listed.
 pub fn slack_curve<'a>(found: &'a FoundStation, version: Version) -> Option<MarkCurve<'a>>
     ensures meaning { option_map (λ curve. (⟦<MarkCurve<'a> as Curve>⟧.state curve).facts.meaning) result
         ≡ slack_over version found.now.curve found.now.basis }
@@ -37,8 +37,8 @@ pub fn slack_curve<'a>(found: &'a FoundStation, version: Version) -> Option<Mark
     Some(MarkCurve::new(&found.curve, version, times, plus, 0, true))
 }
 
-/// Returns the curve whose sign changes are the crossings of the mark, with the rates of `version`, or
-/// `None` if the request has no mark.
+/// Returns the curve whose sign changes are the crossings of the mark of the request, with the rates of
+/// `version`, not yet evaluated. Returns `None` if the request has no mark.
 pub fn mark_curve<'a>(found: &'a FoundStation, version: Version) -> Option<MarkCurve<'a>>
     ensures meaning { option_map (λ curve. (⟦<MarkCurve<'a> as Curve>⟧.state curve).facts.meaning) result
         ≡ mark_over version found.now.curve found.now.basis found.now.asked.mark }

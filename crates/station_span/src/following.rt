@@ -32,14 +32,14 @@ use tide_fault::Refusal;
 pub struct FoundEvents {
     pub units: Units,
     pub events: Events,
-    /// The number of cells of all tracks over the evaluated minutes of the reference.
+    /// The number of cells of all tracks over the minutes of the reference that were evaluated.
     pub cells: u64,
 }
 
 /// Returns the events of the station of `stations` that `request` names, over its span.
 ///
 /// # Errors
-/// The first [`Refusal`] in this order: the station, its unit, the span, the bounds on its constants,
+/// The first [`Refusal`] in this order: the station, its unit, the span, the limits on its constants,
 /// the mark. If memory runs out, [`Refusal::NoMemory`] is returned in place of any other result.
 pub fn list_station(
     alloc: Global,
@@ -55,7 +55,7 @@ pub fn list_station(
     Ok(find_events(alloc, &found)?)
 }
 
-/// Returns the events of the station `found` over its span. `found` is a result of
+/// Returns the events of the station `found` over the span of its request. `found` is a result of
 /// [`find_station`](crate::find_station) for [`Reach::Events`].
 ///
 /// # Examples
@@ -114,9 +114,10 @@ fn shifted_events(alloc: Global, merged: Events, found: &FoundStation) -> Result
     }
 }
 
-/// Returns a merge of the reference's events over its minutes, which yields one event at a time and
-/// doesn't allocate. If the station has no offsets, these are its events. `found` is a result of
-/// [`find_station`](crate::find_station) for [`Reach::Events`].
+/// Returns a merge of the events of the reference of `found` over its evaluated minutes. The merge
+/// yields one event at a time and doesn't allocate. If the station has no offsets, these are the
+/// station's events. `found` is a result of [`find_station`](crate::find_station) for
+/// [`Reach::Events`].
 pub fn merge_of<'a>(found: &'a FoundStation) -> Merge<TurnCurve<'a>, MarkCurve<'a>>
     requires { found.now.reach ≡ Reach.Events }
     ensures left { AreReferences found.now result.left }
@@ -127,8 +128,9 @@ pub fn merge_of<'a>(found: &'a FoundStation) -> Merge<TurnCurve<'a>, MarkCurve<'
     Merge::new(turn_search(found), slack_search(found), mark_search(found))
 }
 
-/// Returns the search for the reference's high and low waters, or a current's maximum floods and ebbs.
-/// It evaluates the curve at most once per cell, plus once.
+/// Returns the search for the high and low waters of the reference of `found`, or a current's greatest
+/// and least streams. It evaluates the curve at most once per cell, plus once. `found` is for
+/// [`Reach::Events`].
 pub fn turn_search<'a>(found: &'a FoundStation) -> Search<TurnCurve<'a>>
     requires { found.now.reach ≡ Reach.Events }
     ensures at { result.at ≡ found.now.span.begin }
@@ -142,8 +144,9 @@ pub fn turn_search<'a>(found: &'a FoundStation) -> Search<TurnCurve<'a>>
     )
 }
 
-/// Returns the search for a current's slack waters, or `None` if the station's slack waters aren't
-/// listed. It evaluates the curve at most once per cell, plus once.
+/// Returns the search for the slack waters of the reference of `found`, a current, or `None` if the
+/// station's slack waters aren't listed. It evaluates the curve at most once per cell, plus once.
+/// `found` is for [`Reach::Events`].
 pub fn slack_search<'a>(found: &'a FoundStation) -> Option<Search<MarkCurve<'a>>>
     requires { found.now.reach ≡ Reach.Events }
     ensures at { ForSome result (λ search. search.at ≡ found.now.span.begin) }
@@ -153,8 +156,9 @@ pub fn slack_search<'a>(found: &'a FoundStation) -> Option<Search<MarkCurve<'a>>
     search_if(slack_curve(found, Version::Second), &found.span)
 }
 
-/// Returns the search for the minutes at which the level crosses the mark, or `None` if the request has
-/// no mark. It evaluates the curve at most once per cell, plus once.
+/// Returns the search for the minutes of the reference at which the station's level crosses the mark,
+/// or `None` if the request of `found` has no mark. It evaluates the curve at most once per cell, plus
+/// once. `found` is for [`Reach::Events`].
 pub fn mark_search<'a>(found: &'a FoundStation) -> Option<Search<MarkCurve<'a>>>
     requires { found.now.reach ≡ Reach.Events }
     ensures at { ForSome result (λ search. search.at ≡ found.now.span.begin) }

@@ -13,20 +13,20 @@ use station_curve::StationCurve;
 use station_table::Basis;
 
 /// A station that was found by its name, with a span over which a request about it has an answer. Its
-/// curve has only the minutes of `span`.
+/// curve has only the minutes of `span` and the one at its end.
 #[derive(Drop)]
 pub struct FoundStation {
     /// The station's offsets from its reference.
     pub basis: Basis,
     /// The unit of the reference's levels.
     pub units: Units,
-    /// The curve of the reference's level and slope.
+    /// The curve of the reference's level and slope, for the minutes of `span` and the one at its end.
     pub curve: StationCurve,
     /// The purpose for which the reference's minutes were chosen.
     pub reach: Reach,
     /// The span and the mark of the request, in the station's minutes and levels, not the reference's.
     pub asked: Asked,
-    /// The minutes of the reference that are evaluated.
+    /// The minutes of the reference that are evaluated; its end is evaluated as well.
     pub span: Span,
     pub ghost unit: { units ≡ curve.station.units },
     pub ghost valid: { IsFound reach curve.book asked (site_with basis curve.station) },

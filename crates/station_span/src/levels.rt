@@ -15,11 +15,11 @@ use crate::station::earlier;
 use event_list::scaled;
 use tide_fault::Refusal;
 
-/// Returns `Ok` if the station has a level at each minute, because its highs and lows have the same
-/// offsets.
+/// Returns `Ok` if the station `found` has a level at each minute, because its high and low waters have
+/// the same offsets.
 ///
 /// # Errors
-/// [`Refusal::LevelNotHere`] if its highs and lows have different offsets.
+/// [`Refusal::LevelNotHere`] if its high and low waters have different offsets.
 #[tactic(auto, unfolding(crate::specs::Levels::level_in))]
 pub fn check_level(found: &FoundStation) -> Result<(), Refusal>
     ensures exact { result ≡ level_in found.now.basis }
@@ -35,8 +35,9 @@ pub fn check_level(found: &FoundStation) -> Result<(), Refusal>
     }
 }
 
-/// Returns the station's level at `minute`, in millionths of its unit: the reference's level at the
-/// minute that the offset moves to `minute`, scaled. It doesn't allocate.
+/// Returns the level of the station `found` at `minute`, since 1970-01-01T00:00Z, in millionths of its
+/// unit. This is the reference's level at `minute` less the minutes of the station's offset, times its
+/// factor, rounded to whole millionths, plus its height. It doesn't allocate.
 pub fn level_at(found: &FoundStation, minute: i64) -> i64
     requires { IsLooked found.now minute }
     ensures { result ≡ level_at found.now.curve.book (site_of found.now) minute }
@@ -45,8 +46,8 @@ pub fn level_at(found: &FoundStation, minute: i64) -> i64
     scaled(&found.basis.high, level)
 }
 
-/// Returns true if the station's level at `minute` rises: the slope there is above 0. It doesn't
-/// allocate.
+/// Returns true if the level of the station `found` rises at `minute`: the reference's slope at
+/// `minute` less the minutes of the station's offset is above 0. It doesn't allocate.
 pub fn is_rising(found: &FoundStation, minute: i64) -> bool
     requires { IsLooked found.now minute }
     ensures { result ≡ is_rising_at found.now.curve.book (site_of found.now) minute }
@@ -54,7 +55,8 @@ pub fn is_rising(found: &FoundStation, minute: i64) -> bool
     found.curve.slope(source(found, minute)) > 0
 }
 
-/// Returns the reference's minute that the station's offset moves to `minute`.
+/// Returns the reference's minute that the offset of the station `found` moves to `minute`: `minute`
+/// less the offset's minutes.
 pub fn source(found: &FoundStation, minute: i64) -> i64
     requires { IsLooked found.now minute }
     ensures exact { result ≡ minute -ℤ found.now.basis.high.add }
@@ -63,7 +65,9 @@ pub fn source(found: &FoundStation, minute: i64) -> i64
     earlier(minute, found.basis.high.add)
 }
 
-/// Proves levels of a station twice as high and of a station half as high as its reference.
+/// Proves levels, in millionths, that two offsets give from a reference's, of which one doubles the
+/// level and the other halves it. Also proves that a station has a level at each minute if its high and
+/// low waters have the same offsets, and no level otherwise.
 #[tactic(auto, unfolding(crate::specs::Levels::level_in, decimal_text::specs::Rounding::rounded_of))]
 pub fn worked_levels()
     ensures twice { scaled (record { add = pos 30; times = pos 2000000; plus = pos 500000 }) (pos 1000000) ≡ pos 2500000 }

@@ -26,8 +26,9 @@ use tide_fault::Refusal;
 /// highest water.
 ///
 /// # Errors
-/// The first [`Refusal`] in this order: the station, its unit, the span, the bounds on its constants,
-/// the mark, a level at each minute.
+/// The first [`Refusal`] in this order: the station, its unit, the span, the limits on its constants,
+/// the mark, a level at each minute. If memory runs out, [`Refusal::NoMemory`] is returned in place of
+/// any other result.
 ///
 /// # Examples
 /// ```
@@ -55,8 +56,8 @@ pub fn find_level(
     Ok(found)
 }
 
-/// Returns the highest water among the minutes of the reference that the offset moves into the span,
-/// with the cells that show it.
+/// Returns the highest water of the reference among the minutes that the high-water offset of `found`
+/// moves into the span of its request, with the cells that show it.
 pub fn find_highest(alloc: Global, found: &FoundStation) -> Result<Peak, AllocError>
     requires { HasPeak found.now }
     ensures exact { IfOk result (λ peak. peak ≡ highest_of found.now.curve.book (site_of found.now) found.now.asked) }
@@ -71,8 +72,8 @@ pub fn find_highest(alloc: Global, found: &FoundStation) -> Result<Peak, AllocEr
     Ok(peak)
 }
 
-/// Returns the minute of the reference's highest water among the minutes that the offset moves into the
-/// span. It makes no cells.
+/// Returns the minute of the highest water of the reference among the minutes that the high-water
+/// offset of `found` moves into the span of its request. It makes no cells.
 pub fn highest_minute(found: &FoundStation) -> i64
     requires { HasPeak found.now }
     ensures exact { result ≡ (highest_of found.now.curve.book (site_of found.now) found.now.asked).at }
@@ -81,9 +82,9 @@ pub fn highest_minute(found: &FoundStation) -> i64
     highest_point(&mut level_curve(found), found.span.begin, found.span.end).minute
 }
 
-/// Returns the verdict on `peak` as the highest water among the minutes of the reference that the offset
-/// moves into the span. The value of `peak` is below 10^37 in size, and it has fewer than 2^32 cells. It
-/// doesn't allocate.
+/// Returns the verdict on `peak` as the highest water of the reference among the minutes that the
+/// high-water offset of `found` moves into the span of its request. `peak.value` is below 10^37 in
+/// size, and `peak` has fewer than 2^32 cells. The call doesn't allocate.
 pub fn judge_highest(found: &FoundStation, peak: &Peak) -> PeakVerdict
     requires peak { HasPeak found.now }
     requires size { unsigned_abs peak.now.value < 10 ^ 37 }
@@ -99,7 +100,8 @@ pub fn judge_highest(found: &FoundStation, peak: &Peak) -> PeakVerdict
     )
 }
 
-/// Returns the station's minute to which the offset moves the reference's minute `at`.
+/// Returns the station's minute to which the high-water offset of `found` moves the reference's minute
+/// `at`: `at` plus the offset's minutes.
 pub fn moved_minute(found: &FoundStation, at: i64) -> i64
     requires peak { HasPeak found.now }
     requires inside { IsSourceIn (site_of found.now) found.now.asked at }

@@ -3,11 +3,11 @@
 /// The purpose of a request, which determines the minutes of the reference station that it needs.
 #[derive(Clone, Copy)]
 pub enum Reach {
-    /// Events: the minutes whose events the offsets can move into the span.
+    /// Events: the minutes of the reference whose events the station's offsets can move into the span.
     Events,
-    /// Levels: the minutes that the offset moves to minutes of the span.
+    /// Levels: the minutes of the reference that the station's offset moves to minutes of the span.
     Levels,
-    /// The highest water: the minutes that the offset moves into the span. The span has at least one
-    /// minute.
+    /// The highest water: the minutes of the reference that the station's offset moves into the span,
+    /// which has at least one minute.
     Highest,
 }

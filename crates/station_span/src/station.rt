@@ -65,7 +65,7 @@ const SPAN_LIMIT: i64 = 5_270_400;
 /// `reach`.
 ///
 /// # Errors
-/// The first [`Refusal`] in this order: the station, its unit, the span, the bounds on its constants,
+/// The first [`Refusal`] in this order: the station, its unit, the span, the limits on its constants,
 /// the mark. If memory runs out, [`Refusal::NoMemory`] is returned in place of any other result.
 ///
 /// # Examples
@@ -151,7 +151,7 @@ fn find_at(
     })
 }
 
-/// Returns the station at index `place` of `book`'s list.
+/// Returns the station at index `place`, counted from 0, of the list of `book`.
 pub fn station_at(book: &Book, place: u32) -> &Station
     requires { place < length book.now.stations }
     ensures { slice_get book.now.stations place ≡ Some result.now }
@@ -265,7 +265,8 @@ fn level_span(basis: &Basis, request: &StationRequest<'_>) -> Span
     }
 }
 
-/// Returns `minute` minus `add` minutes.
+/// Returns `minute` less `add` minutes; `minute` is at most 20,000,000,000 and `add` at most 1,440 in
+/// size.
 pub fn earlier(minute: i64, add: i32) -> i64
     requires minute { unsigned_abs minute ≤ 20000000000 }
     requires add { unsigned_abs add ≤ 1440 }

@@ -13,7 +13,8 @@ use station_curve::StationCurve;
 use std::alloc::Global;
 use tide_fault::Refusal;
 
-/// Returns the curve of `station`, which is at index `place` of `book`, for the minutes of `span`.
+/// Returns the curve of `station`, which is at index `place` of `book`, for the minutes of `span` and
+/// the one at its end.
 pub fn curve_over(
     alloc: Global,
     book: &ValidBook<'_>,
@@ -41,11 +42,11 @@ pub fn curve_over(
 }
 
 /// Returns the curve of `station`, which is at index `place` of `book`, for all minutes of the book's
-/// years.
+/// years and the first minute after them.
 ///
 /// # Errors
-/// [`Refusal::TooLarge`] or [`Refusal::TooSteep`] if its constants exceed a bound; [`Refusal::NoMemory`]
-/// if memory runs out.
+/// [`Refusal::TooLarge`] or [`Refusal::TooSteep`] if its constants exceed a limit in some year;
+/// [`Refusal::NoMemory`] if memory runs out.
 pub fn whole_curve(
     alloc: Global,
     book: &ValidBook<'_>,

@@ -24,8 +24,8 @@ impl<'a> Model for StationData<'a> {
 }
 
 impl<'a> StationData<'a> {
-    /// Returns the stations of `book` and of `table`; the caller proves that the values of `book` are in
-    /// their ranges.
+    /// Returns the stations of `book` and of `table`; the caller proves that the counts, names and
+    /// values of `book` are in the ranges of a file.
     pub fn new(book: &'a Book, table: &'a OffsetTable) -> StationData<'a>
         requires { IsBook book.now }
         ensures { result ≡ record { book = book.now; table = table.now } }

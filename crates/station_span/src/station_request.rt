@@ -28,8 +28,9 @@ impl<'a> Model for StationRequest<'a> {
 }
 
 impl<'a> StationRequest<'a> {
-    /// Returns the request about the station `name` over the span of `asked`, with its mark. Its minutes
-    /// are at most 20,000,000,000 in size, and its mark at most 10,000,000,000.
+    /// Returns the request about the station `name` over the span of `asked`, with its mark. The
+    /// minutes of `asked` are at most 20,000,000,000 in size, and its mark at most 10,000,000,000
+    /// millionths.
     pub fn new(name: &'a Text, asked: Asked) -> StationRequest<'a>
         requires { IsInRange asked }
         ensures { result ≡ record { name = name.now; asked = asked } }

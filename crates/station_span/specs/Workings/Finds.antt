@@ -60,16 +60,17 @@ FindsReference book expected (Err refusal) = Excused (refusal_is_out_of_memory r
 
 -- ---- levels
 
--- the level at this minute is the level of a reference's minute that may be evaluated
+-- the station's level at this minute is that of a minute of the reference that may be evaluated
 pub record IsLooked (found : FoundStation) (minute : ℤ) : Type 0 where
   pub from : found.span.begin ≤ℤ (minute -ℤ found.basis.high.add)
   pub until : (minute -ℤ found.basis.high.add) ≤ℤ found.span.end
 
--- each minute of the requested span up to its end has a level that may be evaluated
+-- each minute of the requested span, its end included, has a level that may be evaluated
 abbrev pub AreLooked : FoundStation → Type 0
 AreLooked found = (minute : ℤ) → found.asked.begin ≤ℤ minute → minute ≤ℤ found.asked.end → IsLooked found minute
 
--- a station with a span that has a highest water
+-- a station that was found with a span that has a highest water: the span has a minute, and the
+-- station's high and low waters have the same offsets
 pub record HasPeak (found : FoundStation) : Type 0 where
   pub reach : found.reach ≡ Highest
   pub equal : IsTrue (is_equal found.basis)

@@ -3,7 +3,8 @@ use Rattle.std.specs.Prelude.{ℤ, ◌+ℤ◌, ◌≤ℤ◌, ◌<ℤ◌}
 use Rattle.station_span.specs.declared.asked.Asked.{Asked}
 use Rattle.station_span.specs.Sites.{Site}
 
--- a reference's minute that the offset moves into the span
+-- a minute `at` of the reference that the high-water offset moves into the span, whose end isn't part
+-- of it
 pub record IsSourceIn (site : Site) (asked : Asked) (at : ℤ) : Type 0 where
   pub from : asked.begin ≤ℤ (at +ℤ site.basis.high.add)
   pub before : (at +ℤ site.basis.high.add) <ℤ asked.end

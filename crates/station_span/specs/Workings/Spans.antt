@@ -15,13 +15,15 @@ use Rattle.station_span.specs.declared.reach.Reach.{Reach}
 use Rattle.station_span.specs.Sites.{Site, lacks_minute, reached, span_limit}
 use Rattle.harmonics_book.specs.declared.book.Station.{Station}
 
--- a span and a mark in the range that a request, a certificate or a clock can name
+-- a span and a mark in the range that a request, a certificate or a clock can name: minutes of at most
+-- 20,000,000,000 and a mark of at most 10,000,000,000 millionths in size
 pub record IsInRange (asked : Asked) : Type 0 where
   pub begin : unsigned_abs asked.begin ≤ 20000000000
   pub end : unsigned_abs asked.end ≤ 20000000000
   pub mark : ForSome asked.mark (λ level. unsigned_abs level ≤ 10000000000)
 
--- a span whose end isn't before its beginning, and whose minutes are in range
+-- a span whose end isn't before its beginning, and whose begin and end are at most 100,000,000,000
+-- minutes in size
 pub record IsSpanInRange (s : Span) : Type 0 where
   pub forward : s.begin ≤ℤ s.end
   pub begin : unsigned_abs s.begin ≤ 100000000000
