@@ -32,7 +32,7 @@ finding_text (WrongStep cell) = cell_text cell ++ codes " has the wrong step\n"
 finding_text (WrongLevel cell written computed) =
     cell_text cell ++ (codes " has level " ++ signed_decimal written) ++ (codes ", computed " ++ signed_decimal computed ++ codes "\n")
 
--- the line of a rejection
+-- the line of a rejection, with its LF
 unfoldable pub rejection_line : Rejection → List ℕ
 rejection_line SlackWanted = codes "Rejected: slack track wanted\n"
 rejection_line SlackNotWanted = codes "Rejected: slack track not wanted\n"
@@ -52,13 +52,14 @@ abbrev pub fault_from : TrackName → Verdict → Option Rejection
 fault_from track Accepted = None
 fault_from track finding = Some (Track track finding)
 
--- the fault of a track's cells by its curve, over the evaluated minutes of the reference
+-- the fault of a track's cells by its curve over the minutes of `span`, or None if they are right or
+-- there is no track
 abbrev pub track_fault : Span → TrackName → Option Meaning → Option (List Cell) → Option Rejection
 track_fault span track (Some curve) (Some cells) = fault_from track (verdict curve span.begin (span_minutes span) cells)
 track_fault span track _ _ = None
 
--- the first fault of tracks: whether the slack track is present exactly if required, and then each track
--- in turn
+-- the first fault of tracks over the minutes of `span`: first whether the slack track is present
+-- exactly if required, and then the cells of each track in turn; None if they are right
 unfoldable pub rejection_of : Followed → Span → Tracks → Option Rejection
 rejection_of curves span tracks =
     option_or (option_or (option_or

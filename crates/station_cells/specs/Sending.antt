@@ -26,8 +26,8 @@ use Rattle.tide_edge.specs.declared.writing.WriteFailed.{WriteFailed}
 use Rattle.tide_edge.specs.SinkStates.{SinkState, put, sink_failed}
 use Rattle.station_cells.specs.declared.sending.Sent.{Sent}
 
--- a piece of a text and its cells are written after the bytes sent before: the whole piece, or the bytes
--- sent until a write failed
+-- a piece of a text and its cells are written after the bytes that `sent` counts: the whole piece or,
+-- if a write failed, only its first bytes
 abbrev pub Sends : SinkState → SinkState → Sent → List ℕ → ℕ → Result Sent WriteFailed → Type 0
 Sends before after sent text cells (Ok done) =
     (done.bytes ≡ sent.bytes + length text) × (done.cells ≡ sent.cells + cells) × (after ≡ put text before)

@@ -15,7 +15,8 @@ use curve_law::{Cell, Curve};
 use interval_search::Search;
 use tide_edge::{Sink, WriteFailed};
 
-/// Writes the heading and the cells of `track`, or nothing if `search` is `None`.
+/// Writes the heading of `track` and the line of each remaining cell of `search`, or nothing if
+/// `search` is `None`. Returns the new progress after `sent`.
 ///
 /// # Errors
 /// [`WriteFailed`] if the sink fails: then it has a prefix of the lines.
@@ -39,7 +40,8 @@ pub fn send_if_followed<C: Curve + Drop, S: Sink>(
     }
 }
 
-/// Writes the heading of `track`, and the line of each remaining cell of `search`.
+/// Writes the heading of `track`, and the line of each remaining cell of `search`. Returns the new
+/// progress after `sent`.
 ///
 /// # Errors
 /// [`WriteFailed`] if the sink fails: then it has a prefix of the lines.

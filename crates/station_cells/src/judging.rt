@@ -13,9 +13,10 @@ use cert_text::TrackName;
 use curve_law::{Cells, Curve, Tracks, Verdict};
 use event_list::Span;
 
-/// Returns the first fault of `tracks` over `span`, or `None` if they are right. It checks first whether
-/// the slack track is present exactly if there is a curve `slack`, and then the cells of each track. No
-/// curve has been evaluated yet, and each is valid over the span. It doesn't allocate.
+/// Returns the first fault of `tracks` over the minutes of `span`, or `None` if they are right. It
+/// checks first whether the slack track is present exactly if there is a curve `slack`, and then the
+/// cells of each track. No curve has been evaluated yet, and each has a value at each minute of `span`
+/// and at its end. It doesn't allocate.
 #[tactic(auto, unfolding(crate::specs::Rejections::rejection_of))]
 pub fn rejection_over<A: Curve + Drop, B: Curve + Drop>(
     turn: A,

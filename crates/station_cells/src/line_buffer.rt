@@ -14,14 +14,14 @@ use tide_edge::{Sink, WriteFailed};
 /// The most bytes of a cell's line with its LF.
 const MOST_CELL_BYTES: usize = 24;
 
-/// A buffer of the end of a text that isn't written yet, at most 4,096 bytes. It doesn't allocate.
+/// A buffer of the last bytes of a text, at most 4,096, that aren't written yet. It doesn't allocate.
 #[derive(Drop)]
 pub struct LineBuffer {
     text: ArrayString<4096>,
 }
 
 impl LineBuffer {
-    /// Returns an empty buffer of lines.
+    /// Returns an empty buffer.
     pub fn new() -> LineBuffer
         ensures { result.text.bytes ≡ [] }
     {
@@ -30,14 +30,14 @@ impl LineBuffer {
         }
     }
 
-    /// Returns true if there is room for the line of any cell.
+    /// Returns true if the buffer has room for the line of any cell, with its LF.
     pub fn has_room_for_cell(&self) -> bool
         ensures { IsTrue result ↔ (length self.now.text.bytes + MOST_CELL_BYTES ≤ 4096) }
     {
         self.text.len() + MOST_CELL_BYTES <= self.text.capacity()
     }
 
-    /// Appends the line of `cell`; the buffer has room for it.
+    /// Appends the line of `cell`, with its LF, at most 24 bytes. The buffer has room for it.
     pub fn put_cell(&mut self, cell: &Cell)
         requires cell { IsCell cell.now }
         requires room { length self.old.text.bytes + MOST_CELL_BYTES ≤ 4096 }
@@ -48,8 +48,9 @@ impl LineBuffer {
         push_cell_line(cell, &mut self.text);
     }
 
-    /// Appends `line`, of at most 4,096 bytes, to the buffer. If the buffer has no room for it, the
-    /// buffer's contents are written to `out` first.
+    /// Appends `line`, of at most 4,096 bytes, to the buffer, and returns the new progress. If the
+    /// buffer has no room for `line`, the buffer's contents are written to `out` first. `sent` counts
+    /// the bytes written before.
     ///
     /// # Errors
     /// [`WriteFailed`] if this write fails: then the buffer is unchanged.
@@ -71,7 +72,8 @@ impl LineBuffer {
         Ok(done)
     }
 
-    /// Writes the buffer's contents to `out`.
+    /// Writes the buffer's contents to `out`, and returns the new progress. `sent` counts the bytes
+    /// written before.
     ///
     /// # Errors
     /// [`WriteFailed`] if the write fails.

@@ -15,7 +15,8 @@ pub struct Sent {
     pub cells: u64,
 }
 
-/// Writes `piece` to `out`, after the text that `sent` counts, and returns the new progress.
+/// Writes `piece` to `out`, and returns the new progress. `sent` counts the bytes of the text that were
+/// written before.
 ///
 /// # Errors
 /// [`WriteFailed`] if the sink fails.
@@ -34,7 +35,8 @@ pub fn send<S: Sink>(out: &mut S, sent: Sent, piece: &str) -> Result<Sent, Write
     }
 }
 
-/// Writes a line, `prefix` followed by `name`, to `out`, and returns the new progress.
+/// Writes a line, `prefix` followed by `name` and an LF, to `out`, and returns the new progress. `sent`
+/// counts the bytes of the text that were written before.
 pub fn send_name<S: Sink>(
     out: &mut S,
     sent: Sent,
