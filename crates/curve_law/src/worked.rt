@@ -5,10 +5,10 @@ ghost use Rattle.curve_law.specs.declared.event.Event.{Event};
 ghost use Rattle.curve_law.specs.declared.kind.Kind.{Kind};
 ghost use Rattle.curve_law.specs.Track.{Track, plain_list};
 
-/// Proves the events of four tracks over the five minutes from -2 to 2, found by looking at each
-/// minute. The level is 10 times the minute. A value that rises past 0 has its event after the minute
-/// with the value 0, since 0 isn't above 0 yet. A value that touches 0 from below has no event, and one
-/// that touches 0 from above has two.
+/// Proves the events of four tracks over the five minutes from -2 to 2, or over the first two of them,
+/// found by looking at each minute. The level is 10 times the minute. A value that rises past 0 has its
+/// event after the minute with the value 0, since 0 isn't above 0 yet. A value that touches 0 from
+/// below has no event, and one that touches 0 from above has two.
 #[tactic(auto, unfolding(crate::specs::Track::minutes, crate::specs::Track::plain_list))]
 pub fn worked_rows()
     ensures rises { let t : Track = record { value = λ m. m; note = λ m. pos 10 *ℤ m; rising = Kind.Low; falling = Kind.High } in
