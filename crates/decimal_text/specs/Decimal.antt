@@ -50,7 +50,8 @@ unfoldable pub after_point : List ℕ → Option (List ℕ)
 after_point [] = Some []
 after_point (c ∷ rest) = if c == 46 then Some rest else None
 
--- the decimal with this sign, if only digits follow the point and there is at least one digit
+-- the decimal with this sign (negative if true), these digits before the point and these bytes after
+-- it, if only digits follow the point and there is at least one digit
 unfoldable pub made_of : Bool → List ℕ → List ℕ → Option Decimal
 made_of negative whole fraction =
     if list_all is_ascii_digit fraction && nat_lt 0 (length whole + length fraction)
@@ -72,7 +73,7 @@ numerator_of d = digits_value 10 (d.whole ++ d.fraction)
 abbrev pub signed : Bool → ℕ → ℤ
 signed negative n = if negative then neg_ℤ (pos n) else pos n
 
--- the integer is the decimal's value times 10 ^ places
+-- the integer n is the decimal's value times 10 ^ places, exactly
 abbrev pub IsScaled : Decimal → ℕ → ℤ → Type 0
 IsScaled d places n = n *ℤ pos (10 ^ length d.fraction) ≡ signed d.negative (numerator_of d) *ℤ pos (10 ^ places)
 
@@ -85,21 +86,23 @@ scaled places d =
     else if steps % unit == 0 then Ok (signed d.negative (steps / unit))
     else Err TooFine
 
--- the steps of 1 / 10 ^ places of a decimal, or BadForm if there is none
+-- a decimal as a whole number of steps of 1 / 10 ^ places, or the fault; BadForm if there is no decimal
 unfoldable pub scaled_or_bad : ℕ → Option Decimal → Result ℤ DecimalFault
 scaled_or_bad places None = Err BadForm
 scaled_or_bad places (Some d) = scaled places d
 
--- the value of a text as a whole number of steps of 1 / 10 ^ places, or its fault
+-- the decimal that a text writes, as a whole number of steps of 1 / 10 ^ places, or its fault
 unfoldable pub read_of : List ℕ → ℕ → Result ℤ DecimalFault
 read_of text places = scaled_or_bad places (decimal_of text)
 
--- each number that is read from a text, over 10 ^ places, is the fraction that the text's digits write
+-- each number n that is read from a text is the fraction that the text's digits write, times 10 ^
+-- places
 abbrev pub ReadsItsFraction : Type 0
 ReadsItsFraction = (text : List ℕ) (places : ℕ) (n : ℤ) → read_of text places ≡ Ok n
     → IsSomeAnd (decimal_of text) (λ d. IsScaled d places n)
 
--- the fraction of a text that is refused as TooFine isn't a whole number of steps
+-- the fraction that a text writes that is refused as TooFine isn't a whole number of steps of 1 / 10 ^
+-- places
 abbrev pub TooFineIsNoFraction : Type 0
 TooFineIsNoFraction = (text : List ℕ) (places : ℕ) (n : ℤ) → read_of text places ≡ Err TooFine
     → IsSomeAnd (decimal_of text) (λ d. ¬ (IsScaled d places n))

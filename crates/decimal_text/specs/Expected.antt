@@ -33,7 +33,9 @@ Excuses memory firm expected fault = Unit {0}
 Excuses outside firm expected fault = firm → expected ≡ Err fault
 Excuses given firm expected fault = expected ≡ Err fault
 
--- a returned value is the expected one, and a returned error is excused
+-- a returned value is the expected one, and a returned error is excused: if the cause is memory,
+-- nothing is implied; if it is an outside object, it is the expected error if the object was steady;
+-- else it is the expected error
 abbrev pub Meets : {T E : Type 0} → (E → Source) → Type 0 → Result T E → Result T E → Type 0
 Meets source firm expected (Ok value) = expected ≡ Ok value
 Meets source firm expected (Err fault) = Excuses (source fault) firm expected fault

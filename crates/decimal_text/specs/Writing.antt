@@ -12,12 +12,12 @@ abbrev pub minus_of : ℤ → List ℕ
 minus_of (pos n) = []
 minus_of (negsuc n) = 45 ∷ []
 
--- the point (46) and the last `places` digits; no byte if `places` is 0
+-- the point (46) and the last `places` digits of n; no byte if `places` is 0
 abbrev pub fraction_of : ℕ → ℕ → List ℕ
 fraction_of zero n = []
 fraction_of (suc places) n = 46 ∷ last_digits (suc places) n
 
--- the digits before the point
+-- the digits before the point of value / 10 ^ places, at least one
 abbrev pub whole_of : ℤ → ℕ → List ℕ
 whole_of value places = decimal (unsigned_abs value / 10 ^ places)
 

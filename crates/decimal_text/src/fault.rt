@@ -4,10 +4,10 @@
 /// allows.
 #[derive(Clone, Copy, Debug, PartialEq, Eq)]
 pub enum DecimalFault {
-    /// The text isn't an optional sign, digits, and an optional point with digits.
+    /// The text isn't an optional sign, digits, and an optional point with digits, or it has no digit.
     BadForm,
     /// The text has more than 18 digits before its point.
     TooLong,
-    /// The text has a digit other than 0 after the last decimal place allowed.
+    /// The text has a digit other than 0 after the last decimal place that the caller allows.
     TooFine,
 }

@@ -8,15 +8,16 @@ ghost use Rattle.decimal_text.specs.Writing.{write_of};
 ghost use Rattle.decimal_text.specs.declared.fault.DecimalFault.TheVariants.{BadForm, TooLong, TooFine};
 ghost use Rattle.decimal_text.specs.declared.limits.TheConstants.{MOST_BYTES};
 
-/// Proves that if [`crate::read`] returns a number `n` for a text, `n / 10^places` is the fraction that
-/// the text writes, and that if it refuses a text as too fine, no whole number of steps is that
-/// fraction.
+/// Proves that if [`crate::read`] returns a number `n` for a text and a number of decimal places, `n /
+/// 10^places` is the fraction that the text writes. Also proves that if it refuses a text as too fine,
+/// no whole number over `10^places` is that fraction.
 pub fn reads_its_fraction()
     ensures read { ReadsItsFraction }
     ensures too_fine { TooFineIsNoFraction }
 {}
 
-/// Proves examples of texts with the numbers or errors that they read as.
+/// Proves examples of texts read as decimals: each with the number of decimal places and the result, a
+/// whole number of steps of `1 / 10^places` or an error.
 #[tactic(auto, unfolding(crate::specs::Decimal::read_of, crate::specs::Decimal::decimal_of, crate::specs::Decimal::after_point, crate::specs::Decimal::made_of, crate::specs::Decimal::scaled_or_bad, crate::specs::Decimal::scaled))]
 pub fn worked_readings()
     ensures negative { read_of (codes "-1.50") 2 ≡ Ok (negsuc 149) }
@@ -35,7 +36,8 @@ pub fn worked_readings()
     ensures greatest { read_of (codes "999999999999999999.9") 9 ≡ Ok (pos 999999999999999999900000000) }
 {}
 
-/// Proves examples of texts with the whole numbers that their digits write.
+/// Proves examples of texts read as whole numbers of at most so many digits: the number, or `None` if
+/// the text has another form.
 #[tactic(auto, unfolding(crate::specs::Digits::digits_of))]
 pub fn worked_digits()
     ensures zeros_first { digits_of 4 (codes "0019") ≡ Some 19 }
@@ -46,7 +48,8 @@ pub fn worked_digits()
     ensures past_64_bits { digits_of 20 (codes "18446744073709551616") ≡ Some 18446744073709551616 }
 {}
 
-/// Proves examples of numbers with the decimals that they are written as.
+/// Proves examples of numbers of steps of `1 / 10^places` with the decimals that they are written as;
+/// the second number is `places`.
 pub fn worked_writings()
     ensures below_one { write_of (negsuc 4) 2 ≡ codes "-0.05" }
     ensures zero { write_of (pos 0) 2 ≡ codes "0.00" }
@@ -55,7 +58,8 @@ pub fn worked_writings()
     ensures zeros_behind { write_of (negsuc 99) 2 ≡ codes "-1.00" }
 {}
 
-/// Proves examples of fractions with the whole numbers nearest to them.
+/// Proves examples of fractions, numerator and denominator, with the whole numbers nearest to them; a
+/// half is rounded away from 0.
 #[tactic(auto, unfolding(crate::specs::Rounding::rounded_of))]
 pub fn worked_roundings()
     ensures half { rounded_of (pos 15) 10 ≡ pos 2 }

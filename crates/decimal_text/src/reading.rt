@@ -30,7 +30,7 @@ use crate::steps::{Steps, power_of_ten};
 /// The most digits before the point.
 const MOST_WHOLE_DIGITS: usize = 18;
 
-/// Returns the decimal `text` as a whole number of steps of `1 / 10^places`; `places` is at most 9.
+/// Returns the decimal `text` as a whole number of steps of `1 / 10^places`; `places` is from 0 to 9.
 ///
 /// A decimal is an optional `+` or `-`, digits, and an optional point with digits, with at least one
 /// digit in all. The text is read once from left to right, whatever its length. It doesn't allocate.
@@ -38,7 +38,7 @@ const MOST_WHOLE_DIGITS: usize = 18;
 /// # Errors
 /// The first of these that applies: [`DecimalFault::BadForm`] if `text` isn't a decimal;
 /// [`DecimalFault::TooLong`] if it has more than 18 digits before the point; [`DecimalFault::TooFine`]
-/// if a digit after the last of its `places` isn't 0.
+/// if a digit after the first `places` decimals isn't 0.
 ///
 /// # Examples
 /// ```

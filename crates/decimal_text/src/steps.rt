@@ -24,14 +24,16 @@ pub fn power_of_ten(exponent: u32) -> u64
     }
 }
 
-/// The digits of a fraction read until now, as a whole number of steps of `1 / 10^places`.
+/// The decimals of a fraction read until now, as a whole number of steps of `1 / 10^places`, where
+/// `places` is the number of decimals that count.
 #[derive(Clone, Copy)]
 pub struct Steps {
-    /// The number that the digits read until now write, up to the last decimal place.
+    /// The number that the decimals read until now write, without those after the last decimal place
+    /// that counts.
     pub value: u64,
-    /// The number of decimal places of the fraction that are still to be read.
+    /// The number of decimal places that count and are still to be read.
     pub left: u32,
-    /// True if every digit read after the last decimal place is 0.
+    /// True if every digit read after the last decimal place that counts is 0.
     pub exact: bool,
 }
 
@@ -57,7 +59,8 @@ impl Steps {
         }
     }
 
-    /// Returns the number of steps if the fraction ends here: each decimal place not read counts as 0.
+    /// Returns the number of steps of `1 / 10^places` if the fraction ends here: each decimal place not
+    /// read counts as 0.
     pub fn total(self) -> u64
         requires { (self.value + 1) * 10 ^ self.left ≤ 10 ^ 9 }
         ensures value { result ≡ self.value * 10 ^ self.left }
@@ -66,8 +69,8 @@ impl Steps {
         self.value * power_of_ten(self.left)
     }
 
-    /// Returns the digits of `fraction` read to `places` decimal places, at most 9, or `None` if
-    /// `fraction` has a byte that isn't a digit.
+    /// Returns the state after all digits of `fraction`, of which the first `places` count, or `None`
+    /// if `fraction` has a byte that isn't a digit. `places` is from 0 to 9.
     pub fn over(fraction: &[u8], places: u32) -> Option<Steps>
         requires { places ≤ 9 }
         ensures { MatchOption result

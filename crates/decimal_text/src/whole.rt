@@ -19,7 +19,7 @@ pub fn are_digits(text: &[u8]) -> bool
     text.iter().all(|byte| byte.is_ascii_digit())
 }
 
-/// Returns the number that the digits of `text`, at most 19, write: 0 if there is no digit.
+/// Returns the number that `text`, of 0 to 19 digits, writes: 0 if there is no digit.
 pub fn digits_value(text: &[u8]) -> u64
     requires count_bound { length text.now ≤ 19 }
     requires digits { list_all is_ascii_digit text.now ≡ true }
@@ -33,7 +33,7 @@ pub fn digits_value(text: &[u8]) -> u64
     value
 }
 
-/// Returns the number that the digits of `text`, at most 38, write: 0 if there is no digit.
+/// Returns the number that `text`, of 0 to 38 digits, writes: 0 if there is no digit.
 pub fn wide_digits_value(text: &[u8]) -> u128
     requires count_bound { length text.now ≤ 38 }
     requires digits { list_all is_ascii_digit text.now ≡ true }

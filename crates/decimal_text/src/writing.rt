@@ -9,7 +9,7 @@ use crate::digit::push_digit;
 use arrayvec::ArrayString;
 use itoa::Buffer;
 
-/// Writes `value / 10^places` to the empty `out` with exactly `places` decimals, at most 6.
+/// Writes `value / 10^places` to the empty `out` with exactly `places` decimals, from 0 to 6.
 ///
 /// The text has at least one digit before the point, `-` only if the value is negative, and no point if
 /// `places` is 0. It doesn't allocate.
