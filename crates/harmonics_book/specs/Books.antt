@@ -14,7 +14,8 @@ pub record IsWithin (low high x : ℤ) : Type 0 where
 abbrev pub IsLatinNameByte : ℕ → Type 0
 IsLatinNameByte b = ((32 ≤ b) × (b ≤ 126)) ⊎ ((128 ≤ b) × (b ≤ 255))
 
--- a name: UTF-8 of 1 to `most` bytes of ISO 8859-1
+-- a name: the UTF-8 text of 1 to `most` characters of ISO 8859-1, none of them a control character of
+-- ASCII
 pub record IsName (most : ℕ) (name : List ℕ) : Type 0 where
   pub latin : List ℕ
   pub spelled : name ≡ encode_utf8_all latin
@@ -22,12 +23,14 @@ pub record IsName (most : ℕ) (name : List ℕ) : Type 0 where
   pub short : length latin ≤ most
   pub printable : All IsLatinNameByte latin
 
--- a valid constituent: its name, and its speed in its range
+-- a valid constituent: its name has 1 to 32 characters, and its speed is from 0 to 3,600,000,000
+-- ten-millionths of a degree an hour
 pub record IsConstituent (c : Constituent) : Type 0 where
   pub name : IsName 32 c.name
   pub speed : IsWithin (pos 0) (pos 3600000000) c.speed
 
--- a valid station of a book with `count` constituents
+-- a valid station of a book with `count` constituents: its name and values are in the ranges of a file,
+-- and it has an amplitude and an epoch for each constituent
 pub record IsStation (count : ℕ) (s : Station) : Type 0 where
   pub name : IsName 200 s.name
   pub meridian : IsWithin (negsuc 958) (pos 959) s.meridian

@@ -6,8 +6,8 @@ ghost use Rattle.harmonics_book.specs.Books.{IsBook};
 use crate::book::Book;
 use std::marker::Model;
 
-/// A borrowed book, proved to be valid: its counts, names and values are in the ranges of a file. In
-/// contracts its value is the book.
+/// A borrowed book, proved to be valid: its counts, names and values are in the ranges that a file of
+/// harmonic constants can have. In contracts its value is the book.
 #[derive(Drop)]
 pub struct ValidBook<'a> {
     book: &'a Book,
@@ -26,8 +26,8 @@ impl<'a> Model for ValidBook<'a> {
 }
 
 impl<'a> ValidBook<'a> {
-    /// Returns `book` as a valid book; the caller proves that its counts, names and values are in their
-    /// ranges.
+    /// Returns `book` as a valid book; the caller proves that its counts, names and values are in the
+    /// ranges of a file.
     pub fn new(book: &'a Book) -> ValidBook<'a>
         requires { IsBook book.now }
         ensures { result ≡ book.now }
