@@ -20,19 +20,21 @@ pub enum LoadFault {
     Failed,
     /// The file has more bytes than the limit that the caller gave.
     TooLong,
-    /// The file has a bad line, or memory ran out.
+    /// The file has a line that breaks a rule of the format, or memory ran out.
     Book(BookFault),
 }
 
 /// Loads the book of the file `name`, if it has at most `limit` bytes; `limit` is at most 400,000,000.
 /// The file is read in pieces of at most 65,536 bytes, which aren't kept. It is read to its end also
-/// after a bad line, so that a failure of reading takes precedence. The file is opened at most once, its
-/// end is found at most once, and at most one piece past `limit` is read, whatever the result.
+/// after a bad line, so that a failure of reading takes precedence. Whatever the result, the file is
+/// opened at most once, its end is found at most once, and at most one piece past `limit` bytes is
+/// read.
 ///
 /// # Errors
-/// [`LoadFault::Failed`] exactly if the count of faults of `files` grows by one, and if the files are
-/// steady only if there is no file `name`; [`LoadFault::TooLong`] exactly if more than `limit` bytes
-/// were read; otherwise [`LoadFault::Book`] with the file's first bad line, or if memory runs out.
+/// [`LoadFault::Failed`] exactly if the count of faults of `files` grows by one; if the files are
+/// steady, this is so only if there is no file `name`. [`LoadFault::TooLong`] exactly if more than
+/// `limit` bytes were read. Otherwise [`LoadFault::Book`] with the file's first bad line, or if memory
+/// runs out.
 ///
 /// # Examples
 /// ```
