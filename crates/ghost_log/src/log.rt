@@ -6,7 +6,8 @@ ghost use Rattle.std.specs.Borrow.{ftrue};
 use std::fmt;
 use std::marker::{Model, PhantomData};
 
-/// A list that exists only in proofs; at run time it is empty. Contracts read its `items`.
+/// A list of items that exists only in proofs; at run time it is empty and takes no memory. Contracts
+/// read its `items`.
 #[derive(Drop)]
 pub struct Log<T> {
     of: PhantomData<T>,
