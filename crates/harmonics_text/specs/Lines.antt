@@ -40,7 +40,7 @@ unfoldable pub cut : List ℕ → List (List ℕ)
 cut [] = []
 cut (b ∷ bs) = if is_lf b then [] ∷ cut bs else onto_first b (cut bs)
 
--- the lines numbered from n on
+-- the lines, numbered from n on
 unfoldable pub numbered : ℕ → List (List ℕ) → List Line
 numbered n [] = []
 numbered n (text ∷ texts) = record { number = n; text = text } ∷ numbered (n + 1) texts
@@ -53,7 +53,7 @@ is_blank b = (b == 32) || (b == 9)
 abbrev pub is_comment : List ℕ → Bool
 is_comment text = starts_with nat_eq text (codes "#")
 
--- a line has more than 4,096 bytes
+-- a line is too long: it has more than 4,096 bytes
 abbrev pub is_too_long : List ℕ → Bool
 is_too_long text = nat_lt 4096 (length text)
 
@@ -65,7 +65,7 @@ without_cr text = if ends_with nat_eq text (13 ∷ []) then take (length text - 
 unfoldable pub is_kept : Line → Bool
 is_kept l = not (is_comment l.text) && (is_too_long l.text || not (list_all is_blank (without_cr l.text)))
 
--- the lines that aren't skipped
+-- the lines that aren't skipped: all but comments, and lines of white space that aren't too long
 unfoldable pub kept : List Line → List Line
 kept ls = filter is_kept ls
 
@@ -74,7 +74,7 @@ abbrev pub is_filled : List ℕ → Bool
 is_filled [] = false
 is_filled (b ∷ bs) = true
 
--- the parts of a text between white space
+-- the tokens of a text: its parts between spaces and tabs
 unfoldable pub tokens : List ℕ → List (List ℕ)
 tokens text = filter is_filled (slice_split is_blank text)
 

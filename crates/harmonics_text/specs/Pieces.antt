@@ -41,12 +41,12 @@ pending_length bytes = if is_comment (pending_line bytes) then 0 else length (pe
 unfoldable pub judged_lines : List ℕ → List (List ℕ)
 judged_lines bytes = ended_lines bytes ++ (if nat_lt 4096 (pending_length bytes) then pending_line bytes ∷ [] else [])
 
--- the fault of a part, or None if it has none or only lacks further lines
+-- the fault of a part of a file, or None if it has none or only lacks further lines
 abbrev pub fault_in : {A : Type 0} → Result A (Option At) → Option At
 fault_in (Ok x) = None
 fault_in (Err fault) = fault
 
--- the first fault in the lines that can be judged, read as the beginning of a file
+-- the first fault in the lines of a file's first bytes that can be judged, or None if they show none
 unfoldable pub fault_so_far : List ℕ → Option At
 fault_so_far bytes = fault_in (book (kept (numbered 1 (judged_lines bytes))))
 

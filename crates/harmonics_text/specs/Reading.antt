@@ -27,7 +27,7 @@ use Rattle.harmonics_text.specs.Rules.{
   pair_of,
 }
 
--- the first fault of a file: the number of its line, and the reason
+-- the first fault of a file: the number of its line, counted from 1, and the reason
 pub record At : Type 0 where
   pub line : ℕ
   pub why : Why

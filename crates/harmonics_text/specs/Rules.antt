@@ -66,7 +66,7 @@ use Rattle.harmonics_text.specs.declared.scale.Scale.TheVariants.{Speed, Angle, 
 use Rattle.harmonics_text.specs.declared.local_time.LocalTime.{LocalTime}
 use Rattle.harmonics_text.specs.Lines.{tokens, only, only_two, trimmed}
 
--- the value, or the fault if there is none
+-- the value of an option, or this fault if there is none
 abbrev pub or_fault : {A : Type 0} → Why → Option A → Result A Why
 or_fault why None = Err why
 or_fault why (Some x) = Ok x
@@ -81,14 +81,16 @@ places_of Angle = 7
 places_of Factor = 6
 places_of Height = 6
 
--- the least value of each scale
+-- the least value of a number of each scale, in its unit: ten-millionths of a degree (or a degree an
+-- hour), or millionths
 abbrev pub least_of : Scale → ℤ
 least_of Speed = pos 0
 least_of Angle = negsuc 7199999999
 least_of Factor = pos 0
 least_of Height = negsuc 9999999999
 
--- the greatest value of each scale
+-- the greatest value of a number of each scale, in its unit: ten-millionths of a degree (or a degree an
+-- hour), or millionths
 abbrev pub most_of : Scale → ℤ
 most_of Speed = pos 3600000000
 most_of Angle = pos 7200000000
@@ -103,7 +105,8 @@ in_scale s (Err decimals.TooFine) = Err TooFine
 in_scale s (Err decimals.BadForm) = Err BadNumber
 in_scale s (Err decimals.TooLong) = Err BadNumber
 
--- the decimal of a text in the unit and range of its scale
+-- the decimal that a text writes, in the unit and in the range of its scale, or the reason why it is
+-- bad
 unfoldable pub number_of : Scale → List ℕ → Result ℤ Why
 number_of s text = in_scale s (read_of text (places_of s))
 
@@ -111,15 +114,15 @@ number_of s text = in_scale s (read_of text (places_of s))
 unfoldable pub whole_of : List ℕ → Option ℕ
 whole_of text = option_and_then (digits_of 9) (only (tokens text))
 
--- the number n, or a fault if it isn't from `least` to `most`
+-- the number n, or this fault if it isn't from `least` to `most`, both included
 unfoldable pub from_to : ℕ → ℕ → Why → ℕ → Result ℕ Why
 from_to least most why n = if nat_le least n && nat_le n most then Ok n else Err why
 
--- a number of constituents or years, from 1 to 500
+-- the number of constituents or years of a line, from 1 to 500, or BadCount
 unfoldable pub count_of : List ℕ → Result ℕ Why
 count_of text = or_fault BadCount (whole_of text) >>= from_to 1 500 BadCount
 
--- a first year, from 2 to 8800
+-- the first year of a line, from 2 to 8800, or the reason why it is bad
 unfoldable pub first_year_of : List ℕ → Result ℤ Why
 first_year_of text = do
   n ← or_fault BadNumber (whole_of text)
@@ -132,7 +135,7 @@ first_year_of text = do
 abbrev pub is_latin_name_byte : ℕ → Bool
 is_latin_name_byte b = (nat_le 32 b && nat_le b 126) || (nat_le 128 b && nat_le b 255)
 
--- a name of 1 to `most` bytes of ISO 8859-1, as UTF-8
+-- a name of 1 to `most` bytes of ISO 8859-1, as UTF-8, or BadName
 unfoldable pub name_of : ℕ → List ℕ → Result (List ℕ) Why
 name_of most latin =
     if nat_le 1 (length latin) && nat_le (length latin) most && list_all is_latin_name_byte latin
@@ -153,7 +156,7 @@ is_end token = bytes_eq token (codes "*END*")
 abbrev pub has_name : List Constituent → List ℕ → Bool
 has_name cs name = list_any (λ c. bytes_eq c.name name) cs
 
--- a constituent name that no earlier constituent has
+-- a constituent's name that no earlier constituent has, as UTF-8, or BadName
 unfoldable pub new_name_of : List Constituent → List ℕ → Result (List ℕ) Why
 new_name_of earlier token =
     if is_absent token || is_end token then Err BadName
@@ -170,11 +173,11 @@ constituent_from earlier (first ∷ rest) = do
   n ← number_of Speed second
   Ok (record { name = name; speed = n })
 
--- the constituent of a line
+-- the constituent of a line, its name and its speed, or the reason why the line is bad
 unfoldable pub constituent_of : List Constituent → List ℕ → Result Constituent Why
 constituent_of earlier text = constituent_from earlier (tokens text)
 
--- a fault unless the condition is true
+-- this fault unless the condition is true
 abbrev pub if_true : Bool → Why → Result (Unit {0}) Why
 if_true true why = Ok tt
 if_true false why = Err why
@@ -223,7 +226,7 @@ clock_of text =
     then minutes_of (digits_of 2 (before_first is_colon text)) (two_digits_of (after_first is_colon text))
     else None
 
--- the minutes of a meridian, with its sign
+-- the minutes of a meridian, such as `-5:00`, positive east of Greenwich, or BadMeridian
 unfoldable pub meridian_of : List ℕ → Result ℤ Why
 meridian_of token =
     or_fault BadMeridian (clock_of (without_leading_sign token)) >>= λ n.
@@ -250,11 +253,11 @@ local_time_from (first ∷ second ∷ []) = do
   Ok (record { meridian = m; zone = zone })
 local_time_from (first ∷ second ∷ third ∷ more) = Err BadMeridian
 
--- the meridian and the zone of a line
+-- the meridian, in minutes, and the zone of a line, or BadMeridian
 unfoldable pub local_time_of : List ℕ → Result LocalTime Why
 local_time_of text = local_time_from (tokens text)
 
--- the unit of a token
+-- the unit that a token names, or BadUnits
 unfoldable pub units_of : List ℕ → Result Units Why
 units_of token =
     if bytes_eq token (codes "feet") then Ok Feet
@@ -263,7 +266,8 @@ units_of token =
     else if bytes_eq token (codes "knots^2") then Ok KnotsSquared
     else Err BadUnits
 
--- the datum of a line and its unit
+-- the datum (mean level) of a line, in millionths of its unit, and this unit, or the reason why the
+-- line is bad
 unfoldable pub datum_of : List ℕ → Result (ℤ × Units) Why
 datum_of text = do
   both ← or_fault BadUnits (only_two (tokens text))
@@ -271,7 +275,8 @@ datum_of text = do
   units ← units_of both.1
   Ok (n, units)
 
--- an amplitude and an epoch, which are 0 for an absent constituent
+-- the amplitude, in millionths of the station's unit, and the epoch, in ten-millionths of a degree, of
+-- a line's tokens; both are 0 for an absent constituent
 unfoldable pub pair_from : List ℕ → List (List ℕ) → Result (ℤ × ℤ) Why
 pair_from name [] = Err WrongConstituent
 pair_from name (first ∷ rest) = do
@@ -281,6 +286,7 @@ pair_from name (first ∷ rest) = do
   epoch ← number_of Angle both.1
   Ok (if is_absent first then (pos 0, pos 0) else (amplitude, epoch))
 
--- the amplitude and the epoch of a line for the constituent `name`
+-- the amplitude, in millionths of the station's unit, and the epoch, in ten-millionths of a degree, of
+-- a line for the constituent `name`, or the reason why the line is bad
 unfoldable pub pair_of : List ℕ → List ℕ → Result (ℤ × ℤ) Why
 pair_of name text = pair_from name (tokens text)

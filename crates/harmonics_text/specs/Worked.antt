@@ -15,14 +15,14 @@ use Rattle.harmonics_text.specs.declared.fault.Why.TheVariants.{
   BadUnits,
 }
 
--- the lines of a file with one constituent and one station
+-- the lines of a harmonics file with one constituent and one station, each without its LF
 abbrev pub pier_lines : List (List ℕ)
 pier_lines =
     codes "# Pier test" ∷ codes "1" ∷ codes "S2 30.0000000" ∷ codes "1999" ∷ codes "3"
     ∷ codes "S2" ∷ codes "0 0 0" ∷ codes "*END*" ∷ codes "3" ∷ codes "S2" ∷ codes "1 1 1" ∷ codes "*END*"
     ∷ codes "Pier" ∷ codes "0:00 :UTC" ∷ codes "0 feet" ∷ codes "S2 1 0" ∷ []
 
--- the lines, each with its LF
+-- the bytes of a file with these lines, each with its LF
 abbrev pub file_of : List (List ℕ) → List ℕ
 file_of [] = []
 file_of (line ∷ lines) = line ++ 10 ∷ file_of lines
@@ -41,7 +41,8 @@ change line text at why = record { line = line; text = text; at = at; why = why 
 abbrev pub pier_with : Change → List ℕ
 pier_with c = file_of (slice_set pier_lines (c.line - 1) c.text)
 
--- a changed line for each fault
+-- one-line changes of the file, each with the fault of the changed file: at least one for each reason
+-- from BadCount to BadUnits
 abbrev pub changes : List Change
 changes =
     change 2 (codes "0") 2 BadCount

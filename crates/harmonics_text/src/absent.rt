@@ -12,7 +12,7 @@ fn begins_absent(bytes: &[u8]) -> bool
 }
 
 /// Returns the number of lines of absent constituents that `bytes` begins with, at most `most`, and the
-/// bytes after them. A line counts if it is exactly as XTide's tools write it.
+/// bytes after these lines. A line counts if it is `x 0 0` with its LF, as XTide's tools write it.
 pub fn absent_lines(bytes: &[u8], most: usize) -> (usize, &[u8])
     ensures count_bound { result.0 ≤ most }
     ensures exact { bytes.now ≡ absent_lines result.0 ++ result.1.now }

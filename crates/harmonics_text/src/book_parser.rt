@@ -41,7 +41,8 @@ use std::mem;
 #[derive(Drop)]
 pub enum BookParser {
     Count,
-    /// The number of constituents still to be read, at least one, and the constituents read.
+    /// Constituents are being read: the number still to be read, at least one, and the constituents
+    /// read until now.
     Constituents(u32, Constituents),
     FirstYear(Constituents),
     Years(Constituents, i32),
@@ -77,8 +78,8 @@ impl BookParser {
         self.add_text(alloc, text)
     }
 
-    /// Reads `line` and the lines of absent constituents that `rest` begins with. Returns the number of
-    /// lines read after `line`, and the bytes after them.
+    /// Reads `line`, without its LF, and the lines of absent constituents that `rest`, the bytes after
+    /// it, begins with. Returns the number of lines read after `line`, and the bytes after them.
     ///
     /// # Errors
     /// [`LineFault::Bad`] with the first rule that `line` breaks; [`LineFault::NoMemory`] if memory runs
@@ -191,7 +192,7 @@ impl BookParser {
         }
     }
 
-    /// Returns the book if its last part is complete, and otherwise `None`.
+    /// Returns the book if the file may end here, with no station begun, and otherwise `None`.
     pub fn into_book(self) -> Option<Book>
         ensures { result ≡ book_in self }
     {

@@ -23,7 +23,7 @@ use std::marker::Model;
 #[derive(Drop)]
 pub struct BookReader {
     alloc: Global,
-    /// The parser state after the bytes fed until now, up to the fault.
+    /// The state of reading after the bytes fed until now, up to the fault.
     progress: Progress,
     /// The fault that was returned, if any.
     fault: Option<BookFault>,
@@ -61,9 +61,9 @@ impl BookReader {
     /// Reads `piece`, the next bytes of the file.
     ///
     /// # Errors
-    /// [`BookFault::At`] with the first line that is bad, as soon as it was fed the line's last byte, or
-    /// more bytes than a line may have; [`BookFault::NoMemory`] if memory runs out. Each later call
-    /// returns the same fault.
+    /// [`BookFault::At`] with the first line that breaks a rule, as soon as the reader was fed the LF
+    /// at its end, or more than the 4,096 bytes that a line may have; [`BookFault::NoMemory`] if memory
+    /// runs out. Each later call returns the same fault.
     pub fn feed(&mut self, piece: &[u8]) -> Result<(), BookFault>
         requires { length self.old.bytes + length piece.now ≤ MOST_BYTES }
         ensures fed { self.new.bytes ≡ self.old.bytes ++ piece.now }
@@ -84,7 +84,8 @@ impl BookReader {
     ///
     /// # Errors
     /// The [`BookFault`] that a call of [`BookReader::feed`] returned; otherwise [`BookFault::At`] if
-    /// the last line is bad or the file ends too early, and [`BookFault::NoMemory`] if memory runs out.
+    /// the last line breaks a rule or the file ends too early, and [`BookFault::NoMemory`] if memory
+    /// runs out.
     pub fn finish(self) -> Result<Book, BookFault>
         ensures exact { ReturnsBook result (book_of self.bytes) }
         ensures again { IfSome self.fault (λ fault. result ≡ Err fault) }
@@ -103,8 +104,8 @@ impl BookReader {
         read.and(progress.into_book())
     }
 
-    /// Returns the number of bytes of the line that has not ended: at most 4,096, and 0 within a comment
-    /// or after a fault.
+    /// Returns the number of bytes that are kept of the line that has not ended: at most 4,096, and 0
+    /// within a comment or after a fault.
     ///
     /// The program doesn't call it.
     pub fn pending(&self) -> u32

@@ -6,8 +6,8 @@ use decimal_text::Numbers;
 use std::alloc::{AllocError, Global};
 use std::marker::Model;
 
-/// The numbers read until now from a table or a station of a file. In contracts its value is the list of
-/// them.
+/// The numbers read until now from a table or a station of a harmonics file. In contracts its value is
+/// the list of them.
 #[derive(Drop)]
 pub struct Column {
     items: Vec<i64>,
@@ -31,7 +31,7 @@ impl Column {
         }
     }
 
-    /// Returns the empty list, with memory for `count` numbers.
+    /// Returns the empty list, with memory for `count` numbers, so that it need not grow.
     ///
     /// # Errors
     /// [`AllocError`] if memory runs out.

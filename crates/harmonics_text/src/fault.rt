@@ -9,7 +9,7 @@ use std::alloc::AllocError;
 pub enum LineFault {
     /// Memory ran out while the line was read.
     NoMemory,
-    /// The line breaks a rule of the file format: the first reason.
+    /// The line breaks a rule of the file format; this is the first reason.
     Bad(Why),
 }
 
@@ -19,11 +19,13 @@ pub enum LineFault {
 pub enum Why {
     /// A number of constituents or years isn't from 1 to 500.
     BadCount,
-    /// A name has a bad byte or length, or is the name of an earlier constituent.
+    /// A name has a byte that a name can't have, is empty or too long, or is that of an earlier
+    /// constituent.
     BadName,
     /// A required number is missing or isn't a decimal.
     BadNumber,
-    /// A number has more decimal places than the unit of its field.
+    /// A number has a digit other than 0 after the last decimal place of its field: 7 in speeds and
+    /// angles, 6 in factors and heights.
     TooFine,
     /// A number isn't in the range of its field.
     OutOfRange,
@@ -33,7 +35,7 @@ pub enum Why {
     WrongConstituent,
     /// A table doesn't end with `*END*`.
     NoEnd,
-    /// The meridian or the zone of a station is missing or malformed.
+    /// The meridian or the zone of a station is malformed, or the meridian is missing.
     BadMeridian,
     /// The unit of a datum is missing or unknown.
     BadUnits,
@@ -69,7 +71,7 @@ impl Why {
         }
     }
 
-    /// Returns the text of the reason that is printed.
+    /// Returns the text that is printed for the reason, such as `bad number`.
     pub fn text(self) -> &'static str
         ensures { result.now ≡ text_of self }
     {
@@ -116,8 +118,8 @@ impl From<Why> for LineFault {
 pub enum BookFault {
     /// Memory ran out while the file was read.
     NoMemory,
-    /// The first line that breaks a rule, counted from 1, and the first reason. If the file ends too
-    /// early, the line is the one after its last.
+    /// The first line that breaks a rule, counted from 1, and the first reason why it does. If the file
+    /// ends too early, the line is the one after its last.
     At { line: u32, why: Why },
 }
 

@@ -22,7 +22,7 @@ pub struct Heading {
     pub years: u32,
 }
 
-/// Returns true if `token` is the name that XTide's tools write for an absent constituent.
+/// Returns true if `token` is `x`, the name that XTide's tools write for an absent constituent.
 pub fn is_absent(token: &[u8]) -> bool
     ensures { result ≡ is_absent token.now }
 {
@@ -59,7 +59,8 @@ fn new_name(alloc: Global, earlier: &Constituents, token: &[u8]) -> Result<Text,
     Ok(name)
 }
 
-/// Returns the constituent of line `text`, after the constituents `earlier`.
+/// Returns the constituent of line `text`, a name and a speed, in a file with the constituents
+/// `earlier` before it.
 ///
 /// # Errors
 /// [`Why::BadName`] if the name is bad or isn't new; otherwise [`Why::BadNumber`], [`Why::TooFine`] or

@@ -29,7 +29,8 @@ ghost use Rattle.harmonics_text.specs.Worked.{pier_lines, file_of, pier_with, ch
 
 use crate::fault::Why;
 
-/// Proves examples of how a harmonics file is cut into lines and tokens, and of its numbers.
+/// Proves examples of the rules of a harmonics file: how it is cut into lines, which lines are kept,
+/// how a line is cut into tokens, and which numbers texts give, or which reason why they are bad.
 pub fn worked_lines()
     ensures lines { cut (codes "a\n\nb") ≡ codes "a" ∷ [] ∷ codes "b" ∷ [] }
     ensures kept { kept (numbered 1 (codes "#a" ∷ codes " #a" ∷ codes " \t\r" ∷ codes "\r\r" ∷ []))
@@ -46,8 +47,8 @@ pub fn worked_lines()
     ensures absent { pair_of (codes "S2") (codes "x 1 2") ≡ Ok (pos 0, pos 0) }
 {}
 
-/// Proves which book the definition of reading gives for a small file, and which fault for each changed
-/// copy.
+/// Proves which book the definition of reading gives for a small file, and which fault, a line and a
+/// reason, for each copy in which a line is changed or the last lines are missing.
 pub fn worked_files()
     ensures pier { book_of (file_of pier_lines) ≡ Ok pier_book }
     ensures cut_short { book_of (file_of (take 15 pier_lines)) ≡ Err (record { line = 16; why = Why.CutShort }) }
@@ -56,7 +57,8 @@ pub fn worked_files()
     ensures too_fine { book_of (codes "# a comment\n1\n\nS2 30.00000001\r\n") ≡ Err (record { line = 4; why = Why.TooFine }) }
 {}
 
-/// Proves examples of the fault of a file's first bytes and of the line that has not ended.
+/// Proves examples of the fault that a file's first bytes show, and of the number of bytes of the line
+/// that has not ended.
 pub fn worked_pieces()
     ensures begun { fault_so_far (codes "# Pier test\n1") ≡ None }
     ensures one_byte { pending_length (codes "# Pier test\n1") ≡ 1 }
@@ -70,8 +72,8 @@ pub fn worked_pieces()
     ensures complete { fault_so_far (file_of pier_lines) ≡ None }
 {}
 
-/// Proves that a fault of a file's first bytes is the fault of the file, whatever bytes follow, and that
-/// a bad line is reported as soon as it has ended.
+/// Proves that a fault that a file's first bytes show is the fault of the file, whatever bytes follow,
+/// and that a bad line is reported as soon as the LF at its end was read.
 pub fn first_faults()
     ensures stand { (bytes more : List ℕ) (fault : At) → fault_so_far bytes ≡ Some fault → book_of (bytes ++ more) ≡ Err fault }
     ensures reported { (bytes : List ℕ) (fault : At) → book_of bytes ≡ Err fault

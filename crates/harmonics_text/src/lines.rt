@@ -26,7 +26,8 @@ fn lf_at(bytes: &[u8]) -> Option<usize>
     memchr(b'\n', bytes)
 }
 
-/// Returns the bytes before the first LF and the bytes after it, or `None` if there is no LF.
+/// Returns the bytes before the first LF of `bytes` and the bytes after it, or `None` if there is no
+/// LF.
 #[inline(always)]
 pub fn next_line(bytes: &[u8]) -> Option<(&[u8], &[u8])>
     ensures shorter { IfSome result (λ r. length r.1.now < length bytes.now) }
@@ -76,7 +77,8 @@ pub fn is_all_blank(text: &[u8]) -> bool
     text.iter().all(|b| is_blank(*b))
 }
 
-/// Returns the index of the first byte of `text` that isn't white space, or `None` if there isn't one.
+/// Returns the index of the first byte of `text` that isn't a space or a tab, or `None` if there isn't
+/// one.
 pub fn visible_at(text: &[u8]) -> Option<usize>
     ensures { result ≡ position is_visible text.now }
 {
@@ -108,7 +110,8 @@ pub fn without_padding(text: &[u8]) -> &[u8]
     rest
 }
 
-/// Returns the first token of `text` and the bytes after it, or `None` if `text` has only white space.
+/// Returns the first token of `text` (its bytes up to a space or a tab, without such bytes before it)
+/// and the bytes after it, or `None` if `text` has only spaces and tabs.
 pub fn next_token(text: &[u8]) -> Option<(&[u8], &[u8])>
     ensures shorter { IfSome result (λ r. length r.1.now < length text.now) }
     ensures exact { MatchOption result (tokens text.now ≡ []) (λ r. tokens text.now ≡ r.0.now ∷ tokens r.1.now) }
@@ -119,7 +122,8 @@ pub fn next_token(text: &[u8]) -> Option<(&[u8], &[u8])>
     Some(visible.split_at(end))
 }
 
-/// Returns the token of `text` if there is exactly one, and otherwise `None`.
+/// Returns the token of `text`, a part between spaces or tabs, if there is exactly one, and otherwise
+/// `None`.
 pub fn only_token(text: &[u8]) -> Option<&[u8]>
     ensures { option_copied result ≡ only (tokens text.now) }
 {
@@ -130,7 +134,8 @@ pub fn only_token(text: &[u8]) -> Option<&[u8]>
     }
 }
 
-/// Returns the tokens of `text` if there are exactly two, and otherwise `None`.
+/// Returns the tokens of `text`, its parts between spaces or tabs, if there are exactly two, and
+/// otherwise `None`.
 pub fn only_two_tokens(text: &[u8]) -> Option<(&[u8], &[u8])>
     ensures { option_map (λ r. (r.0.now, r.1.now)) result ≡ only_two (tokens text.now) }
 {
@@ -139,7 +144,7 @@ pub fn only_two_tokens(text: &[u8]) -> Option<(&[u8], &[u8])>
     Some((first, second))
 }
 
-/// Returns `text` without white space at both ends.
+/// Returns `text` without spaces and tabs at both ends.
 pub fn trimmed(text: &[u8]) -> &[u8]
     ensures { result.now ≡ trimmed text.now }
 {

@@ -23,7 +23,8 @@ use std::alloc::Global;
 /// A station's local time: its meridian and the name of its zone.
 #[derive(Drop)]
 pub struct LocalTime {
-    /// The station's meridian in minutes east of Greenwich.
+    /// The station's meridian, local time less universal time, in minutes: positive east of Greenwich,
+    /// from -959 to 959.
     pub meridian: i32,
     pub zone: Text,
 }
@@ -112,7 +113,8 @@ fn zone_name(alloc: Global, token: &[u8]) -> Result<Text, LineFault>
     }
 }
 
-/// Returns the meridian and the zone of line `text`.
+/// Returns the meridian and the name of the zone, which may be missing, of line `text`, such as `-5:00
+/// :America/New_York`.
 ///
 /// # Errors
 /// [`Why::BadMeridian`] if the line isn't a meridian and a zone; [`LineFault::NoMemory`] if memory runs

@@ -38,10 +38,11 @@ fn is_printable(latin: &[u8]) -> bool
     latin.iter().all(|b| is_latin_name_byte(*b))
 }
 
-/// Returns the name in `latin`, of 1 to `most` bytes, as UTF-8.
+/// Returns the name in `latin`, of 1 to `most` bytes in ISO 8859-1, as UTF-8.
 ///
 /// # Errors
-/// [`Why::BadName`] if the length or a byte is bad; [`LineFault::NoMemory`] if memory runs out.
+/// [`Why::BadName`] if `latin` has no byte, more than `most`, or one that a name can't have (below 32,
+/// or 127); [`LineFault::NoMemory`] if memory runs out.
 #[tactic(auto, unfolding(crate::specs::Rules::name_of))]
 pub fn name_of(alloc: Global, latin: &[u8], most: usize) -> Result<Text, LineFault>
     ensures { Follows (λ t. t) result (name_of most latin.now) }
@@ -52,7 +53,7 @@ pub fn name_of(alloc: Global, latin: &[u8], most: usize) -> Result<Text, LineFau
     Ok(utf8_of(alloc, latin)?)
 }
 
-/// Returns the bytes after the first if the first is `b`, and otherwise `None`.
+/// Returns the bytes of `text` after the first one if this is `b`, and otherwise `None`.
 pub fn without_byte(text: &[u8], b: u8) -> Option<&[u8]>
     ensures { option_copied result ≡ without_byte b text.now }
 {
@@ -71,7 +72,7 @@ fn without_char(text: &[u8], latin: u8) -> Option<&[u8]>
     without_byte(without_byte(text, 192 + latin / 64)?, 128 + latin % 64)
 }
 
-/// Returns true if `latin` is `name` in ISO 8859-1.
+/// Returns true if `latin`, in ISO 8859-1, is the text `name`.
 pub fn is_name(latin: &[u8], name: &Text) -> bool
     ensures { result ≡ is_name latin.now name.now }
 {

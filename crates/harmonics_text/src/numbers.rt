@@ -41,7 +41,7 @@ pub fn count(text: &[u8]) -> Result<u32, Why>
 ///
 /// # Errors
 /// [`Why::BadNumber`] if the line isn't a number of one to nine digits, [`Why::OutOfRange`] if the
-/// number is out of range.
+/// number isn't from 2 to 8800.
 #[tactic(auto, unfolding(crate::specs::Rules::first_year_of, crate::specs::Rules::from_to))]
 pub fn first_year(text: &[u8]) -> Result<i32, Why>
     ensures { result ≡ first_year_of text.now }
@@ -68,11 +68,13 @@ fn in_scale(value: i128, scale: Scale) -> Result<i64, Why>
     Ok(value as i64)
 }
 
-/// Returns the decimal `text` as a whole number in the unit of `scale`.
+/// Returns the decimal `text` as a whole number in the unit of `scale`, such as 1,500,000 millionths
+/// for `1.5`.
 ///
 /// # Errors
-/// The first that applies: [`Why::BadNumber`] if `text` isn't a decimal, [`Why::TooFine`] if it has more
-/// decimal places than the unit, and [`Why::OutOfRange`] if it isn't in the range of `scale`.
+/// The first that applies: [`Why::BadNumber`] if `text` isn't a decimal, [`Why::TooFine`] if it has a
+/// digit other than 0 after the last decimal place of the unit, and [`Why::OutOfRange`] if it isn't
+/// from the least to the greatest value of `scale`.
 #[tactic(auto, unfolding(crate::specs::Rules::number_of, crate::specs::Rules::in_scale))]
 pub fn number(text: &[u8], scale: Scale) -> Result<i64, Why>
     ensures { result ≡ number_of scale text.now }

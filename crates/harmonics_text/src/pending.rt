@@ -31,7 +31,7 @@ impl Model for Pending {
 }
 
 impl Pending {
-    /// Returns a line without a byte, with memory for the longest one.
+    /// Returns a line without a byte, with memory for the longest line, of 4,096 bytes.
     ///
     /// # Errors
     /// [`AllocError`] if memory runs out.
@@ -68,7 +68,7 @@ impl Pending {
         }
     }
 
-    /// Appends `more` to the line.
+    /// Appends `more`, the next bytes of the line, to the kept ones; of a comment only the `#` is kept.
     ///
     /// # Errors
     /// [`Why::LineTooLong`] if the line exceeds 4,096 bytes and isn't a comment; [`LineFault::NoMemory`]
@@ -88,7 +88,8 @@ impl Pending {
         Ok(())
     }
 
-    /// Appends `last`, the last bytes of the line, if there are any bytes before them.
+    /// Appends `last`, the last bytes of the line, if there are any bytes before them; otherwise it
+    /// does nothing, so that a line in one piece isn't copied.
     ///
     /// # Errors
     /// [`Why::LineTooLong`] if the line exceeds 4,096 bytes and isn't a comment; [`LineFault::NoMemory`]
@@ -103,7 +104,8 @@ impl Pending {
         }
     }
 
-    /// Returns the whole line after `end`: the kept bytes, or `last` if none were kept.
+    /// Returns the whole line once [`Pending::end`] was called with `last`: the kept bytes, or `last`
+    /// if none were kept.
     pub fn whole<'a>(&'a self, last: &'a [u8]) -> &'a [u8]
         ensures { result.now ≡ (if is_filled self.now then self.now else last.now) }
     {
@@ -114,7 +116,7 @@ impl Pending {
         }
     }
 
-    /// Removes all bytes, to begin the next line.
+    /// Removes all kept bytes, to begin the next line.
     pub fn clear(&mut self)
         ensures { self.new ≡ [] }
     {

@@ -110,9 +110,9 @@ fn within(value: i64, scale: Scale) -> Option<i64>
     Some(value)
 }
 
-/// Returns the first number of `text`, in the unit of `scale`, and the bytes after it, or `None` if the
-/// number isn't in the usual form (an optional `-`, digits, and an optional point with digits) or is out
-/// of range.
+/// Returns the first token of `text` as a number in the unit of `scale`, and the bytes after it.
+/// Returns `None` if the token isn't in the usual form (an optional `-`, digits, and an optional point
+/// with digits) or isn't in the range of `scale`.
 #[inline(always)]
 pub fn plain_number(text: &[u8], scale: Scale) -> Option<(i64, &[u8])>
     ensures { IfSome result (λ r. IsFirstNumber scale text.now r.0 r.1.now) }

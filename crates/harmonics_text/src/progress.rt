@@ -58,8 +58,8 @@ impl Progress {
         })
     }
 
-    /// Reads `piece`. Lines that begin and end in it are read without being copied. After a fault the
-    /// state is somewhere in the piece, and nothing more may be read.
+    /// Reads `piece`, the next bytes of the file. Lines that begin and end in it are read without being
+    /// copied. After a fault the state is that at some line of the piece, and nothing more may be read.
     ///
     /// # Errors
     /// [`BookFault::At`] with the first bad line; [`BookFault::NoMemory`] if memory runs out.
@@ -115,7 +115,7 @@ impl Progress {
         Ok(())
     }
 
-    /// Returns the book after the last line has ended.
+    /// Returns the book of the file, after the last line has ended.
     ///
     /// # Errors
     /// [`BookFault::At`] with [`Why::CutShort`] if the file ends too early.

@@ -20,8 +20,8 @@ use std::alloc::Global;
 /// `bytes`, at most 400,000,000, are read once, line by line.
 ///
 /// # Errors
-/// [`BookFault::At`] with the first line that breaks a rule, and the first reason;
-/// [`BookFault::NoMemory`] if memory runs out.
+/// [`BookFault::At`] with the first line that breaks a rule, counted from 1, and the first reason why
+/// it does; [`BookFault::NoMemory`] if memory runs out.
 ///
 /// # Examples
 /// ```

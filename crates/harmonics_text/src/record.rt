@@ -16,7 +16,7 @@ use crate::scale::Scale;
 use decimal_text::Text;
 use harmonics_book::{Station, Units};
 
-/// A station with the constants that were read until now.
+/// A station, with the amplitudes and epochs of the constituents that were read until now.
 #[derive(Drop)]
 pub struct Constants {
     pub name: Text,
@@ -27,7 +27,7 @@ pub struct Constants {
     pub epoch: Column,
 }
 
-/// The state of reading a station's record: which lines of it were read, with their values.
+/// The state of reading the lines of a station: which of them were read, with their values.
 #[derive(Drop)]
 pub enum Record {
     Nothing,
@@ -36,7 +36,7 @@ pub enum Record {
     Constants(Constants),
 }
 
-/// Returns the station with the constants that were read.
+/// Returns the station with the amplitudes and epochs that were read.
 pub fn into_station(constants: Constants) -> Station
     ensures { result ≡ station_of constants }
 {
@@ -77,10 +77,11 @@ fn parse_units(token: &[u8]) -> Result<Units, Why>
     }
 }
 
-/// Returns the datum of line `text`, in millionths, and its unit.
+/// Returns the datum (the mean level) of line `text`, in millionths of its unit, and this unit.
 ///
 /// # Errors
-/// [`Why::BadUnits`] if the line isn't a number and a known unit; otherwise the fault of the number.
+/// [`Why::BadUnits`] if the line doesn't have two tokens, of which the second is a known unit; the
+/// fault of the number precedes an unknown unit.
 #[tactic(auto, unfolding(crate::specs::Rules::datum_of))]
 pub fn datum(text: &[u8]) -> Result<(i64, Units), Why>
     ensures { result ≡ datum_of text.now }
@@ -123,8 +124,9 @@ fn plain_pair(name: &Text, text: &[u8]) -> Option<(i64, i64)>
     }
 }
 
-/// Returns the amplitude and the epoch of the constituent `name` in line `text`; both are 0 if the line
-/// is for an absent constituent.
+/// Returns the amplitude, in millionths of the station's unit, and the epoch, in ten-millionths of a
+/// degree, of the constituent `name` in line `text`; both are 0 if the line is for an absent
+/// constituent.
 ///
 /// # Errors
 /// [`Why::WrongConstituent`] if the line begins with another name; otherwise the fault of the first bad

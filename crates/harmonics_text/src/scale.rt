@@ -17,7 +17,8 @@ pub enum Scale {
 }
 
 impl Scale {
-    /// Returns the number of decimal places of the scale's unit: 7 for ten-millionths, 6 for millionths.
+    /// Returns the number of decimal places that a decimal of this kind may have: 7 for ten-millionths,
+    /// 6 for millionths.
     pub fn places(self) -> u32
         ensures exact { result ≡ places_of self }
         ensures count_bound { result ≤ 9 }
@@ -28,7 +29,7 @@ impl Scale {
         }
     }
 
-    /// Returns the least value of a decimal of this scale, in the unit of the scale.
+    /// Returns the least value of a decimal of this kind, in its unit, millionths or ten-millionths.
     pub fn least(self) -> i64
         ensures { result ≡ least_of self }
     {
@@ -39,7 +40,7 @@ impl Scale {
         }
     }
 
-    /// Returns the greatest value of a decimal of this scale, in the unit of the scale.
+    /// Returns the greatest value of a decimal of this kind, in its unit, millionths or ten-millionths.
     pub fn most(self) -> i64
         ensures { result ≡ most_of self }
     {

@@ -137,8 +137,9 @@ fn move_on(alloc: Global, book: &mut Book, begun: &mut Record, text: &[u8]) -> R
     Ok(())
 }
 
-/// Reads a line of the station; `begun` is its record before the line. A pair that isn't the station's
-/// last is added without moving the record.
+/// Reads the next line, `text`, of a station. `begun` holds what the station's earlier lines gave, or
+/// nothing. After the station's last line, `book` has the station and `begun` is empty. An amplitude
+/// and epoch other than the station's last are appended to `begun` in place.
 pub fn add_station_line(
     alloc: Global,
     book: &mut Book,
@@ -165,8 +166,9 @@ fn push_absent(station: &mut Constants, count: usize) -> Result<(), AllocError>
     Ok(())
 }
 
-/// Reads the lines of absent constituents that `bytes` begins with, except the station's last line.
-/// Returns their count and the bytes after them.
+/// Reads the lines of absent constituents that `bytes` begins with, except the station's last line,
+/// into `begun`, which holds what the station's earlier lines gave. Returns the number of these lines
+/// and the bytes after them.
 ///
 /// # Errors
 /// [`AllocError`] if memory runs out.

@@ -27,9 +27,10 @@ use std::alloc::{AllocError, Global};
 /// A table of equilibrium arguments or node factors, read in part.
 #[derive(Drop)]
 pub struct Table {
-    /// The index of the constituent that has the next values.
+    /// The index, counted from 0, of the constituent that has the next values.
     pub place: usize,
-    /// The number of values of that constituent that are still to be read: 0 before its name was read.
+    /// The number of values of the constituent at `place` that are still to be read: 0 before its name
+    /// was read.
     pub left: u32,
     pub values: Column,
 }
