@@ -12,27 +12,28 @@ use Rattle.station_table.specs.declared.offset.Offset.{Offset}
 use Rattle.station_table.specs.declared.offsets.Offsets.{Offsets}
 use Rattle.station_table.specs.Offsets.{IsOffset, IsSlack}
 
--- the offset that changes nothing
+-- the offset that changes nothing: 0 minutes, a factor of 1,000,000 millionths and a height of 0
 abbrev pub usual : Offset
 usual = record { add = pos 0; times = pos 1000000; plus = pos 0 }
 
--- two offsets are the same
+-- two offsets are the same: their minutes, factors and heights are equal
 abbrev pub is_same : Offset → Offset → Bool
 is_same a b = int_eq a.add b.add && int_eq a.times b.times && int_eq a.plus b.plus
 
--- highs and lows have the same offsets
+-- high and low waters have the same offsets
 abbrev pub is_equal : Basis → Bool
 is_equal b = is_same b.high b.low
 
--- the station's events are its reference's, unchanged: the offsets change nothing
+-- the station's events are its reference's, unchanged: the offsets change nothing, and there are no
+-- times of slack water
 abbrev pub is_plain : Basis → Bool
 is_plain b = is_same b.high usual && is_same b.low usual && is_none b.slack
 
--- the index of the first station called `name`
+-- the index, counted from 0, of the book's first station called `name`, or None
 abbrev pub station_at : Book → List ℕ → Option ℕ
 station_at book name = position (λ station. bytes_eq station.name name) book.stations
 
--- the index of the first row called `name`
+-- the index, counted from 0, of the table's first row called `name`, or None
 abbrev pub row_at : List Offsets → List ℕ → Option ℕ
 row_at table name = position (λ row. bytes_eq row.name name) table
 
@@ -45,13 +46,14 @@ abbrev pub subordinate_basis : ℕ → Offsets → ℕ → Basis
 subordinate_basis row offsets station =
     record { station = station; row = Some row; high = offsets.high; low = offsets.low; slack = offsets.slack }
 
--- the basis of a row: with the first station that has the name of the row's reference
+-- the basis of the row at this index: its reference is the book's first station with the name that the
+-- row gives; NoReference if there is none
 unfoldable pub basis_over : Book → ℕ → Offsets → Result Basis FindFault
 basis_over book row offsets =
     ok_or (station_at book offsets.reference) (NoReference row)
     >>= λ station. Ok (subordinate_basis row offsets station)
 
--- the basis of the first row called `name`
+-- the basis of the table's first row called `name`; NoStation if there is none
 unfoldable pub basis_in : Book → List Offsets → List ℕ → Result Basis FindFault
 basis_in book table name = do
   row ← ok_or (row_at table name) NoStation
@@ -63,18 +65,19 @@ abbrev pub reference_or : Result Basis FindFault → Option ℕ → Result Basis
 reference_or subordinate (Some station) = Ok (reference_basis station)
 reference_or subordinate None = subordinate
 
--- the basis of a name: a station of the book takes precedence over a row of the table
+-- the basis of the station called `name`: a station of the book takes precedence over a row of the
+-- table
 unfoldable pub basis_of : Book → List Offsets → List ℕ → Result Basis FindFault
 basis_of book table name = reference_or (basis_in book table name) (station_at book name)
 
--- the reference is one of `stations` stations, and the offsets are in the ranges of a table
+-- the reference is one of the book's `stations` stations, and the offsets are in the ranges of a table
 pub record IsBasis (stations : ℕ) (b : Basis) : Type 0 where
   pub station : b.station < stations
   pub high : IsOffset b.high
   pub low : IsOffset b.low
   pub slack : ForSome b.slack IsSlack
 
--- the row in a fault is one of `rows` rows
+-- the row in a fault, if it has one, is an index below `rows`
 abbrev pub IsFindFault : ℕ → FindFault → Type 0
 IsFindFault rows NoStation = Unit {0}
 IsFindFault rows (NoReference row) = row < rows

@@ -36,18 +36,18 @@ use Rattle.decimal_text.specs.declared.fault.DecimalFault.TheVariants as decimal
 use Rattle.station_table.specs.declared.fault.OffsetWhy.{OffsetWhy}
 use Rattle.station_table.specs.declared.fault.OffsetWhy.TheVariants.{BadNumber, TooFine, OutOfRange, NotUtf8, BadName}
 
--- the text of a field, which must be UTF-8
+-- the text of a field, or NotUtf8 if it isn't UTF-8
 unfoldable pub text_of : List ℕ → Result (List ℕ) OffsetWhy
 text_of field = if is_utf8 field then Ok field else Err NotUtf8
 
 -- ---- names
 
--- a text that is a name: from 1 to 400 bytes, none of them a control byte
+-- a text that is a name: from 1 to 400 bytes, none of them a control byte of ASCII; else BadName
 unfoldable pub name_in : List ℕ → Result (List ℕ) OffsetWhy
 name_in text =
     if nat_le 1 (length text) && nat_le (length text) 400 && list_all is_name_byte text then Ok text else Err BadName
 
--- the name in a field
+-- the name in a field, or the reason why the field is bad
 unfoldable pub name_of : List ℕ → Result (List ℕ) OffsetWhy
 name_of field = text_of field >>= name_in
 
@@ -57,7 +57,7 @@ name_of field = text_of field >>= name_in
 unfoldable pub value_of : ℤ → (List ℕ → Result ℤ OffsetWhy) → List ℕ → Result ℤ OffsetWhy
 value_of usual rule field = text_of field >>= λ text. if length text == 0 then Ok usual else rule text
 
--- the number z, or a fault if it isn't from `least` to `most`, both included
+-- the number z, or OutOfRange if it isn't from `least` to `most`, both included
 unfoldable pub within : ℤ → ℤ → ℤ → Result ℤ OffsetWhy
 within least most z = if int_lt z least || int_lt most z then Err OutOfRange else Ok z
 
@@ -72,7 +72,7 @@ minutes_of None minute = None
 minutes_of (Some hour) None = None
 minutes_of (Some hour) (Some minute) = if nat_le minute 59 then Some (60 * hour + minute) else None
 
--- the minutes of `H:MM` or `HH:MM`, with a colon (58) and minutes below 60
+-- the minutes of `H:MM` or `HH:MM`, with a colon (58) and minutes below 60, or None for another text
 unfoldable pub clock_of : List ℕ → Option ℕ
 clock_of (h ∷ colon ∷ m ∷ n ∷ []) = if colon == 58 then minutes_of (pair_of 48 h) (pair_of m n) else None
 clock_of (g ∷ h ∷ colon ∷ m ∷ n ∷ []) = if colon == 58 then minutes_of (pair_of g h) (pair_of m n) else None
@@ -82,7 +82,8 @@ abbrev pub or_bad_number : Option ℕ → Result ℕ OffsetWhy
 or_bad_number None = Err BadNumber
 or_bad_number (Some n) = Ok n
 
--- the minutes of a clock time with a sign, at most a day either way
+-- the minutes of a clock time with a sign, such as `-0:10`, from -1440 to 1440, or the reason why the
+-- text is bad
 unfoldable pub minutes_of_text : List ℕ → Result ℤ OffsetWhy
 minutes_of_text text =
     or_bad_number (clock_of (without_leading_sign text))
@@ -95,21 +96,23 @@ decimal_from (Err decimals.TooFine) = Err TooFine
 decimal_from (Err decimals.BadForm) = Err BadNumber
 decimal_from (Err decimals.TooLong) = Err BadNumber
 
--- a decimal in millionths, from `least` to `most`
+-- a decimal in millionths, from `least` to `most`, both included, or the reason why the text is bad
 unfoldable pub millionths_in : ℤ → ℤ → List ℕ → Result ℤ OffsetWhy
 millionths_in least most text = decimal_from (read_of text 6) >>= within least most
 
 -- ---- the columns
 
--- the minutes added to a time: 0 for an empty field
+-- the minutes added to a time, from -1440 to 1440: 0 for an empty field; or the reason why the field is
+-- bad
 unfoldable pub add_of : List ℕ → Result ℤ OffsetWhy
 add_of field = value_of (pos 0) minutes_of_text field
 
--- the factor of a level, in millionths: 1,000,000 for an empty field, and at most 100,000,000
+-- the factor of a level, in millionths, from 1 to 100,000,000: 1,000,000 for an empty field; or the
+-- reason why the field is bad
 unfoldable pub times_of : List ℕ → Result ℤ OffsetWhy
 times_of field = value_of (pos 1000000) (millionths_in (pos 1) (pos 100000000)) field
 
--- the height added to a level, in millionths: 0 for an empty field, and at most 10,000,000,000 either
--- way
+-- the height added to a level, in millionths of the station's unit, from -10,000,000,000 to
+-- 10,000,000,000: 0 for an empty field; or the reason why the field is bad
 unfoldable pub plus_of : List ℕ → Result ℤ OffsetWhy
 plus_of field = value_of (pos 0) (millionths_in (negsuc 9999999999) (pos 10000000000)) field

@@ -6,22 +6,23 @@ use Rattle.station_table.specs.declared.offset.Offset.{Offset}
 use Rattle.station_table.specs.declared.offset.Slack.{Slack}
 use Rattle.station_table.specs.declared.offsets.Offsets.{Offsets}
 
--- a number of minutes, at most a day either way
+-- a number of minutes added to a time, from -1440 to 1440
 abbrev pub IsAdd : ℤ → Type 0
 IsAdd add = IsWithin (negsuc 1439) (pos 1440) add
 
--- an offset in its ranges
+-- an offset in its ranges: minutes from -1440 to 1440, a factor from 1 to 100,000,000 millionths, and a
+-- height from -10,000,000,000 to 10,000,000,000 millionths
 pub record IsOffset (o : Offset) : Type 0 where
   pub add : IsAdd o.add
   pub times : IsWithin (pos 1) (pos 100000000) o.times
   pub plus : IsWithin (negsuc 9999999999) (pos 10000000000) o.plus
 
--- times of slack water in their range
+-- the minutes added to times of slack water, each from -1440 to 1440
 pub record IsSlack (s : Slack) : Type 0 where
   pub flood_add : IsAdd s.flood_add
   pub ebb_add : IsAdd s.ebb_add
 
--- a name: UTF-8 text without control bytes, from 1 to 400 bytes
+-- a name: UTF-8 text of 1 to 400 bytes, none of them a control byte of ASCII (below 32, or 127)
 pub record IsTableName (name : List ℕ) : Type 0 where
   pub text : IsUtf8 name
   pub some : 1 ≤ length name

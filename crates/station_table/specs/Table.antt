@@ -38,13 +38,13 @@ use Rattle.station_table.specs.Fields.{name_of, add_of, times_of, plus_of}
 
 -- ---- the header
 
--- the columns of each table
+-- the names of the columns of a table without times of slack water
 abbrev pub plain_columns : List (List ℕ)
 plain_columns =
     codes "name" ∷ codes "reference" ∷ codes "high_add" ∷ codes "low_add"
     ∷ codes "high_times" ∷ codes "low_times" ∷ codes "high_plus" ∷ codes "low_plus" ∷ []
 
--- the columns of each header
+-- the names of the columns of each header
 abbrev pub columns_of : Header → List (List ℕ)
 columns_of Plain = plain_columns
 columns_of WithSlack = plain_columns ++ codes "flood_add" ∷ codes "ebb_add" ∷ []
@@ -62,7 +62,7 @@ header_of fields =
 
 -- ---- a row
 
--- the field in a column, counted from 0
+-- the field of a record in a column, counted from 0; no bytes if the record has fewer fields
 abbrev pub field_of : List (List ℕ) → ℕ → List ℕ
 field_of fields column = slice_index_or fields column []
 
@@ -75,7 +75,8 @@ both_or_none true true slack = Ok None
 both_or_none false false slack = Ok (Some slack)
 both_or_none _ _ slack = Err HalfSlack
 
--- the times of slack water of a row
+-- the minutes added to times of slack water in a row, None if it has none, or the reason why they are
+-- bad
 unfoldable pub slack_of : Header → List (List ℕ) → Result (Option Slack) OffsetWhy
 slack_of Plain fields = Ok None
 slack_of WithSlack fields = do
@@ -83,7 +84,7 @@ slack_of WithSlack fields = do
   ebb_add ← add_of (field_of fields 9)
   both_or_none (is_empty (field_of fields 8)) (is_empty (field_of fields 9)) (record { flood_add = flood_add; ebb_add = ebb_add })
 
--- there are as many fields as columns
+-- the row has as many fields as the header has columns, or FieldCount
 abbrev pub counted : Header → List (List ℕ) → Result (Unit {0}) OffsetWhy
 counted header fields = if length fields == length (columns_of header) then Ok tt else Err FieldCount
 
@@ -123,11 +124,12 @@ rows_from header row (fields ∷ more) = do
   rest ← rows_from header (row + 1) more
   Ok (first ∷ rest)
 
--- the table of the records, of which the first is the header
+-- the table of the records, of which the first is the header, or the first fault; rows are counted from
+-- the header, which is row 1
 unfoldable pub table_in : List (List (List ℕ)) → Result (List Offsets) OffsetFault
 table_in [] = Err (At 1 BadHeader)
 table_in (names ∷ rows) = header_of names >>= λ header. rows_from header 2 rows
 
--- the table of a file's bytes, cut into records as the crate `csv` does
+-- the table of a file's bytes, cut into records as the crate `csv` does, or the first fault
 unfoldable pub table_of : List ℕ → Result (List Offsets) OffsetFault
 table_of bytes = table_in (records default_config (strip_bom bytes))

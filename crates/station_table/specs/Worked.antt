@@ -20,19 +20,19 @@ dock_file =
     plain_header ++ codes "\nDock,Pier,0:30,-0:10,1.1,0.9,0.1,0\nOuter,Pier,0:30,0:30,2,2,0.5,0.5\n"
     ++ codes "Lost,Nowhere,0:00,0:00,1,1,0,0\n"
 
--- the offset of the dock's highs
+-- the offset of the dock's highs: 30 minutes later, 1.1 times the level plus 0.1
 abbrev pub dock_high : Offset
 dock_high = record { add = pos 30; times = pos 1100000; plus = pos 100000 }
 
--- the offset of the dock's lows
+-- the offset of the dock's lows: 10 minutes earlier, 0.9 times the level
 abbrev pub dock_low : Offset
 dock_low = record { add = negsuc 9; times = pos 900000; plus = pos 0 }
 
--- the offset of the outer station's highs and lows
+-- the offset of the outer station's highs and lows: 30 minutes later, twice the level plus 0.5
 abbrev pub outer : Offset
 outer = record { add = pos 30; times = pos 2000000; plus = pos 500000 }
 
--- the stations of that file
+-- the three stations of dock_file
 abbrev pub dock_rows : List Offsets
 dock_rows =
     record { name = codes "Dock"; reference = codes "Pier"; high = dock_high; low = dock_low; slack = None }
@@ -40,13 +40,14 @@ dock_rows =
     ∷ record { name = codes "Lost"; reference = codes "Nowhere"; high = usual; low = usual; slack = None }
     ∷ []
 
--- a row with times of slack water
+-- the fields of a row with times of slack water: the dock's, 5 minutes later before a flood and 5
+-- earlier before an ebb
 abbrev pub gate_fields : List (List ℕ)
 gate_fields =
     codes "Gate" ∷ codes "Pier" ∷ codes "0:30" ∷ codes "-0:10" ∷ codes "1.1" ∷ codes "0.9" ∷ codes "0.1" ∷ codes "0"
     ∷ codes "0:05" ∷ codes "-0:05" ∷ []
 
--- the station of that row
+-- the station of the row gate_fields
 abbrev pub gate_row : Offsets
 gate_row = record {
   name = codes "Gate";
@@ -65,11 +66,11 @@ pub record Change : Type 0 where
 abbrev pub change : ℕ → List ℕ → OffsetWhy → Change
 change column text why = record { column = column; text = text; why = why }
 
--- the row with one field changed
+-- the row gate_fields with one field changed
 abbrev pub gate_with : Change → List (List ℕ)
 gate_with c = slice_set gate_fields c.column c.text
 
--- a changed field for each fault of a row
+-- changes of the row by one field, each with the fault of the changed row
 abbrev pub changes : List Change
 changes =
     change 0 [] BadName

@@ -3,19 +3,21 @@
 use crate::offset::{Offset, Slack};
 
 /// A station's reference and its offsets: the index of a station of the book, and how the station's
-/// events differ from its reference's. A reference station has the offsets that change nothing: 0 added,
-/// times 1,000,000 millionths.
+/// events differ from its reference's. A reference station is its own reference, and has the offsets
+/// that change nothing: 0 minutes, a factor of 1,000,000 millionths and a height of 0.
 #[derive(Clone, Copy)]
 pub struct Basis {
-    /// The index of the reference station in the book's list.
+    /// The index of the reference station in the book's list, counted from 0.
     pub station: u32,
-    /// The index of the row in the table's list, or `None` for a reference station.
+    /// The index of the station's row in the table's list, counted from 0, or `None` for a reference
+    /// station.
     pub row: Option<u32>,
     /// The change from the reference's high waters to the station's.
     pub high: Offset,
     /// The change from the reference's low waters to the station's.
     pub low: Offset,
-    /// The minutes added to the times of slack water, or `None` if the table has none for the station.
+    /// The minutes added to the times of the reference's slack waters, or `None` if the table has none
+    /// for the station.
     pub slack: Option<Slack>,
 }
 

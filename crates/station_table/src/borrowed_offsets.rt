@@ -16,7 +16,7 @@ use csv::ByteRecord;
 use decimal_text::Text;
 use std::alloc::{AllocError, Global};
 
-/// A valid row of a table of offsets. Its names are borrowed from the record.
+/// A valid row of a table of offsets. Its names are borrowed from the record that it was read from.
 #[derive(Clone, Copy)]
 pub struct BorrowedOffsets<'a> {
     pub name: &'a str,
@@ -26,10 +26,11 @@ pub struct BorrowedOffsets<'a> {
     pub slack: Option<Slack>,
 }
 
-/// Returns the row of a record.
+/// Returns the row in the record `fields` of a table with the columns of `header`.
 ///
 /// # Errors
-/// The first [`OffsetWhy`] of the fields from left to right.
+/// [`OffsetWhy::FieldCount`] if the record has another number of fields than the header; otherwise the
+/// [`OffsetWhy`] of the first bad field from left to right.
 #[tactic(auto, unfolding(crate::specs::Table::offsets_of))]
 pub fn row_of(fields: &ByteRecord, header: Header) -> Result<BorrowedOffsets<'_>, OffsetWhy>
     ensures exact { Reads offsets_in (offsets_of header (fields_of fields.now)) result }

@@ -3,7 +3,8 @@
 ghost use Rattle.std.specs.Prelude.{◌≡◌, ◌≤◌, ◌==◌, None, IfSome, if◌then◌else◌};
 ghost use Rattle.station_table.specs.Fields.{pair_of, minutes_of, clock_of};
 
-/// Returns the minutes of `H:MM` or `HH:MM`, with minutes below 60, or `None` for any other text.
+/// Returns the number of minutes that `text` writes as `H:MM` or `HH:MM`, hours from 0 to 99 and
+/// minutes from 00 to 59, or `None` for any other text.
 #[tactic(auto, unfolding(crate::specs::Fields::clock_of))]
 pub fn clock(text: &[u8]) -> Option<u32>
     ensures exact { result ≡ clock_of text.now }

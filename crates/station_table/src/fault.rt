@@ -12,13 +12,13 @@ pub enum OffsetWhy {
     FieldCount,
     /// A number isn't in the form of its field: a decimal, or hours and minutes.
     BadNumber,
-    /// A factor or a height has more than six decimal places.
+    /// A factor or a height has a digit other than 0 after its sixth decimal place.
     TooFine,
     /// A number isn't in the range of its field.
     OutOfRange,
     /// The bytes of a field aren't UTF-8.
     NotUtf8,
-    /// A name is empty, longer than 400 bytes, or has a control byte.
+    /// A name is empty, longer than 400 bytes, or has a control byte of ASCII (below 32, or 127).
     BadName,
     /// Only one of the two times of slack water is given.
     HalfSlack,
@@ -44,7 +44,7 @@ impl OffsetWhy {
         }
     }
 
-    /// Returns the text of the reason that is printed.
+    /// Returns the text that is printed for the reason, such as `bad number`.
     pub fn text(self) -> &'static str
         ensures { result.now ≡ text_of self }
     {
@@ -66,8 +66,8 @@ impl OffsetWhy {
 pub enum OffsetFault {
     /// Memory ran out while the table was read.
     NoMemory,
-    /// The first row that breaks a rule, and the first reason. Rows are counted from the header, which is
-    /// row 1; a file without a header has its fault in row 1.
+    /// The first row that breaks a rule, and the first reason why it does. Rows are counted from the
+    /// header, which is row 1; a file without a header has its fault in row 1.
     At { row: u32, why: OffsetWhy },
 }
 

@@ -25,10 +25,12 @@ fn text(field: &[u8]) -> Result<&str, OffsetWhy>
     }
 }
 
-/// Parses `field` as a name: from 1 to 400 bytes of UTF-8 without control bytes.
+/// Parses `field` as a name: from 1 to 400 bytes of UTF-8 without control bytes of ASCII (below 32, or
+/// 127).
 ///
 /// # Errors
-/// [`OffsetWhy::NotUtf8`]; otherwise [`OffsetWhy::BadName`].
+/// [`OffsetWhy::NotUtf8`] if `field` isn't UTF-8; otherwise [`OffsetWhy::BadName`] if it isn't such a
+/// name.
 #[tactic(auto, unfolding(crate::specs::Fields::name_of, crate::specs::Fields::name_in))]
 pub fn name(field: &[u8]) -> Result<&str, OffsetWhy>
     ensures exact { Reads (λ t. t.now) (name_of field.now) result }
@@ -83,7 +85,8 @@ fn millionths(least: i64, most: i64, text: &[u8]) -> Result<i64, OffsetWhy>
     }
 }
 
-/// Parses `field` as the minutes added to a time, from -1440 to 1440; an empty field is 0.
+/// Parses `field`, a clock time such as `-0:10`, as the minutes added to a time, from -1440 to 1440; an
+/// empty field is 0.
 ///
 /// # Errors
 /// The first of [`OffsetWhy::NotUtf8`], [`OffsetWhy::BadNumber`] and [`OffsetWhy::OutOfRange`] that
@@ -100,8 +103,8 @@ pub fn add(field: &[u8]) -> Result<i32, OffsetWhy>
     minutes(field)
 }
 
-/// Parses `field` as the factor of a level, in millionths, from 1 to 100,000,000; an empty field is
-/// 1,000,000.
+/// Parses `field`, a decimal, as the factor of a level, in millionths, from 1 to 100,000,000; an empty
+/// field is 1,000,000.
 ///
 /// # Errors
 /// The first of [`OffsetWhy::NotUtf8`], [`OffsetWhy::BadNumber`], [`OffsetWhy::TooFine`] and
@@ -118,8 +121,8 @@ pub fn times(field: &[u8]) -> Result<i64, OffsetWhy>
     millionths(1, 100_000_000, field)
 }
 
-/// Parses `field` as the height added to a level, in millionths, from -10,000,000,000 to 10,000,000,000; an
-/// empty field is 0.
+/// Parses `field`, a decimal, as the height added to a level, in millionths of the station's unit, from
+/// -10,000,000,000 to 10,000,000,000; an empty field is 0.
 ///
 /// # Errors
 /// The first of [`OffsetWhy::NotUtf8`], [`OffsetWhy::BadNumber`], [`OffsetWhy::TooFine`] and

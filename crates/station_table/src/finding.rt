@@ -17,7 +17,8 @@ use harmonics_book::{Book, ValidBook};
 pub enum FindFault {
     /// Neither the book nor the table has a station with the name.
     NoStation,
-    /// The book doesn't have the reference station of row `row`, an index of the table's list.
+    /// The book doesn't have the reference station of row `row`, an index of the table's list counted
+    /// from 0.
     NoReference { row: u32 },
 }
 

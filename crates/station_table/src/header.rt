@@ -43,7 +43,8 @@ impl Header {
     }
 }
 
-/// Returns the field in `column`, counted from 0, or no bytes if there is none.
+/// Returns the field in `column`, counted from 0, of a record, or no bytes if the record has fewer
+/// fields.
 pub fn field(fields: &ByteRecord, column: usize) -> &[u8]
     ensures { result.now ≡ field_of (fields_of fields.now) column }
 {
@@ -80,7 +81,8 @@ fn has_columns(fields: &ByteRecord, header: Header) -> bool
 /// Parses `fields`, the first record of a table, as its header.
 ///
 /// # Errors
-/// [`OffsetFault::At`] row 1 if it isn't a header.
+/// [`OffsetFault::At`] with row 1 and [`OffsetWhy::BadHeader`] if `fields` aren't the names of the
+/// columns of a table.
 #[tactic(auto, unfolding(crate::specs::Table::header_of))]
 pub fn header_of(fields: &ByteRecord) -> Result<Header, OffsetFault>
     ensures { result ≡ header_of (fields_of fields.now) }
@@ -94,7 +96,7 @@ pub fn header_of(fields: &ByteRecord) -> Result<Header, OffsetFault>
     }
 }
 
-/// The fault of a file in which the first record isn't a header.
+/// The fault of a file in which the first record isn't a header: a bad header in row 1.
 pub const NO_HEADER: OffsetFault = OffsetFault::At {
     row: 1,
     why: OffsetWhy::BadHeader,

@@ -5,14 +5,15 @@
 pub struct Offset {
     /// The minutes added to the times of the high or low waters, from -1440 to 1440.
     pub add: i32,
-    /// The factor of the levels, in millionths, from 1 to 100,000,000.
+    /// The factor of the reference's levels, in millionths, from 1 to 100,000,000.
     pub times: i64,
-    /// The height added after that, in millionths of the unit, from -10,000,000,000 to 10,000,000,000.
+    /// The height added to a level after that, in millionths of the station's unit, from
+    /// -10,000,000,000 to 10,000,000,000.
     pub plus: i64,
 }
 
 impl Offset {
-    /// The offset that changes nothing: no minutes, times 1,000,000 millionths, no height.
+    /// The offset that changes nothing: 0 minutes, a factor of 1,000,000 millionths and a height of 0.
     pub const USUAL: Offset = Offset {
         add: 0,
         times: 1_000_000,
@@ -20,7 +21,7 @@ impl Offset {
     };
 }
 
-/// The minutes added to the times of a station's slack waters, each from -1440 to 1440.
+/// The minutes added to the times of the reference's slack waters, each from -1440 to 1440.
 #[derive(Clone, Copy, PartialEq, Eq)]
 pub struct Slack {
     /// The minutes added to the times of slack water before a flood, from -1440 to 1440.

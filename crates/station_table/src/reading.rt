@@ -22,15 +22,15 @@ use std::alloc::Global;
 /// The first record is the header:
 /// `name,reference,high_add,low_add,high_times,low_times,high_plus,low_plus`, which may be followed by
 /// `,flood_add,ebb_add`. Each later record is a station. Names have 1 to 400 bytes of UTF-8 without
-/// control bytes. Times to add are written as `-0:10`, at most 24:00 either way; factors are decimals
-/// from 0.000001 to 100, and levels to add are decimals from -10000 to 10000. An empty field changes
-/// nothing; both times of slack water are empty or neither is.
+/// control bytes of ASCII. Times to add are written as `-0:10`, at most 24:00 either way. Factors are
+/// decimals from 0.000001 to 100, and heights to add are decimals from -10000 to 10000 in the station's
+/// unit. An empty field changes nothing; both times of slack water are empty or neither is.
 ///
 /// `bytes`, at most 400,000,000, are read once.
 ///
 /// # Errors
-/// [`OffsetFault::At`] with the first row that breaks a rule, and the first reason;
-/// [`OffsetFault::NoMemory`] if memory runs out.
+/// [`OffsetFault::At`] with the first row that breaks a rule, counted from the header, which is row 1,
+/// and the first reason why it does; [`OffsetFault::NoMemory`] if memory runs out.
 ///
 /// # Examples
 /// ```

@@ -7,7 +7,8 @@ use crate::offsets::Offsets;
 use std::alloc::{AllocError, Global};
 use std::marker::Model;
 
-/// The subordinate stations of a file, in its order: fewer than 2^32, with fields in their ranges.
+/// The subordinate stations of a file of offsets, in the file's order: fewer than 2^32, with names and
+/// offsets in their ranges.
 #[derive(Drop)]
 pub struct OffsetTable {
     rows: Vec<Offsets>,
@@ -46,8 +47,8 @@ impl OffsetTable {
         Ok(())
     }
 
-    /// Does nothing. Its contract says that there are fewer than 2^32 rows, and that their fields are in
-    /// their ranges.
+    /// Does nothing. Its contract says that there are fewer than 2^32 rows, and that their names and
+    /// offsets are in their ranges.
     pub fn ranges_hold(&self)
         ensures { IsTable self.now }
     {

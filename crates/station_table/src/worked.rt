@@ -22,7 +22,8 @@ ghost use Rattle.station_table.specs.Worked.{
   changes,
 };
 
-/// Proves which values some fields of a table have, among them empty ones.
+/// Proves which values some fields of a table have, among them empty ones: minutes added to a time,
+/// factors of a level and heights added to it, both in millionths, and names.
 #[tactic(auto, unfolding(crate::proofs::OnLiterals::table_on_literals))]
 pub fn worked_fields()
     ensures greatest_add { add_of (codes "24:00") ≡ Ok (pos 1440) }
@@ -39,7 +40,7 @@ pub fn worked_fields()
     ensures accented { name_of (195 ∷ 169 ∷ []) ≡ Ok (195 ∷ 169 ∷ []) }
 {}
 
-/// Proves which stations some rows give, or the first reason why a row is bad.
+/// Proves which station a row gives, and for changed rows the first reason why each is bad.
 #[tactic(auto, unfolding(crate::proofs::OnLiterals::table_on_literals))]
 pub fn worked_rows()
     ensures gate { offsets_of Header.WithSlack gate_fields ≡ Ok gate_row }
@@ -48,7 +49,8 @@ pub fn worked_rows()
     ensures short { offsets_of Header.WithSlack (take 8 gate_fields) ≡ Err OffsetWhy.FieldCount }
 {}
 
-/// Proves which tables some files contain, or their first faults.
+/// Proves which tables some files of offsets contain, or their first fault, a row and a reason; rows
+/// are counted from the header, which is row 1.
 #[tactic(auto, unfolding(crate::proofs::OnLiterals::table_on_literals))]
 pub fn worked_tables()
     ensures dock { table_of dock_file ≡ Ok dock_rows }
@@ -60,7 +62,8 @@ pub fn worked_tables()
         ≡ Err (OffsetFault.At 3 OffsetWhy.BadNumber) }
 {}
 
-/// Proves which references and offsets some names have, with a book of one station.
+/// Proves which reference and offsets some station names have, or why they have none, with a book of
+/// one station, the pier, and a table of subordinate stations.
 #[tactic(auto, unfolding(crate::specs::Bases::basis_of, crate::specs::Bases::basis_in, crate::specs::Bases::basis_over))]
 pub fn worked_bases()
     ensures reference { basis_of pier_book dock_rows (codes "Pier") ≡ Ok (reference_basis 0) }
