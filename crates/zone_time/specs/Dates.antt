@@ -49,20 +49,21 @@ date_from_year (suc more) y days =
       | false ↦ date_from_year more (y + 1) (days - days_in_year (pos y))
     ]
 
--- a day number of the years from 0 to 9999, with 1970-01-01 as 0
+-- a day number, with 1970-01-01 as 0, of the years from 0 to 9999
 pub record IsDay (day : ℤ) : Type 0 where
   pub first : negsuc 719527 ≤ℤ day
   pub last : day ≤ℤ pos 2932896
 
--- the date of a day number, counted from 1 January of the year 0, which is day -719528
+-- the date of a day number, with 1970-01-01 as 0; it is found by counting from 1 January of the year 0,
+-- which is day -719528
 unfoldable pub date_of : ℤ → CalendarDate
 date_of day = date_from_year 9999 0 (unsigned_abs (day +ℤ pos 719528))
 
--- a number below 100 in two digits
+-- a number below 100 in two decimal digits
 unfoldable pub two_digits : ℕ → List ℕ
 two_digits n = (48 + n / 10 % 10) ∷ (48 + n % 10) ∷ []
 
--- a date as text: the year in four digits, the month and the day
+-- the date of a day number, with 1970-01-01 as 0, as text, such as `2000-01-10`
 unfoldable pub date_text : ℤ → List ℕ
 date_text day =
     two_digits ((date_of day).year / 100) ++ two_digits ((date_of day).year % 100)

@@ -12,12 +12,12 @@ pub record IsWritten (m : ℤ) : Type 0 where
   pub first : negsuc 1036120319 ≤ℤ m
   pub last : m ≤ℤ pos 4223371679
 
--- a label with an offset of at most 26 hours
+-- a label that has a text: universal time, or an offset from -1560 to 1560 minutes (26 hours)
 abbrev pub IsLabel : Label → Type 0
 IsLabel Utc = Unit {0}
 IsLabel (Minutes z) = unsigned_abs z ≤ 1560
 
--- a local time that has a text
+-- a local time that has a text: its year is from 0 to 9999, and an offset from -1560 to 1560 minutes
 pub record IsLocal (local : Local) : Type 0 where
   pub minute : IsWritten local.minute
   pub label : IsLabel local.label
@@ -26,7 +26,8 @@ pub record IsLocal (local : Local) : Type 0 where
 unfoldable pub time_text : ℤ → List ℕ
 time_text m = date_text (day_of m) ++ codes " " ++ clock_text (minute_of_day m)
 
--- the text of a label: `UTC`, or the offset from universal time, with `-` for a clock that is slow
+-- the text of a label: `UTC`, or the offset from universal time as hours and minutes, with `-` for a
+-- clock that is behind, else `+`
 unfoldable pub label_text : Label → List ℕ
 label_text Utc = codes "UTC"
 label_text (Minutes z) = (if int_lt z (pos 0) then codes "-" else codes "+") ++ clock_text (unsigned_abs z)

@@ -36,15 +36,15 @@ pub record IsMoment (m : ℤ) : Type 0 where
   pub first : negsuc 1035593279 ≤ℤ m
   pub last : m ≤ℤ pos 4223371679
 
--- the day number of a minute
+-- the day number, with 1970-01-01 as 0, of a minute since 1970-01-01 00:00
 abbrev pub day_of : ℤ → ℤ
 day_of m = int_div_euclid m (pos 1440)
 
--- the minute of the day of a moment
+-- the minute of its day, from 0 to 1439, of a minute since 1970-01-01 00:00
 abbrev pub minute_of_day : ℤ → ℕ
 minute_of_day m = unsigned_abs (int_rem_euclid m (pos 1440))
 
--- the text of a moment, such as `2000-01-10T00:00Z`
+-- the text of a moment, in minutes since 1970-01-01T00:00Z, such as `2000-01-10T00:00Z`
 unfoldable pub moment_text : ℤ → List ℕ
 moment_text m = date_text (day_of m) ++ codes "T" ++ clock_text (minute_of_day m) ++ codes "Z"
 
@@ -57,7 +57,7 @@ unfoldable pub has_form : List ℕ → Bool
 has_form text =
     (length text == 17) && list_all (λ (b, wanted). fits b wanted) (zip text (codes "0000-00-00T00:00Z"))
 
--- the number of the two digits at index i
+-- the number that the two digits of a text at index i, counted from 0, write
 abbrev pub pair_at : List ℕ → ℕ → ℕ
 pair_at text i = 10 * (slice_index text i - 48) + (slice_index text (i + 1) - 48)
 
@@ -76,7 +76,8 @@ names_moment text =
     has_form text && is_date (year_at text) (pair_at text 5) (pair_at text 8)
     && nat_le (pair_at text 11) 23 && nat_le (pair_at text 14) 59
 
--- the moment that a text writes, or None
+-- the moment that a text such as `2000-01-10T00:00Z` writes, in minutes since 1970-01-01T00:00Z, or
+-- None for another text
 unfoldable pub moment_of : List ℕ → Option ℤ
 moment_of text =
     if names_moment text

@@ -7,15 +7,15 @@ use Rattle.jiff_tz.specs.PosixText.{DstText, TzText}
 use Rattle.jiff_tz.specs.TzifReader.{TzifText}
 use Rattle.jiff_tz.specs.TzifText.{TypeText, TransitionText}
 
--- the mean time of New York
+-- the mean time of New York: 4:56:02 behind universal time
 abbrev pub mean : TypeText
 mean = record { seconds = negsuc 17761; dst = No; name = codes "LMT" }
 
--- Eastern Standard Time
+-- Eastern Standard Time: five hours behind universal time
 abbrev pub standard : TypeText
 standard = record { seconds = negsuc 17999; dst = No; name = codes "EST" }
 
--- Eastern Daylight Time
+-- Eastern Daylight Time: four hours behind universal time
 abbrev pub daylight : TypeText
 daylight = record { seconds = negsuc 14399; dst = Yes; name = codes "EDT" }
 
@@ -33,7 +33,8 @@ eastern_daylight = record {
 abbrev pub eastern : TzText
 eastern = record { std_name = codes "EST"; std_seconds = negsuc 17999; dst = Some eastern_daylight }
 
--- the rows of the table; the last ends the daylight saving time of 1999 at the second `last`
+-- the rows of New York's table; the last ends the daylight saving time of 1999 at the second `last`,
+-- since 1970-01-01T00:00Z
 abbrev pub rows_to : ℤ → List TransitionText
 rows_to last =
     record { second = negsuc 2717650799; before = mean.seconds; after = standard }
@@ -41,11 +42,12 @@ rows_to last =
     ∷ record { second = last; before = daylight.seconds; after = standard }
     ∷ []
 
--- New York's file, with the last row of its table at the second `last`
+-- New York's zone file, with the last row of its table at the second `last`, since 1970-01-01T00:00Z
 abbrev pub new_york_to : ℤ → TzifText
 new_york_to last = record { version = 50; first = mean; transitions = rows_to last; rule = Some eastern }
 
--- the bytes of a file of the first version: always one hour ahead
+-- the bytes of a zone file of the first version, for a clock that is always one hour ahead of universal
+-- time
 abbrev pub hour_ahead : List ℕ
 hour_ahead =
     codes "TZif" ++ replicate 35 0 ++ 1 ∷ 0 ∷ 0 ∷ 0 ∷ 4 ∷ 0 ∷ 0 ∷ 14 ∷ 16 ∷ 0 ∷ 0 ∷ [] ++ codes "CET" ++ 0 ∷ []

@@ -69,7 +69,8 @@ daylight_of dst year standard =
 abbrev pub standard_time : TzText → TypeText
 standard_time rule = record { seconds = rule.std_seconds; dst = No; name = rule.std_name }
 
--- the clock type at an instant by a rule with this daylight saving time, if any
+-- the clock type at an instant, in nanoseconds of universal time, by a rule with this daylight saving
+-- time, if any
 abbrev pub rule_type_by : TzText → Option DstText → ℤ → TypeText
 rule_type_by rule None nanos = standard_time rule
 rule_type_by rule (Some dst) nanos =
@@ -77,7 +78,7 @@ rule_type_by rule (Some dst) nanos =
     then record { seconds = dst.seconds; dst = Yes; name = dst.name }
     else standard_time rule
 
--- the clock type at a second by a rule
+-- the clock type at a second of universal time, since 1970-01-01T00:00Z, by a rule
 unfoldable pub rule_type : TzText → ℤ → TypeText
 rule_type rule second = rule_type_by rule rule.dst (nanos_of_seconds second)
 
@@ -88,11 +89,13 @@ ahead_after rule ahead [] second = match_some rule ahead (λ found. (rule_type f
 ahead_after rule ahead (row ∷ rows) second =
     if int_le row.second second then ahead_after rule row.after.seconds rows second else ahead
 
--- the seconds by which a zone file's clock is ahead of universal time at a second
+-- the seconds by which a zone file's clock is ahead of universal time at a second since
+-- 1970-01-01T00:00Z
 abbrev pub seconds_ahead : TzifText → ℤ → ℤ
 seconds_ahead file second = ahead_after file.rule file.first.seconds file.transitions second
 
--- the minute that the clock shows at a minute, with seconds rounded down
+-- the minute that a zone file's clock shows at a minute since 1970-01-01T00:00Z, with seconds rounded
+-- down
 unfoldable pub clock_minute : TzifText → ℤ → ℤ
 clock_minute file minute =
     int_div_euclid ((minute *ℤ pos 60) +ℤ seconds_ahead file (minute *ℤ pos 60)) (pos 60)

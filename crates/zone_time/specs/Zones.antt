@@ -30,22 +30,24 @@ use Rattle.zone_time.specs.declared.zone_fault.ZoneFault.{ZoneFault}
 use Rattle.zone_time.specs.declared.zone_fault.ZoneFault.TheVariants.{BadZone, NoMemory}
 use Rattle.zone_time.specs.ZoneFiles.{clock_minute, is_consistent}
 
--- a fixed offset is at most 26 hours
+-- a zone with a text for each label: a fixed offset is from -1560 to 1560 minutes (26 hours)
 abbrev pub IsZone : Zone → Type 0
 IsZone Utc = Unit {0}
 IsZone (Fixed ahead) = unsigned_abs ahead ≤ 1560
 IsZone (File file) = Unit {0}
 
--- a minute of the years from 2 to 9300, or of the day before them
+-- a minute, since 1970-01-01T00:00Z, of the years from 2 to 9300, or of the day before them
 pub record InZoneYears (minute : ℤ) : Type 0 where
   pub first : negsuc 1035069119 ≤ℤ minute
   pub last : minute ≤ℤ pos 3855733919
 
--- the local time of a clock that shows the minute `shown` at `minute`
+-- the local time of a clock that shows the minute `shown` at `minute` of universal time; its label is
+-- the difference in minutes
 abbrev pub local_at : ℤ → ℤ → Local
 local_at minute shown = record { minute = shown; label = Minutes (shown -ℤ minute) }
 
--- the local time in a zone at a minute; in universal time it is the minute itself
+-- the local time in a zone at a minute since 1970-01-01T00:00Z; in universal time it is the minute
+-- itself
 abbrev pub local_in : Zone → ℤ → Local
 local_in Utc minute = record { minute = minute; label = labels.Utc }
 local_in (Fixed ahead) minute = record { minute = minute +ℤ ahead; label = Minutes ahead }

@@ -11,8 +11,8 @@ use jiff_core::civil::Date;
 /// The number of minutes in a day.
 pub const MINUTES_OF_DAY: i64 = 1440;
 
-/// Appends the date of `day`, a day number with 1970-01-01 as 0, as `2000-01-10`. The year is from 0 to
-/// 9999.
+/// Appends the date of `day`, a day number with 1970-01-01 as 0, in the form `2000-01-10`. The year is
+/// from 0 to 9999.
 #[tactic(auto, unfolding(crate::specs::Dates::date_text))]
 pub fn write_date<const N: usize>(day: i64, out: &mut ArrayString<N>)
     requires day { IsDay day }
@@ -30,7 +30,7 @@ pub fn write_date<const N: usize>(day: i64, out: &mut ArrayString<N>)
     push_pair(date.day as u32, out);
 }
 
-/// Appends `minutes`, below 6000, as hours and minutes, such as `05:30`.
+/// Appends `minutes`, a number of minutes below 6000, as hours and minutes, such as `05:30`.
 #[tactic(auto, unfolding(crate::specs::Dates::clock_text))]
 pub fn write_clock<const N: usize>(minutes: u32, out: &mut ArrayString<N>)
     requires room { array_string_len out.old + 5 ≤ N }

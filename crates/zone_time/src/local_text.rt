@@ -9,7 +9,7 @@ use crate::local::{Label, Local};
 use arrayvec::ArrayString;
 
 /// Appends `local` with its label, as `2000-01-10 06:00 UTC` or `2000-01-10 01:00 -05:00`, in 20 or 23
-/// bytes. The year is from 0 to 9999, and an offset is at most 1560 minutes.
+/// bytes. The local year is from 0 to 9999, and an offset is from -1560 to 1560 minutes.
 #[tactic(auto, unfolding(crate::specs::Locals::local_text))]
 pub fn write_local<const N: usize>(local: &Local, out: &mut ArrayString<N>)
     requires local { IsLocal local.now }

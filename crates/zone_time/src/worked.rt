@@ -11,8 +11,9 @@ ghost use Rattle.zone_time.specs.Worked.{new_york_to, hour_ahead};
 ghost use Rattle.zone_time.specs.ZoneFiles.{clock_minute, is_consistent};
 ghost use Rattle.zone_time.specs.Zones.{local_in, zone_of};
 
-/// Proves the texts of some moments: the first and the last of all, 1970-01-01T00:00Z and the minute before
-/// it, leap days, and a century year without one.
+/// Proves the texts of some moments, in minutes since 1970-01-01T00:00Z: the first and the last that
+/// have a text, 1970-01-01T00:00Z and the minute before it, leap days, and the end of February of a
+/// century year without a leap day.
 pub fn worked_texts()
     ensures usual { moment_text (pos 15791040) ≡ codes "2000-01-10T00:00Z" }
     ensures zero { moment_text (pos 0) ≡ codes "1970-01-01T00:00Z" }
@@ -25,7 +26,8 @@ pub fn worked_texts()
     ensures first_leap_day { moment_text (negsuc 1033930765) ≡ codes "0004-02-29T12:34Z" }
 {}
 
-/// Proves the moments that some texts write, and that others write none.
+/// Proves the moments that some texts write, in minutes since 1970-01-01T00:00Z, and that other texts
+/// write none.
 #[tactic(auto, unfolding(crate::specs::Moments::moment_of, crate::specs::Moments::has_form))]
 pub fn worked_readings()
     ensures usual { moment_of (codes "2000-01-10T00:00Z") ≡ Some (pos 15791040) }
@@ -42,7 +44,8 @@ pub fn worked_readings()
     ensures year_zero { moment_of (codes "0000-12-31T23:59Z") ≡ None }
 {}
 
-/// Proves which texts some labels and local times have.
+/// Proves which texts some local times and labels have; a label is `UTC` or an offset from universal
+/// time in minutes.
 #[tactic(auto, unfolding(crate::specs::Locals::local_text, crate::specs::Locals::time_text, crate::specs::Locals::label_text, crate::specs::Dates::date_text, crate::specs::Dates::clock_text, crate::specs::Dates::two_digits, crate::specs::Dates::date_of, crate::specs::Dates::date_from_year, crate::specs::Dates::date_from_month))]
 pub fn worked_locals()
     ensures universal { local_text (record { minute = pos 15791400; label = Label.Utc }) ≡ codes "2000-01-10 06:00 UTC" }
@@ -54,8 +57,9 @@ pub fn worked_locals()
     ensures first { local_text (record { minute = negsuc 1036120319; label = Label.Utc }) ≡ codes "0000-01-01 00:00 UTC" }
 {}
 
-/// Proves local minutes of New York by a table up to 1999 and a rule from then on: the seconds of mean
-/// time are rounded down, a row counts from its second on, and the rule from the last row on.
+/// Proves which minutes the clock of New York shows at some minutes, both since 1970-01-01 00:00. The
+/// zone has a table of changes up to 1999 and a rule from then on. The seconds of mean time are rounded
+/// down, a row of the table counts from its second on, and the rule from the second of the last row on.
 pub fn worked_clocks()
     ensures mean_time { clock_minute (new_york_to (pos 941954400)) (negsuc 63113759) ≡ negsuc 63114056 }
     ensures last_of_mean_time { clock_minute (new_york_to (pos 941954400)) (negsuc 45294180) ≡ negsuc 45294477 }
@@ -69,8 +73,8 @@ pub fn worked_clocks()
     ensures label { local_text (local_in (Zone.Fixed (negsuc 299)) (pos 15791400)) ≡ codes "2000-01-10 01:00 -05:00" }
 {}
 
-/// Proves the zones of some files, and that others have none: a rule that contradicts the last row, which
-/// ends daylight saving time a week too early, and files that are cut short.
+/// Proves which zone a file has, that files that are cut short have none, and that a rule continues a
+/// table of changes, but not one in which the last row ends daylight saving time a week too early.
 pub fn worked_zone_files()
     ensures consistent { is_consistent (new_york_to (pos 941954400)) ≡ true }
     ensures inconsistent { is_consistent (new_york_to (pos 941349600)) ≡ false }

@@ -8,8 +8,8 @@ use crate::local::{Label, Local};
 use crate::zone::Zone;
 use std::marker::Model;
 
-/// The clock of a zone, as returned by [`Zone::clock`]. If the zone is a fixed offset, it is at most
-/// 1560 minutes. In contracts the clock's value is the zone.
+/// The clock of a zone, as returned by [`Zone::clock`]. If the zone is a fixed offset, it is from -1560
+/// to 1560 minutes. In contracts the clock's value is the zone.
 #[derive(Drop)]
 pub struct ZoneClock<'a> {
     zone: &'a Zone,
@@ -43,9 +43,9 @@ impl<'a> ZoneClock<'a> {
         self.zone
     }
 
-    /// Returns the local time at `minute`, counted from 1970-01-01T00:00Z, in the years 2 to 9300 or on the
-    /// day before them. Seconds are rounded down. If the label is an offset, it is the local minute less
-    /// `minute`.
+    /// Returns the local time at `minute`, in minutes since 1970-01-01T00:00Z, in the years 2 to 9300
+    /// or on the day before them. Seconds are rounded down. If the label of the result is an offset, it
+    /// is the local minute less `minute`.
     pub fn local(&self, minute: i64) -> Local
         requires { InZoneYears minute }
         ensures exact { result ≡ local_in self.now minute }

@@ -5,7 +5,8 @@ use thiserror::Error;
 /// The reason why bytes couldn't be read as a zone file.
 #[derive(Clone, Copy, Debug, PartialEq, Eq, Error)]
 pub enum ZoneFault {
-    /// The bytes aren't a zone file, or the file's rule contradicts its table.
+    /// The bytes aren't a zone file, or the rule of its footer contradicts the last change of its
+    /// table.
     #[error("a bad zone file")]
     BadZone,
     /// Memory ran out while the zone file was read.

@@ -13,8 +13,9 @@ use jiff_core::Timestamp;
 use jiff_tz::Tzif;
 use std::marker::Model;
 
-/// A zone file as `jiff` reads it: the offsets of the clock from universal time, each from some second
-/// on, and the rule after the last of them. In contracts its value is the content of the file.
+/// A zone file as `jiff` reads it: the seconds by which the clock is ahead of universal time, each from
+/// some second on, and the rule after the last of these. In contracts its value is the content of the
+/// file.
 #[derive(Drop)]
 pub struct ZoneFile {
     tzif: Tzif,
