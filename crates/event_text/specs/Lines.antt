@@ -18,8 +18,8 @@ text_of_unit Meters = codes "meters"
 text_of_unit Knots = codes "knots"
 text_of_unit KnotsSquared = codes "knots^2"
 
--- a level, in millionths, as text in hundredths of its unit; it is rounded first, so a level that rounds
--- to 0 has no sign
+-- a level, in millionths of its unit, as text in hundredths of the unit; it is rounded first, so a
+-- level that rounds to 0 has no sign
 abbrev pub level_text : ℤ → List ℕ
 level_text level = write_of (rounded_of level 10000) 2
 
@@ -27,12 +27,14 @@ level_text level = write_of (rounded_of level 10000) 2
 unfoldable pub padded : ℕ → List ℕ → List ℕ
 padded places text = replicate (places - length text) 32 ++ text
 
--- the line of a level without an event: its local time, the level and its unit
+-- the line, without LF, of a level in millionths of this unit at a local time: the time, the level and
+-- the unit
 unfoldable pub height_line_of : Local → ℤ → Units → List ℕ
 height_line_of local level units =
     local_text local ++ codes "  " ++ padded 9 (level_text level) ++ codes " " ++ text_of_unit units
 
--- the line of an event: local time, level, unit and name
+-- the line, with its LF, of an event at a local time: the time, the level, the unit and the event's
+-- name
 unfoldable pub event_line_of : Local → Event → Units → List ℕ
 event_line_of local event units =
     height_line_of local event.level units ++ codes "  "
@@ -43,6 +45,6 @@ pub record IsListed (units : Units) (event : Event) : Type 0 where
   pub minute : InZoneYears event.minute
   pub named : IsTrue (has_word units event.kind)
 
--- the line of an event in the local time of a zone
+-- the line, with its LF, of an event in the local time of a zone
 abbrev pub event_line_in : Zone → Units → Event → List ℕ
 event_line_in zone units event = event_line_of (local_in zone event.minute) event units

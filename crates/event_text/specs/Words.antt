@@ -31,25 +31,27 @@ is_slack FloodBegins = true
 is_slack EbbBegins = true
 is_slack _ = false
 
--- the events of this unit and kind have a name: in a current all do, in a tide all but slack water
+-- the events of this unit and kind have a name: in a current all do, in a tide all but slack water, in
+-- a hydraulic current none
 abbrev pub has_word : Units → Kind → Bool
 has_word Feet kind = not (is_slack kind)
 has_word Meters kind = not (is_slack kind)
 has_word Knots kind = true
 has_word KnotsSquared kind = false
 
--- the name of a high: for a current the greatest flood or the least ebb, by its direction; a flood is
--- above 0
+-- the name of a high with this level in millionths: in knots the greatest flood or the least ebb, where
+-- a current above 0 is a flood; else a high tide
 abbrev pub high_word_of : Units → ℤ → EventWord
 high_word_of Knots level = if int_lt (pos 0) level then MaxFlood else MinEbb
 high_word_of _ level = HighTide
 
--- the name of a low: for a current the least flood or the greatest ebb
+-- the name of a low with this level in millionths: in knots the least flood or the greatest ebb, where
+-- a current above 0 is a flood; else a low tide
 abbrev pub low_word_of : Units → ℤ → EventWord
 low_word_of Knots level = if int_lt (pos 0) level then MinFlood else MaxEbb
 low_word_of _ level = LowTide
 
--- the name of an event, by the unit, its kind and its level
+-- the name of an event, by the unit, the kind and the level, in millionths of the unit
 abbrev pub word_of : Units → Kind → ℤ → EventWord
 word_of units High level = high_word_of units level
 word_of units Low level = low_word_of units level

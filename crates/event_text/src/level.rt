@@ -8,7 +8,8 @@ ghost use Rattle.event_text.specs.Lines.{level_text, padded};
 use arrayvec::ArrayString;
 use decimal_text::{rounded, write};
 
-/// Writes `level`, in millionths, to the empty `out` in hundredths, such as `-1.00`. It doesn't allocate.
+/// Writes `level`, in millionths of its unit, to the empty `out`, rounded to hundredths of the unit,
+/// such as `-1.00`. It doesn't allocate.
 pub fn write_level(level: i64, out: &mut ArrayString<24>)
     requires { out.old.bytes ≡ [] }
     ensures { out.new.bytes ≡ level_text level }
@@ -16,7 +17,8 @@ pub fn write_level(level: i64, out: &mut ArrayString<24>)
     write(hundredths(level), 2, out);
 }
 
-/// Appends `level`, in millionths, in hundredths, right-aligned in 9 columns.
+/// Appends `level`, in millionths of its unit, rounded to hundredths of the unit and right-aligned in 9
+/// columns.
 pub(crate) fn push_level(level: i64, out: &mut ArrayString<96>)
     requires { array_string_len out.old + 24 ≤ 96 }
     ensures bytes { out.new.bytes ≡ out.old.bytes ++ padded 9 (level_text level) }

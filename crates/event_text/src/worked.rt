@@ -6,7 +6,8 @@ ghost use Rattle.curve_law.specs.declared.kind.Kind.{Kind};
 ghost use Rattle.zone_time.specs.declared.local.Label.{Label};
 ghost use Rattle.event_text.specs.Lines.{level_text, padded, event_line_of, height_line_of};
 
-/// Proves examples of lines of a tide and of a current, in universal time and in a zone west of Greenwich.
+/// Proves examples of printed lines of events and levels, of a tide and of a current, in universal time
+/// and in a zone west of Greenwich. Levels are in millionths of the unit.
 pub fn worked_lines()
     ensures low_tide { event_line_of (record { minute = pos 15791400; label = Label.Utc })
         (record { minute = pos 15791400; kind = Kind.Low; level = negsuc 999999 }) Units.Feet
@@ -24,7 +25,8 @@ pub fn worked_lines()
         ≡ codes "2000-01-10 00:00 UTC       1.00 meters" }
 {}
 
-/// Proves levels in hundredths: a half is rounded away from 0, and a level that rounds to 0 has no sign.
+/// Proves the texts of levels, given in millionths, in hundredths: a half is rounded away from 0, and a
+/// level that rounds to 0 has no sign.
 pub fn worked_levels()
     ensures half { level_text (pos 5000) ≡ codes "0.01" }
     ensures below_half { level_text (pos 4999) ≡ codes "0.00" }
