@@ -30,19 +30,21 @@ use Rattle.httparse.specs.Grammar.{RequestHead, ReadsRequest}
 use Rattle.httparse.specs.Spans.{name_and_value}
 use Rattle.http_rows.specs.declared.limits.TheConstants.{MOST_FIELDS, MOST_HEAD}
 
--- the length of the empty line that the bytes begin with: LF, or CR LF
+-- the length in bytes of the empty line that the bytes begin with, LF or CR LF, or None if they don't
+-- begin with one
 unfoldable pub empty_line : List ℕ → Option ℕ
 empty_line bytes =
     if starts_with (λ a b. a == b) bytes (line_feed ∷ []) then Some 1
     else (if starts_with (λ a b. a == b) bytes crlf_bytes then Some 2 else None)
 
--- the length of the head, which ends with the first empty line that directly follows an LF
+-- the length in bytes of the head that the bytes begin with, which ends with the first empty line that
+-- directly follows an LF; None if there is no such line
 unfoldable pub head_length : List ℕ → Option ℕ
 head_length [] = None
 head_length (b ∷ bytes) =
     option_map (λ n. n + 1) (if b == line_feed && is_some (empty_line bytes) then empty_line bytes else head_length bytes)
 
--- the length of the head of a request, if it ends within MOST_HEAD bytes
+-- the length in bytes of the head of a request, if it ends within MOST_HEAD (8,192) bytes, else None
 abbrev pub head_end : List ℕ → Option ℕ
 head_end request = head_length (take MOST_HEAD request)
 

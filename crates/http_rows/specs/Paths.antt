@@ -5,7 +5,7 @@ use Rattle.std.specs.Str.{bytes_eq}
 use Rattle.http_rows.specs.declared.path.Path.{Path}
 use Rattle.http_rows.specs.declared.path.Path.TheVariants.{Predict, Certify, Heights, Calendar, Clock, Stations, Check}
 
--- the text of each path
+-- the text of each path, such as `/predict`
 abbrev pub text_of : Path → List ℕ
 text_of Predict = codes "/predict"
 text_of Certify = codes "/certify"

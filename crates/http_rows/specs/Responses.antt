@@ -16,7 +16,7 @@ use Rattle.http_rows.specs.declared.request_rejection.RequestRejection.TheVarian
   BodyCutShort,
 }
 
--- a status code with its reason phrase
+-- a status code with its reason phrase, such as `200 OK`
 unfoldable pub status_of : Code → List ℕ
 status_of code.Success = codes "200 OK"
 status_of code.BadRequest = codes "400 Bad Request"
@@ -28,8 +28,8 @@ status_of code.Unprocessable = codes "422 Unprocessable Content"
 status_of code.FieldsTooLarge = codes "431 Request Header Fields Too Large"
 status_of code.Unavailable = codes "503 Service Unavailable"
 
--- the head of a response of the type `kind` for a body of `size` bytes; `allow` is the line of allowed
--- methods, or empty
+-- the head of a response with this status and media type for a body of `size` bytes; `allow` is the
+-- line of allowed methods, with its CR LF, or empty
 abbrev pub response_head : Code → List ℕ → List ℕ → ℕ → List ℕ
 response_head code kind allow size =
     codes "HTTP/1.1 " ++ status_of code
@@ -37,8 +37,8 @@ response_head code kind allow size =
     ++ allow
     ++ codes "Connection: close\r\n\r\n"
 
--- a response with its body or, if the Bool is true, without it; its Content-Length is the body's length
--- in both cases
+-- a response with this status, media type and line of allowed methods, and with its body or, if the
+-- Bool is true, without it; its Content-Length is the body's length in both cases
 abbrev pub response : Code → List ℕ → List ℕ → List ℕ → Bool → List ℕ
 response code kind allow body bodiless = response_head code kind allow (length body) ++ (if bodiless then [] else body)
 
@@ -68,7 +68,7 @@ body_of LengthRequired = codes "length required\n"
 body_of BodyTooLarge = codes "content too large\n"
 body_of BodyCutShort = codes "bad request\n"
 
--- the line of allowed methods in the reply to each rejection
+-- the line of allowed methods in the reply to each rejection, with its CR LF, or no bytes
 unfoldable pub allow_of : RequestRejection → List ℕ
 allow_of RequiresGet = codes "Allow: GET, HEAD\r\n"
 allow_of RequiresPost = codes "Allow: POST\r\n"
@@ -80,28 +80,30 @@ allow_of LengthRequired = []
 allow_of BodyTooLarge = []
 allow_of BodyCutShort = []
 
--- the fixed reply to a rejected request; if the Bool is true, without its body
+-- the reply to a rejected request, which has a fixed text; if the Bool is true, without its body
 abbrev pub rejection_of : RequestRejection → Bool → List ℕ
 rejection_of rejection bodiless =
     response (code_of rejection) (codes "text/plain") (allow_of rejection) (body_of rejection) bodiless
 
--- the reply of a fixed row, or None for a request that the predictor answers
+-- the reply to a rejected request, which has a fixed text, or None for a request that the predictor
+-- answers
 abbrev pub fixed_of : ReplyRow → Option (List ℕ)
 fixed_of (rejects rejection bodiless) = Some (rejection_of rejection bodiless)
 fixed_of (asks asking) = None
 
 -- ---- out of memory
 
--- the reply of a row has no body, because the method is HEAD
+-- the reply to a row's request has no body, because the request's method is HEAD
 abbrev pub is_bodiless : ReplyRow → Bool
 is_bodiless (rejects rejection bodiless) = bodiless
 is_bodiless (asks asking) = asking.bodiless
 
--- the reply 503, which replaces any other reply if memory runs out; if the Bool is true, without its
--- body
+-- the reply with status 503 (Service Unavailable), which replaces any other reply if memory runs out;
+-- if the Bool is true, without its body
 abbrev pub unavailable_to : Bool → List ℕ
 unavailable_to bodiless = response code.Unavailable (codes "text/plain") [] (codes "no memory\n") bodiless
 
--- the reply 503 to a row's request, which replaces any other reply if memory runs out
+-- the reply with status 503 (Service Unavailable) to a row's request, which replaces any other reply if
+-- memory runs out
 abbrev pub unavailable_of : ReplyRow → List ℕ
 unavailable_of row = unavailable_to (is_bodiless row)

@@ -60,54 +60,54 @@ query_of target = drop (position_or_len (λ b. b == 63) target + 1) target
 abbrev pub path_in : Head → Option Path
 path_in head = path_named (path_of head.target)
 
--- the path is for GET and HEAD
+-- the server has the path of this head, and serves it by GET and HEAD
 abbrev pub requires_get : Head → Bool
 requires_get head = option_map_or (λ path. not (is_posted path)) (path_in head) false
 
--- the path is for POST
+-- the server has the path of this head, and serves it by POST
 abbrev pub requires_post : Head → Bool
 requires_post head = option_map_or is_posted (path_in head) false
 
--- the method is HEAD
+-- the method of this head is HEAD
 abbrev pub is_head : Head → Bool
 is_head head = bytes_eq head.method (codes "HEAD")
 
--- the method is GET or HEAD
+-- the method of this head is GET or HEAD
 abbrev pub is_get_or_head : Head → Bool
 is_get_or_head head = bytes_eq head.method (codes "GET") || is_head head
 
--- the method is POST
+-- the method of this head is POST
 abbrev pub is_post : Head → Bool
 is_post head = bytes_eq head.method (codes "POST")
 
--- the length of the body in bytes: the digits of the only Content-Length, if there is no
--- Transfer-Encoding
+-- the length of the body in bytes by a head: the digits, at most MOST_DIGITS (18), of the only
+-- Content-Length, if there is no Transfer-Encoding; else None
 abbrev pub length_in : Head → Option ℕ
 length_in head =
     if nat_lt 1 head.content_length.count || nat_lt 0 head.transfer_coding.count then None
     else digits_of MOST_DIGITS head.content_length.first
 
--- the length of the body, 0 if there is none
+-- the length of the body in bytes by a head, 0 if the head gives none
 abbrev pub length_of : Head → ℕ
 length_of head = unwrap_or (length_in head) 0
 
 -- ---- the table, in its order
 
--- the rows of a request with a head that hasn't ended
+-- the rows for a request with a head that hasn't ended, each with its condition, in order
 abbrev pub unended_rows : List ℕ → List (Bool × RequestRejection)
 unended_rows request =
     (nat_le MOST_HEAD (length request), HeadTooLarge)
     ∷ (true, HeadCutShort)
     ∷ []
 
--- the rows of a head that has ended, by its lines and its grammar
+-- the rows for a head that has ended, by its lines and its grammar, each with its condition, in order
 abbrev pub head_rows : List ℕ → Option Head → List (Bool × RequestRejection)
 head_rows bytes read =
     (nat_lt MOST_LINES (line_feeds bytes), HeadTooLarge)
     ∷ (is_none read, BadRequest)
     ∷ []
 
--- the rows of a head's fields, path, method and length, in order
+-- the rows for a head's fields, path, method and length, each with its condition, in order
 abbrev pub field_rows : Head → List (Bool × RequestRejection)
 field_rows head =
     (nat_lt 1 head.host.count || (head.minor == 1 && (head.host.count == 0)), BadRequest)
@@ -120,7 +120,7 @@ field_rows head =
     ∷ (is_post head && nat_lt MOST_BODY (length_of head), BodyTooLarge)
     ∷ []
 
--- the rows of the bytes after the head
+-- the row for the bytes after the head, with its condition: the body is cut short
 abbrev pub body_rows : Head → List ℕ → List (Bool × RequestRejection)
 body_rows head rest =
     (is_post head && nat_lt (length rest) (length_of head), BodyCutShort)
@@ -140,8 +140,8 @@ pub record Asking : Type 0 where
   pub body : List ℕ
   pub bodiless : Bool
 
--- A fixed row rejects a request, and says whether its reply has no body. The predictor answers any other
--- request.
+-- The row that applies to a request: it rejects the request and, if the Bool is true, its reply has no
+-- body; or the predictor answers the request.
 pub data ReplyRow : Type 0 where
   rejects : RequestRejection → Bool → ReplyRow
   asks : Asking → ReplyRow

@@ -13,7 +13,7 @@ use crate::request_rejection::RequestRejection;
 use crate::target::{path_of, query_of};
 use decimal_text::digits;
 
-/// A request that the predictor answers: its path, query and body.
+/// A request that the predictor of tides answers: its path, query and body.
 #[derive(Clone, Copy)]
 pub struct Asking<'a> {
     pub path: Path,
@@ -58,10 +58,10 @@ fn is_path(target: &[u8]) -> bool
     target.starts_with(b"/".as_slice())
 }
 
-/// Returns the request with this `head`; its body is at the start of `rest`.
+/// Returns the request with this `head`; its body is at the start of `rest`, the bytes after the head.
 ///
 /// # Errors
-/// The first [`RequestRejection`] of the table of statuses that applies.
+/// The first [`RequestRejection`], in the order of the table of HTTP statuses, that applies.
 pub(crate) fn asked<'a>(head: &Head<'a>, rest: &'a [u8]) -> Result<Asking<'a>, RequestRejection>
     ensures asks { IfOk result (λ a. (first_row (field_rows (head_seen head.now) ++ body_rows (head_seen head.now) rest.now) ≡ None)
         × (asking_seen a ≡ asking (head_seen head.now) rest.now)) }

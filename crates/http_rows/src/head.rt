@@ -19,7 +19,7 @@ pub(crate) struct Occurs<'a> {
     pub(crate) first: &'a [u8],
 }
 
-/// The parts of a head that the server uses.
+/// The parts of a request's head that the server uses.
 #[derive(Clone, Copy)]
 pub(crate) struct Head<'a> {
     pub(crate) method: &'a [u8],
@@ -30,7 +30,7 @@ pub(crate) struct Head<'a> {
     pub(crate) transfer_coding: Occurs<'a>,
 }
 
-/// Returns true if the method is HEAD.
+/// Returns true if the request's method is HEAD.
 pub(crate) fn is_head(head: &Head<'_>) -> bool
     ensures { result ≡ is_head (head_seen head.now) }
 {

@@ -44,7 +44,8 @@ fn head_length(bytes: &[u8]) -> Option<usize>
     None
 }
 
-/// Returns the length of the head of `request`, or `None` if it doesn't end within 8,192 bytes.
+/// Returns the length in bytes of the head of `request`, with the empty line at its end, or `None` if
+/// it doesn't end within 8,192 bytes.
 pub(crate) fn head_end(request: &[u8]) -> Option<usize>
     ensures value { result ≡ head_end request.now }
     ensures within { IfSome result (λ n. n ≤ length request.now) }

@@ -1,10 +1,11 @@
 //! The limits on the size of a request (this project).
 
-/// The most bytes of a request's head: its request line and its fields, with the empty line at their
-/// end.
+/// The most bytes that a request's head may have: its request line and its fields, with the empty line
+/// at their end.
 pub const MOST_HEAD: usize = 8_192;
 
-/// The most lines of a request's head: the request line, the fields and the empty line at their end.
+/// The most lines that a request's head may have: the request line, the fields and the empty line at
+/// their end.
 pub const MOST_LINES: usize = 66;
 
 /// The most fields that a request's head may have.

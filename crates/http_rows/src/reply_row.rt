@@ -11,13 +11,13 @@ use crate::head_lines::{head_end, line_feeds};
 use crate::limits::{MOST_HEAD, MOST_LINES};
 use crate::request_rejection::RequestRejection;
 
-/// The row of the server's table of statuses that applies to a request.
+/// The row of the server's table of HTTP statuses that applies to a request.
 #[derive(Clone, Copy)]
 pub enum ReplyRow<'a> {
-    /// A fixed reply rejects the request. The second field is true if the reply has no body (a request
-    /// by HEAD).
+    /// The request is rejected, by a reply with a fixed text. The second field is true if the reply has
+    /// no body (a request by HEAD).
     Rejects(RequestRejection, bool),
-    /// The predictor answers the request.
+    /// The predictor of tides answers the request.
     Asks(Asking<'a>),
 }
 
@@ -27,7 +27,8 @@ impl ReplyRow<'_> {
     ghost use Rattle.http_rows.specs.Rows.{is_settled};
     ghost use Rattle.http_rows.specs.Workings.Views.{row_seen};
 
-    /// Returns true if further bytes of the request can't change the row of the table of statuses.
+    /// Returns true if further bytes of the request can't change which row of the table of HTTP
+    /// statuses applies.
     pub fn is_settled(&self) -> bool
         ensures { result ≡ is_settled (row_seen self.now) }
     {
@@ -37,7 +38,7 @@ impl ReplyRow<'_> {
         }
     }
 
-    /// Returns true if the reply has no body, because the method is HEAD.
+    /// Returns true if the reply has no body, because the request's method is HEAD.
     pub fn is_bodiless(&self) -> bool
         ensures { result ≡ is_bodiless (row_seen self.now) }
     {
@@ -48,7 +49,7 @@ impl ReplyRow<'_> {
     }
 }
 
-/// Returns the row of the table of statuses that applies to `request`, the whole of a request.
+/// Returns the row of the table of HTTP statuses that applies to `request`, the whole of a request.
 pub fn row_for(request: &[u8]) -> ReplyRow<'_>
     ensures row { rows.IsRow request.now (row_seen result) }
     ensures answered { IsAskingRow (row_seen result) }

@@ -4,13 +4,14 @@
 /// predictor.
 #[derive(Clone, Copy, PartialEq, Eq)]
 pub enum RequestRejection {
-    /// The head doesn't end within 8,192 bytes, or has more than 66 lines.
+    /// The head doesn't end within 8,192 bytes, or has more than 66 lines, the empty line at its end
+    /// included.
     HeadTooLarge,
     /// The request ended before its head did.
     HeadCutShort,
     /// The head isn't a valid head of HTTP/1.x, or its fields contradict each other.
     BadRequest,
-    /// The server doesn't serve the request's path.
+    /// The server has no such path as the request's.
     NotFound,
     /// The path is for GET and HEAD, and the method is another one.
     RequiresGet,

@@ -28,8 +28,8 @@ impl Response {
     ghost use Rattle.std.specs.Prelude.{◌≡◌, ◌≤◌, ◌++◌, [], length, IfOk};
     ghost use Rattle.http_rows.specs.Responses.{response};
 
-    /// Returns the response with `body`, of the type `kind` in UTF-8; `bodiless` leaves the body out, but
-    /// not its length. It doesn't allocate.
+    /// Returns the response with the status `code` and `body`, of the media type `kind`, of at most 40
+    /// bytes, in UTF-8. `bodiless` leaves the body out, but not its length. It doesn't allocate.
     pub fn new(code: Code, kind: &str, body: Bytes, bodiless: bool) -> Response
         requires { length kind.now ≤ 40 }
         ensures { result ≡ response code kind.now [] body bodiless }

@@ -81,8 +81,8 @@ fn push_number(number: usize, out: &mut ArrayString<256>)
     out.push_str(buffer.format(number));
 }
 
-/// Writes the head of a response to the empty `out`, for a body of `size` bytes of the type `kind`;
-/// `allow` is the line of the allowed methods, or empty.
+/// Writes the head of a response to the empty `out`, for a body of `size` bytes of the media type
+/// `kind`; `allow` is the line of the allowed methods, with its CR LF, or empty.
 pub(crate) fn write_head(
     code: Code,
     kind: &str,
@@ -121,8 +121,8 @@ fn write_plain(code: Code, allow: &str, body: &str, bodiless: bool, out: &mut Ar
     }
 }
 
-/// Writes the reply to a rejected request to the empty `out`; `bodiless` leaves the body out, but not its
-/// length. It doesn't allocate.
+/// Writes the reply to a request that is rejected with `rejection` to the empty `out`; `bodiless`
+/// leaves the body out, but not its length. It doesn't allocate.
 pub fn write_rejection(rejection: RequestRejection, bodiless: bool, out: &mut ArrayString<256>)
     requires { out.old.bytes ≡ [] }
     ensures { out.new.bytes ≡ rejection_of rejection bodiless }
@@ -136,8 +136,8 @@ pub fn write_rejection(rejection: RequestRejection, bodiless: bool, out: &mut Ar
     );
 }
 
-/// Writes to the empty `out` the reply 503, which replaces any other reply if memory runs out. It doesn't
-/// allocate.
+/// Writes to the empty `out` the reply with status 503 (Service Unavailable), which replaces any other
+/// reply if memory runs out; `bodiless` leaves the body out, but not its length. It doesn't allocate.
 pub fn write_unavailable(bodiless: bool, out: &mut ArrayString<256>)
     requires { out.old.bytes ≡ [] }
     ensures { out.new.bytes ≡ unavailable_to bodiless }

@@ -10,7 +10,8 @@ ghost use Rattle.http_rows.specs.declared.limits.TheConstants.{MOST_BODY, MOST_D
 use crate::path::Path;
 use crate::request_rejection::RequestRejection;
 
-/// Proves examples of heads, targets, paths and lengths.
+/// Proves examples of where a request's head ends, of which texts are paths of the server, of the path
+/// and query of a target, and of the length of a body by its Content-Length.
 #[tactic(auto, unfolding(crate::specs::Heads::empty_line, crate::specs::Heads::head_length))]
 pub fn worked_rows()
     ensures ended { head_length (codes "G / H\r\nA:b\r\n\r\nxy") ≡ Some 14 }
@@ -27,8 +28,8 @@ pub fn worked_rows()
     ensures unknown { path_named (codes "/Clock") ≡ None }
 {}
 
-/// Proves examples of which row of the table of statuses applies to a request, and of the bytes of a
-/// reply.
+/// Proves examples of which row of the table of HTTP statuses applies to a request, where several
+/// could, and of the bytes of a reply.
 pub fn worked_replies()
     ensures host_first { first_row (field_rows (head_of (codes "PUT") (codes "/tides") 1 [])) ≡ Some RequestRejection.BadRequest }
     ensures path_before_method { first_row (field_rows (head_of (codes "PUT") (codes "/tides") 0 [])) ≡ Some RequestRejection.NotFound }
@@ -42,7 +43,7 @@ pub fn worked_replies()
         ≡ codes "HTTP/1.1 405 Method Not Allowed\r\nContent-Type: text/plain; charset=utf-8\r\nContent-Length: 19\r\nAllow: POST\r\nConnection: close\r\n\r\n" }
 {}
 
-/// Proves the values of the limits on requests: bytes, lines and fields of a head, digits of a
+/// Proves the values of the limits on requests: the most bytes, lines and fields of a head, digits of a
 /// Content-Length, and bytes of a body.
 pub fn worked_limits()
     ensures head { MOST_HEAD ≡ 8192 }

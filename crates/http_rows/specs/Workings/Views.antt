@@ -30,11 +30,11 @@ abbrev pub row_seen : ReplyRow → rows.ReplyRow
 row_seen (Rejects rejection bodiless) = rows.rejects rejection bodiless
 row_seen (Asks asking) = rows.asks (asking_seen asking)
 
--- the body of a request that the predictor answers is within the limit
+-- the body of a request that the predictor answers has at most MOST_BODY (4,194,304) bytes
 abbrev pub IsAsking : rows.Asking → Type 0
 IsAsking a = length a.body ≤ MOST_BODY
 
--- the body of a row's request is within the limit
+-- the body of a row's request, if the predictor answers it, has at most MOST_BODY (4,194,304) bytes
 abbrev pub IsAskingRow : rows.ReplyRow → Type 0
 IsAskingRow (rows.rejects rejection bodiless) = Unit {0}
 IsAskingRow (rows.asks asking) = IsAsking asking
