@@ -14,22 +14,22 @@ name_of k =
     else if k == 5 then codes "O1"
     else codes "C" ++ decimal k
 
--- the slowest speed of a made-up constituent, in ten-millionths of a degree an hour: about two tides a
--- day, or one
+-- the slowest speed of the made-up constituent k, in ten-millionths of a degree an hour: about two
+-- tides a day if k is even, else one
 abbrev pub slowest_of : ℕ → ℕ
 slowest_of k = if k % 2 == 0 then 270000000 else 130000000
 
--- the line of a made-up constituent: its name and its speed in degrees an hour
+-- the line of the made-up constituent k: its name and its speed in degrees an hour
 unfoldable pub constituent : ℕ → Part
 constituent k = do
   more ← draw 40000000
   line (name_of k ++ codes " " ++ write_of (pos (slowest_of k + more)) 7)
 
--- n / 100 with two decimals
+-- n / 100 as text with two decimals
 unfoldable pub hundredths : ℕ → List ℕ
 hundredths n = write_of (pos n) 2
 
--- a drawn decimal: one of the `bound` numbers from `least` on, over 10 ^ places
+-- a drawn decimal: one of the numbers from `least` to `least + bound - 1`, over 10 ^ places
 unfoldable pub value : (least bound places : ℕ) → Part
 value least bound places = do
   more ← draw bound
@@ -48,23 +48,25 @@ table one = do
   each 1 37 (λ k. do line (name_of k); values one)
   line (codes "*END*")
 
--- a station's meridian: local time less universal time, in hours from -12 to 12
+-- the line of a station's meridian: local time less universal time, drawn from the whole hours from -12
+-- to 12, both included
 unfoldable pub meridian : Part
 meridian = do
   hours ← draw 25
   line (write_of (pos hours -ℤ pos 12) 0 ++ codes ":00 :UTC")
 
--- a mean level from 0 to 10 feet
+-- a line with a drawn mean level from 0 to 10 feet, both included, in hundredths
 unfoldable pub level : Part
 level = do
   feet ← draw 1001
   line (hundredths feet ++ codes " feet")
 
--- the datum of station i; every fifth station is a current station
+-- the line of the datum of station i, counted from 1; every fifth is a current station, with 0 knots
 unfoldable pub datum : ℕ → Part
 datum i = if i % 5 == 0 then line (codes "0.00 knots") else level
 
--- the amplitude and the epoch of constituent k; every seventh is absent
+-- the line of constituent k at a station: a drawn amplitude below 3 feet for k up to 5 and else below
+-- 0.3, and a drawn epoch below 360 degrees; every seventh constituent is absent
 unfoldable pub constants : ℕ → Part
 constants k =
     if k % 7 == 0 then line (codes "x 0 0")
@@ -73,7 +75,7 @@ constants k =
       epoch ← draw 36000
       line (name_of k ++ codes " " ++ hundredths amplitude ++ codes " " ++ hundredths epoch)
 
--- the record of station i
+-- the lines of station i, counted from 1
 unfoldable pub station : ℕ → Part
 station i = do
   line (codes "Station " ++ decimal i)
@@ -104,6 +106,6 @@ file seed = do
   table (value 8000 4001 4)
   each 1 200 station
 
--- the file of a seed, which is the generator's first state
+-- the sample file of a seed, which is the generator's first state
 unfoldable pub sample_of : ℕ → List ℕ
 sample_of seed = (file seed (record { text = []; state = seed })).text

@@ -2,10 +2,10 @@
 -- of Knuth's MMIX; the high half of its state is scaled to a range.
 use Rattle.std.specs.Prelude.{ℕ, ◌+◌, ◌*◌, ◌/◌, ◌%◌, ◌^◌}
 
--- the generator's next state
+-- the generator's state after `state`, each a number below 2 ^ 64
 unfoldable pub next : ℕ → ℕ
 next state = (state * 6364136223846793005 + 1442695040888963407) % 2 ^ 64
 
--- the number below `bound` for a state
+-- the number from 0 to bound - 1 that a state gives: its high 32 bits, scaled
 unfoldable pub scaled_to : ℕ → ℕ → ℕ
 scaled_to bound state = state / 2 ^ 32 * bound / 2 ^ 32

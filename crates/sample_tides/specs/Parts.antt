@@ -28,7 +28,7 @@ line text = append (text ++ codes "\n")
 unfoldable pub moved : Part
 moved writer = record { text = writer.text; state = next writer.state }
 
--- a drawn number below `bound`, and the writer after the draw
+-- a drawn number from 0 to bound - 1, and the writer after the draw
 abbrev pub draw : ℕ → SampleWriter → ℕ × SampleWriter
 draw bound writer = (scaled_to bound (moved writer).state, moved writer)
 
@@ -37,7 +37,7 @@ infixl 10 ◌>>=◌
 abbrev pub ◌>>=◌ : (SampleWriter → ℕ × SampleWriter) → (ℕ → Part) → Part
 (drawn >>= part) writer = part (drawn writer).0 (drawn writer).1
 
--- a part for each of `count` numbers from `first` on
+-- a part of the text for each of so many numbers from `first` on, in order
 unfoldable pub each : ℕ → ℕ → (ℕ → Part) → Part
 each first zero part writer = writer
 each first (suc more) part writer = part (first + more) (each first more part writer)

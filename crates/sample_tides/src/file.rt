@@ -27,8 +27,9 @@ const FACTOR: Quantity = Quantity {
     places: 4,
 };
 
-/// Returns the sample file of `seed`: a harmonics file of 8,192 lines, with 37 constituents, 30 years
-/// from 2000 on and 200 stations, of which every fifth is a current station.
+/// Returns the sample file of `seed`, the first state of the generator: a harmonics file of 8,192 lines
+/// with made-up constants. It has 37 constituents, 30 years from 2000 on and 200 stations, of which
+/// every fifth is a current station.
 ///
 /// # Errors
 /// [`AllocError`] if memory runs out.

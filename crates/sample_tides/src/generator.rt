@@ -29,7 +29,8 @@ impl Generator {
         Generator { state: seed }
     }
 
-    /// Advances the state, and returns a number from 0 to `bound - 1` by the high half of the new state.
+    /// Advances the state once, and returns a number from 0 to `bound - 1` by the high 32 bits of the
+    /// new state.
     #[tactic(auto, unfolding(crate::specs::Generator::next, crate::specs::Generator::scaled_to))]
     pub(crate) fn draw(&mut self, bound: u32) -> u32
         requires { 0 < bound }

@@ -2,7 +2,7 @@
 
 ghost use Rattle.std.specs.Prelude.{◌+◌, ◌<◌, ◌≤◌, ◌^◌};
 
-/// A range of decimals: `bound` numbers from `least` on, each over `10^places`.
+/// A range of decimals: the numbers from `least` to `least + bound - 1`, each over `10^places`.
 #[derive(Clone, Copy)]
 pub(crate) struct Quantity {
     pub(crate) least: u32,

@@ -4,7 +4,8 @@ ghost use Rattle.std.specs.Prelude.{◌≡◌, ◌-◌, ◌/◌, ◌^◌, [], co
 ghost use Rattle.sample_tides.specs.Generator.{next, scaled_to};
 ghost use Rattle.sample_tides.specs.File.{heading, constituent, value, meridian, level, datum, constants};
 
-/// Proves the first number that the generator draws for seed 0, and the state after one that wraps.
+/// Proves the first state of the generator after seed 0 and the number below 40,000,000 that it gives,
+/// a state that wraps past 2^64, and the greatest number below 25.
 #[tactic(auto, unfolding(crate::specs::Generator::next, crate::specs::Generator::scaled_to))]
 pub fn worked_draws()
     ensures first_state { next 0 ≡ 1442695040888963407 }
@@ -14,8 +15,9 @@ pub fn worked_draws()
     ensures greatest { scaled_to 25 (2 ^ 64 - 1) ≡ 24 }
 {}
 
-/// Proves the first lines of the file of seed 0, and lines of its tables and its first station, each from
-/// the generator's state there. A line without a draw leaves the state unchanged.
+/// Proves the first lines of the sample file of seed 0, and some lines of its tables and of its first
+/// station, each from the generator's state before it. A line without a draw leaves the state
+/// unchanged.
 pub fn worked_lines()
     ensures first_lines { (constituent 6 (heading 0 (record { text = []; state = 0 }))).text
         ≡ codes "# sample tides, seed 0\n37\nM2 28.9841042\nS2 30.0000000\nN2 28.4397295\nK1 15.0410686\nO1 13.9430356\nC6 27.3128346\n" }
