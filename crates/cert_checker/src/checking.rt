@@ -50,7 +50,8 @@ pub fn check_track<C: Curve>(curve: &mut C, cells: &Cells, begin: i64, end: i64)
     first_finding(curve, cells.as_slice(), begin)
 }
 
-/// Returns the first fault of `cells` from `begin` on, or [`Verdict::Accepted`].
+/// Returns the first fault of `cells`, of which the first begins at minute `begin`, or
+/// [`Verdict::Accepted`] if there is none.
 fn first_finding<C: Curve>(curve: &mut C, cells: &[Cell], begin: i64) -> Verdict
     requires span { IsSpan (C.state curve.old).facts.meaning begin (all_minutes cells.now) }
     requires count_bound { length cells.now < 2 ^ 32 }
@@ -72,7 +73,8 @@ fn first_finding<C: Curve>(curve: &mut C, cells: &[Cell], begin: i64) -> Verdict
     Verdict::Accepted
 }
 
-/// Evaluates `curve` at the end of `cell`, which begins at `begin`, and returns the point.
+/// Evaluates `curve` approximately at the end of `cell`, which begins at minute `begin`, and returns
+/// the point.
 fn end_of<C: Curve>(curve: &mut C, begin: i64, cell: Cell) -> Point
     requires span { IsSpan (C.state curve.old).facts.meaning begin (minutes_of cell) }
     requires count_bound { (C.state curve.old).count < 2 ^ 63 }

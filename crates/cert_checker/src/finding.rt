@@ -38,7 +38,8 @@ pub fn finding_on<C: Curve>(
     }
 }
 
-/// Returns true if the `minutes` minutes from `at` on are a quiet cell.
+/// Returns true if the `minutes` minutes from the point `at` on can be one quiet cell. `at` has the
+/// approximate value there, and `end_value` is the one at the end.
 fn is_quiet_cell<C: Curve>(curve: &C, minutes: u32, at: Point, end_value: i128) -> bool
     requires span { IsSpan (C.state curve.now).facts.meaning at.minute minutes }
     requires value { at.value ≡ (C.state curve.now).facts.approximate at.minute }
@@ -61,7 +62,8 @@ fn quiet_finding(number: u32, is_quiet: bool) -> Verdict
     }
 }
 
-/// Returns the verdict on `cell`, a cell of one minute; `right` is the correct cell.
+/// Returns the verdict on `cell`, a cell of one minute with this number, counted from 1; `right` is the
+/// correct cell.
 fn unit_finding(number: u32, cell: Cell, right: Cell) -> Verdict
     ensures { result ≡ unit_finding number cell right }
 {
