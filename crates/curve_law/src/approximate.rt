@@ -55,9 +55,9 @@ pub fn unit_cell_from_approximate<C: Curve>(
     cell_of_sides(curve, a, is_above, is_above_next)
 }
 
-/// Returns whether the `n` minutes from `a` on are a quiet cell, or `None` if the approximate values at
-/// its ends leave it open. If the sum of the values exceeds the most that they can differ by, both are
-/// on one side of 0, so the sum decides.
+/// Returns whether the `n` minutes from `a` on can be one quiet cell, or `None` if the approximate
+/// values at `a` and at `a + n` leave it open. If their sum exceeds the most that the two exact values
+/// can differ by, both are on one side of 0, so the sum decides.
 #[inline(always)]
 fn quiet_if_decided<C: Curve>(
     curve: &C,

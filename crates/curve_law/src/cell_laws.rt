@@ -39,16 +39,16 @@ pub fn quiet_cells_have_no_event()
         (k : ℕ) → k < n → has_event c.track (a +ℤ pos k) ≡ false }
 {}
 
-/// Proves that the events in cells that the check accepts for a span are exactly the events of the
-/// span, however the cells were made.
+/// Proves that the events in cells on which the verdict for a span is `Accepted` are exactly the events
+/// of the span, however the cells were made.
 pub fn accepted_cells_are_exact()
     ensures { (c : Meaning) (a : ℤ) (n : ℕ) (cells : List Cell) → IsLawful c → IsSpan c a n →
         verdict c a n cells ≡ Verdict.Accepted → cell_events a cells ≡ plain_list c.track a n }
 {}
 
-/// Proves that the cells that the halving rule makes for a span cover all its minutes, that there are
-/// no more cells than minutes, and that the check accepts them, so that they have exactly the events of
-/// the span.
+/// Proves what holds for the cells that are made for a span by halving its blocks until each part is
+/// quiet or a single minute. They cover all its minutes, there are no more cells than minutes, and the
+/// check accepts them, so that they have exactly the events of the span.
 pub fn covers_are_accepted()
     ensures minutes { (c : Meaning) (a : ℤ) (n : ℕ) → all_minutes (cover c a n) ≡ n }
     ensures count_bound { (c : Meaning) (a : ℤ) (n : ℕ) → length (cover c a n) ≤ n }

@@ -16,11 +16,11 @@ pub trait Curve {
     /// The facts of the curve, and the number of evaluations until now.
     ghost state: { Self → CurveState };
 
-    /// Returns the first minute that has a value.
+    /// Returns the first minute, since 1970-01-01T00:00Z, at which the curve has a value.
     fn first(&self) -> i64
         ensures { result ≡ (state self.now).facts.meaning.first };
 
-    /// Returns the last minute that has a value.
+    /// Returns the last minute, since 1970-01-01T00:00Z, at which the curve has a value.
     fn last(&self) -> i64
         ensures { result ≡ (state self.now).facts.meaning.last };
 

@@ -2,8 +2,8 @@
 
 use crate::cells::Cells;
 
-/// The cells of a station's tracks over one span: its turns, and its slacks and crossings of the mark if
-/// they are requested.
+/// The cells of a station's tracks over one span: of its high and low waters, and of its slack waters
+/// and its crossings of a mark if they are requested.
 #[derive(Drop)]
 pub struct Tracks {
     /// The cells of high and low waters, or of greatest and least streams.
