@@ -101,8 +101,9 @@ fn have_digit(whole: &[u8], fraction: &[u8]) -> bool
     !whole.is_empty() || !fraction.is_empty()
 }
 
-/// Returns the number of steps of `1 / 10^places`, from the digits before and after the point; `value`
-/// is the number that the digits `whole` write.
+/// Returns the decimal with this sign, `-` if `negative`, and these digits as a number of steps of `1 /
+/// 10^places`, or the fault. `whole` are the digits before the point, `fraction` the bytes after it,
+/// and `value` is the number that `whole` writes.
 fn read_parts(
     negative: bool,
     whole: &[u8],
@@ -132,7 +133,8 @@ fn read_parts(
     Ok(if negative { -size } else { size })
 }
 
-/// Returns the number of steps of the whole number `whole` and of a fraction of `part` steps.
+/// Returns the number of steps of `1 / 10^places` of the whole number `whole` and of a fraction of
+/// `part` steps.
 fn total_steps(whole: u64, places: u32, part: u64) -> u128
     requires count_bound { places ≤ 9 }
     requires small { whole < 10 ^ 18 }
