@@ -57,8 +57,8 @@ abbrev pub events_over : Span → Meaning → List Event
 events_over s c = plain_list c.track s.begin (span_minutes s)
 
 -- The events of a station from `begin` up to but not including `end`: the events of the reference's
--- curves over the widened span, each moved and scaled by the offset of its kind, and of these the ones
--- within the span, in the order in which they are listed.
+-- curves over the span that determines them, each moved and scaled by the offset of its kind, and of
+-- these the ones within the span, in the order in which they are listed.
 unfoldable pub station_events : Followed → Basis → ℤ → ℤ → List Event
 station_events f b begin end =
     ordered (moved_within b begin end (flat_map (events_over (widened_of b begin end)) (curves_of f)))
@@ -78,11 +78,12 @@ merged_of begin t = ordered (flat_map (cell_events begin) (tracks_of t))
 unfoldable pub cells_in : Tracks → ℕ
 cells_in t = sum_by length (tracks_of t)
 
--- the cells of a curve over a span by the halving rule
+-- the cells of a curve over a span, made by halving its blocks until each part is quiet or a single
+-- minute
 abbrev pub cover_over : Span → Meaning → List Cell
 cover_over s c = cover c s.begin (span_minutes s)
 
--- the cells of each requested curve over a span by the halving rule
+-- the cells of each requested curve over a span, made by halving
 abbrev pub covers_of : Followed → Span → Tracks
 covers_of f s = record {
   turn = cover_over s f.turn;
@@ -90,7 +91,7 @@ covers_of f s = record {
   mark = option_map (cover_over s) f.mark;
 }
 
--- the number of cells of the requested curves over a span, by the halving rule
+-- the number of cells of the requested curves over a span, made by halving
 unfoldable pub cell_count : Followed → Span → ℕ
 cell_count f s = cells_in (covers_of f s)
 
@@ -125,14 +126,16 @@ pub record AllHaveLevels (f : Followed) : Type 0 where
   pub slack : ForSome f.slack HasLevels
   pub mark : ForSome f.mark HasLevels
 
--- a track is present exactly if its curve is requested, and the check accepts it over the span
+-- a track is present exactly if its curve is requested, and the verdict on its cells over the span is
+-- Accepted
 abbrev pub IsAccepted : Span → Option Meaning → Option (List Cell) → Type 0
 IsAccepted s None None = Unit {0}
 IsAccepted s None (Some cells) = ⊥
 IsAccepted s (Some c) None = ⊥
 IsAccepted s (Some c) (Some cells) = verdict c s.begin (span_minutes s) cells ≡ Accepted
 
--- the tracks are the requested curves' tracks, and the check accepts them over the span
+-- the tracks are those of the requested curves, and the verdict on the cells of each over the span is
+-- Accepted
 pub record AreAccepted (f : Followed) (s : Span) (t : Tracks) : Type 0 where
   pub turn : verdict f.turn s.begin (span_minutes s) t.turn ≡ Accepted
   pub slack : IsAccepted s f.slack t.slack

@@ -23,9 +23,10 @@ ghost use Rattle.event_list.specs.Events.{
   AreNamed,
 };
 
-/// Proves that the events in accepted cells over the widened span, merged and then moved by the
-/// station's offsets, are the station's events. Also proves that the cells made by the halving rule are
-/// accepted, and that there are at most three cells for each minute of the span.
+/// Proves how a station's events come from accepted cells over the span of the reference that
+/// determines them (`widened_of`): the events in the cells, merged and then moved by the station's
+/// offsets, are the station's events. Also proves that the cells made by halving are accepted, and that
+/// there are at most three cells for each minute of a span.
 pub fn cells_give_the_events()
     ensures accepted { (f : Followed) (b : Basis) (begin end : ℤ) (t : Tracks) →
         AreValidOver f (widened_of b begin end) → AreAccepted f (widened_of b begin end) t →
@@ -37,8 +38,9 @@ pub fn cells_give_the_events()
     ensures count_bound { (f : Followed) (s : Span) → cell_count f s ≤ 3 * span_minutes s }
 {}
 
-/// Proves that for a station without offsets the widened span is the span itself, and the merged events
-/// in accepted cells are the station's events, unchanged.
+/// Proves that for a station without offsets the span of the reference that determines its events
+/// (`widened_of`) is the station's span itself, and the merged events in accepted cells are the
+/// station's events, unchanged.
 pub fn plain_bases_move_nothing()
     ensures span { (b : Basis) (begin end : ℤ) → IsTrue (is_plain b) →
         widened_of b begin end ≡ record { begin = begin; end = end } }

@@ -35,7 +35,7 @@ pub fn leading_of(turn: Option<Event>, slack: Option<Event>, mark: Option<Event>
     }
 }
 
-/// Returns true if `first` is an event, and `second` isn't one before it.
+/// Returns true if `first` is an event that `second` isn't listed before, or if there is no `second`.
 fn leads(first: Option<Event>, second: Option<Event>) -> bool
     ensures { result ≡ leads first second }
 {
