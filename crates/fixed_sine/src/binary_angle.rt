@@ -63,7 +63,8 @@ struct Spot {
     r: u64,
 }
 
-/// Returns the whole degrees and units of `binary_angle`.
+/// Returns `binary_angle`, which is in 2^-64 of a turn, as whole degrees and whole units of
+/// 1/600,000,000 degree after them.
 fn spot_of(binary_angle: u64) -> Spot
     ensures degrees { result.degrees < 360 }
     ensures part { result.r < degree }
@@ -76,7 +77,7 @@ fn spot_of(binary_angle: u64) -> Spot
     }
 }
 
-/// Returns the sine of `spot` by its definition.
+/// Returns the sine of `spot`, in billionths, by its definition.
 #[cold]
 #[inline(never)]
 fn written_sine(spot: Spot) -> i64
@@ -88,7 +89,7 @@ fn written_sine(spot: Spot) -> i64
     isin(place_of(spot))
 }
 
-/// Returns the units of `spot`.
+/// Returns the angle of `spot` in units of 1/600,000,000 degree.
 fn place_of(spot: Spot) -> i64
     requires degrees { spot.degrees < 360 }
     requires part { spot.r < degree }
@@ -109,7 +110,8 @@ fn mean_slope(slope: i64, bend: i32, r: u64) -> i64
     slope - lost(bend, r)
 }
 
-/// Returns the decrease of a slope after `r` units.
+/// Returns the decrease of a slope, in 2^-64 of a billionth, after `r` units of 1/600,000,000 degree;
+/// `bend` is its decrease for each unit, in 2^-72 of a billionth.
 fn lost(bend: i32, r: u64) -> i64
     requires bend { unsigned_abs bend ≤ 2000000000 }
     requires part { r < degree }
@@ -126,7 +128,8 @@ struct Gain {
     rest: u64,
 }
 
-/// Returns the change of the sine over `r` units with `slope` in 2^-64 of a billionth per unit.
+/// Returns the change of the sine, in billionths, over `r` units of 1/600,000,000 degree, for a `slope`
+/// in 2^-64 of a billionth for each unit.
 fn gain_over(r: u64, slope: i64) -> Gain
     requires part { r < degree }
     requires slope { unsigned_abs slope ≤ 550000000000000000 }

@@ -54,7 +54,8 @@ pub fn icos(p: i64) -> i64
     })
 }
 
-/// Returns the sine of `place` on the first half of the circle.
+/// Returns the sine, in billionths, of the angle `place` on the first half of the circle, in units of
+/// 1/600,000,000 degree.
 fn half(place: u64) -> i64
     requires { place < circle / 2 }
     ensures value { result ≡ half_of place }
@@ -85,7 +86,8 @@ fn mean_slope(slope: i64, correction: u32, r: u64) -> i64
     slope - (r * u64::from(correction)) as i64
 }
 
-/// Returns `r * slope / SQUARE`, rounded down.
+/// Returns the change of the sine, in billionths, over `r` units of 1/600,000,000 degree: `r * slope /
+/// SQUARE`, rounded down.
 fn gain(r: u64, slope: i64) -> i64
     requires part { r < degree }
     requires slope { unsigned_abs slope ≤ 41943040000000000 }
