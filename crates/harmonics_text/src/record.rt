@@ -107,8 +107,8 @@ fn is_for(token: &[u8], name: &Text) -> bool
     is_absent(token) || is_name(token, name)
 }
 
-/// Returns the amplitude and the epoch of the constituent `name` in line `text`, or `None` unless the
-/// line has its usual form.
+/// Returns the amplitude, in millionths of the station's unit, and the epoch, in ten-millionths of a
+/// degree, of the constituent `name` in line `text`, or `None` unless the line has its usual form.
 fn plain_pair(name: &Text, text: &[u8]) -> Option<(i64, i64)>
     ensures { IfSome result (λ p. pair_of name.now text.now ≡ Ok p) }
 {
@@ -140,7 +140,8 @@ pub fn amplitude_and_epoch(name: &Text, text: &[u8]) -> Result<(i64, i64), Why>
     }
 }
 
-/// Returns the amplitude and the epoch of the constituent `name` in line `text` of any form.
+/// Returns the amplitude, in millionths of the station's unit, and the epoch, in ten-millionths of a
+/// degree, of the constituent `name` in line `text` of any form.
 #[inline(never)]
 #[tactic(auto, unfolding(crate::specs::Rules::pair_of, crate::specs::Rules::pair_from))]
 fn any_pair(name: &Text, text: &[u8]) -> Result<(i64, i64), Why>

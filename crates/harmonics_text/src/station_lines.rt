@@ -43,7 +43,8 @@ fn after_station_name(alloc: Global, name: Text, text: &[u8]) -> Result<Record, 
     Ok(Record::LocalTime(name, local_time))
 }
 
-/// Returns the record with the datum of line `text`, with memory for `count` constants.
+/// Returns the state of a station after its line `text` with the datum, with memory for `count`
+/// amplitudes and epochs.
 #[tactic(auto, unfolding(crate::specs::Workings::BookParsing::after_record))]
 fn after_local_time(
     alloc: Global,
@@ -83,7 +84,8 @@ fn add_pair(book: &Book, station: &mut Constants, text: &[u8]) -> Result<(), Lin
     Ok(())
 }
 
-/// Returns the record after `station` got one more pair. If it was the last, `book` has the station.
+/// Returns the state of reading stations after `station` got one more amplitude and epoch. If they were
+/// its last, `book` has the station, and no station is begun.
 fn with_pair(book: &mut Book, station: Constants) -> Result<Record, AllocError>
     ensures { IfOk result (λ r. Stations book.new r ≡ with_pair book.old station) }
 {
@@ -102,7 +104,8 @@ fn after_pair(book: &mut Book, mut station: Constants, text: &[u8]) -> Result<Re
     Ok(with_pair(book, station)?)
 }
 
-/// Returns the record after a line of the station; `begun` is its record before the line.
+/// Returns the state of a station after its next line, `text`; `begun` holds what its earlier lines
+/// gave.
 #[tactic(auto, unfolding(crate::specs::Workings::BookParsing::after_record))]
 fn after_record(
     alloc: Global,
@@ -124,9 +127,9 @@ fn after_record(
     }
 }
 
-/// Moves to the record after a line of the station; `begun` is its record before the line. A separate
-/// function from `add_station_line`, so that what is moved needs no room on its stack, which would be
-/// cleared for each pair.
+/// Moves `begun`, which holds what a station's earlier lines gave, to the state after its next line,
+/// `text`. A separate function from `add_station_line`, so that what is moved needs no room on its
+/// stack, which would be cleared for each amplitude and epoch.
 #[inline(never)]
 fn move_on(alloc: Global, book: &mut Book, begun: &mut Record, text: &[u8]) -> Result<(), LineFault>
     requires { IsBookParser (Stations book.old begun.old) }
@@ -157,7 +160,7 @@ pub fn add_station_line(
     move_on(alloc, book, begun, text)
 }
 
-/// Appends `count` absent constituents to `station`.
+/// Appends the amplitudes and epochs, all 0, of `count` absent constituents to `station`.
 fn push_absent(station: &mut Constants, count: usize) -> Result<(), AllocError>
     ensures { OnOk result (station.new ≡ with_absent count station.old) }
 {

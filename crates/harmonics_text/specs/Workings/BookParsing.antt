@@ -92,7 +92,8 @@ pub record IsTable (least most : ℤ) (count years : ℕ) (t : Table) : Type 0 w
   pub place : t.place ≤ count
   pub each : All (IsWithin least most) t.values
 
--- the constants of some of `count` constituents, but not all
+-- a station being read: it has the amplitudes and epochs of some of `count` constituents, but not of
+-- all
 pub record AreConstants (count : ℕ) (c : Constants) : Type 0 where
   pub name : IsName 200 c.name
   pub meridian : IsWithin (negsuc 958) (pos 959) c.local_time.meridian
@@ -102,7 +103,7 @@ pub record AreConstants (count : ℕ) (c : Constants) : Type 0 where
   pub amplitude : All (IsWithin (negsuc 9999999999) (pos 10000000000)) c.amplitude
   pub epoch : All (IsWithin (negsuc 7199999999) (pos 7200000000)) c.epoch
 
--- the station of constants that are complete
+-- the station, once the amplitudes and epochs of all its constituents were read
 abbrev pub station_of : Constants → Station
 station_of c = record {
   name = c.name;
@@ -189,16 +190,16 @@ pushed s values token = number_of s token >>= λ n. Ok (values ++ n ∷ [])
 abbrev pub at_place : ℕ → ℕ → ℕ
 at_place left place = if left == 0 then place + 1 else place
 
--- the table after a line of values
+-- a table of equilibrium arguments or node factors after a line of values
 unfoldable pub after_values : Scale → Table → List ℕ → Result Table Why
 after_values s t text = values_from s t.left t.values (tokens text)
     >>= λ v. Ok (record { place = at_place v.0 t.place; left = v.0; values = v.1 })
 
--- the table after the line with a constituent's name
+-- a table of equilibrium arguments or node factors after the line with a constituent's name
 unfoldable pub after_name : Table → ℕ → List ℕ → List ℕ → Result Table Why
 after_name t years name text = named name text >>= λ _. Ok (record { place = t.place; left = years; values = t.values })
 
--- the table after its next line
+-- a table of equilibrium arguments or node factors after its next line: a constituent's name, or values
 unfoldable pub after_table_line : Scale → Heading → Table → List ℕ → Result Table Why
 after_table_line s h t text =
     if nat_lt 0 t.left then after_values s t text
@@ -236,19 +237,19 @@ after_nothing b text =
     if nat_le 20000 (length b.stations) then Err TooManyStations
     else station_name_of text >>= λ name. Ok (parsing.Stations b (records.Name name))
 
--- the state with one more pair of constants, which may be the station's last
+-- the parser state with one more amplitude and epoch of a station, which may be the station's last
 abbrev pub with_pair : Book → Constants → BookParser
 with_pair b c =
     if nat_lt (length c.amplitude) (length b.constituents) then parsing.Stations b (records.Constants c)
     else parsing.Stations (record b { stations = b.stations ++ station_of c ∷ [] }) records.Nothing
 
--- the state after a line of constants
+-- the parser state after a line with the amplitude and epoch of a station's next constituent
 unfoldable pub after_pair : Book → Constants → List ℕ → Result BookParser Why
 after_pair b c text =
     pair_of (slice_index_or b.constituents (length c.amplitude) (record { name = []; speed = pos 0 })).name text
     >>= λ p. Ok (with_pair b (record c { amplitude = c.amplitude ++ p.0 ∷ []; epoch = c.epoch ++ p.1 ∷ [] }))
 
--- the state after a line of a station's record
+-- the parser state after the next line of a station
 unfoldable pub after_record : Book → Record → List ℕ → Result BookParser Why
 after_record b records.Nothing text = after_nothing b text
 after_record b (records.Name name) text = local_time_of text >>= λ t. Ok (parsing.Stations b (records.LocalTime name t))
@@ -256,7 +257,7 @@ after_record b (records.LocalTime name local_time) text = datum_of text >>= λ d
     (records.Constants (record { name = name; local_time = local_time; datum = d.0; units = d.1; amplitude = []; epoch = [] })))
 after_record b (records.Constants c) text = after_pair b c text
 
--- the state after a line that isn't skipped
+-- the parser state after a line that isn't skipped
 unfoldable pub after_text : BookParser → List ℕ → Result BookParser Why
 after_text parsing.Count text = after_count text
 after_text (parsing.Constituents left earlier) text = after_constituent left earlier text
@@ -270,7 +271,8 @@ after_text (parsing.FactorsEnd h angles factors) text =
     end_of text >>= λ _. Ok (parsing.Stations (new_book h angles factors) records.Nothing)
 after_text (parsing.Stations b r) text = after_record b r text
 
--- comments and lines of white space don't change the state
+-- the parser state after a line: comments and lines of white space don't change it, and a line that is
+-- too long is refused
 unfoldable pub after_line : BookParser → List ℕ → Result BookParser Why
 after_line d line =
     if is_comment line then Ok d
@@ -278,7 +280,7 @@ after_line d line =
     else if list_all is_blank (without_cr line) then Ok d
     else after_text d (without_cr line)
 
--- the book, if no station is incomplete
+-- the book, if no station is begun but incomplete
 abbrev pub book_at : Book → Record → Option Book
 book_at b records.Nothing = Some b
 book_at b (records.Name n) = None
