@@ -59,8 +59,8 @@ fn is_inside(at: i64, begin: i64, end: i64) -> bool
     begin <= at && at < end
 }
 
-/// Returns the verdict on the first cell that is wrong; the cells begin at minute `begin` and `highest`
-/// is the written highest water.
+/// Returns the verdict on the first cell that is wrong, or [`PeakVerdict::Accepted`] if none is. The
+/// first cell begins at minute `begin`, and `highest` is the claimed highest water.
 fn first_finding<C: Curve>(
     curve: &mut C,
     highest: Point,

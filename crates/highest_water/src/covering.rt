@@ -36,8 +36,8 @@ pub fn peak_cover<C: Curve>(
     cells_by(alloc, curve, begin, end, Point { minute: at, value })
 }
 
-/// Returns the cells that the halving rule makes for the point `highest`, which need not be the highest
-/// water, of the minutes from `begin` up to but not including `end`, both minutes of `curve`.
+/// Returns the cells that halving makes for the point `highest`, which need not be the highest water,
+/// of the minutes from `begin` up to but not including `end`, both minutes of `curve`.
 pub fn cells_by<C: Curve>(
     alloc: Global,
     curve: &mut C,

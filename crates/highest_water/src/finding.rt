@@ -70,8 +70,8 @@ pub fn highest_point<C: Curve>(curve: &mut C, begin: i64, end: i64) -> Point
     highest
 }
 
-/// Returns the highest of the points at which blocks begin. A search that starts with it can skip most
-/// cells, which are under it.
+/// Returns the highest of the points at which the blocks of the minutes from `begin` up to but not
+/// including `end` begin. A search that starts with it can skip most cells, which are under it.
 fn highest_block<C: Curve>(curve: &mut C, begin: i64, end: i64) -> Point
     requires some { begin <ℤ end }
     requires first { (C.state curve.old).facts.meaning.first ≤ℤ begin }

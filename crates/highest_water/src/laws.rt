@@ -68,8 +68,9 @@ pub fn accepted_highest_waters_are_right()
         (peak.at ≡ highest_minute c a n) × (peak.value ≡ c.track.value (highest_minute c a n)) }
 {}
 
-/// Proves that the cells that the halving rule makes for a span cover all its minutes, that there are
-/// no more cells than minutes, and that the check accepts the span's highest water with these cells.
+/// Proves what holds for the cells that are made for a span by halving its blocks until each part is
+/// under a highest water or a single minute. They cover all its minutes, there are no more cells than
+/// minutes, and the check accepts the span's highest water with these cells.
 pub fn covers_are_accepted()
     ensures minutes { (c : Meaning) (at value a : ℤ) (n : ℕ) → all_minutes (peak_cover c at value a n) ≡ n }
     ensures count_bound { (c : Meaning) (at value a : ℤ) (n : ℕ) → length (peak_cover c at value a n) ≤ n }

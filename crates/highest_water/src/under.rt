@@ -36,7 +36,8 @@ pub fn is_under<C: Curve>(curve: &C, highest: Point, begin: Point, n: u32, end_v
     }
 }
 
-/// Returns true if `minute` is one of the `n` minutes from `begin` on.
+/// Returns true if `minute` is one of the `n` minutes from `begin` on: not before `begin`, and before
+/// `begin + n`.
 fn holds(begin: i64, n: u32, minute: i64) -> bool
     requires in_range { unsigned_abs begin ≤ 2 ^ 60 }
     ensures { result ≡ is_inside minute begin n }
@@ -44,7 +45,8 @@ fn holds(begin: i64, n: u32, minute: i64) -> bool
     begin <= minute && minute < begin + i64::from(n)
 }
 
-/// Returns twice the greatest value that `rate` allows between two values `n` minutes apart.
+/// Returns twice the greatest value that `rate`, a bound on the change in a minute, allows between
+/// `value` and `end_value`, `n` minutes apart.
 fn twice_most(rate: i128, n: u32, value: i128, end_value: i128) -> i128
     requires positive { pos 0 ≤ℤ rate }
     requires rate { (rate *ℤ pos MOST_MINUTES) <ℤ pos (5 * 10 ^ 37) }
