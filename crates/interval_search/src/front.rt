@@ -10,8 +10,8 @@ use crate::rule::PieceRule;
 use crate::waiting::Waiting;
 use curve_law::{Curve, Point};
 
-/// Removes the nearest piece from `waiting` and returns its end; if there isn't one, returns the end of
-/// the next block.
+/// Removes the nearest end point from `waiting` and returns it; if there isn't one, returns the point
+/// at the end of the block that begins at `at`.
 #[inline(always)]
 fn nearest_end<C: Curve, R: PieceRule>(
     curve: &mut C,

@@ -38,7 +38,7 @@ impl PieceRule for QuietPieces {
     }
 }
 
-/// Returns the cell of a piece that isn't halved.
+/// Returns the cell of a piece that isn't halved: a quiet cell, or a cell of one minute.
 fn cell_of<C: Curve>(curve: &C, piece: Piece) -> Cell
     requires { IsPiece (C.state curve.now).facts.meaning (C.state curve.now).facts.approximate piece }
     ensures { result ≡ cell_of (C.state curve.now).facts.meaning (interval_of piece) }
