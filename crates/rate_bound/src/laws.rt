@@ -11,8 +11,11 @@ ghost use Rattle.rate_bound.specs.Scale.{IsScale};
 ghost use Rattle.rate_bound.specs.Sizes.{slope_limit, mark_limit, IsBelow};
 ghost use Rattle.rate_bound.specs.Meanings.{turn_meaning, mark_meaning, predicted_turn, predicted_mark};
 
-/// Proves that both curves of a station with constants within the limits, its slope and its level less
-/// a mark, are lawful. In each minute of a cell, the value changes by at most the cell's rate.
+/// Proves that both curves of a station, its slope and its level less a mark, are lawful: in each
+/// minute of a cell, the value changes by at most the cell's rate. The station's constants are within
+/// the limits of a curve: in each year the sizes of its amplitudes sum to at most 1,000,000,000
+/// millionths of its unit and, times the speeds in units of 1/600,000,000 degree a minute, to at most
+/// 10^17.
 pub fn curves_are_lawful()
     ensures turn { (version : Version) (c : Prediction) → IsPrediction c → IsLawful (turn_meaning version c) }
     ensures mark { (version : Version) (c : Prediction) (times plus mark : ℤ) (slack : Bool) →

@@ -32,7 +32,8 @@ pub fn scaled(times: i64, level: i128) -> i128
     i128::from(times) * level
 }
 
-/// Returns `millionths` in the unit of the curve.
+/// Returns `millionths`, in millionths of the station's unit, in the unit of the curve of a level less
+/// a mark: 10^-21 of the station's unit, times 4,147,200,000 (the total weight of a blend).
 fn raised(millionths: i64) -> i128
     requires { unsigned_abs millionths ≤ 2 * 10 ^ 10 }
     ensures value { result ≡ pos (10 ^ 6 * total_weight * 10 ^ 9) *ℤ millionths }

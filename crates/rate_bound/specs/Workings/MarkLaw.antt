@@ -31,7 +31,7 @@ use Rattle.station_curve.proofs.WithinLimits.{sums_within_limits}
 pub same_mark : (x y c : ℤ) → (x +ℤ c) -ℤ (y +ℤ c) ≡ x -ℤ y
 same_mark x y c = omega (arith, ints)
 
--- a factor in its range, which isn't negative
+-- a factor from 0 to 10^8 millionths, which isn't negative
 pub record IsTimes (times : ℤ) : Type 0 where
   pub size : unsigned_abs times ≤ 10 ^ 8
   pub same : pos (unsigned_abs times) ≡ times
