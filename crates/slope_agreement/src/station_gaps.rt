@@ -33,7 +33,9 @@ pub fn agreement(station: &StationCurve) -> i128
     most
 }
 
-/// Returns the bound of a year by its sums.
+/// Returns the slope error bound of a year by its sums, in billionths of a millionth of the station's
+/// unit a minute, times 34,377,467,708 (the units of angle in a radian) and 4,147,200,000 (the total
+/// weight of a blend).
 fn year_agreement(year: &Sums) -> i128
     requires { AreWithinLimits year.now }
     ensures value { result ≡ year_agreement year.now }
