@@ -116,8 +116,9 @@ pub record AreTimes (b : Book) : Type 0 where
   pub years : AreYears b.first_year b.years
   pub speeds : (k : ℕ) → k < length b.constituents → (pos 0 ≤ℤ speed_of b k) × (speed_of b k ≤ℤ pos 3600000000)
 
--- a station within the limits of a curve: of its mean level, and in each year of the book of its
--- amplitudes and speeds
+-- a station within the limits of a curve: its mean level is at most 10^10 millionths of its unit in
+-- size, in each year the sizes of its amplitudes sum to at most 1,000,000,000 millionths of its unit
+-- and, times the speeds in units of 1/600,000,000 degree a minute, to at most 10^17
 pub record IsWithinLimits (b : Book) (s : Station) : Type 0 where
   pub times : AreTimes b
   pub datum : unsigned_abs s.datum ≤ 10 ^ 10

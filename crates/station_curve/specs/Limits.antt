@@ -13,7 +13,8 @@ most_amount = 10 ^ 9
 abbrev pub most_steepness : ℕ
 most_steepness = 10 ^ 17
 
--- the four sums of a year are within the limits that a station with a curve must meet
+-- the four sums of a year are within the limits of a station with a curve: the amplitudes at most 10^9,
+-- times the speeds at most 10^17; and so the changes in a minute of level and slope, too
 pub record AreWithinLimits (s : Sums) : Type 0 where
   pub amount : unsigned_abs s.amount ≤ most_amount
   pub steep : unsigned_abs s.steep ≤ most_steepness

@@ -52,7 +52,8 @@ pub fn drift(change: i64, x: i64) -> i128
     i128::from(weight_rise(x)) * i128::from(change)
 }
 
-/// Returns the change of the weight a minute, times the units of a radian.
+/// Returns the change per minute of the weight of the later year in a blend, `x` minutes from the new
+/// year, times 34,377,467,708 (the units of angle in a radian).
 fn weight_rise(x: i64) -> i64
     requires { IsWithinHourOfNewYear x }
     ensures value { result ≡ weight_slope_of x *ℤ pos radian }

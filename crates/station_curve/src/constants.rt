@@ -121,7 +121,8 @@ fn count(book: &ValidBook<'_>) -> usize
     book.get().constituents.as_slice().len()
 }
 
-/// Returns the sum of the sizes of the amplitudes in a year, and the sum of each size times the speed.
+/// Returns the sum of the sizes of the amplitudes in year `year`, counted from 0, in millionths of the
+/// station's unit, and the sum of each size times the speed in units of 1/600,000,000 degree a minute.
 fn sums(book: &ValidBook<'_>, station: &Station, present: &[usize], year: u32) -> (u64, u128)
     requires station { IsStation (length book.now.constituents) station.now }
     requires present { present.now ≡ present_in book.now station.now }
@@ -168,7 +169,8 @@ pub fn waves_if_asked(
     }
 }
 
-/// Returns the waves of a year within the limits, without the constituents that have no amplitude.
+/// Returns the waves of year `year`, counted from 0, without those of constituents that have no
+/// amplitude. The year's constants don't exceed `MOST_AMOUNT` or `MOST_STEEPNESS`.
 fn year_waves(
     alloc: Global,
     book: &ValidBook<'_>,
@@ -193,7 +195,8 @@ fn year_waves(
     Ok(waves)
 }
 
-/// Returns the amplitude of constituent `k` in a year, with its node factor, in millionths.
+/// Returns the amplitude of constituent `k` times the node factor of year `year`, both counted from 0,
+/// in millionths of the station's unit.
 fn amplitude(book: &ValidBook<'_>, station: &Station, year: u32, k: usize) -> i64
     requires station { IsStation (length book.now.constituents) station.now }
     requires year { year < book.now.years }
@@ -209,7 +212,7 @@ fn amplitude(book: &ValidBook<'_>, station: &Station, year: u32, k: usize) -> i6
     effective(amplitude, factor)
 }
 
-/// Returns `amplitude` times the node factor `factor`, in millionths.
+/// Returns `amplitude` times the node factor `factor`, both in millionths, in whole millionths.
 fn effective(amplitude: i64, factor: i64) -> i64
     requires amplitude { unsigned_abs amplitude ≤ 10 ^ 10 }
     requires factor { unsigned_abs factor ≤ 10 ^ 7 }
@@ -219,7 +222,8 @@ fn effective(amplitude: i64, factor: i64) -> i64
     rounded_short(amplitude * factor, 1_000_000)
 }
 
-/// Returns the index of the value of constituent `k` in year `year` in a table of all years.
+/// Returns the index of the value of constituent `k` in year `year`, both counted from 0, in a table
+/// that has for each constituent a value for each year.
 fn place_in_table(book: &ValidBook<'_>, year: u32, k: usize) -> usize
     requires year { year < book.now.years }
     requires place { k < length book.now.constituents }
@@ -240,7 +244,8 @@ pub fn speed(book: &ValidBook<'_>, k: usize) -> u64
     constituent.speed as u64
 }
 
-/// Returns the phase of constituent `k` an hour before a year, in units of the circle.
+/// Returns the phase of constituent `k` an hour before year `year` begins, both counted from 0, in
+/// units of 1/600,000,000 degree.
 fn phase(book: &ValidBook<'_>, station: &Station, year: u32, k: usize) -> u64
     requires station { IsStation (length book.now.constituents) station.now }
     requires year { year < book.now.years }
@@ -255,8 +260,9 @@ fn phase(book: &ValidBook<'_>, station: &Station, year: u32, k: usize) -> u64
     reduce(i128::from(angle)) as u64
 }
 
-/// Returns the angle of a constituent, by its speed, the minutes, the year's equilibrium argument and the
-/// epoch.
+/// Returns the angle of a constituent, in units of 1/600,000,000 degree: `speed`, in such units a
+/// minute, times `minutes`, plus the year's equilibrium argument less the epoch, both in ten-millionths
+/// of a degree.
 fn angle(speed: i64, minutes: i64, argument: i64, epoch: i64) -> i64
     requires speed { unsigned_abs speed ≤ 3600000000 }
     requires minutes { unsigned_abs minutes ≤ 1100 }

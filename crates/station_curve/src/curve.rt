@@ -235,8 +235,9 @@ impl StationCurve {
         self.years[year as usize].sums
     }
 
-    /// Does nothing. Its contract says that no year of the station exceeds the limits on amplitudes and
-    /// speeds, and that the curve's minutes are in the book's years or the first minute after them.
+    /// Does nothing. Its contract says that the constants of the station are within the limits of
+    /// [`CurveFault`] in each year, and that the curve's minutes are in the book's years or the first
+    /// minute after them.
     pub fn limits_hold(&self)
         ensures { IsPrediction self.now }
     {
@@ -362,7 +363,8 @@ impl StationCurve {
         }
     }
 
-    /// Returns the position of minute `m` among the years.
+    /// Returns the position of minute `m` among the book's years: in the plain part of a year, or in
+    /// the blend at a new year.
     fn place(&self, m: i64) -> Place
         requires { IsPredicted self.now m }
         ensures value { result ≡ place_of self.now.book.first_year self.now.book.years m }
@@ -375,7 +377,8 @@ impl StationCurve {
         }
     }
 
-    /// Returns the year whose plain part contains minute `m`, or `None` in a blend.
+    /// Returns the year, counted from 0, whose plain part contains minute `m`, or `None` if `m` is less
+    /// than an hour from a new year between two of the book's years.
     #[inline(always)]
     fn plain_year(&self, m: i64) -> Option<u32>
         requires { IsPredicted self.now m }
@@ -388,8 +391,8 @@ impl StationCurve {
         }
     }
 
-    /// Returns the likely year of the minutes from `first` to `last`, or `None` unless they are all at
-    /// least an hour from both its ends.
+    /// Returns the likely year, counted from 0, of the minutes from `first` to `last`, or `None` unless
+    /// they are all at least an hour from both its ends.
     #[inline(always)]
     fn year_around(&self, first: i64, last: i64) -> Option<u32>
         requires first { IsPredicted self.now first }
@@ -404,7 +407,8 @@ impl StationCurve {
         }
     }
 
-    /// Returns the year that would contain minute `m` if all years had the same length.
+    /// Returns the year, counted from 0, that would contain minute `m` if all years had the same
+    /// length.
     #[inline(always)]
     fn likely_year(&self, m: i64) -> u32
         ensures { result < self.now.book.years }

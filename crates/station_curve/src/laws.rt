@@ -24,8 +24,8 @@ pub fn worked_waves()
     ensures steepest { falls_of 180 (small_wave ∷ []) ≡ pos (3 * 10 ^ 23) }
 {}
 
-/// Proves examples of stations that have a curve, because their constants are within the limits in each
-/// year, and of each reason why a station has none.
+/// Proves examples of stations that have a curve, with the greatest amplitudes and speeds that one may
+/// have, and of each reason why a station has none.
 pub fn worked_limits()
     ensures steepest { curve_of (small_book (pos 300000000) (pos 0)) (small_station (pos 333333333) Feet)
         ≡ Ok (prediction_of (small_book (pos 300000000) (pos 0)) (small_station (pos 333333333) Feet)) }

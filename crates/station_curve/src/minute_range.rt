@@ -27,7 +27,7 @@ impl MinuteRange {
     }
 }
 
-/// Returns true if `minute` is at most an hour after `other`.
+/// Returns true if `minute` is before `other` or at most 60 minutes after it.
 fn is_within_hour(minute: i64, other: i64) -> bool
     requires { unsigned_abs other ≤ 10 ^ 12 }
     ensures { result ≡ int_le minute (other +ℤ pos 60) }

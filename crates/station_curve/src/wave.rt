@@ -134,7 +134,7 @@ impl Wave {
         }
     }
 
-    /// Returns the amplitude times `sine`.
+    /// Returns the wave's amplitude, in millionths of the station's unit, times `sine`.
     fn by_amplitude(&self, sine: i64) -> i64
         requires { unsigned_abs sine ≤ 10 ^ 9 }
         ensures value { result ≡ self.now.amplitude *ℤ sine }
@@ -144,7 +144,8 @@ impl Wave {
         self.amplitude * sine
     }
 
-    /// Returns the amplitude times the speed times `sine`.
+    /// Returns the wave's amplitude, in millionths of the station's unit, times its speed, in units of
+    /// 1/600,000,000 degree a minute, times `sine`.
     fn by_steepness(&self, sine: i64) -> i128
         requires { unsigned_abs sine ≤ 10 ^ 9 }
         ensures value { result ≡ (self.now.amplitude *ℤ pos self.now.speed) *ℤ sine }
@@ -154,7 +155,8 @@ impl Wave {
         i128::from(self.steepness) * i128::from(sine)
     }
 
-    /// Returns the phase `minutes` after an hour before the year, as a fraction of a turn.
+    /// Returns the phase `minutes` minutes after the time an hour before the year's start, in 2^-64 of
+    /// a turn.
     fn binary_angle_after(&self, minutes: u64) -> u64
         requires { minutes ≤ 600000 }
         ensures { result ≡ binary_angle_after self.now minutes }
@@ -162,8 +164,8 @@ impl Wave {
         self.start.wrapping_add(self.pace.wrapping_mul(minutes))
     }
 
-    /// Returns the phase `minutes` after an hour before the year plus a quarter of a circle, as a fraction
-    /// of a turn.
+    /// Returns the phase `minutes` minutes after the time an hour before the year's start, plus a
+    /// quarter of a turn, in 2^-64 of a turn.
     fn binary_angle_ahead(&self, minutes: u64) -> u64
         requires { minutes ≤ 600000 }
         ensures { result ≡ binary_angle_ahead self.now minutes }

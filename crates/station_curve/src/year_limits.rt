@@ -30,8 +30,8 @@ pub fn are_years_within(book: &ValidBook<'_>, station: &Station, present: &[usiz
     amount <= MOST_AMOUNT && steepness <= MOST_STEEPNESS
 }
 
-/// Returns a number that no year's amplitude of constituent `k` exceeds in size: the amplitude times the
-/// greatest factor, rounded up.
+/// Returns a number, in millionths of the station's unit, that no year's amplitude of constituent `k`
+/// exceeds in size: the amplitude times the greatest node factor, rounded up.
 fn greatest_size(book: &ValidBook<'_>, station: &Station, k: usize) -> u64
     requires station { IsStation (length book.now.constituents) station.now }
     requires place { k < length book.now.constituents }
@@ -53,7 +53,8 @@ fn factors_of<'a>(book: &ValidBook<'a>, k: usize) -> &'a [i64]
     rest.split_at(years).0
 }
 
-/// Returns the greatest of `factors`, none of them negative; 0 if there is none.
+/// Returns the greatest of the node factors `factors`, in millionths, none of them negative; 0 if there
+/// is none.
 fn greatest_of(factors: &[i64]) -> u64
     requires { All (IsWithin (pos 0) (pos 10000000)) factors.now }
     ensures value { (place : ℕ) → place < length factors.now → slice_index_or factors.now place (pos 0) ≤ℤ pos result }

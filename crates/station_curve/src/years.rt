@@ -55,9 +55,9 @@ impl Year {
     }
 }
 
-/// Returns each year of the book with the waves of `station`, if the constants are within the limits in
-/// all years. A year that is more than an hour from the minutes of `minute_range` isn't needed, and has
-/// no waves.
+/// Returns each year of the book with the waves of `station`, if in no year the constants exceed
+/// `MOST_AMOUNT` or `MOST_STEEPNESS`. A year that is more than an hour from the minutes of
+/// `minute_range` isn't needed, and has no waves.
 ///
 /// # Errors
 /// The fault of the first year with constants beyond a limit: [`CurveFault::TooLarge`], which precedes
@@ -88,8 +88,9 @@ pub fn years_of(
     Ok(years)
 }
 
-/// Returns year `year`, counted from 0, with its waves, if it is within the limits; `present` are the
-/// indices of the constituents with an amplitude. `is_within` says that no year exceeds a limit.
+/// Returns year `year`, counted from 0, with its waves, if its constants don't exceed `MOST_AMOUNT` or
+/// `MOST_STEEPNESS`. `present` are the indices of the constituents with an amplitude other than 0.
+/// `is_within` says that no year exceeds these limits.
 ///
 /// # Errors
 /// The limit that the year exceeds; [`CurveFault::NoMemory`] if memory runs out.
@@ -130,7 +131,8 @@ fn year_of(
     })
 }
 
-/// Checks that year `year` is within the limits, unless `is_within` says that no year exceeds one.
+/// Checks that the constants of year `year`, counted from 0, don't exceed `MOST_AMOUNT` or
+/// `MOST_STEEPNESS`, unless `is_within` says that no year does.
 ///
 /// # Errors
 /// [`CurveFault::TooLarge`] or [`CurveFault::TooSteep`] if the year exceeds a limit.
