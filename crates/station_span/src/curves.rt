@@ -53,8 +53,8 @@ pub fn mark_curve<'a>(found: &'a FoundStation, version: Version) -> Option<MarkC
     }
 }
 
-/// Returns true if slack waters are listed: for a current if its slack waters have separate offsets, or
-/// if its highs and lows have the same offsets.
+/// Returns true if a station's slack waters are listed: if it is a current and its slack waters have
+/// separate offsets, or its high and low waters have the same offsets.
 fn asks_slack(units: Units, basis: &Basis) -> bool
     ensures { result ≡ asks_slack units basis.now }
 {
@@ -64,7 +64,8 @@ fn asks_slack(units: Units, basis: &Basis) -> bool
     }
 }
 
-/// Returns the factor from the reference's level to a slack's, in millionths.
+/// Returns the factor, in millionths, from the reference's level to a level whose crossings of 0 are
+/// the slacks: 1,000,000 if slack waters have separate offsets, otherwise the high waters' factor.
 fn slack_times(basis: &Basis) -> i64
     ensures { result ≡ slack_times basis.now }
 {
@@ -75,7 +76,9 @@ fn slack_times(basis: &Basis) -> i64
     }
 }
 
-/// Returns the millionths of the unit that are added to the scaled level of a slack.
+/// Returns the height, in millionths of the unit, added to the reference's level to get a level whose
+/// crossings of 0 are the slacks: 0 if slack waters have separate offsets, otherwise the high waters'
+/// height.
 fn slack_plus(basis: &Basis) -> i64
     ensures { result ≡ slack_plus basis.now }
 {

@@ -275,15 +275,15 @@ pub fn earlier(minute: i64, add: i32) -> i64
     minute - i64::from(add)
 }
 
-/// Returns true if all minutes of `span`, and the minute after it, are in the file's years or at their
-/// end.
+/// Returns true if the first minute of `span` and its end, which isn't part of it, are in the file's
+/// years or the first minute after them.
 fn has_span(book: &ValidBook<'_>, span: &Span) -> bool
     ensures { result ≡ has_span book.now span.now }
 {
     has_minute(book, span.begin) && has_minute(book, span.end)
 }
 
-/// Returns true if `minute` is in the file's years or at their end.
+/// Returns true if `minute` is in the file's years or the first minute after them.
 fn has_minute(book: &ValidBook<'_>, minute: i64) -> bool
     ensures { result ≡ has_minute book.now minute }
 {
