@@ -49,7 +49,8 @@ pub fn plain_end(first_year: i32, years: u32, year: u32) -> i64
     if next < years { end - HOUR } else { end }
 }
 
-/// Returns the minutes from the start of year `year`, counted from 0, to minute `m`.
+/// Returns the number of minutes from the start of year `year`, counted from 0, to minute `m`; negative
+/// if `m` is earlier.
 fn minutes_from(first_year: i32, year: u32, m: i64) -> i64
     requires first_year { IsBetween (pos 2) (pos 8800) first_year }
     requires year { year ≤ 500 }
@@ -78,7 +79,7 @@ fn year_among(first_year: i32, years: u32, m: i64) -> u32
     year.min(years - 1)
 }
 
-/// Returns the calendar year of minute `m`.
+/// Returns the calendar year of minute `m`, since 1970-01-01T00:00Z.
 fn year_of_minute(m: i64) -> i32
     requires { unsigned_abs m ≤ 4000000000 }
     ensures begun { year_start_of result ≤ℤ m }

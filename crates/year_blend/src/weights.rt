@@ -30,7 +30,8 @@ pub fn weight_slope(x: i64) -> i64
     slope_after((x + 60) as u64) as i64
 }
 
-/// Returns the weight `t` minutes after the start of the blend.
+/// Returns the weight of the later year, of 4,147,200,000 in all, `t` minutes after the start of the
+/// blend, 60 minutes before the new year.
 fn weight_after(t: u64) -> u64
     requires { t ≤ 120 }
     ensures value { pos result ≡ weight_of (pos t -ℤ pos 60) }
@@ -39,7 +40,8 @@ fn weight_after(t: u64) -> u64
     t * t * t * (t * t + 24_000 - 300 * t)
 }
 
-/// Returns the change of the weight a minute, `t` minutes after the start of the blend.
+/// Returns the change per minute of the weight of the later year, `t` minutes after the start of the
+/// blend, 60 minutes before the new year.
 fn slope_after(t: u64) -> u64
     requires { t ≤ 120 }
     ensures value { pos result ≡ weight_slope_of (pos t -ℤ pos 60) }
