@@ -39,7 +39,7 @@ impl ZoneFile {
         ZoneFile { tzif }
     }
 
-    /// Returns the local time at `minute`, with seconds rounded down.
+    /// Returns the local time at `minute`, since 1970-01-01T00:00Z, with seconds rounded down.
     #[tactic(auto, unfolding(crate::specs::ZoneFiles::clock_minute))]
     pub(crate) fn local(&self, minute: i64) -> Local
         requires { InZoneYears minute }
@@ -49,7 +49,8 @@ impl ZoneFile {
         local_showing(minute, minute_shown(minute, self.ahead(minute)))
     }
 
-    /// Returns the seconds by which the clock is ahead of universal time at `minute`.
+    /// Returns the seconds by which the file's clock is ahead of universal time at `minute`, since
+    /// 1970-01-01T00:00Z.
     fn ahead(&self, minute: i64) -> i32
         requires { InZoneYears minute }
         ensures value { result ≡ seconds_ahead self.now (minute *ℤ pos 60) }
