@@ -17,7 +17,7 @@ fault_of_reading reading.Failed = Failed
 fault_of_reading reading.TooLong = TooLong
 fault_of_reading reading.NoMemory = Book form.NoMemory
 
--- the file's bytes, or the fault of reading them
+-- the bytes of the file, or the fault of reading them as a fault of loading
 abbrev pub bytes_from : Result (List ℕ) ReadAllFault → Result (List ℕ) LoadFault
 bytes_from (Ok bytes) = Ok bytes
 bytes_from (Err fault) = Err (fault_of_reading fault)
@@ -41,7 +41,7 @@ source_of TooLong = given
 source_of (Book form.NoMemory) = memory
 source_of (Book (form.At line why)) = given
 
--- a fault is out of memory
+-- a fault of loading is that memory ran out
 abbrev pub is_out_of_memory : LoadFault → Bool
 is_out_of_memory Failed = false
 is_out_of_memory TooLong = false
