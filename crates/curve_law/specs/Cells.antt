@@ -10,7 +10,7 @@ minutes_of (Quiet n) = n
 minutes_of Still = 1
 minutes_of (Turn kind level) = 1
 
--- the number of minutes of all cells
+-- the number of minutes of all cells together
 unfoldable pub all_minutes : List Cell → ℕ
 all_minutes [] = 0
 all_minutes (cell ∷ cells) = minutes_of cell + all_minutes cells
