@@ -26,7 +26,7 @@ ghost use Rattle.event_list.specs.Events.{
 /// Proves how a station's events come from accepted cells over the span of the reference that
 /// determines them (`widened_of`): the events in the cells, merged and then moved by the station's
 /// offsets, are the station's events. Also proves that the cells made by halving are accepted, and that
-/// there are at most three cells for each minute of a span.
+/// those of all tracks together are at most three for each minute of a span.
 pub fn cells_give_the_events()
     ensures accepted { (f : Followed) (b : Basis) (begin end : ℤ) (t : Tracks) →
         AreValidOver f (widened_of b begin end) → AreAccepted f (widened_of b begin end) t →
