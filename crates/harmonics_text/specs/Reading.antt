@@ -96,7 +96,7 @@ station cs ls = do
     pair.1,
   )
 
--- the most stations of a file
+-- the most stations that a harmonics file may have
 unfoldable pub most_stations : ℕ
 most_stations = 20000
 

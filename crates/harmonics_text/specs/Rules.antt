@@ -209,11 +209,11 @@ station_name_of text = name_of 200 (trimmed text)
 abbrev pub is_colon : ℕ → Bool
 is_colon b = b == 58
 
--- the number of exactly two digits
+-- the number that a text of exactly two digits writes, or None
 unfoldable pub two_digits_of : List ℕ → Option ℕ
 two_digits_of text = if length text == 2 then digits_of 2 text else None
 
--- an hour up to 15 and a minute, in minutes
+-- the minutes of an hour from 0 to 15 and a minute from 0 to 59, or None
 unfoldable pub minutes_of : Option ℕ → Option ℕ → Option ℕ
 minutes_of None minute = None
 minutes_of (Some hour) None = None
@@ -236,7 +236,7 @@ meridian_of token =
 abbrev pub is_zone_byte : ℕ → Bool
 is_zone_byte b = (nat_le 33 b && nat_le b 126) || (nat_le 128 b && nat_le b 255)
 
--- the name of a zone, without one colon before it
+-- the name of a zone as UTF-8, without one colon before it, or BadMeridian
 unfoldable pub zone_of : List ℕ → Result (List ℕ) Why
 zone_of token =
     if nat_le (length token) 100 && list_all is_zone_byte token

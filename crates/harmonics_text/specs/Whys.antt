@@ -33,7 +33,7 @@ number_of CutShort = 11
 number_of TooManyStations = 12
 number_of LineTooLong = 13
 
--- the printed text of each reason
+-- the text that is printed for each reason
 abbrev pub text_of : Why → List ℕ
 text_of BadCount = codes "bad count"
 text_of BadName = codes "bad name"

@@ -72,7 +72,8 @@ pub record AreConstituents (cs : List Constituent) : Type 0 where
   pub few : length cs ≤ 500
   pub each : All IsConstituent cs
 
--- a valid heading
+-- a valid heading of a harmonics file: 1 to 500 constituents, a first year from 2 to 8800, and 1 to 500
+-- years
 pub record IsHeading (h : Heading) : Type 0 where
   pub constituents : AreConstituents h.constituents
   pub first_year : IsWithin (pos 2) (pos 8800) h.first_year
@@ -155,7 +156,7 @@ abbrev pub Follows : {X Y : Type 0} → (X → Y) → Result X LineFault → Res
 Follows view (Ok x) rule = rule ≡ Ok (view x)
 Follows view (Err e) rule = Fails e rule
 
--- a line's fault as a fault of the file
+-- the fault of the line with this number, counted from 1, as a fault of the file
 abbrev pub placed : ℕ → LineFault → BookFault
 placed line NoMemory = faults.NoMemory
 placed line (Bad why) = faults.At line why
@@ -166,23 +167,25 @@ placed line (Bad why) = faults.At line why
 unfoldable pub after_count : List ℕ → Result BookParser Why
 after_count text = count_of text >>= λ n. Ok (parsing.Constituents n [])
 
--- the state after one more constituent
+-- the parser state after one more constituent, if `left` of them, this one included, were still to be
+-- read
 abbrev pub with_constituents : ℕ → List Constituent → BookParser
 with_constituents left cs = if nat_lt 1 left then parsing.Constituents (left - 1) cs else parsing.FirstYear cs
 
--- the state after the line of a constituent
+-- the parser state after the line of a constituent
 unfoldable pub after_constituent : ℕ → List Constituent → List ℕ → Result BookParser Why
 after_constituent left earlier text = constituent_of earlier text >>= λ c. Ok (with_constituents left (earlier ++ c ∷ []))
 
--- the table before any line
+-- a table of equilibrium arguments or node factors before any line of it was read
 abbrev pub new_table : Table
 new_table = record { place = 0; left = 0; values = [] }
 
--- the state after the line with the number of years
+-- the parser state after the line with the number of years of the first table
 unfoldable pub after_years : List Constituent → ℤ → List ℕ → Result BookParser Why
 after_years cs year text = count_of text >>= λ n. Ok (parsing.Angles (record { constituents = cs; first_year = year; years = n }) new_table)
 
--- the values with the number of one more token
+-- the values of a table, followed by the number that one more token writes, or the reason why the token
+-- is bad
 unfoldable pub pushed : Scale → List ℤ → List ℕ → Result (List ℤ) Why
 pushed s values token = number_of s token >>= λ n. Ok (values ++ n ∷ [])
 
@@ -205,33 +208,33 @@ after_table_line s h t text =
     if nat_lt 0 t.left then after_values s t text
     else after_name t h.years (slice_index_or h.constituents t.place (record { name = []; speed = pos 0 })).name text
 
--- the state with a table of arguments, which may be complete
+-- the parser state with a table of equilibrium arguments, which may be complete
 abbrev pub with_angles : Heading → Table → BookParser
 with_angles h t = if nat_lt t.place (length h.constituents) then parsing.Angles h t else parsing.AnglesEnd h t.values
 
--- the state after a line of the table of arguments
+-- the parser state after a line of the table of equilibrium arguments
 unfoldable pub after_angles : Heading → Table → List ℕ → Result BookParser Why
 after_angles h t text = after_table_line Angle h t text >>= λ t. Ok (with_angles h t)
 
--- the state after the number of years of the second table
+-- the parser state after the line with the number of years of the second table
 unfoldable pub after_years_again : Heading → List ℤ → List ℕ → Result BookParser Why
 after_years_again h angles text = same_count_of h.years text >>= λ _. Ok (parsing.Factors h angles new_table)
 
--- the state with a table of factors, which may be complete
+-- the parser state with a table of node factors, which may be complete
 abbrev pub with_factors : Heading → List ℤ → Table → BookParser
 with_factors h angles t =
     if nat_lt t.place (length h.constituents) then parsing.Factors h angles t else parsing.FactorsEnd h angles t.values
 
--- the state after a line of the table of factors
+-- the parser state after a line of the table of node factors
 unfoldable pub after_factors : Heading → List ℤ → Table → List ℕ → Result BookParser Why
 after_factors h angles t text = after_table_line Factor h t text >>= λ t. Ok (with_factors h angles t)
 
--- the book without any station
+-- the book of a heading and its two tables, without any station
 abbrev pub new_book : Heading → List ℤ → List ℤ → Book
 new_book h angles factors =
     record { constituents = h.constituents; first_year = h.first_year; years = h.years; angles = angles; factors = factors; stations = [] }
 
--- the state after the name of a station
+-- the parser state after the line with the name of a station
 unfoldable pub after_nothing : Book → List ℕ → Result BookParser Why
 after_nothing b text =
     if nat_le 20000 (length b.stations) then Err TooManyStations

@@ -42,7 +42,8 @@ use Rattle.decimal_text.specs.declared.limits.TheConstants.{MOST_BYTES}
 abbrev pub has_lf : List ℕ → Bool
 has_lf bytes = list_any is_lf bytes
 
--- the invariant between two pieces
+-- the invariant of the state between two pieces of a file: the parser's, and the kept bytes of the last
+-- line have no LF
 pub record IsProgress (p : Progress) : Type 0 where
   pub parser : IsBookParser p.parser
   pub pending : has_lf p.pending ≡ false
@@ -105,7 +106,8 @@ reached p (Some fault) = Err fault
 abbrev pub Reads : Result Progress BookFault → List ℕ → Type 0
 Reads progress bytes = ReturnsAt progress (with_bytes parsing.Count 1 bytes)
 
--- the invariant of a reader
+-- the invariant of a reader of a file: its state is that after the bytes fed until now, at most
+-- 400,000,000
 pub record IsReader (progress : Result Progress BookFault) (bytes : List ℕ) : Type 0 where
   pub reads : Reads progress bytes
   pub few : length bytes ≤ MOST_BYTES
