@@ -39,7 +39,7 @@ abbrev pub minutes_of : PeakCell → ℕ
 minutes_of (Under n) = n
 minutes_of Single = 1
 
--- the number of minutes of all cells
+-- the number of minutes of all cells together
 unfoldable pub all_minutes : List PeakCell → ℕ
 all_minutes [] = 0
 all_minutes (cell ∷ cells) = minutes_of cell + all_minutes cells
