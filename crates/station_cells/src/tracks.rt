@@ -10,9 +10,9 @@ use event_list::Span;
 use interval_search::search;
 use std::alloc::{AllocError, Global};
 
-/// Returns the cells, by the halving rule, of each curve over `span`: of `turn`, and of `slack` and
-/// `mark` if they are present. No curve has been evaluated yet, and each has a value at each minute of
-/// `span` and at its end.
+/// Returns the cells, made by halving, of each curve over `span`: of `turn`, and of `slack` and `mark`
+/// if they are present. No curve has been evaluated yet, and each has a value at each minute of `span`
+/// and at its end.
 pub fn tracks_over<A: Curve + Drop, B: Curve + Drop>(
     alloc: Global,
     turn: A,
