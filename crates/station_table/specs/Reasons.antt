@@ -25,7 +25,7 @@ number_of NotUtf8 = 6
 number_of BadName = 7
 number_of HalfSlack = 8
 
--- the printed text of each reason
+-- the text that is printed for each reason
 abbrev pub text_of : OffsetWhy → List ℕ
 text_of BadHeader = codes "bad header"
 text_of FieldCount = codes "field count"
@@ -36,7 +36,7 @@ text_of NotUtf8 = codes "not UTF-8"
 text_of BadName = codes "bad name"
 text_of HalfSlack = codes "half slack"
 
--- a fault is out of memory
+-- a fault of reading a table is that memory ran out
 abbrev pub is_out_of_memory : OffsetFault → Bool
 is_out_of_memory NoMemory = true
 is_out_of_memory (At row why) = false

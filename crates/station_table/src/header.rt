@@ -9,7 +9,7 @@ ghost use Rattle.station_table.specs.Table.{columns_of, has_columns, header_of, 
 use crate::fault::{OffsetFault, OffsetWhy};
 use csv::ByteRecord;
 
-/// The columns of a table of offsets.
+/// The header of a table of offsets, which says which columns it has.
 #[derive(Clone, Copy)]
 pub enum Header {
     /// The columns of a table with only offsets of high and low waters.

@@ -37,7 +37,7 @@ impl OffsetTable {
         }
     }
 
-    /// Appends `row`.
+    /// Appends `row`, a row with valid names and offsets, as the last row.
     pub(crate) fn push(&mut self, row: Offsets) -> Result<(), AllocError>
         requires count_bound { length self.old + 1 < 2 ^ 32 }
         requires valid { IsOffsets row }
