@@ -7,14 +7,12 @@ ghost use Rattle.fixed_sine.specs.Workings.Degrees.{slope_at, bend_at, IsReady};
 /// The row of one degree in the table of all 360, with slopes prepared for fast sums.
 #[derive(Clone, Copy)]
 pub struct Degree {
-    /// The change of the sine for each unit of 1/600,000,000 degree at the start of the degree, in
-    /// 2^-64 of a billionth, rounded up.
+    /// The change of the sine for each unit of 1/600,000,000 degree at the degree's start, in 2^-64 of
+    /// a billionth, rounded up.
     pub slope: i64,
-    /// The decrease of `slope` for each unit of 1/600,000,000 degree over the degree, in 2^-72 of a
-    /// billionth, rounded down.
+    /// The decrease of `slope` for each unit over the degree, in 2^-72 of a billionth, rounded down.
     pub bend: i32,
-    /// The sine at the start of the degree, in billionths; for a degree that begins at 180 degrees or
-    /// later, plus 1.
+    /// The sine at the degree's start, in billionths; plus 1 from 180 degrees on.
     pub sine: i32,
 }
 

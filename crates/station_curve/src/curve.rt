@@ -194,16 +194,16 @@ impl StationCurve {
         }
     }
 
-    /// Returns the first minute, since 1970-01-01T00:00Z, for which the curve has a level. For a curve
-    /// of all minutes this is the first minute of the book's years.
+    /// Returns the first minute, since 1970-01-01T00:00Z, that has a level. For a curve of all minutes
+    /// this is the first minute of the book's years.
     pub fn first(&self) -> i64
         ensures { result ≡ self.now.first }
     {
         self.minutes.first
     }
 
-    /// Returns the last minute, since 1970-01-01T00:00Z, for which the curve has a level. For a curve
-    /// of all minutes this is the first minute after the book's years.
+    /// Returns the last minute, since 1970-01-01T00:00Z, that has a level. For a curve of all minutes
+    /// this is the first minute after the book's years.
     pub fn last(&self) -> i64
         ensures { result ≡ self.now.last }
     {
@@ -235,18 +235,17 @@ impl StationCurve {
         self.years[year as usize].sums
     }
 
-    /// Does nothing. Its contract says that the constants of the station are within the limits of
-    /// [`CurveFault`] in each year, and that the curve's minutes are in the book's years or the first
-    /// minute after them.
+    /// Does nothing. Its contract says that the station's constants are within the limits of
+    /// [`CurveFault`] in each year, and that the minutes are in the book's years or the first minute
+    /// after them.
     pub fn limits_hold(&self)
         ensures { IsPrediction self.now }
     {
         let _first_year = self.first_year;
     }
 
-    /// Returns the level at minute `m`, in billionths of a millionth of the station's unit, times
-    /// [`TOTAL_WEIGHT`] (4,147,200,000). `m` is from [`first`](StationCurve::first) to
-    /// [`last`](StationCurve::last), both included.
+    /// Returns the level at minute `m`, from `first()` to `last()`, in billionths of a millionth of the
+    /// station's unit, times [`TOTAL_WEIGHT`] (4,147,200,000).
     pub fn level(&self, m: i64) -> i128
         requires { IsPredicted self.now m }
         ensures value { result ≡ predicted_level self.now.book self.now.station m }
@@ -262,10 +261,9 @@ impl StationCurve {
         }
     }
 
-    /// Returns the slope at minute `m`: the change of the level in a minute, in billionths of a
-    /// millionth of the station's unit, times [`TOTAL_WEIGHT`] (4,147,200,000) and 34,377,467,708 (the
-    /// units of angle in a radian). `m` is from [`first`](StationCurve::first) to
-    /// [`last`](StationCurve::last), both included.
+    /// Returns the slope at minute `m`, from `first()` to `last()`: the change of the level in a
+    /// minute, in billionths of a millionth of the station's unit, times [`TOTAL_WEIGHT`]
+    /// (4,147,200,000) and 34,377,467,708 (the units of angle in a radian).
     pub fn slope(&self, m: i64) -> i128
         requires { IsPredicted self.now m }
         ensures value { result ≡ predicted_slope self.now.book self.now.station m }
@@ -284,9 +282,8 @@ impl StationCurve {
         }
     }
 
-    /// Returns the level at minute `m`, in the unit of [`level`](StationCurve::level), to within
-    /// [`level_error`](StationCurve::level_error). It is faster than [`level`](StationCurve::level).
-    /// Outside the blends at new years it uses the approximate sine; inside them it is exact.
+    /// Returns the level at minute `m` in the unit of [`level`](StationCurve::level), but faster, and
+    /// to within [`level_error`](StationCurve::level_error). In the blends at new years it is exact.
     #[inline(always)]
     pub fn approximate_level(&self, m: i64) -> i128
         requires { IsPredicted self.now m }
@@ -300,9 +297,8 @@ impl StationCurve {
         }
     }
 
-    /// Returns the slope at minute `m`, in the unit of [`slope`](StationCurve::slope), to within
-    /// [`slope_error`](StationCurve::slope_error). It is faster than [`slope`](StationCurve::slope).
-    /// Outside the blends at new years it uses the approximate sine; inside them it is exact.
+    /// Returns the slope at minute `m` in the unit of [`slope`](StationCurve::slope), but faster, and
+    /// to within [`slope_error`](StationCurve::slope_error). In the blends at new years it is exact.
     #[inline(always)]
     pub fn approximate_slope(&self, m: i64) -> i128
         requires { IsPredicted self.now m }
@@ -347,8 +343,8 @@ impl StationCurve {
 
     /// Returns which years' constants the minutes from `m` to `m + n`, both included, use. It is one
     /// year if none of them is less than an hour from a new year between two of the book's years, and
-    /// otherwise the two years around that new year. `m` and `m + n` are minutes of the curve, and `n`
-    /// is at most [`LONGEST_SPAN`](year_blend::LONGEST_SPAN).
+    /// otherwise the two years around it. `m` and `m + n` are minutes of the curve, and `n` is at most
+    /// `LONGEST_SPAN`.
     #[inline(always)]
     pub fn stretch(&self, m: i64, n: u32) -> Stretch
         requires first { IsPredicted self.now m }
