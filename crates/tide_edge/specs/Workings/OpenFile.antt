@@ -8,7 +8,7 @@ use Rattle.tide_edge.specs.declared.named_file.NamedFile.{NamedFile}
 abbrev pub bytes_at : List NamedFile → ℕ → List ℕ
 bytes_at files place = option_map_or (λ file. file.bytes) (slice_get files place) []
 
--- the unread bytes of the open file, from byte `at` on
+-- the unread bytes of the open file, which has this index, from byte `at` on; none if no file is open
 abbrev pub rest_of : List NamedFile → Option ℕ → ℕ → List ℕ
 rest_of files None at = []
 rest_of files (Some place) at = drop at (bytes_at files place)
