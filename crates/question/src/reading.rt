@@ -88,7 +88,7 @@ fn read_command(origin: Origin, word: &Option<Text>) -> Result<Command, AskFault
     }
 }
 
-/// Puts the values of `items` into `question`, the bare question of `command`.
+/// Puts the values of `items` into `question`, in which all keys have their defaults.
 fn fill(
     alloc: Global,
     origin: Origin,

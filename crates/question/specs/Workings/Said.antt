@@ -20,7 +20,8 @@ text_after (item ∷ items) k earlier = text_after items k (if bytes_eq (name_of
 abbrev pub said_by : List Item → Said
 said_by items k = text_after items k None
 
--- the field of a question for a key with a text
+-- the field of a question for a key with a text: the value, or the key's default if the text isn't in
+-- the form of the key's values
 abbrev pub read_as : Origin → (k : Key) → List ℕ → Field k
 read_as origin k text = (row_of k).need.field ((row_of k).form origin text)
 
