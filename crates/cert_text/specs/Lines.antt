@@ -21,15 +21,15 @@ title_of version = if version == 1 then codes "tide certificate 1" else codes "t
 unfoldable pub station_line_of : List ℕ → List ℕ
 station_line_of name = codes "station " ++ name
 
--- the line of the span's first minute
+-- the line of the span's first minute, in universal time
 unfoldable pub begin_line_of : ℤ → List ℕ
 begin_line_of m = codes "begin " ++ moment_text m
 
--- the line of the span's end, the minute after its last one
+-- the line of the span's end, the minute after its last one, in universal time
 unfoldable pub end_line_of : ℤ → List ℕ
 end_line_of m = codes "end " ++ moment_text m
 
--- the line of the mark, in millionths
+-- the line of the mark, in millionths of the station's unit
 unfoldable pub mark_line_of : Option ℤ → List ℕ
 mark_line_of None = codes "mark none"
 mark_line_of (Some mark) = codes "mark " ++ signed_decimal mark
@@ -67,12 +67,12 @@ lines_if_there track (Some cells) = track_lines_of track cells
 abbrev pub station_lines_of : List ℕ → ℤ → ℤ → List (List ℕ)
 station_lines_of name begin end = station_line_of name ∷ begin_line_of begin ∷ end_line_of end ∷ []
 
--- the first five lines
+-- the first five lines: the title, the station, the span's first minute and its end, and the mark
 abbrev pub head_lines_of : Certificate → List (List ℕ)
 head_lines_of c =
     title_of c.version ∷ station_line_of c.station ∷ begin_line_of c.begin ∷ end_line_of c.end ∷ mark_line_of c.mark ∷ []
 
--- the lines after the first five
+-- the lines after the first five: the tracks, and the last line
 abbrev pub body_lines_of : List Cell → Option (List Cell) → Option (List Cell) → List (List ℕ)
 body_lines_of turn slack crossings =
     track_lines_of Turn turn ++ (lines_if_there Slack slack ++ (lines_if_there Mark crossings ++ last_line ∷ []))

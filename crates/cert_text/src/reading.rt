@@ -77,7 +77,8 @@ fn read_crossings(
     read_track_if(mark.is_some(), alloc, lines, TrackName::Mark)
 }
 
-/// Reads the last line of a certificate, `done`, and checks that no byte is unread.
+/// Reads the last line of a certificate, `done`, and checks that no byte is unread. Otherwise it returns
+/// the fault with the line's number.
 pub fn read_last(lines: &mut LineCursor<'_>) -> Result<(), CertFault>
     ensures { Takes last_part lines.old lines.new result }
 {
