@@ -148,7 +148,7 @@ abbrev pub years_line : ℤ → ℤ → List ℕ
 years_line first last =
     codes "refused: out of years: file has " ++ moment_text first ++ codes " to " ++ moment_text last ++ codes "\n"
 
--- the line of a refusal; the list has the rows of the table that was read
+-- the line of a refusal; `rows` has the rows of the table that was read
 unfoldable pub refusal_line : List TableRow → Refusal → List ℕ
 refusal_line rows NoMemory = codes "no memory\n"
 refusal_line rows (NotACertificate line) = codes "certificate: line " ++ decimal line ++ codes "\n"
@@ -166,7 +166,7 @@ refusal_line rows MarkNotHere = codes "refused: mark not here\n"
 refusal_line rows LevelNotHere = codes "refused: level not here\n"
 refusal_line rows (TooManyRows count) = codes "limit: " ++ signed_decimal count ++ codes " rows\n"
 
--- the line of a fault; the list has the rows of the table that was read
+-- the line of a fault; `rows` has the rows of the table that was read
 unfoldable pub line_of : List TableRow → Fault → List ℕ
 line_of rows (Ask fault) = ask_line fault
 line_of rows (NoSheet word) = naming_line (codes "refused: no sheet ") word

@@ -11,7 +11,7 @@ use harmonics_text::BookFault;
 use question::AskFault;
 use station_table::OffsetFault;
 
-/// The reason why a request has no answer. The variants are in the order in which they are found.
+/// The reason why a request has no answer. The variants are in the order in which a run looks for them.
 #[derive(Drop)]
 pub enum Fault {
     /// The command line or query isn't a request.
