@@ -156,7 +156,8 @@ struct Texts {
     level: ArrayString<24>,
 }
 
-/// Returns the fields of a `level` in millionths at `minute`.
+/// Returns the fields of a `level`, in millionths of the unit, at `minute`, counted from
+/// 1970-01-01T00:00Z.
 fn texts_of(minute: i64, level: i64, zone: &ZoneClock<'_>) -> Texts
     requires minute { InZoneYears minute }
     ensures moment { result.moment.bytes ≡ moment_text minute }
