@@ -8,7 +8,7 @@ pub record IsLine (line : List ℕ) : Type 0 where
   pub ends : line ≡ bytes ++ codes "\n"
   pub no_control : All (λ byte. 32 ≤ byte) bytes
 
--- a level that fits 64 bits
+-- a level in millionths of the unit that is at most 2^63 in size
 abbrev pub IsLevel : ℤ → Type 0
 IsLevel level = unsigned_abs level ≤ 2 ^ 63
 

@@ -17,8 +17,8 @@ use Rattle.zone_time.specs.Zones.{local_in}
 abbrev pub records_in : List ℕ → List (List (List ℕ))
 records_in text = records default_config (strip_bom text)
 
--- the line of a minute and a level, from its local time without a label and its unit; the level is rounded
--- to hundredths
+-- the line of a minute and a level, in millionths of the unit, from its local time without a label and
+-- its unit; the level is rounded to hundredths of the unit
 abbrev pub line_by : Zone → ℤ → ℤ → List ℕ → List ℕ → List ℕ
 line_by zone minute level local unit =
     local ++ codes " " ++ label_text (local_in zone minute).label ++ codes "  "
