@@ -14,7 +14,7 @@ page_of head events sheet = sheet.layout head (take sheet.limit events)
 abbrev pub is_wanted : List (List ℕ) → SheetMeaning → Bool
 is_wanted wanted sheet = list_any (λ word. bytes_eq word sheet.word) wanted
 
--- the pages of the requested sheets, one after the other, in the order of the sheets
+-- the pages of the requested sheets, one after the other, in the order of `sheets`, not of the request
 unfoldable pub pages_of : List SheetMeaning → List (List ℕ) → Head → List Event → List ℕ
 pages_of sheets wanted head events = flat_map (page_of head events) (filter (is_wanted wanted) sheets)
 

@@ -24,7 +24,7 @@ use Rattle.report_sheets.specs.Sheets.{SheetMeaning}
 abbrev pub names : List EventWord
 names = HighTide ∷ LowTide ∷ MaxFlood ∷ MinFlood ∷ MaxEbb ∷ MinEbb ∷ SlackFloodBegins ∷ SlackEbbBegins ∷ MarkRising ∷ MarkFalling ∷ []
 
--- the index of a name in this order
+-- the index of a name in `names`, the order of the lines
 abbrev pub place_of : EventWord → ℕ
 place_of HighTide = 0
 place_of LowTide = 1
@@ -50,6 +50,6 @@ unfoldable pub tally_of : Head → List Event → List ℕ
 tally_of head events =
     head.name ++ codes "\n" ++ flat_map (λ word. count_line (count_at head.units events (place_of word)) word) names
 
--- the sheet `tally` with a limit
+-- the definition of the sheet `tally` that accepts at most `limit` events
 abbrev pub tally_sheet : ℕ → SheetMeaning
 tally_sheet limit = record { word = codes "tally"; limit = limit; layout = tally_of }

@@ -32,6 +32,7 @@ ebbs =
     ∷ (record { minute = pos 15791400; kind = MarkFalling; level = negsuc 2999999 })
     ∷ (record { minute = pos 15791760; kind = Low; level = negsuc 1999999 }) ∷ []
 
--- three sheets, the last with a limit
+-- the sheets `tally`, `range` and `first`; the first two accept 1,000,000 events, and the last one
+-- accepts `limit`
 abbrev pub sheets_with : ℕ → List SheetMeaning
 sheets_with limit = tally_sheet 1000000 ∷ range_sheet 1000000 ∷ first_sheet limit ∷ []

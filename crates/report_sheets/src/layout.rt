@@ -12,7 +12,8 @@ use std::alloc::{AllocError, Global};
 /// The layout of a sheet: the word that requests the sheet, and the text that it writes for a head and
 /// events.
 pub trait Layout {
-    /// The definition of the sheet with a limit: its word, its limit and its text.
+    /// The definition of the sheet that accepts at most this number of events: its word, its limit and
+    /// its text.
     ghost sheet: { ℕ → SheetMeaning };
 
     /// Returns the word that requests the sheet.

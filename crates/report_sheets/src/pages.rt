@@ -14,8 +14,8 @@ use curve_law::{Event, Events};
 use decimal_text::{Bytes, Text, Words};
 use std::alloc::{AllocError, Global};
 
-/// Returns the index of the first word in `wanted` that no sheet has, or `None` if there isn't one. It
-/// doesn't allocate.
+/// Returns the index of the first word in `wanted` that no sheet has, or `None` if each word has a
+/// sheet. It doesn't allocate.
 pub fn missing(sheets: &Vec<Box<dyn Sheet>>, wanted: &Words) -> Option<u64>
     ensures { result ≡ missing_of (map meaning sheets.now.items) wanted.now }
 {
@@ -108,7 +108,7 @@ fn push_page(
     push_text(text, sheet)
 }
 
-/// Passes `event` to `sheet`.
+/// Passes `event` to `sheet`, and returns whether the sheet took it or is full.
 fn offer(sheet: &mut Box<dyn Sheet>, event: &Event) -> Result<Taken, AllocError>
     requires { IsListed (heading sheet.old).units event.now }
     ensures unchanged { meaning sheet.new ≡ meaning sheet.old }
