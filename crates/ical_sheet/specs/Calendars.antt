@@ -75,11 +75,11 @@ content_lines head (event ∷ events) =
 unfoldable pub calendar_of : Head → List Event → List ℕ
 calendar_of head events = flat_map folded (content_lines head events)
 
--- an event whose minute and level fit 64 bits
+-- an event whose minute and level are less than 2^64 in size
 pub record IsNarrow (event : Event) : Type 0 where
   pub minute : unsigned_abs event.minute < 2 ^ 64
   pub level : unsigned_abs event.level < 2 ^ 64
 
--- the sheet `ical` with a limit
+-- the definition of the sheet `ical` that accepts at most `limit` events
 abbrev pub ical_sheet : ℕ → SheetMeaning
 ical_sheet limit = record { word = codes "ical"; limit = limit; layout = calendar_of }
