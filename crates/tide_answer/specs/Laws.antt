@@ -28,14 +28,14 @@ use Rattle.tide_answer.specs.Asking.{asked_by_certificate}
 use Rattle.station_span.specs.Following.{followed}
 use Rattle.station_span.specs.Sites.{Site, site_in}
 
--- a request that a command line can make: its moments are in the years 1 to 9999, and its mark is at most
--- 10,000 units in size
+-- a request that a command line can make: its moments are in the years 1 to 9999, and its mark is at
+-- most 10,000 of the station's units in size
 pub record IsAskable (asked : Asked) : Type 0 where
   pub begin : IsMoment asked.begin
   pub end : IsMoment asked.end
   pub mark : ForSome asked.mark IsMark
 
--- the answer is the line `Accepted`, and then the listing of the prediction
+-- the answer is the line `Accepted`, and then the listing of this other answer
 abbrev pub AcceptsListing : Result Answer Refusal → Answer → Type 0
 AcceptsListing prediction answer =
     (listing : Answer) × (prediction ≡ Ok listing) × (answer ≡ text_alone (codes "Accepted\n" ++ listing.text))
@@ -52,8 +52,8 @@ abbrev pub CertifiesInShort : Type 0
 CertifiesInShort = (book : Book) (table : List Offsets) (name : List ℕ) (asked : Asked) (certificate : Answer) →
     IsBook book → IsTable table → IsAskable asked → certified book table name asked ≡ Ok certificate → length certificate.text < 333000000
 
--- the events in a track's cells are the events found by looking at every minute of the span; no track is
--- present without its curve
+-- the events in a track's cells are the events found by looking at every minute of the span; a track is
+-- present exactly if its curve is
 abbrev pub ListsTrack : Span → Option Meaning → Option (List Cell) → Type 0
 ListsTrack span (Some curve) (Some cells) = cell_events span.begin cells ≡ events_over span curve
 ListsTrack span None None = Unit {0}

@@ -42,7 +42,7 @@ use Rattle.station_span.specs.Following.{followed, events_of, tracks_of}
 use Rattle.station_cells.specs.Rejections.{rejection_of}
 use Rattle.station_span.specs.Sites.{Site, site_in}
 
--- the span of the trial: from 2000-12-01T00:00Z up to 2001-02-01T00:00Z, without a mark
+-- the span of the trial: from 2000-12-01T00:00Z up to 2001-02-01T00:00Z, not included, without a mark
 abbrev pub trial_span : Asked
 trial_span = record { begin = pos 16260480; end = pos 16349760; mark = None }
 
@@ -63,7 +63,7 @@ abbrev pub accepted_if : Option Rejection → ℕ
 accepted_if None = 1
 accepted_if (Some rejection) = 0
 
--- the counts of a station: the minutes of all tracks, each over the evaluated minutes; the events; the
+-- the counts of a station: the number of tracks times the minutes that were searched; the events; the
 -- cells, and the quiet ones among them; and the certificates that are accepted
 unfoldable pub tally_by : Span → Tracks → List Event → Option Rejection → Tally
 tally_by span tracks events rejection = record {

@@ -36,8 +36,10 @@ pub struct Listed {
 /// has no control characters.
 ///
 /// # Errors
-/// The first [`Refusal`] in this order: the station, its unit, the span, the bounds on its constants,
-/// the mark. If memory runs out, [`Refusal::NoMemory`] is returned in place of any other result.
+/// The first [`Refusal`] in this order: the station isn't found, it is a hydraulic current, the span is
+/// backward or outside the file's years, its constants exceed their bounds, the span is longer than
+/// 5,270,400 minutes, a mark is given but the offsets of its high and low waters differ. If memory runs
+/// out, [`Refusal::NoMemory`] is returned in place of any other result.
 ///
 /// # Examples
 /// ```

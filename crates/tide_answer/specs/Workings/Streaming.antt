@@ -23,21 +23,21 @@ use Rattle.tide_answer.specs.Answers.{certificate_by}
 use Rattle.tide_answer.specs.declared.text.Answer.{Answer}
 use Rattle.station_span.specs.Workings.Spans.{AreMoments}
 
--- the text of an answer of a form
+-- the text of a streamed answer: a listing or a certificate, as the form says
 abbrev pub stream_text : Form → Book → Site → List ℕ → Asked → Zone → List ℕ
 stream_text Listing book site name asked zone = plain_events_of name site.station.units (events_of book site asked) zone
 stream_text Certificate book site name asked zone = certificate_text (certificate_by book site name asked)
 
--- the answer of a form for a station
+-- a streamed answer for a station: a listing or a certificate, as the form says
 abbrev pub stream_answer : Form → Book → Site → List ℕ → Asked → Zone → Answer
 stream_answer form book site name asked zone =
     record { text = stream_text form book site name asked zone; rejected = false; cells = cells_of book site asked }
 
--- the answer of a form for a station that was found
+-- a streamed answer for a station that was found: a listing or a certificate, as the form says
 abbrev pub stream_of : Form → FoundStation → List ℕ → Zone → Answer
 stream_of form found name zone = stream_answer form found.curve.book (site_of found) name found.asked zone
 
--- the form of the answers of a command
+-- the form of the streamed answers of a command: a certificate for `certify`, else a listing
 abbrev pub form_of : Command → Form
 form_of Certify = Certificate
 form_of _ = Listing
