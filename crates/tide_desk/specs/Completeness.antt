@@ -112,7 +112,8 @@ pub record HasAnswer (sheets : List SheetMeaning) (folder : Folder) (minute : �
   pub unrefused : answered_over_book (is_report question.command) sheets read.book read.table question
       (given_with read (minute_for question.command minute)) ≡ Ok answer
 
--- done, or rejected if that is the answer to a certificate, with the whole text and nothing else written
+-- the status is done, or rejected if the answer rejects a certificate; the whole text of the answer was
+-- written to `out`, and nothing to `err`
 pub record WroteAll {F O E K : Type 0} (s : States F O E K) (answer : Answer) (status : Status) (before after : Objects F O E K)
     : Type 0 where
   pub ends : status ≡ (if answer.rejected then Rejected else Done)

@@ -31,12 +31,12 @@ use Rattle.tide_edge.specs.Whole.{Allowance, ReadWithin}
 use Rattle.named_files.specs.declared.no_answer.NoAnswer.{NoAnswer}
 use Rattle.named_files.specs.NoAnswers.{status_of, line_of}
 
--- the status of an answer that couldn't be written
+-- the status is the one of an answer that couldn't be written
 abbrev pub is_write_fault : Status → Bool
 is_write_fault WriteFault = true
 is_write_fault _ = false
 
--- a status other than out of memory and a read fault
+-- the status isn't the one of a run that ran out of memory or couldn't read a file or the clock
 abbrev pub is_settled : Status → Bool
 is_settled NoMemory = false
 is_settled ReadFault = false

@@ -76,7 +76,8 @@ pub record IsPassedOn (first second : Materials) (written : List ℕ) : Type 0 w
 abbrev pub subject_over : List ℕ → Asked → Subject
 subject_over name asked = record { station = Some name; begin = Some asked.begin; end = Some asked.end; mark = asked.mark }
 
--- the answer is the line `Accepted`, and the listing of a subject with constants and a table, in a zone
+-- the answer is the line `Accepted`, and the listing of the events of a subject (station, span and mark)
+-- with these constants and table, in the local time of a zone
 pub record AcceptsSubject (book : Book) (table : List Offsets) (zone : Zone) (subject : Subject) (answer : Answer) : Type 0 where
   pub name : List ℕ
   pub asked : Asked
@@ -95,8 +96,8 @@ ChecksWhatCame {F} {O} {E} {K} {G} {P} {D} {L} s t = (sheets : List SheetMeaning
     ¬ (Rose (t.out first.out).faults (t.out last.out).faults) →
     EndsAccepting t (AcceptsSubject one.book one.table two.zone (subject_of certify)) status first last
 
--- the answer is the line `Accepted`, and the highest water of a subject with constants and a table, in
--- universal time
+-- the answer is the line `Accepted`, and the highest water of a subject (station and span) with these
+-- constants and table, in universal time
 pub record AcceptsPeakOf (book : Book) (table : List Offsets) (subject : Subject) (answer : Answer) : Type 0 where
   pub name : List ℕ
   pub asked : Asked

@@ -26,7 +26,8 @@ subject_of_peak certificate = record {
   mark = None;
 }
 
--- a request to `highest` for a subject, with the files of a check and in universal time
+-- a request to `highest` for this station and span (the subject), with the files of a check and in
+-- universal time
 pub record AsksHighest (check : Question) (subject : Subject) (question : Question) : Type 0 where
   pub command : question.command ≡ Highest
   pub files : NameSameFiles question check
@@ -35,7 +36,8 @@ pub record AsksHighest (check : Question) (subject : Subject) (question : Questi
 
 -- ---- the answers
 
--- the answer is the line `Accepted`, and then what `highest` prints for a subject
+-- the answer is the line `Accepted`, and then what `highest` prints for a subject (station and span)
+-- with the files of the check, in universal time
 abbrev pub AcceptsWithHighest : List SheetMeaning → Folder → Question → Subject → Answer → Type 0
 AcceptsWithHighest sheets folder check subject = AcceptsWith sheets folder (AsksHighest check subject)
 

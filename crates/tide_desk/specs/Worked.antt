@@ -21,7 +21,7 @@ pier_files = record {
   calls = no_calls;
 }
 
--- an output in memory, empty
+-- an empty output in memory, which accepts at most 10 bytes in a write and 1,000 bytes in all
 abbrev pub empty_sink : HeldSink
 empty_sink = record { taken = []; most = 10; room = 1000; calls = no_calls }
 

@@ -31,7 +31,7 @@ where
 
 /// Proves that, over objects that don't fail, the command `peakcheck` accepts what a run of `peak` that
 /// was done has written, with the highest water, or runs out of memory. Over objects of any kind this
-/// holds for the bytes that the second run read.
+/// holds for the bytes that the second run read, unless a write of its answer failed.
 pub fn what_peak_certified_is_checked<F, O, E, K, G, P, D, L>()
 where
     F: Files,
