@@ -62,7 +62,8 @@ pub record AsksSubordinate (book : Book) (table : List Offsets) (row : Offsets) 
   pub is_row : basis.row ≡ Some index
   pub at : slice_get table index ≡ Some row
 
--- a request to `predict` about the reference of the row, over the span that its offsets widen
+-- a request to `predict` about the reference of the row, over the span from `begin` to `end` as its
+-- offsets widen it
 pub record AsksReference (row : Offsets) (basis : Basis) (begin end : ℤ) (question : Question) : Type 0 where
   pub command : question.command ≡ Predict
   pub named : question.station ≡ Some row.reference
@@ -129,7 +130,7 @@ ReferenceIsAnswered = (book : Book) (table : List Offsets) (question reference :
 
 -- ---- a small station
 
--- a current with levels 0.5 above its reference's, and without separate offsets for slacks
+-- a current with levels 0.5 knots above its reference's, and without separate offsets for slacks
 abbrev pub stream : Site
 stream =
     let higher : Offset = record { add = pos 0; times = pos 1000000; plus = pos 500000 } in
