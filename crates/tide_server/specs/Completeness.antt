@@ -20,7 +20,7 @@ pub record NothingFailed {F D E K : Type 0} (s : ServiceStates F D E K) (before 
   pub clock : ¬ (Rose (s.clock before.clock).faults (s.clock after.clock).faults)
   pub door : ¬ (Rose (s.door before.door).faults (s.door after.door).faults)
 
--- the server is done: it has listened at its port until there were no more connections or the most were
+-- the server is done: it has listened at its port until there were no more connections or 2^64 - 1 were
 -- accepted, and each connection has a reply
 pub record ServedAll {F D E K : Type 0} (s : ServiceStates F D E K) (served_data : ServedData) (status : Status)
     (before after : Services F D E K)
@@ -37,7 +37,8 @@ pub record EndedBefore {F D E K : Type 0} (status is : Status) (before after : S
   pub door : after.door ≡ before.door
   pub clock : after.clock ≡ before.clock
 
--- the server serves the expected data, or is refused with the status of the reason why there is none
+-- the server serves the expected data, or ends before it listens with the exit status for the reason why
+-- there is none
 abbrev pub EndsBy : {F D E K : Type 0} → ServiceStates F D E K → Result ServedData NoAnswer → Status → Services F D E K → Services F D E K
     → Type 0
 EndsBy s (Ok served_data) status before after = ServedAll s served_data status before after

@@ -73,7 +73,7 @@ fn answer_connection<D: Door, K: Clock>(
 }
 
 /// Returns true if nothing more is to be read after a piece of `count` bytes; `row` is the row of the
-/// bytes read until now.
+/// table of HTTP statuses for the bytes read until now.
 fn ends_reading(count: usize, row: &ReplyRow<'_>) -> bool
     ensures { result ≡ (count == 0 || is_settled (row_seen row.now)) }
 {

@@ -17,7 +17,8 @@ pub fn worked_queries()
     ensures no_text { said_by (codes "%FFa") ≡ 239 ∷ 191 ∷ 189 ∷ 97 ∷ [] }
 {}
 
-/// Proves the replies to some web queries that aren't requests.
+/// Proves examples of the replies, with HTTP status 400, to web queries that aren't requests: one to
+/// GET, and one to HEAD, which has no body.
 pub fn worked_answers()
     ensures none_asked { (book : Book) (table : List Offsets) (minute : ℤ)
         → reply_of book table minute (asks record { path = codes "/clock"; query = codes "zone=UTC"; body = []; bodiless = false })

@@ -37,7 +37,8 @@ pub record IsRead (bytes request : List ℕ) : Type 0 where
   pub parts : bytes ≡ request ++ rest
   pub enough : (rest ≡ []) ⊎ IsEnough request
 
--- the row of the bytes that were read; a connection without bytes has none
+-- the row of the table of HTTP statuses for the bytes that were read; a connection without bytes has
+-- none
 abbrev pub IsReadAs : List ℕ → Option ReplyRow → Type 0
 IsReadAs bytes None = bytes ≡ []
 IsReadAs bytes (Some row) = (request : List ℕ) × IsRead bytes request × ¬ (request ≡ []) × IsRow request row
@@ -70,13 +71,14 @@ abbrev pub SentBy : Bool → List ℕ → DoorState → DoorState → Type 0
 SentBy false text before after = after ≡ sent text false before
 SentBy true text before after = (count : ℕ) × (count < length text) × (after ≡ sent (take count text) true before)
 
--- the reply of a row, or, unless it is a fixed reply, the reply 503 if memory runs out
+-- the reply for a row of the table of HTTP statuses, or, unless its text is fixed, the reply 503 if
+-- memory runs out
 abbrev pub Replies : ServedData → ℤ → ReplyRow → List ℕ → Type 0
 Replies served_data minute row text =
     (text ≡ reply_of served_data.book served_data.table minute row) ⊎ ((fixed_of row ≡ None) × (text ≡ unavailable_of row))
 
--- The reply of a row was sent, at the minute that the clock returned; or the clock has failed, and nothing
--- was sent.
+-- The reply for a row of the table of HTTP statuses was sent, at the minute that the clock returned; or
+-- the clock has failed, and nothing was sent.
 abbrev pub RowSent : Bool → ServedData → ReplyRow → Exchange → Exchange → Type 0
 RowSent false served_data row before after =
     (text : List ℕ) × (failed : Bool) × (minute : ℤ)
