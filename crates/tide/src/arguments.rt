@@ -59,7 +59,8 @@ pub fn words_of(alloc: Global, mut arguments: Args) -> Result<Words, AllocError>
     Ok(Words::from_vec(words))
 }
 
-/// Writes the line of the reason `why` to `err`, and returns its exit status.
+/// Writes the line for the reason `why` to `err`, and returns the exit status for it, even if the write
+/// fails.
 pub fn report_argument_error<E: Sink>(why: ArgumentError, err: &mut E) -> Status
     ensures status { result ≡ status_of why }
     ensures line { (failed : Bool) × Wrote (E.state err.old) (E.state err.new) failed (line_of why) }
