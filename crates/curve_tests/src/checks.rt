@@ -10,7 +10,8 @@ use curve_law::{Cell, Cells, Curve, Kind, Verdict};
 use std::alloc::Global;
 use std::process::Abort;
 
-/// Returns true if cells may be checked on `curve`, not yet evaluated.
+/// Returns true if cells from minute `begin` up to `end`, not included, may be checked on `curve`, which
+/// was not evaluated yet.
 fn can_check<C: Curve>(curve: &C, begin: i64, end: i64) -> bool
     ensures { IsTrue result → (begin ≤ℤ end) × ((C.state curve.now).facts.meaning.first ≤ℤ begin)
         × (end ≤ℤ (C.state curve.now).facts.meaning.last) × ((C.state curve.now).count ≡ 0) }

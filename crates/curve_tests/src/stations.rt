@@ -108,7 +108,7 @@ fn has_level(curve: &StationCurve, m: i64, level: i64, rises: bool) -> bool {
     is_in_years(curve, m) && curve.millionths(m) == level && (curve.slope(m) > 0) == rises
 }
 
-/// A minute, its level, and true if it rises there.
+/// A minute since 1970-01-01T00:00Z, the level there in millionths of a foot, and true if it rises.
 const LEVELS: &[(i64, i64, bool)] = &[
     (15_777_960, 500_000, true),
     (15_778_020, 866_025, true),
