@@ -40,8 +40,9 @@ IsCellOf track (cells.Quiet n) = (2 ≤ n) × (n ≤ MOST_MINUTES)
 IsCellOf track cells.Still = Unit {0}
 IsCellOf track (cells.Turn kind level) = (track_of kind ≡ track) × IsLevel level
 
--- a certificate that has a text: its version is 1 or 2, its name, moments, mark and cells are in their
--- ranges, and the mark's track is present exactly if there is a mark
+-- a certificate that has a text: its version is 1 or 2; its name has 1 to 400 bytes; its moments are in
+-- the years 1 to 9999; its mark is at most 10,000,000,000 millionths in size; its cells are ones of
+-- their tracks; and the mark's track is present exactly if there is a mark
 pub record IsCertificate (c : Certificate) : Type 0 where
   pub version : (c.version ≡ 1) ⊎ (c.version ≡ 2)
   pub station : IsStationName c.station

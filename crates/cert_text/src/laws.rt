@@ -20,8 +20,9 @@ ghost use Rattle.cert_text.specs.Lines.{
 ghost use Rattle.cert_text.specs.Spelling.{Spells, IsTextOf, IsFaultLine, Reads};
 ghost use Rattle.cert_text.specs.Readings.{certificate_of};
 
-/// Proves that each certificate with parts in their ranges has exactly one text, that no other
-/// certificate has a text, and that each text belongs to at most one certificate.
+/// Proves that each certificate with fields in the ranges that [`Certificate`](crate::Certificate) lists
+/// has exactly one text, that no other certificate has a text, and that each text belongs to at most one
+/// certificate.
 pub fn certificates_have_one_text()
     ensures lines { (c : Certificate) → IsCertificate c → Spells c (lines_of c) }
     ensures only_lines { (c : Certificate) (lines : List (List ℕ)) →
