@@ -24,7 +24,7 @@ pub enum Fault {
     Book(BookFault),
     /// The table of subordinate stations has a bad row, or memory ran out.
     Offsets(OffsetFault),
-    /// The time zone's file isn't a zone file, or its rule contradicts its table.
+    /// The time zone's file isn't a zone file, or the rule at its end contradicts its table of changes.
     BadZone,
     /// The files were read, and the request has no answer with their contents.
     Refused(Refusal),
