@@ -152,7 +152,8 @@ abbrev pub certificate_from : Result Certificate CertFault → Result Certificat
 certificate_from (Ok cert) = Ok cert
 certificate_from (Err fault) = Err (refusal_of_cert fault)
 
--- the version of the rates by which a certificate is checked
+-- the version of the rates (bounds on how much a curve changes in a minute) by which a certificate is
+-- checked
 abbrev pub version_of : Certificate → Version
 version_of cert = if cert.version == 1 then First else Second
 

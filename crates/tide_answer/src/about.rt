@@ -20,7 +20,7 @@ use tide_fault::Refusal;
 ///
 /// # Errors
 /// The first [`Refusal`] in this order: the station isn't found, it is a hydraulic current, its
-/// constants exceed their bounds.
+/// constants are over a bound ([`Refusal::TooLarge`] or [`Refusal::TooSteep`]).
 #[tactic(auto, unfolding(crate::specs::Answers::station_about))]
 pub fn about_answer(
     alloc: Global,

@@ -29,7 +29,8 @@ pub fn find_rejection(found: &FoundStation, cert: &Certificate) -> Option<Reject
     rejection_over(turn, slack, mark, &found.span, &cert.tracks)
 }
 
-/// Returns the version of the rates by which `cert` is checked.
+/// Returns the version of the rates (bounds on how much a curve changes in a minute) by which `cert` is
+/// checked.
 fn version_of(cert: &Certificate) -> Version
     ensures { result ≡ version_of cert.now }
 {

@@ -28,9 +28,9 @@ use zone_time::ZoneClock;
 ///
 /// # Errors
 /// The first [`Refusal`] in this order: the station isn't found, it is a hydraulic current, the span is
-/// backward, empty or outside the file's years, its constants exceed their bounds, the span is longer
-/// than 5,270,400 minutes, a mark is given or a level is needed at each minute but the offsets of its
-/// high and low waters differ.
+/// backward, empty or outside the file's years, its constants are over a bound ([`Refusal::TooLarge`] or
+/// [`Refusal::TooSteep`]), the span is longer than 5,270,400 minutes, a mark is given or a level is
+/// needed at each minute but the offsets of its high and low waters differ.
 #[tactic(auto, unfolding(crate::specs::Answers::highest))]
 pub fn highest_answer(
     alloc: Global,
@@ -70,9 +70,9 @@ pub fn highest_text_at(
 ///
 /// # Errors
 /// The first [`Refusal`] in this order: the station isn't found, it is a hydraulic current, the span is
-/// backward, empty or outside the file's years, its constants exceed their bounds, the span is longer
-/// than 5,270,400 minutes, a mark is given or a level is needed at each minute but the offsets of its
-/// high and low waters differ.
+/// backward, empty or outside the file's years, its constants are over a bound ([`Refusal::TooLarge`] or
+/// [`Refusal::TooSteep`]), the span is longer than 5,270,400 minutes, a mark is given or a level is
+/// needed at each minute but the offsets of its high and low waters differ.
 #[tactic(auto, unfolding(crate::specs::Answers::peak_certified))]
 pub fn certify_peak(
     alloc: Global,
