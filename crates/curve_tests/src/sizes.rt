@@ -47,7 +47,7 @@ fn year_cells<C: Curve>(alloc: Global, curve: &mut C) -> Result<Cells, AllocErro
     Ok(cells)
 }
 
-/// Returns the cells of a pier's turns over the year, and the number of evaluations.
+/// Returns the cells of a pier's turns over the year 2000, and the number of evaluations.
 fn pier_cells(alloc: Global) -> Result<(Cells, u64), AllocError>
     ensures { IfOk result (λ found. all_minutes found.0 ≤ 6000000) }
 {

@@ -59,7 +59,8 @@ fn is_in_file(m: i64) -> bool
     year_start(1999) <= m && m <= year_start(2002)
 }
 
-/// Returns the curve of the one station of a book of the years 1999 to 2001.
+/// Returns the curve of the one station of a book of the years 1999 to 2001, for the minutes from
+/// `first` to `last`, both included.
 fn minutes_of(alloc: Global, book: &Book, first: i64, last: i64) -> Result<StationCurve, CurveFault>
     requires book { IsBook book.now }
     requires one { length book.now.stations ≡ 1 }
@@ -76,7 +77,7 @@ fn minutes_of(alloc: Global, book: &Book, first: i64, last: i64) -> Result<Stati
     StationCurve::over(alloc, book, 0, first, last)
 }
 
-/// Returns the same curve for the minutes from `first` to `last`.
+/// Returns the curve of the one station of a file for the minutes from `first` to `last`, both included.
 fn curve_over(
     alloc: Global,
     file: &[u8],
