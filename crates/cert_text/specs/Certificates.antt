@@ -1,4 +1,5 @@
--- The ranges of a certificate's parts, and the events that a track may have (this project).
+-- The ranges of a certificate's fields, and the cells and events that each track may have (this
+-- project).
 use Rattle.std.specs.Prelude.{◌≡◌, ◌≢◌, ℕ, ◌+◌, ◌≤◌, ℤ, unsigned_abs, ◌⊎◌, List, [], length, All, IfSome, is_some, unwrap_or}
 use Rattle.std.specs.Str.{IsUtf8}
 use Rattle.curve_law.specs.declared.cell.Cell.{Cell}
