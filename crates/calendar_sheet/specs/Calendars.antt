@@ -43,7 +43,7 @@ entry_in zone units event =
     codes "  " ++ clock_text (minute_of_day (local_in zone event.minute).minute) ++ codes " " ++ level_text event.level
     ++ codes " " ++ word_text (word_of units event.kind event.level)
 
--- the events of a local date, in their order
+-- the events with this local date, in the order of the list
 abbrev pub events_on : Zone → List Event → ℤ → List Event
 events_on zone events day = filter (λ event. int_eq (day_in zone event.minute) day) events
 
