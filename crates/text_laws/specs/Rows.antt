@@ -43,8 +43,8 @@ pub record ShowOneLevel (name : List ℕ) (zone : Zone) (row : List (List ℕ)) 
   pub millionths : field_of row 3 ≡ write_of level 6
   pub line_is : line ≡ line_by zone minute level (field_of row 2) (field_of row 4) ++ codes "\n"
 
--- equally many records after the header of one text and lines after the name of the other, related pair by
--- pair, in order
+-- equally many records after the header of one text and lines after the name of the other, each record
+-- related to the line at the same index
 pub record AreOneList (header : List (List ℕ)) (name : List ℕ) (Related : List (List ℕ) → List ℕ → Type 0)
     (csv plain : List ℕ) : Type 0 where
   pub rows : List (List (List ℕ))
