@@ -76,8 +76,8 @@ pub record IsResultOf {T : Type 0} (wanted : Option Slot → List (List ℕ)) (e
   pub names : wanted (failing_file result) ≡ map (λ o. o.name) openings ++ unopened
   pub answer : Meets source_of (Unit {0}) (expected openings) result
 
--- the files of a request were opened in their order, each once, and none after the one that is the
--- reason why there is no answer, or all if none is; and the result is the one for the files as these
+-- the files of a request were opened in the order of reading, each once, and none after the one that is
+-- the reason why there is no answer, or all if none is; and the result is the one for the files as these
 -- openings show them
 pub record AreOpened (question : Question) (name : List ℕ) (before after : Openings) (result : Result Materials NoAnswer) : Type 0 where
   pub openings : List Opening
