@@ -70,8 +70,9 @@ pub record AsksReference (row : Offsets) (basis : Basis) (begin end : ℤ) (ques
   pub begins : question.begin ≡ Some (widened_of basis begin end).begin
   pub ends : question.end ≡ Some (widened_of basis begin end).end
 
--- the station's level, which is the reference's times the factor plus the added level, crosses its mark
--- at the same minutes as the reference's level crosses the reference's mark
+-- the station's level, which is the reference's times the factor of the high-water offset plus its added
+-- level, crosses the station's mark at the same minutes as the reference's level crosses the reference's
+-- mark
 abbrev pub MeansOneMark : Basis → Option ℤ → Option ℤ → Type 0
 MeansOneMark basis None None = Unit {0}
 MeansOneMark basis None (Some there) = ⊥
@@ -90,7 +91,7 @@ abbrev pub has_own_slack : Units → Basis → Bool
 has_own_slack units basis = asks_slack units basis && is_none basis.slack && not (int_eq basis.high.plus (pos 0))
 
 -- the second step: the events of the reference, each moved and scaled by the offset of its kind; the
--- events within the span are kept, in order
+-- events within the span are kept, in the order of their minutes
 abbrev pub second_step : Units → Basis → ℤ → ℤ → List Event → List Event
 second_step units basis begin end events = ordered (moved_within basis begin end (filter (has_too units basis) events))
 
