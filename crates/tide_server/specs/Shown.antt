@@ -42,8 +42,8 @@ abbrev pub served_data_by_openings : List (List ℕ) → List Opening → Result
 served_data_by_openings words openings = served_data_from (folders_by (service_of words) openings) words
 
 -- A server ends with the data of its arguments, from what it opened. It opened the first of the files
--- that the arguments name, in their order, each once; and unless memory ran out, none after the one that
--- is the reason.
+-- that the arguments name, in the order of reading, each once; and unless memory ran out, none after the
+-- one that is the reason why there are no data.
 pub record EndsAsShown (words : List (List ℕ)) (status : Status) (before after : ServerStates) : Type 0 where
   pub openings : List Opening
   pub all : openings_of after.files.openings ≡ openings_of before.files.openings ++ openings
