@@ -15,7 +15,7 @@ use Rattle.tide.specs.declared.arguments.ArgumentError.TheVariants.{NotText, NoM
 abbrev pub Given : Type 0 → Type 0
 Given A = Result (IntoIter (String A) A) Error
 
--- the words are all arguments after the program's name, in their order
+-- the words are all arguments after the program's name, in the order of the command line
 abbrev pub HasWords : {A : Type 0} → Given A → List (List ℕ) → Type 0
 HasWords (Ok arguments) words = words ≡ map string_bytes (drop 1 (into_iter_items arguments))
 HasWords (Err fault) words = ⊥

@@ -47,7 +47,7 @@ fn why_of(kind: ErrorKind) -> ArgumentError
     }
 }
 
-/// Returns the arguments after the program's name, all of them and in their order.
+/// Returns all arguments after the program's name, in the order of the command line.
 pub fn words_of(alloc: Global, mut arguments: Args) -> Result<Words, AllocError>
     ensures { IfOk result (λ words. words ≡ map string_bytes (drop 1 (into_iter_items arguments))) }
 {
