@@ -19,7 +19,8 @@ fn can_check<C: Curve>(curve: &C, begin: i64, end: i64) -> bool
     begin <= end && curve.first() <= begin && end <= curve.last() && curve.evaluations() == 0
 }
 
-/// Returns the verdict on `cells` if they may be checked.
+/// Returns the verdict on `cells` from minute `begin` up to `end`, not included, or `None` if they may
+/// not be checked.
 fn verdict<C: Curve>(curve: &mut C, begin: i64, end: i64, cells: &Cells) -> Option<Verdict> {
     if can_check(curve, begin, end) && cells.as_slice().len() <= 1000 {
         Some(check_track(curve, cells, begin, end))

@@ -40,7 +40,7 @@ fn is_asked_little<C: Curve>(curve: &C) -> bool
 }
 
 /// Returns true if the highest water from `begin` up to `end`, not included, may be searched: the curve
-/// has these minutes, which are 1 to 5,270,400, and was evaluated at most 1,000,000 times.
+/// has these minutes, which are 1 to 5,270,400 in number, and was evaluated at most 1,000,000 times.
 fn can_find<C: Curve>(curve: &C, begin: i64, end: i64) -> bool
     ensures { IsTrue result → (begin <ℤ end) × ((C.state curve.now).facts.meaning.first ≤ℤ begin)
         × (end ≤ℤ (C.state curve.now).facts.meaning.last) × ((end -ℤ begin) ≤ℤ pos 5270400)
