@@ -25,7 +25,7 @@ WritesThrough before after (Err failed) piece = (count : ℕ) × (count ≤ leng
 abbrev pub file_of : {R F D : Type 0} → HostFiles R F D → Option F
 file_of files = files.opened
 
--- the known unread bytes of an open file; none if no file is open
+-- the known bytes of the open file that were not read yet; none if no file is open
 abbrev pub left_of : {F : Type 0} → (F → Option (List ℕ)) → Option F → Option (List ℕ)
 left_of remaining None = Some []
 left_of remaining (Some file) = remaining file

@@ -177,7 +177,7 @@ pub record DoorState : Type 0 where
   pub faults : ℕ
   pub line_faults : ℕ
 
--- the traffic after a change, if it is observable, else unchanged
+-- the traffic after a change, if the requests and replies of the door are observable, else unchanged
 abbrev pub observed_traffic : (Traffic → Traffic) → DoorState → Traffic
 observed_traffic change s = if s.is_observable then change s.traffic else s.traffic
 

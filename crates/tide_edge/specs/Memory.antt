@@ -166,7 +166,7 @@ door_state held = record {
   line_faults = held.line_faults;
 }
 
--- the result of the next call of `next`
+-- the result of the next call of `next` of a door in memory: whether a request waits, or a failure
 abbrev pub comes : HeldDoor → Result Bool Failed
 comes held = answer (is_to_fail held.calls) (nat_lt 0 (length held.waiting))
 
@@ -210,7 +210,7 @@ after_line_call calls = record { fails = calls.fails; made = counted calls.made;
 abbrev pub line_count : HeldDoor → ℕ → ℕ
 line_count held room = (if is_to_fail held.calls then 0 else min room (length (first_or_empty held.coming)))
 
--- the result of a `read` with a buffer of length `room`
+-- the result of the next `read` of a door in memory with a buffer of length `room`
 abbrev pub line_read : HeldDoor → ℕ → Result ℕ Failed
 line_read held room = answer (is_to_fail held.calls) (line_count held room)
 
@@ -235,7 +235,7 @@ is_shut held = is_to_fail held.calls || (held.room == 0)
 abbrev pub reply_count : HeldDoor → ℕ → ℕ
 reply_count held piece = (if is_shut held then 0 else min piece held.room)
 
--- the result of a `write` of `piece`
+-- the result of the next `write` of `piece` to a door in memory
 abbrev pub line_write : HeldDoor → List ℕ → Result ℕ Failed
 line_write held piece = answer (is_shut held) (reply_count held (length piece))
 

@@ -17,7 +17,7 @@ put bytes s = record s { taken = s.taken ++ bytes }
 abbrev pub sink_failed : SinkState → SinkState
 sink_failed s = record s { faults = counted s.faults }
 
--- the sink after `write` of `piece`
+-- the sink after `write` of `piece` with this result
 abbrev pub sink_after_write : Result ℕ Failed → List ℕ → SinkState → SinkState
 sink_after_write (Ok count) piece s = put (take count piece) s
 sink_after_write (Err failed) piece s = sink_failed s

@@ -4,7 +4,7 @@ use Rattle.std.specs.List.{slice_get}
 use Rattle.std.specs.Option.{option_map_or}
 use Rattle.tide_edge.specs.declared.named_file.NamedFile.{NamedFile}
 
--- the bytes of the file with index `place`
+-- the bytes of the file with index `place`, counted from 0; none if there is no such file
 abbrev pub bytes_at : List NamedFile → ℕ → List ℕ
 bytes_at files place = option_map_or (λ file. file.bytes) (slice_get files place) []
 

@@ -25,7 +25,7 @@ pub record IsReadOn (limit : ℕ) (failed : Bool) (before after : FilesState) : 
 abbrev pub IsFresh : Openings → Type 0
 IsFresh o = (name : List ℕ) × (o.latest ≡ Some (just_opened true name))
 
--- the result is the expected one for the bytes read after the latest opening
+-- a result is the expected one for the bytes that were read after the latest opening
 abbrev pub HasCome : {T E : Type 0} → (E → Source) → (Option (List ℕ) → Result T E) → ℕ → Openings → Openings → Result T E → Type 0
 HasCome source expected limit before after result =
     (name bytes : List ℕ) × (is_ended : Bool)
