@@ -45,7 +45,7 @@ mark_from (Err fault) = None
 unfoldable pub mark_of : List ℕ → Option ℤ
 mark_of text = mark_from (read_of text 6)
 
--- the rest of a text after the byte `first`, if it begins with it
+-- the rest of a text after the byte `first`, or None if it doesn't begin with it
 abbrev pub after : ℕ → List ℕ → Option (List ℕ)
 after first [] = None
 after first (byte ∷ rest) = if byte == first then Some rest else None
@@ -71,7 +71,7 @@ offset_of text =
     (option_map pos (option_and_then clock_of (after 43 text)))
     (option_map (λ minutes. neg_ℤ (pos minutes)) (option_and_then clock_of (after 45 text)))
 
--- a zone by the name of its file, which a query can't have
+-- the zone of a file with this name; None for an empty name, and in a query, which can't name files
 abbrev pub file_zone : Origin → List ℕ → Option ZoneWord
 file_zone Line name = option_map Named (some_text name)
 file_zone Query name = None

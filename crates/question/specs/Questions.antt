@@ -101,7 +101,8 @@ abbrev pub complete : Option Key → Result (Unit {0}) AskFault
 complete None = Ok tt
 complete (Some k) = Err (MissingKey k)
 
--- the field of a question for a key
+-- the question's field for a key: the value of the key's text, or the default or None if the key has no
+-- text
 abbrev pub field_of : Origin → Said → (k : Key) → Field k
 field_of origin said k = (row_of k).need.field (option_and_then ((row_of k).form origin) (said k))
 

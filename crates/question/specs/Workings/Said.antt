@@ -42,7 +42,8 @@ with_value origin key.Seed text q = record q { seed = read_as origin key.Seed te
 with_value origin key.Port text q = record q { port = read_as origin key.Port text }
 with_value origin key.Sheets text q = record q { sheets = read_as origin key.Sheets text }
 
--- the expected result is the question that was made, or the fault is excused
+-- without a fault, what was made is the expected result; a fault is the expected one, or says that
+-- memory ran out
 abbrev pub Makes : {V : Type 0} → Result V AskFault → V → Result (Unit {0}) AskFault → Type 0
 Makes expected made (Ok done) = expected ≡ Ok made
 Makes expected made (Err fault) = Excused (is_out_of_memory fault) expected fault
