@@ -57,7 +57,7 @@ pub record Change : Type 0 where
 abbrev pub change : ℕ → List ℕ → ℕ → Change
 change line text at = record { line = line; text = text; at = at }
 
--- Pier's text with a change
+-- the text of the certificate `pier` with one changed line
 abbrev pub pier_with : Change → List ℕ
 pier_with c = joined (slice_set pier_lines (c.line - 1) c.text)
 
