@@ -9,7 +9,7 @@ use Rattle.listing.specs.declared.row.Row.{Row}
 use Rattle.zone_time.specs.declared.zone.Zone.{Zone}
 use Rattle.zone_time.specs.Zones.{local_in}
 
--- the line of a level, in the local time of a zone
+-- the line of a level in the local time of a zone, with its LF
 abbrev pub row_line_in : Zone → Units → Row → List ℕ
 row_line_in zone units row = height_line_of (local_in zone row.minute) row.level units ++ codes "\n"
 
@@ -37,7 +37,8 @@ abbrev pub highest_line_of : Zone → Units → ℤ → ℤ → List ℕ
 highest_line_of zone units minute level =
     codes "Highest " ++ height_line_of (local_in zone minute) level units ++ codes "\n"
 
--- the station's name, and the line of its highest level
+-- the station's name, and the line of its highest level, which is in millionths of the unit, and its
+-- minute
 unfoldable pub highest_text_of : List ℕ → Units → ℤ → ℤ → Zone → List ℕ
 highest_text_of name units minute level zone = name ++ codes "\n" ++ highest_line_of zone units minute level
 

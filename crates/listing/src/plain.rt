@@ -111,7 +111,7 @@ pub(crate) fn push_events(
     Ok(())
 }
 
-/// Appends the line of `event`.
+/// Appends the line of `event` in the local time of `zone`.
 fn push_event(
     text: &mut Vec<u8>,
     units: Units,
@@ -127,7 +127,7 @@ fn push_event(
     text.extend_from_slice(line.as_str().as_bytes())
 }
 
-/// Appends the line of the level `row`.
+/// Appends the line of the level `row` in the local time of `zone`.
 fn push_row(
     text: &mut Vec<u8>,
     units: Units,

@@ -112,7 +112,7 @@ fn push_record(records: &mut Writer<Vec<u8>>, fields: &[&[u8]]) -> Result<(), Al
     }
 }
 
-/// Appends the header of events.
+/// Appends the header of events, `station,moment,local,event,level,units`.
 fn push_event_header(records: &mut Writer<Vec<u8>>) -> Result<(), AllocError>
     requires start { IsAtRecord records.old }
     ensures end { OnOk result (IsAtRecord records.new) }
@@ -131,7 +131,7 @@ fn push_event_header(records: &mut Writer<Vec<u8>>) -> Result<(), AllocError>
     )
 }
 
-/// Appends the header of levels.
+/// Appends the header of levels, `station,moment,local,level,units`.
 fn push_row_header(records: &mut Writer<Vec<u8>>) -> Result<(), AllocError>
     requires start { IsAtRecord records.old }
     ensures end { OnOk result (IsAtRecord records.new) }
