@@ -33,7 +33,7 @@ use Rattle.zone_time.specs.Dates.{clock_text, date_text}
 use Rattle.zone_time.specs.Moments.{day_of, minute_of_day}
 use Rattle.zone_time.specs.Zones.{local_in}
 
--- the local date of a minute in a zone, as its day number
+-- the local date of a minute in a zone, as its day number with 1970-01-01 as 0
 abbrev pub day_in : Zone → ℤ → ℤ
 day_in zone minute = day_of (local_in zone minute).minute
 
@@ -47,11 +47,11 @@ entry_in zone units event =
 abbrev pub events_on : Zone → List Event → ℤ → List Event
 events_on zone events day = filter (λ event. int_eq (day_in zone event.minute) day) events
 
--- the line of a date with its events
+-- the line of a local date: the date, and the local time, the level and the name of each of its events
 abbrev pub day_line : Zone → Units → List Event → ℤ → List ℕ
 day_line zone units events day = date_text day ++ flat_map (entry_in zone units) (events_on zone events day) ++ codes "\n"
 
--- the local dates of events
+-- the local dates of events, as day numbers with 1970-01-01 as 0
 abbrev pub event_days : Zone → List Event → List ℤ
 event_days zone events = map (λ event. day_in zone event.minute) events
 

@@ -12,7 +12,7 @@ pub record CalendarPage : Type 0 where
   pub day : ℤ
   pub events : List Event
 
--- a date without events
+-- a date, by its day number with 1970-01-01 as 0, without events
 abbrev pub empty_page : ℤ → CalendarPage
 empty_page day = record { day = day; events = [] }
 
@@ -24,7 +24,7 @@ page_of zone events day = record { day = day; events = events_on zone events day
 abbrev pub pages_of : Zone → List Event → ℤ → ℤ → List CalendarPage
 pages_of zone events first last = map (page_of zone events) (days_through first last)
 
--- the line of a date with its events
+-- the line of a local date: the date, and the local time, the level and the name of each of its events
 abbrev pub line_of_page : Zone → Units → CalendarPage → List ℕ
 line_of_page zone units page = date_text page.day ++ flat_map (entry_in zone units) page.events ++ codes "\n"
 
