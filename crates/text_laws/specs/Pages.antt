@@ -34,7 +34,7 @@ pub record CalendarLine : Type 0 where
   pub day : ℤ
   pub events : List Event
 
--- the line of a date
+-- the line of a local date: the date, and the local time, the level and the name of each of its events
 abbrev pub line_of : Zone → Units → CalendarLine → List ℕ
 line_of zone units calendar_line = date_text calendar_line.day ++ flat_map (entry_in zone units) calendar_line.events ++ codes "\n"
 

@@ -34,7 +34,8 @@ pub record ShowOneEvent (name : List ℕ) (zone : Zone) (row : List (List ℕ)) 
   pub millionths : field_of row 4 ≡ write_of level 6
   pub line_is : line ≡ line_by zone minute level (field_of row 2) (field_of row 5) ++ codes "  " ++ field_of row 3 ++ codes "\n"
 
--- a record and a line of one level
+-- a record and a line of one level: the record has the minute and the level in millionths, and the line
+-- has the record's local time and unit
 pub record ShowOneLevel (name : List ℕ) (zone : Zone) (row : List (List ℕ)) (line : List ℕ) : Type 0 where
   pub minute : ℤ
   pub level : ℤ
