@@ -10,7 +10,7 @@ use Rattle.report_sheets.specs.Sheets.{SheetMeaning}
 unfoldable pub page_of : Head → List Event → SheetMeaning → List ℕ
 page_of head events sheet = sheet.layout head (take sheet.limit events)
 
--- the word of a sheet is among the requested words
+-- the word of a sheet is one of the requested words
 abbrev pub is_wanted : List (List ℕ) → SheetMeaning → Bool
 is_wanted wanted sheet = list_any (λ word. bytes_eq word sheet.word) wanted
 

@@ -18,12 +18,13 @@ pub record IsLimit (limit : ℕ) : Type 0 where
   pub some : 1 ≤ limit
   pub few : limit ≤ 1000000
 
--- a name without control characters, and a unit that has names for events
+-- a head that a sheet can be opened with: its name has no control characters, and its unit isn't knots
+-- squared
 pub record IsHead (head : Head) : Type 0 where
   pub printable : All (λ b. (32 ≤ b) × (b ≢ 127)) head.name
   pub named : head.units ≢ KnotsSquared
 
--- the head of a sheet that was never opened
+-- the head of a sheet that was never opened: no name, feet, and minute 0
 abbrev pub first_head : Head
 first_head = record { name = []; units = Feet; now = pos 0 }
 

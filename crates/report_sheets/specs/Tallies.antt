@@ -20,7 +20,7 @@ use Rattle.harmonics_book.specs.declared.book.Units.{Units}
 use Rattle.report_sheets.specs.declared.head.Head.{Head}
 use Rattle.report_sheets.specs.Sheets.{SheetMeaning}
 
--- the names in the order of their lines
+-- the names of events, in the order of the lines of a tally
 abbrev pub names : List EventWord
 names = HighTide ∷ LowTide ∷ MaxFlood ∷ MinFlood ∷ MaxEbb ∷ MinEbb ∷ SlackFloodBegins ∷ SlackEbbBegins ∷ MarkRising ∷ MarkFalling ∷ []
 
@@ -37,7 +37,7 @@ place_of SlackEbbBegins = 7
 place_of MarkRising = 8
 place_of MarkFalling = 9
 
--- the number of events with the name at an index
+-- the number of events whose name is the one at this index of `names`
 abbrev pub count_at : Units → List Event → ℕ → ℕ
 count_at units events place = count_by (λ event. place_of (word_of units event.kind event.level) == place) events
 

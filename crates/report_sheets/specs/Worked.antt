@@ -21,7 +21,7 @@ tides =
 abbrev pub pier : Head
 pier = record { name = codes "Pier"; units = Feet; now = pos 15791220 }
 
--- the station of a current
+-- the station of a current, in knots
 abbrev pub gate : Head
 gate = record { name = codes "Gate"; units = Knots; now = pos 15791220 }
 
