@@ -29,7 +29,7 @@ stamp_of moment =
 abbrev pub nearest_moment : ℤ → ℤ
 nearest_moment minute = int_min (int_max minute (negsuc 1035593279)) (pos 4223371679)
 
--- the number of a kind of event in identifiers
+-- the number of a kind of event in identifiers, from 0 to 5
 abbrev pub number_of : Kind → List ℕ
 number_of High = codes "0"
 number_of Low = codes "1"
@@ -50,7 +50,7 @@ summary_line name units event =
     codes "SUMMARY:" ++ escaped name ++ codes " " ++ word_text (word_of units event.kind event.level)
     ++ codes " " ++ level_text event.level ++ codes " " ++ text_of_unit units
 
--- the content lines of an event
+-- the content lines of an event in a calendar, without their CR LF
 unfoldable pub event_lines : Head → Event → List (List ℕ)
 event_lines head event =
     codes "BEGIN:VEVENT"
@@ -61,7 +61,7 @@ event_lines head event =
     ∷ codes "END:VEVENT"
     ∷ []
 
--- the content lines before the first event
+-- the content lines of a calendar before the first event, without their CR LF
 abbrev pub first_lines : List (List ℕ)
 first_lines = codes "BEGIN:VCALENDAR" ∷ codes "VERSION:2.0" ∷ codes "PRODID:-//Tide desk//Tide predictor//EN" ∷ []
 
