@@ -231,7 +231,7 @@ highest book table name asked zone = do
   site ← highest_site book table name asked
   Ok (text_alone (highest_text_at book site name (highest_of book site asked).at zone))
 
--- the certificate of the highest water of a span
+-- the certificate of the highest water of a station over a span
 abbrev pub peak_certificate_by : Book → Site → List ℕ → Asked → PeakCertificate
 peak_certificate_by book site name asked =
     record { station = name; begin = asked.begin; end = asked.end; peak = highest_of book site asked }
@@ -304,7 +304,7 @@ asks_name question next = do
   name ← named_by question.station
   next name
 
--- the events that a question requests, for a report
+-- the events of the station, span and mark of a question, for a report
 unfoldable pub listed : Book → List Offsets → Question → Result Listed Refusal
 listed book table question = do
   name ← named_by question.station

@@ -37,7 +37,7 @@ pub record IsHighestWater (book : Book) (site : Site) (asked : Asked) (at : ℤ)
   pub level : (minute : ℤ) → asked.begin ≤ℤ minute → minute <ℤ asked.end
       → level_at book site minute ≤ℤ level_at book site (at +ℤ site.basis.high.add)
 
--- the answer prints the highest water of the station's span
+-- the answer prints the highest water of the station's span in the local time of a zone
 pub record IsReportedHighest (book : Book) (table : List Offsets) (name : List ℕ) (asked : Asked) (zone : Zone)
     (answer : Answer) : Type 0 where
   pub site : Site
@@ -60,7 +60,7 @@ AcceptsWhatPeakCertifies = (book : Book) (table : List Offsets) (name : List ℕ
     IsBook book → IsTable table → IsAskable asked → peak_certified book table name asked ≡ Ok certificate →
     (answer : Answer) × (peak_checked book table certificate.text ≡ Ok answer) × AcceptsListing (highest book table name asked Utc) answer
 
--- the certificate of a request has fewer than 10,542,000 bytes
+-- a certificate that `peak` returns has fewer than 10,542,000 bytes
 abbrev pub PeakCertifiesInShort : Type 0
 PeakCertifiesInShort = (book : Book) (table : List Offsets) (name : List ℕ) (asked : Asked) (certificate : Answer) →
     IsBook book → IsTable table → IsAskable asked → peak_certified book table name asked ≡ Ok certificate
@@ -78,12 +78,13 @@ pub record IsTruePeak (book : Book) (table : List Offsets) (bytes : List ℕ) (a
   pub value : certificate.peak.value ≡ pos 1000000 *ℤ predicted_level book site.station certificate.peak.at
   pub listing : AcceptsListing (highest book table certificate.station (asked_by_peak_certificate certificate) Utc) answer
 
--- every accepted certificate of a highest water is true, however it was made
+-- every certificate that `peakcheck` accepts has the highest water of its station and span, however it
+-- was made
 abbrev pub AcceptsOnlyTruePeaks : Type 0
 AcceptsOnlyTruePeaks = (book : Book) (table : List Offsets) (bytes : List ℕ) (answer : Answer) →
     IsBook book → IsTable table → peak_checked book table bytes ≡ Ok answer → answer.rejected ≡ false → IsTruePeak book table bytes answer
 
--- every accepted certificate of a highest water has fewer than 10,542,000 bytes, however it was made
+-- every certificate that `peakcheck` accepts has fewer than 10,542,000 bytes, however it was made
 abbrev pub AcceptsOnlyPeaksInShort : Type 0
 AcceptsOnlyPeaksInShort = (book : Book) (table : List Offsets) (bytes : List ℕ) (answer : Answer) →
     IsBook book → IsTable table → peak_checked book table bytes ≡ Ok answer → answer.rejected ≡ false → length bytes < 10542000

@@ -29,12 +29,12 @@ can_stream Predict = true
 can_stream Certify = true
 can_stream _ = false
 
--- the text layout
+-- the layout is the one of text in columns
 abbrev pub is_plain_layout : Layout → Bool
 is_plain_layout Plain = true
 is_plain_layout _ = false
 
--- a zone that is a file
+-- the zone is one of a zone file
 abbrev pub is_zone_file : Zone → Bool
 is_zone_file (zones.File file) = true
 is_zone_file _ = false

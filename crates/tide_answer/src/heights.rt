@@ -84,7 +84,7 @@ fn row_count(found: &FoundStation, step: i64) -> u64
     asked_minutes(found) / step.unsigned_abs() + 1
 }
 
-/// Returns the number of minutes of the span.
+/// Returns the number of minutes from the first minute of the requested span to its end.
 fn asked_minutes(found: &FoundStation) -> u64
     ensures exact { result ≡ unsigned_abs (found.now.asked.end -ℤ found.now.asked.begin) }
     ensures count_bound { result ≤ 40000000000 }

@@ -58,12 +58,13 @@ head_text name asked =
     codes "tide certificate 2\nstation " ++ name ++ codes "\n"
     ++ (ended (begin_line_of asked.begin) ++ ended (end_line_of asked.end) ++ ended (mark_line_of asked.mark))
 
--- the lines of its tracks
+-- the lines of a certificate's tracks
 abbrev pub tracks_text : Tracks → List ℕ
 tracks_text tracks =
     joined (track_lines_of Turn tracks.turn) ++ joined (lines_if_there Slack tracks.slack) ++ joined (lines_if_there Mark tracks.mark)
 
--- tracks whose cells have lines
+-- tracks whose cells can be written as lines: quiet ones have 2 to 1,024 minutes, and levels at most 14
+-- digits
 pub record HasCells (tracks : Tracks) : Type 0 where
   pub turn : All IsCell tracks.turn
   pub slack : IfSome tracks.slack (All IsCell)
