@@ -22,7 +22,8 @@ use Rattle.decimal_text.specs.Expected.{Source, memory, outside, given}
 use Rattle.named_files.specs.declared.no_answer.NoAnswer.{NoAnswer}
 use Rattle.named_files.specs.declared.no_answer.NoAnswer.TheVariants.{Unread, Faulty, Refused}
 
--- the result of a step that uses no file and no clock
+-- the result of a step that reads no file and no clock, with its fault as the reason why there is no
+-- answer
 abbrev pub faulty : {A : Type 0} → Result A Fault → Result A NoAnswer
 faulty (Ok value) = Ok value
 faulty (Err fault) = Err (Faulty fault)
@@ -74,7 +75,7 @@ is_unread Unread = true
 is_unread (Faulty fault) = false
 is_unread (Refused refusal rows) = false
 
--- a file or the clock couldn't be read
+-- the result is that a file or the clock couldn't be read
 abbrev pub reading_failed : {A : Type 0} → Result A NoAnswer → Bool
 reading_failed (Ok value) = false
 reading_failed (Err none) = is_unread none

@@ -26,7 +26,7 @@ names_to name question (Some slots.Offsets) = name ∷ listed question.offsets
 names_to name question (Some slots.Zone) = name ∷ (listed question.offsets ++ listed (zone_file question.zone))
 names_to name question (Some slots.Certificate) = names_of name question
 
--- the file that is the reason why a result has no value, if one is
+-- the file that is the reason why a result has no value, or None if no file is
 abbrev pub failing_file : {T : Type 0} → Result T NoAnswer → Option Slot
 failing_file (Ok value) = None
 failing_file (Err none) = file_of none
@@ -38,7 +38,7 @@ abbrev pub shown : Slot → Option Opening → Option (List ℕ)
 shown slot None = None
 shown slot (Some opening) = as_came (limit_of slot) opening
 
--- the index of a file among the openings of a request, if it is named
+-- the index of a file, by its purpose, among the openings of a request, if the request names it
 abbrev pub index_of : Question → Slot → ℕ
 index_of question slots.File = 0
 index_of question slots.Offsets = 1

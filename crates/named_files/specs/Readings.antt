@@ -125,7 +125,7 @@ files_in folders question name = do
 
 -- ---- The bytes that may be read
 
--- the name of a zone's file
+-- the name of a zone's file, or None for universal time and for a fixed offset
 abbrev pub zone_file : ZoneWord → Option (List ℕ)
 zone_file words.Utc = None
 zone_file (words.Fixed minutes) = None
