@@ -91,7 +91,7 @@ question_of_words sheets words = do
 abbrev pub NamesFile : Result Question Fault → Type 0
 NamesFile asked = IsOkAnd asked (λ question. IsSome question.file)
 
--- the request names files that exist and can be read
+-- the request names files that exist, can be read and are in their formats
 abbrev pub HasFiles : Folders → Result Question Fault → Type 0
 HasFiles folders asked = IsOkAnd asked (λ question. IsSomeAnd question.file (λ name. IsOk (files_in folders question name)))
 

@@ -134,7 +134,7 @@ IsComplete {F} {O} {E} {K} s = (sheets : List SheetMeaning) (words : List (List 
 
 -- ---- A valid certificate
 
--- the run is done with an answer that meets the condition, or out of memory
+-- the run is done with an answer that meets this condition, or memory ran out and nothing was written
 abbrev pub EndsAccepting : {F O E K : Type 0} → States F O E K → (Answer → Type 0) → Status → Objects F O E K → Objects F O E K
     → Type 0
 EndsAccepting s accepts status before after =
@@ -161,12 +161,13 @@ pub record IsValidPeak (book : Book) (table : List Offsets) (text : List ℕ) : 
   pub unrefused : highest_site book table certificate.station (asked_by_peak_certificate certificate) ≡ Ok site
   pub accepted : highest_verdict book site (asked_by_peak_certificate certificate) certificate.peak ≡ Accepted
 
--- every accepted certificate is valid
+-- every certificate that `check` accepts is valid: the curve of each of its tracks accepts the track's
+-- cells
 abbrev pub IsValidIfAccepted : Type 0
 IsValidIfAccepted = (book : Book) (table : List Offsets) (text : List ℕ) (zone : Zone) (answer : Answer) →
     checked book table text zone ≡ Ok answer → answer.rejected ≡ false → IsValid book table text
 
--- every accepted certificate of a highest water is valid
+-- every certificate of a highest water that `peakcheck` accepts is valid: the level's curve accepts it
 abbrev pub IsValidPeakIfAccepted : Type 0
 IsValidPeakIfAccepted = (book : Book) (table : List Offsets) (text : List ℕ) (answer : Answer) →
     peak_checked book table text ≡ Ok answer → answer.rejected ≡ false → IsValidPeak book table text

@@ -121,7 +121,8 @@ pub record IsTrueAnswer (sheets : List SheetMeaning) (folder : Folder) (check : 
   pub is_true : IsTrueCertificate book table text zone answer
   pub listing : AcceptsWithListing sheets folder check (subject_in is_true.certificate) answer
 
--- every certificate that `check` accepts is true, however it was made
+-- every certificate that `check` accepts has exactly the events of its station, span and mark, however
+-- it was made
 abbrev pub AcceptsOnlyTrueCertificates : Type 0
 AcceptsOnlyTrueCertificates = (sheets : List SheetMeaning) (folder : Folder) (minute : ℤ) (words : List (List ℕ))
     (check : Question) (answer : Answer) →

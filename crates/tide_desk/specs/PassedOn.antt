@@ -72,7 +72,7 @@ pub record IsPassedOn (first second : Materials) (written : List ℕ) : Type 0 w
   pub offsets : second.table ≡ first.table
   pub certificate : second.certificate ≡ written
 
--- the station, the span and the mark of a name and a span
+-- the subject of a request for this name and span: the station, the span and the mark
 abbrev pub subject_over : List ℕ → Asked → Subject
 subject_over name asked = record { station = Some name; begin = Some asked.begin; end = Some asked.end; mark = asked.mark }
 

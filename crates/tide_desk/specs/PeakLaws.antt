@@ -63,7 +63,8 @@ pub record IsTruePeakAnswer (sheets : List SheetMeaning) (folder : Folder) (chec
   pub is_true : IsTruePeak book table text answer
   pub reported : AcceptsWithHighest sheets folder check (subject_of_peak is_true.certificate) answer
 
--- every certificate that `peakcheck` accepts is true, however it was made
+-- every certificate that `peakcheck` accepts has the highest water of its station and span, however it
+-- was made
 abbrev pub AcceptsOnlyTruePeaks : Type 0
 AcceptsOnlyTruePeaks = (sheets : List SheetMeaning) (folder : Folder) (minute : ℤ) (words : List (List ℕ))
     (check : Question) (answer : Answer) →

@@ -11,7 +11,7 @@ use Rattle.tide_desk.specs.Answers.{ReadsClock, HasFiles, NamesFile, allowed_by,
 use Rattle.tide_desk.specs.Outcomes.{EndsAs, IsFirm, IsSilent, IsUntouched, Outputs, Sources, WentOn, is_settled, outputs, sources}
 use Rattle.tide_desk.specs.Shown.{EndsAsShown}
 
--- the objects of a run
+-- the objects of a run: files, two outputs and a clock
 pub record Objects (F O E K : Type 0) : Type 0 where
   pub files : F
   pub out : O

@@ -76,7 +76,8 @@ fn write_reply<O: Sink, E: Sink>(reply: &Reply, out: &mut O, err: &mut E) -> Sta
     }
 }
 
-/// Returns the status of an answer that was written.
+/// Returns the status of a run with an answer that was written: rejected if `rejected` is true, else
+/// done.
 fn judged(rejected: bool) -> Status
     ensures { result ≡ (if rejected then Status.Rejected else Status.Done) }
 {

@@ -85,7 +85,7 @@ fn body_for(
 }
 
 /// Returns true if the command, the layout and the zone let the answer be streamed (written while it is
-/// computed), as it is for a station without offsets.
+/// computed), as it then is for a station without offsets.
 fn may_stream(question: &Question, zone: &Zone) -> bool
     ensures { result ≡ may_stream question.now zone.now }
 {
