@@ -95,7 +95,8 @@ has_own_slack units basis = asks_slack units basis && is_none basis.slack && not
 abbrev pub second_step : Units → Basis → ℤ → ℤ → List Event → List Event
 second_step units basis begin end events = ordered (moved_within basis begin end (filter (has_too units basis) events))
 
--- both answers, from the events of the requests
+-- the answers to both requests: the station's turns are the reference's, moved and scaled; and so are
+-- all its events, if both marks mean one and the station has no slacks at minutes of its own
 pub record AreTwoSteps (book : Book) (table : List Offsets) (question reference : Question) (given there : Given)
     (row : Offsets) (basis : Basis) (begin end : ℤ) (answer first : Answer) : Type 0 where
   pub name : List ℕ
