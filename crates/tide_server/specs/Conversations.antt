@@ -86,7 +86,7 @@ AreServed served_data (c ∷ more) minutes =
     (minute : Option ℤ) × (later : List ℤ) × (minutes ≡ listed minute ++ later) × IsServed served_data c minute
     × AreServed served_data more later
 
--- the connection for which the clock failed, if it did
+-- the connection, if any, is one for which the clock couldn't be read, and to which nothing was sent
 abbrev pub IsLast : Option Connection → Type 0
 IsLast None = Unit {0}
 IsLast (Some c) = IsLeft c

@@ -7,7 +7,7 @@ use Rattle.tide_server.specs.declared.served_data.ServedData.{ServedData}
 use Rattle.tide_server.specs.Openings.{ServerStates}
 use Rattle.tide_server.specs.Serving.{Answers, MayLeave, RoseBy}
 
--- the objects of a server in memory
+-- the objects of a server in memory: files, a port, standard error and a clock
 pub record InMemory : Type 0 where
   pub files : HeldFiles
   pub door : HeldDoor

@@ -57,7 +57,7 @@ abbrev pub asks_another : List (List ℕ) → Bool
 asks_another [] = false
 asks_another (word ∷ words) = not (asks_to_serve (word ∷ words))
 
--- the request to serve of a command line
+-- the request of a command line to serve, or its fault
 abbrev pub service_in : List (List ℕ) → Result Question AskFault
 service_in words = if asks_another words then Err UnknownCommand else question_of (pairs_of words)
 
@@ -66,7 +66,7 @@ abbrev pub service_from : Result Question AskFault → Result Question Fault
 service_from (Ok question) = Ok question
 service_from (Err fault) = Err (Ask fault)
 
--- the request to serve of the arguments
+-- the request of the arguments to serve, or their fault
 unfoldable pub service_of : List (List ℕ) → Result Question Fault
 service_of words = service_from (service_in words)
 
@@ -102,7 +102,7 @@ files_asked (Err fault) = no_file
 
 -- ---- The lines on standard error
 
--- the line of the port at which the server listens
+-- the line of the port at which the server listens, such as `http://127.0.0.1:8080/`
 abbrev pub notice_of : ℕ → List ℕ
 notice_of port = codes "http://127.0.0.1:" ++ decimal port ++ codes "/\n"
 

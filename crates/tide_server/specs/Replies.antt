@@ -26,7 +26,7 @@ use Rattle.tide_server.specs.Queries.{pairs_of}
 use Rattle.http_rows.specs.Responses.{response, rejection_of}
 use Rattle.http_rows.specs.Rows.{ReplyRow, rejects, asks, Asking, IsRow}
 
--- a zone that is a file
+-- the zone is one of a zone file
 abbrev pub names_file : ZoneWord → Bool
 names_file word = is_some (zone_file word)
 
