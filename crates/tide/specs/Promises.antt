@@ -23,7 +23,7 @@ use Rattle.tide.specs.declared.arguments.ArgumentError.{ArgumentError}
 abbrev pub program_sheets : List SheetMeaning
 program_sheets = tally_sheet 1000000 ∷ range_sheet 1000000 ∷ first_sheet 10 ∷ ical_sheet 100000 ∷ []
 
--- the objects of the program
+-- the objects of the program: files, a port, standard output, standard error and a clock
 pub record World (F D O E K : Type 0) : Type 0 where
   pub files : F
   pub door : D
