@@ -89,7 +89,7 @@ clock_with is_asked clock = if is_asked then clock_after (Ok (next_minute clock)
 abbrev pub clock_failed : ClockState → ClockState
 clock_failed clock = record clock { asked = counted clock.asked; faults = counted clock.faults }
 
--- the clock after a list of connections
+-- the clock after these connections, for each of which it was read once or not at all
 unfoldable pub clock_after_all : List Conversation → ClockState → ClockState
 clock_after_all [] clock = clock
 clock_after_all (c ∷ more) clock = clock_after_all more (clock_with c.is_asked clock)

@@ -37,7 +37,7 @@ pub fn long_requests_are_settled()
     ensures { (request : List ℕ) (row : ReplyRow) → IsRow request row → LONGEST ≤ length request → IsTrue (is_settled row) }
 {}
 
-/// Proves that each request has exactly one reply.
+/// Proves that each request has exactly one reply, for the same harmonic constants, table and minute.
 pub fn one_reply()
     ensures { (book : Book) (table : List Offsets) (minute : ℤ) (request a b : List ℕ)
         → IsReply book table minute request a → IsReply book table minute request b → a ≡ b }

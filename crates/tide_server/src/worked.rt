@@ -7,7 +7,7 @@ ghost use Rattle.tide_server.specs.Queries.{items_of, said_by};
 ghost use Rattle.tide_server.specs.Replies.{reply_of};
 ghost use Rattle.http_rows.specs.Rows.{asks};
 
-/// Proves which keys and values some web queries give.
+/// Proves examples of the keys and values that web queries give.
 pub fn worked_queries()
     ensures items { items_of (codes "station=Pier+test&&zone=%2B05:30&mark") ≡
         record { key = codes "station"; value = Some (codes "Pier test") }

@@ -58,7 +58,7 @@ abbrev pub sending : List ℕ → Bool → Connection → Connection
 sending text false connection = record connection { sent = connection.sent ++ text }
 sending text true connection = record connection { sent = connection.sent ++ text; write_failed = true }
 
--- the port after a text was sent over the open connection
+-- the port after a text was sent over the open connection; the Bool says whether a write failed
 abbrev pub sent : List ℕ → Bool → DoorState → DoorState
 sent text failed d = record d {
   connections = change_latest (sending text failed) d.connections;
@@ -66,7 +66,7 @@ sent text failed d = record d {
   line_faults = faults_after failed d.line_faults;
 }
 
--- a text was sent whole, or a proper prefix of it
+-- a text was sent whole, or a proper prefix of it if the Bool says that a write failed
 abbrev pub SentBy : Bool → List ℕ → DoorState → DoorState → Type 0
 SentBy false text before after = after ≡ sent text false before
 SentBy true text before after = (count : ℕ) × (count < length text) × (after ≡ sent (take count text) true before)
@@ -93,7 +93,7 @@ abbrev pub clock_given : Option ℤ → ClockState → ClockState
 clock_given None clock = clock
 clock_given (Some minute) clock = clock_after (Ok minute) clock
 
--- a minute that the clock returned is the next one
+-- the minute that the clock returned, if it was read, is this one
 abbrev pub IsNextMinute : Option ℤ → ℤ → Type 0
 IsNextMinute None next = Unit {0}
 IsNextMinute (Some minute) next = minute ≡ next

@@ -135,7 +135,7 @@ pub record IsKept (door_failed clock_failed : Bool) (before after : Exchange) : 
   pub asked : ℕ
   pub clock : after.clock ≡ record before.clock { given = given; asked = asked; faults = faults_after clock_failed before.clock.faults }
 
--- this many connections were served
+-- `count` connections were served one after the other, in the order in which they waited
 pub record WereServed (served_data : ServedData) (count : ℕ) (before after : Exchange) : Type 0 where
   pub served : List Conversation
   pub requests : before.door.traffic.waiting ≡ map (λ c. c.request) served ++ after.door.traffic.waiting
