@@ -32,10 +32,10 @@ use zone_time::{Zone, ZoneClock, write_moment, write_time};
 
 /// Returns the header `station,moment,local,event,level,units` and a record for each event. The moment
 /// is in universal time, such as `2000-01-10T11:59Z`, and the local time is in the zone, such as
-/// `2000-01-10 11:59`. The level is in `units`, with six decimals.
+/// `2000-01-10 11:59`. A record has the level in `units`, with six decimals.
 ///
-/// Each event has a [`word`](event_text::word) in `units`, and a minute in the years 2 to 9300 or on the
-/// day before them.
+/// Each event has a [`word`](event_text::word) in `units`, a level in millionths of `units`, and a
+/// minute, counted from 1970-01-01T00:00Z, in the years 2 to 9300 or on the day before them.
 #[tactic(auto, unfolding(crate::specs::Records::csv_events_of))]
 pub fn csv_events(
     alloc: Global,
@@ -59,8 +59,9 @@ pub fn csv_events(
 
 /// Returns the header `station,moment,local,level,units` and a record for each level. The moment is in
 /// universal time, such as `2000-01-10T11:59Z`, and the local time is the zone's, such as
-/// `2000-01-10 11:59`. The level is in `units`, with six decimals. The minutes are in the years 2 to
-/// 9300 or on the day before them.
+/// `2000-01-10 11:59`. A record has the level in `units`, with six decimals. The levels are in
+/// millionths of `units`, and the minutes, counted from 1970-01-01T00:00Z, are in the years 2 to 9300 or
+/// on the day before them.
 #[tactic(auto, unfolding(crate::specs::Records::csv_heights_of))]
 pub fn csv_heights(
     alloc: Global,
