@@ -21,7 +21,8 @@ pub trait Layout {
         ensures { (limit : ℕ) → result.now ≡ (sheet limit).word };
 
     /// Returns the text for `head` and `events`. Each event has a [`word`](event_text::word) in the
-    /// head's unit, and a minute in the years 2 to 9300 or on the day before them.
+    /// head's unit, a level in millionths of this unit, and a minute in the years 2 to 9300 or on the
+    /// day before them.
     fn text(alloc: Global, head: &Head, events: &[Event]) -> Result<Bytes, AllocError>
         requires { All (IsListed head.now.units) events.now }
         ensures { (limit : ℕ) → IfOk result (λ text. text ≡ (sheet limit).layout head.entry.now events.now) };

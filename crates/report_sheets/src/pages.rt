@@ -50,8 +50,8 @@ fn is_named(sheet: &Box<dyn Sheet>, word: &Text) -> bool
 /// of `sheets`. A page shows the head and the first events, up to the limit of its sheet.
 ///
 /// The name has no control characters, and the unit isn't knots squared. Each event has a
-/// [`word`](event_text::word) in the head's unit, and a minute in the years 2 to 9300 or on the day
-/// before them.
+/// [`word`](event_text::word) in the head's unit, a level in millionths of this unit, and a minute in
+/// the years 2 to 9300 or on the day before them.
 #[tactic(auto, using(crate::proofs::PageLemmas::pages_more, crate::proofs::PageLemmas::pages_kept), unfolding(crate::specs::Pages::pages_of))]
 pub fn fill(
     alloc: Global,

@@ -47,8 +47,8 @@ pub trait Sheet: Drop {
 
     /// Appends `event`, or returns [`Taken::Full`] if the list has as many events as the limit.
     ///
-    /// The event has a [`word`](event_text::word) in the head's unit, and a minute in the years 2
-    /// to 9300 or on the day before them.
+    /// The event has a [`word`](event_text::word) in the head's unit, a level in millionths of this
+    /// unit, and a minute in the years 2 to 9300 or on the day before them.
     ///
     /// # Errors
     /// [`AllocError`] if memory runs out: then nothing changes.
