@@ -32,8 +32,8 @@ pub struct Listed {
 }
 
 /// Returns the events of the station, span and mark of `question`. Each event has a
-/// [`word`](event_text::word) in the unit, and a minute that the clock of any zone can show; the name
-/// has no control characters.
+/// [`word`](event_text::word) in the station's unit, a level in millionths of this unit, and a minute
+/// that the clock of any zone can show; the name has no control characters.
 ///
 /// # Errors
 /// The first [`Refusal`] in this order: the station isn't found, it is a hydraulic current, the span is

@@ -112,8 +112,8 @@ pub fn answer_into<S: Sink>(ready: &Ready, out: &mut S) -> Result<u64, WriteFail
     }
 }
 
-/// Returns true if answers of `command` can be streamed. Whether a given answer is, [`Ready::streams`]
-/// says.
+/// Returns true if answers of `command` can be streamed: written while they are computed. Whether a
+/// given answer is streamed, [`Ready::streams`] says.
 pub fn can_stream(command: Command) -> bool
     ensures { result ≡ can_stream command }
 {
