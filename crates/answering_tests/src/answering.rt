@@ -42,19 +42,21 @@ const TABLE: &[u8] =
     Dock,Pier,0:30,-0:10,1.1,0.9,0.1,0,,\nOuter,Pier,0:30,0:30,2,2,0.5,0.5,,\n\
     Lost,Nowhere,0:00,0:00,1,1,0,0,,\nGate,Flow,0:30,-0:10,1.1,0.9,0.1,0,0:05,-0:05\n";
 
-/// Returns a pier and a current with a period of half a day, from 1999 to 2001.
+/// Returns the harmonic constants of a pier and a current, both with a period of half a day, for the
+/// years 1999 to 2001.
 fn pier(alloc: Global) -> Result<Book, BookFault>
     ensures { IfOk result IsBook }
 {
     read_book(alloc, PIER)
 }
 
-/// Returns subordinate stations of both.
+/// Returns a table of subordinate stations of the pier and of the current.
 fn table(alloc: Global) -> Result<OffsetTable, OffsetFault> {
     read_offsets(alloc, TABLE)
 }
 
-/// Returns a request about both.
+/// Returns the request of the arguments in `line`, separated by `|`, about the pier, the current or a
+/// subordinate station.
 fn pier_case(alloc: Global, line: &str, certificate: &str) -> Result<Case, Fail>
     ensures book { IfOk result (λ case. IsBook case.book) }
     ensures question { IfOk result (λ case. IsAsked case.question) }

@@ -33,7 +33,7 @@ use Rattle.zone_time.specs.Dates.{clock_text, date_text}
 use Rattle.zone_time.specs.Moments.{day_of, minute_of_day}
 use Rattle.zone_time.specs.Zones.{local_in}
 
--- the local date of a minute in a zone, as its day number
+-- the local date of a minute in a zone, as its day number with 1970-01-01 as 0
 abbrev pub day_in : Zone → ℤ → ℤ
 day_in zone minute = day_of (local_in zone minute).minute
 
@@ -43,27 +43,29 @@ entry_in zone units event =
     codes "  " ++ clock_text (minute_of_day (local_in zone event.minute).minute) ++ codes " " ++ level_text event.level
     ++ codes " " ++ word_text (word_of units event.kind event.level)
 
--- the events of a local date, in their order
+-- the events with this local date, in the order of the list
 abbrev pub events_on : Zone → List Event → ℤ → List Event
 events_on zone events day = filter (λ event. int_eq (day_in zone event.minute) day) events
 
--- the line of a date with its events
+-- the line of a local date: the date, and the local time, the level and the name of each of its events
 abbrev pub day_line : Zone → Units → List Event → ℤ → List ℕ
 day_line zone units events day = date_text day ++ flat_map (entry_in zone units) (events_on zone events day) ++ codes "\n"
 
--- the local dates of events
+-- the local dates of events, as day numbers with 1970-01-01 as 0
 abbrev pub event_days : Zone → List Event → List ℤ
 event_days zone events = map (λ event. day_in zone event.minute) events
 
--- the earliest local date of the span's first and last minute and of the events
+-- the earliest local date of the first and the last minute of the span, from `begin` up to but not
+-- including `end`, and of the events
 abbrev pub first_day : Zone → List Event → ℤ → ℤ → ℤ
 first_day zone events begin end = fold int_min (day_in zone begin) (day_in zone (end -ℤ pos 1) ∷ event_days zone events)
 
--- the latest local date of the span's first and last minute and of the events
+-- the latest local date of the first and the last minute of the span, from `begin` up to but not
+-- including `end`, and of the events
 abbrev pub last_day : Zone → List Event → ℤ → ℤ → ℤ
 last_day zone events begin end = fold int_max (day_in zone begin) (day_in zone (end -ℤ pos 1) ∷ event_days zone events)
 
--- consecutive days from the first one on, as many as the number
+-- `n` consecutive day numbers, from `day` on
 unfoldable pub days_from : ℤ → ℕ → List ℤ
 days_from day zero = []
 days_from day (suc n) = day ∷ days_from (day +ℤ pos 1) n
@@ -72,12 +74,14 @@ days_from day (suc n) = day ∷ days_from (day +ℤ pos 1) n
 abbrev pub days_through : ℤ → ℤ → List ℤ
 days_through first last = days_from first (unsigned_abs (last -ℤ first) + 1)
 
--- the dates that have a line: none if the span is empty
+-- the dates that have a line, for a span from `begin` up to but not including `end`: none if the span is
+-- empty
 abbrev pub days_shown : Zone → List Event → ℤ → ℤ → List ℤ
 days_shown zone events begin end =
     if int_lt begin end then days_through (first_day zone events begin end) (last_day zone events begin end) else []
 
--- the text of a calendar: the station's name, and a line for each date
+-- the text of a calendar: the station's name, and a line for each date of a span from `begin` up to but
+-- not including `end`
 unfoldable pub calendar_text_of : List ℕ → Units → List Event → Zone → ℤ → ℤ → List ℕ
 calendar_text_of name units events zone begin end =
     name ++ codes "\n" ++ flat_map (day_line zone units events) (days_shown zone events begin end)

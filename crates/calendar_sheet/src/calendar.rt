@@ -22,8 +22,8 @@ use zone_time::{MINUTES_OF_DAY, Zone, ZoneClock, write_clock, write_date};
 /// Tide` for each date in the zone's local time, from the earliest to the latest date of `begin`, `end -
 /// 1` and the events. An empty span has no dates.
 ///
-/// `begin` isn't after `end`. Each event has a [`word`] in `units`. Each minute is since
-/// 1970-01-01T00:00Z, in the years 2 to 9300 or on the day before them.
+/// `begin` isn't after `end`. Each event has a [`word`] in `units`. Minutes are counted from
+/// 1970-01-01T00:00Z; each is in the years 2 to 9300 or on the day before them.
 ///
 /// # Examples
 /// ```

@@ -4,7 +4,8 @@ use curve_law::Event;
 use std::alloc::{AllocError, Global};
 use std::marker::Model;
 
-/// A date with the events on it, in their order. The date is a day number, with 1970-01-01 as 0.
+/// A date with the events on it, in the order in which they were appended. The date is a day number,
+/// with 1970-01-01 as 0.
 #[derive(Drop)]
 pub struct CalendarPage {
     day: i64,

@@ -114,7 +114,8 @@ pub fn days_of(events: &[Event], zone: &ZoneClock<'_>, begin: i64, end: i64) -> 
     days_between(zone, begin, end - 1).with_events(events, zone)
 }
 
-/// Returns the days between the local dates of `minute` and of `other`, in either order.
+/// Returns the days from the earlier to the later of the local dates of `minute` and of `other`, both
+/// included.
 fn days_between(zone: &ZoneClock<'_>, minute: i64, other: i64) -> Days
     requires minute { InZoneYears minute }
     requires other { InZoneYears other }

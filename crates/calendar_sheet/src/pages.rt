@@ -69,7 +69,7 @@ fn empty_pages(alloc: Global, days: Days) -> Result<Vec<CalendarPage>, AllocErro
     Ok(pages)
 }
 
-/// Returns the index in `days` of the date of `event`.
+/// Returns the index in `days`, counted from 0, of the local date of `event`.
 fn place_of(event: &Event, zone: &ZoneClock<'_>, days: Days) -> usize
     requires days { AreDays days.first days.last }
     requires year { InZoneYears event.now.minute }

@@ -43,17 +43,17 @@ pub record Place : Type 0 where
   pub lines : List (List ℕ)
   pub last : List ℕ
 
--- the position after `count` lines, before these bytes
+-- the position after `taken` lines were read, with these bytes unread
 abbrev pub place_at : ℕ → List ℕ → Place
 place_at taken bytes = record { taken = taken; lines = lines_in bytes; last = last_in bytes }
 
--- the position after another line
+-- the position after one more line was read, with these lines unread
 abbrev pub past_line : Place → List (List ℕ) → Place
 past_line at lines = record { taken = at.taken + 1; lines = lines; last = at.last }
 
 -- ---- parts
 
--- a part of a grammar: its value and the position after it, or the fault
+-- a part of a grammar: from a position it makes its value and the position after it, or the fault
 abbrev pub Part : Type 0 → Type 0
 Part A = Place → Result (A × Place) CertFault
 
@@ -85,7 +85,7 @@ first_line at (line ∷ lines) = Ok (line, past_line at lines)
 abbrev pub any_line : Part (List ℕ)
 any_line at = first_line at at.lines
 
--- a part that is a line with a meaning
+-- a part that is one line with a meaning; the fault is at a line without one
 abbrev pub line_of : {A : Type 0} → (List ℕ → Option A) → Part A
 line_of meaning = any_line >>= λ line. required (meaning line)
 
@@ -138,7 +138,7 @@ is_over [] [] = true
 is_over [] (byte ∷ last) = false
 is_over (line ∷ lines) last = false
 
--- the part after which no byte may be unread
+-- the end of the text: no byte may be unread, else the fault is at the next line
 abbrev pub end_of_text : Part (Unit {0})
 end_of_text at = if is_over at.lines at.last then Ok (tt, at) else Err (NotACertificate (at.taken + 1))
 

@@ -1,4 +1,5 @@
--- The ranges of a certificate's parts, and the events that a track may have (this project).
+-- The ranges of a certificate's fields, and the cells and events that each track may have (this
+-- project).
 use Rattle.std.specs.Prelude.{◌≡◌, ◌≢◌, ℕ, ◌+◌, ◌≤◌, ℤ, unsigned_abs, ◌⊎◌, List, [], length, All, IfSome, is_some, unwrap_or}
 use Rattle.std.specs.Str.{IsUtf8}
 use Rattle.curve_law.specs.declared.cell.Cell.{Cell}
@@ -17,28 +18,32 @@ pub record IsStationName (name : List ℕ) : Type 0 where
   pub short : length name ≤ 400
   pub printed : All (λ b. (32 ≤ b) × (b ≢ 127)) name
 
--- a level whose crossings can be requested, in millionths: at most 10,000,000,000 in size
+-- a level whose crossings can be requested, in millionths of the station's unit: from -10,000,000,000 to
+-- 10,000,000,000
 abbrev pub IsMark : ℤ → Type 0
 IsMark mark = unsigned_abs mark ≤ 10000000000
 
--- the level of an event, in millionths: at most 14 digits
+-- the level of an event, in millionths of the station's unit: at most 14 digits
 abbrev pub IsLevel : ℤ → Type 0
 IsLevel level = unsigned_abs level ≤ 99999999999999
 
--- a cell that has a line in a certificate
+-- a cell that has a line in a certificate: a quiet one of 2 to 1,024 minutes, a still one, or an event
+-- with a level of at most 14 digits
 abbrev pub IsCell : Cell → Type 0
 IsCell (cells.Quiet n) = (2 ≤ n) × (n ≤ MOST_MINUTES)
 IsCell cells.Still = Unit {0}
 IsCell (cells.Turn kind level) = IsLevel level
 
--- a cell of a track: its event, if it has one, is of a kind of the track
+-- a cell of this track: a quiet one of 2 to 1,024 minutes, a still one, or an event of a kind that the
+-- track lists, with a level of at most 14 digits
 abbrev pub IsCellOf : TrackName → Cell → Type 0
 IsCellOf track (cells.Quiet n) = (2 ≤ n) × (n ≤ MOST_MINUTES)
 IsCellOf track cells.Still = Unit {0}
 IsCellOf track (cells.Turn kind level) = (track_of kind ≡ track) × IsLevel level
 
--- a certificate that has a text: its parts are in their ranges, and the mark's track is present exactly
--- if there is a mark
+-- a certificate that has a text: its version is 1 or 2; its name has 1 to 400 bytes; its moments are in
+-- the years 1 to 9999; its mark is at most 10,000,000,000 millionths in size; its cells are ones of
+-- their tracks; and the mark's track is present exactly if there is a mark
 pub record IsCertificate (c : Certificate) : Type 0 where
   pub version : (c.version ≡ 1) ⊎ (c.version ≡ 2)
   pub station : IsStationName c.station
@@ -50,14 +55,14 @@ pub record IsCertificate (c : Certificate) : Type 0 where
   pub crossings : IfSome c.tracks.mark (All (IsCellOf Mark))
   pub marked : is_some c.tracks.mark ≡ is_some c.mark
 
--- a cell with an event level of at most 11,000 units in size: a station's datum is at most 10,000, and
--- its waves sum to at most 1,000
+-- a cell with an event level of at most 11,000 of the station's units in size: a station's datum is at
+-- most 10,000 units, and its waves sum to at most 1,000
 abbrev pub HasUsualLevel : Cell → Type 0
 HasUsualLevel (cells.Quiet n) = Unit {0}
 HasUsualLevel cells.Still = Unit {0}
 HasUsualLevel (cells.Turn kind level) = unsigned_abs level ≤ 11000000000
 
--- a certificate in which all events have levels of at most 11,000 units in size
+-- a certificate in which all events have levels of at most 11,000 of the station's units in size
 pub record HasUsualLevels (c : Certificate) : Type 0 where
   pub turn : All HasUsualLevel c.tracks.turn
   pub slack : IfSome c.tracks.slack (All HasUsualLevel)

@@ -13,28 +13,28 @@ pub use Rattle.cert_text.specs.Texts.{ended, joined}
 
 -- ---- the lines
 
--- the first line, of version 1 or 2
+-- the first line of a certificate of version 1 or 2, without its LF
 unfoldable pub title_of : ℕ → List ℕ
 title_of version = if version == 1 then codes "tide certificate 1" else codes "tide certificate 2"
 
--- the line of the station's name
+-- the line of the station's name, such as `station Pier`, without its LF
 unfoldable pub station_line_of : List ℕ → List ℕ
 station_line_of name = codes "station " ++ name
 
--- the line of the span's first minute
+-- the line of the span's first minute, in universal time
 unfoldable pub begin_line_of : ℤ → List ℕ
 begin_line_of m = codes "begin " ++ moment_text m
 
--- the line of the span's end, the minute after its last one
+-- the line of the span's end, the minute after its last one, in universal time
 unfoldable pub end_line_of : ℤ → List ℕ
 end_line_of m = codes "end " ++ moment_text m
 
--- the line of the mark, in millionths
+-- the line of the mark, in millionths of the station's unit
 unfoldable pub mark_line_of : Option ℤ → List ℕ
 mark_line_of None = codes "mark none"
 mark_line_of (Some mark) = codes "mark " ++ signed_decimal mark
 
--- the line before a track's cells
+-- the line before a track's cells, such as `track turn`, without its LF
 unfoldable pub heading_of : TrackName → List ℕ
 heading_of track = codes "track " ++ track_word track
 
@@ -42,13 +42,13 @@ heading_of track = codes "track " ++ track_word track
 abbrev pub prefix_of : Kind → List ℕ
 prefix_of kind = codes "t " ++ kind_word kind ++ codes " "
 
--- the line of a cell
+-- the line of a cell, such as `q 1024`, `s` or `t low -1000000`, without its LF
 unfoldable pub cell_line_of : Cell → List ℕ
 cell_line_of (cells.Quiet n) = codes "q " ++ decimal n
 cell_line_of cells.Still = codes "s"
 cell_line_of (cells.Turn kind level) = prefix_of kind ++ signed_decimal level
 
--- the line after the tracks
+-- the line after the tracks, `done`, without its LF
 unfoldable pub last_line : List ℕ
 last_line = codes "done"
 
@@ -63,16 +63,16 @@ abbrev pub lines_if_there : TrackName → Option (List Cell) → List (List ℕ)
 lines_if_there track None = []
 lines_if_there track (Some cells) = track_lines_of track cells
 
--- the lines of the station and the span
+-- the lines of the station, of the span's first minute and of its end
 abbrev pub station_lines_of : List ℕ → ℤ → ℤ → List (List ℕ)
 station_lines_of name begin end = station_line_of name ∷ begin_line_of begin ∷ end_line_of end ∷ []
 
--- the first five lines
+-- the first five lines: the title, the station, the span's first minute and its end, and the mark
 abbrev pub head_lines_of : Certificate → List (List ℕ)
 head_lines_of c =
     title_of c.version ∷ station_line_of c.station ∷ begin_line_of c.begin ∷ end_line_of c.end ∷ mark_line_of c.mark ∷ []
 
--- the lines after the first five
+-- the lines after the first five: the tracks, and the last line
 abbrev pub body_lines_of : List Cell → Option (List Cell) → Option (List Cell) → List (List ℕ)
 body_lines_of turn slack crossings =
     track_lines_of Turn turn ++ (lines_if_there Slack slack ++ (lines_if_there Mark crossings ++ last_line ∷ []))

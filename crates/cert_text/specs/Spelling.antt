@@ -26,11 +26,11 @@ SpellsVersion version line = ((version ≡ 1) × (line ≡ codes "tide certifica
 abbrev pub SpellsStation : List ℕ → List ℕ → Type 0
 SpellsStation name line = IsStationName name × (line ≡ codes "station " ++ name)
 
--- the line of a word and a moment spells the moment
+-- the line is `word` and then the moment `m` as text; the moment is in the years 1 to 9999
 abbrev pub SpellsMoment : List ℕ → ℤ → List ℕ → Type 0
 SpellsMoment word m line = IsMoment m × (line ≡ word ++ moment_text m)
 
--- the line of the mark spells the mark, in millionths
+-- the line of the mark spells the mark, in millionths of the station's unit
 abbrev pub SpellsMark : Option ℤ → List ℕ → Type 0
 SpellsMark None line = line ≡ codes "mark none"
 SpellsMark (Some mark) line = IsMark mark × (line ≡ codes "mark " ++ signed_decimal mark)

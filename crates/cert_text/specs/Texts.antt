@@ -31,8 +31,9 @@ pub record BeginsBy {C : Type 0} (spells : C → List (List ℕ) → Type 0) (by
   pub rest : List ℕ
   pub prefix : bytes ≡ joined lines ++ rest
 
--- the first line such that no text begins with the lines up to it; bytes after the last LF aren't a
--- line, and if the bytes end too early it is the line after the last
+-- the line at which the bytes stop being a text: the first, counted from 1, such that no text begins
+-- with the lines up to it. Bytes after the last LF aren't a line; if the bytes end too early, it is the
+-- line after their last.
 pub record IsFaultBy {C : Type 0} (spells : C → List (List ℕ) → Type 0) (bytes : List ℕ) (line : ℕ) : Type 0 where
   pub none : ¬ (BeginsBy spells bytes line)
   pub least : (count : ℕ) → count < line → BeginsBy spells bytes count
@@ -43,7 +44,8 @@ RefusedBy {C} spells bytes line = ((said : C) → ¬ (IsTextBy spells said bytes
 
 -- ---- what reading says
 
--- a fault of reading is right; nothing is said if memory ran out
+-- a fault of reading is right: its line is the one at which the bytes stop being a text; nothing is said
+-- if memory ran out
 abbrev pub RefusesBy : {C : Type 0} → (C → List (List ℕ) → Type 0) → List ℕ → CertFault → Type 0
 RefusesBy spells bytes NoMemory = Unit {0}
 RefusesBy spells bytes (NotACertificate line) = RefusedBy spells bytes line

@@ -5,13 +5,13 @@ use Rattle.curve_law.specs.declared.kind.Kind.TheVariants.{High, Low, FloodBegin
 use Rattle.cert_text.specs.declared.track_name.TrackName.{TrackName}
 use Rattle.cert_text.specs.declared.track_name.TrackName.TheVariants.{Turn, Slack, Mark}
 
--- the word of a track
+-- the word of a track in headings: `turn`, `slack` or `mark`
 unfoldable pub track_word : TrackName → List ℕ
 track_word Turn = codes "turn"
 track_word Slack = codes "slack"
 track_word Mark = codes "mark"
 
--- the word of a kind of event
+-- the word of a kind of event in the lines of cells, such as `low`
 unfoldable pub kind_word : Kind → List ℕ
 kind_word High = codes "high"
 kind_word Low = codes "low"

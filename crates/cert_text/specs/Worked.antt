@@ -22,7 +22,7 @@ pier_lines =
     codes "tide certificate 1" ∷ codes "station Pier" ∷ codes "begin 2000-01-10T00:00Z" ∷ codes "end 2000-01-10T00:08Z" ∷ codes "mark none"
     ∷ codes "track turn" ∷ codes "s" ∷ codes "s" ∷ codes "q 2" ∷ codes "q 4" ∷ codes "done" ∷ []
 
--- a certificate of all three tracks, with numbers of each size
+-- a certificate of all three tracks, with levels that are 0, negative and of 14 digits
 abbrev pub narrows : Certificate
 narrows = record {
   version = 2;
@@ -46,7 +46,8 @@ narrows_lines =
     ∷ codes "track slack" ∷ codes "t flood 0" ∷ codes "t ebb 99999999999999" ∷ codes "q 1024"
     ∷ codes "track mark" ∷ codes "t rise -99999999999999" ∷ codes "t fall 7" ∷ codes "done" ∷ []
 
--- a change of Pier's text: the index of a line, its new text, and the line of the resulting fault
+-- a change of the text of the certificate `pier`: the number of a line, counted from 1, its new text,
+-- and the number of the line of the resulting fault
 pub record Change : Type 0 where
   pub line : ℕ
   pub text : List ℕ
@@ -56,11 +57,11 @@ pub record Change : Type 0 where
 abbrev pub change : ℕ → List ℕ → ℕ → Change
 change line text at = record { line = line; text = text; at = at }
 
--- Pier's text with a change
+-- the text of the certificate `pier` with one changed line
 abbrev pub pier_with : Change → List ℕ
 pier_with c = joined (slice_set pier_lines (c.line - 1) c.text)
 
--- changes of each line
+-- wrong lines for the text of the certificate `pier`, each with the line of the resulting fault
 abbrev pub changes : List Change
 changes =
     change 1 (codes "tide certificate 3") 1

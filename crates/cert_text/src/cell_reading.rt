@@ -9,7 +9,7 @@ use crate::track_name::TrackName;
 use crate::words::{first_kind, prefix_of, second_kind};
 use curve_law::{Cell, Kind, MOST_MINUTES};
 
-/// Returns a quiet cell of `minutes`, or `None` unless they are 2 to 1,024.
+/// Returns a quiet cell of `minutes`, or `None` unless there are 2 to 1,024 of them.
 fn quiet_for(minutes: u128) -> Option<Cell>
     ensures { result ≡ quiet_for minutes }
 {

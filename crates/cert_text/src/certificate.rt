@@ -12,7 +12,7 @@ pub struct Certificate {
     pub version: u32,
     /// The station's name: 1 to 400 bytes of UTF-8 without control bytes of ASCII (below 32, or 127).
     pub station: Text,
-    /// The first minute of the span, since 1970-01-01T00:00Z, in the years 1 to 9999.
+    /// The first minute of the span, in minutes since 1970-01-01T00:00Z, in the years 1 to 9999.
     pub begin: i64,
     /// The end of the span, in minutes since 1970-01-01T00:00Z, in the years 1 to 9999. It isn't part of
     /// the span.

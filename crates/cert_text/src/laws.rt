@@ -20,8 +20,9 @@ ghost use Rattle.cert_text.specs.Lines.{
 ghost use Rattle.cert_text.specs.Spelling.{Spells, IsTextOf, IsFaultLine, Reads};
 ghost use Rattle.cert_text.specs.Readings.{certificate_of};
 
-/// Proves that each certificate with parts in their ranges has exactly one text, that no other
-/// certificate has a text, and that each text belongs to at most one certificate.
+/// Proves that each certificate with fields in the ranges that [`Certificate`](crate::Certificate) lists
+/// has exactly one text, that no other certificate has a text, and that each text belongs to at most one
+/// certificate.
 pub fn certificates_have_one_text()
     ensures lines { (c : Certificate) → IsCertificate c → Spells c (lines_of c) }
     ensures only_lines { (c : Certificate) (lines : List (List ℕ)) →
@@ -33,8 +34,8 @@ pub fn certificates_have_one_text()
         IsTextOf c bytes → IsTextOf d bytes → c ≡ d }
 {}
 
-/// Proves that the text of a certificate is the texts of its parts, one after the other. A cell has at
-/// most 24 bytes, and the other parts together at most 536.
+/// Proves that the text of a certificate is the texts of its parts, one after the other. The line of a
+/// cell has at most 24 bytes with its LF, and the other parts together at most 536.
 pub fn texts_come_in_parts()
     ensures parts { (c : Certificate) → certificate_text c
         ≡ joined (head_lines_of c) ++ joined (track_lines_of TrackName.Turn c.tracks.turn)
@@ -45,9 +46,9 @@ pub fn texts_come_in_parts()
         length (certificate_text c) ≤ 536 + 24 * cell_count c }
 {}
 
-/// Proves that the text of a certificate with levels of at most 11,000 units in size has at most 21
-/// bytes for a cell. Three tracks of 5,273,280 single minutes, more than the longest span has, have
-/// fewer than 333,000,000 bytes.
+/// Proves that the text of a certificate with levels of at most 11,000 of the station's units in size
+/// has at most 21 bytes for each cell and 536 for the rest. If it has at most three tracks of 5,273,280
+/// one-minute cells, which is more than the longest span has, it has fewer than 333,000,000 bytes.
 pub fn certificates_are_short()
     ensures cell { (cell : Cell) → IsCell cell → HasUsualLevel cell → length (ended (cell_line_of cell)) ≤ 21 }
     ensures length_bound { (c : Certificate) → IsCertificate c → HasUsualLevels c →

@@ -22,7 +22,7 @@ pub trait ItemForm {
 }
 
 /// A position in a text that is read line by line. In contracts its value is the number of lines read,
-/// and the unread lines.
+/// the unread lines, and the bytes after the last LF.
 #[derive(Drop)]
 pub struct LineCursor<'a> {
     rest: &'a [u8],

@@ -54,7 +54,7 @@ pub fn moment_after(word: &[u8], line: &[u8]) -> Option<i64>
     read_moment(after(word, line)?)
 }
 
-/// Returns `mark`, in millionths, or `None` if it exceeds 10,000,000,000 in size.
+/// Returns `mark`, in millionths of the station's unit, or `None` if it exceeds 10,000,000,000 in size.
 fn mark_within(mark: i64) -> Option<Option<i64>>
     ensures { result ≡ mark_within mark }
 {
@@ -65,8 +65,8 @@ fn mark_within(mark: i64) -> Option<Option<i64>>
     }
 }
 
-/// Reads the line of the mark: `Some(None)` for `mark none`, `Some(Some(mark))` for a mark in
-/// millionths, and `None` if `line` is neither.
+/// Reads the line of the mark: `Some(None)` for `mark none`, `Some(Some(mark))` for a mark in millionths
+/// of the station's unit, and `None` if `line` is neither.
 #[tactic(auto, unfolding(crate::specs::Workings::LineReading::mark_of))]
 pub fn mark_of(line: &[u8]) -> Option<Option<i64>>
     ensures { result ≡ mark_of line.now }

@@ -62,7 +62,7 @@ pub fn title_line(version: u32, out: &mut ArrayString<24>)
 }
 
 /// Writes the line of the span's first minute `m`, such as `begin 2000-01-10T00:00Z`, to the empty
-/// `out`.
+/// `out`. `m` is in minutes since 1970-01-01T00:00Z, in the years 1 to 9999.
 #[tactic(auto, unfolding(crate::specs::Lines::begin_line_of))]
 pub fn begin_line(m: i64, out: &mut ArrayString<24>)
     requires moment { IsMoment m }
@@ -74,8 +74,9 @@ pub fn begin_line(m: i64, out: &mut ArrayString<24>)
     out.push('\n');
 }
 
-/// Writes the line of the span's end, the minute `m` after its last one, such as `end
-/// 2000-01-11T00:00Z`.
+/// Writes the line of the span's end, the minute `m` after its last one, such as
+/// `end 2000-01-11T00:00Z`, to the empty `out`. `m` is in minutes since 1970-01-01T00:00Z, in the years
+/// 1 to 9999.
 #[tactic(auto, unfolding(crate::specs::Lines::end_line_of))]
 pub fn end_line(m: i64, out: &mut ArrayString<24>)
     requires moment { IsMoment m }
@@ -87,7 +88,7 @@ pub fn end_line(m: i64, out: &mut ArrayString<24>)
     out.push('\n');
 }
 
-/// Writes the line of the mark without its LF.
+/// Writes the line of the mark, in millionths of the station's unit, without its LF to the empty `out`.
 #[tactic(auto, unfolding(crate::specs::Lines::mark_line_of))]
 fn push_mark(mark: Option<i64>, out: &mut ArrayString<24>)
     requires mark { IfSome mark IsMark }
@@ -104,7 +105,8 @@ fn push_mark(mark: Option<i64>, out: &mut ArrayString<24>)
     }
 }
 
-/// Writes the line of `mark`, in millionths, such as `mark none` or `mark 1500000`, to the empty `out`.
+/// Writes the line of `mark`, in millionths of the station's unit, such as `mark none` or
+/// `mark 1500000`, to the empty `out`. A mark is from -10,000,000,000 to 10,000,000,000.
 pub fn mark_line(mark: Option<i64>, out: &mut ArrayString<24>)
     requires mark { IfSome mark IsMark }
     requires empty { out.old.bytes ≡ [] }
@@ -146,8 +148,9 @@ fn push_cell<const N: usize>(cell: Cell, out: &mut ArrayString<N>)
     }
 }
 
-/// Appends the line of `cell`, such as `q 1024`, `s` or `t low -1000000`, of at most 24 bytes with its LF.
-/// Quiet minutes are 2 to 1,024, and a level is at most 99,999,999,999,999 millionths in size.
+/// Appends the line of `cell`, such as `q 1024`, `s` or `t low -1000000`, of at most 24 bytes with its
+/// LF. Quiet minutes are 2 to 1,024, and a level is at most 99,999,999,999,999 millionths of the
+/// station's unit in size.
 pub fn push_cell_line<const N: usize>(cell: &Cell, out: &mut ArrayString<N>)
     requires cell { IsCell cell.now }
     requires room { array_string_len out.old + 24 ≤ N }
@@ -159,7 +162,8 @@ pub fn push_cell_line<const N: usize>(cell: &Cell, out: &mut ArrayString<N>)
 }
 
 /// Writes the line of `cell`, such as `q 1024`, `s` or `t low -1000000`, to the empty `out`. Quiet
-/// minutes are 2 to 1,024, and a level is at most 99,999,999,999,999 millionths in size.
+/// minutes are 2 to 1,024, and a level is at most 99,999,999,999,999 millionths of the station's unit in
+/// size.
 pub fn cell_line(cell: &Cell, out: &mut ArrayString<24>)
     requires cell { IsCell cell.now }
     requires empty { out.old.bytes ≡ [] }

@@ -6,10 +6,11 @@ ghost use Rattle.cert_text.specs.Workings.LineReading.{after, size_of, negative,
 use crate::lines::after;
 use decimal_text::wide_digits;
 
-/// The greatest number of digits of a level, in millionths, in a certificate.
+/// The greatest number of digits of a level in a certificate; a level is in millionths of the station's
+/// unit.
 pub const LEVEL_DIGITS: usize = 14;
 
-/// Reads a number of 1 to `most` digits without leading zeros, or returns `None` if `text` isn't
+/// Reads a decimal number of 1 to `most` digits without leading zeros, or returns `None` if `text` isn't
 /// one. `most` is at most 38.
 #[tactic(auto, unfolding(crate::specs::Workings::LineReading::size_of))]
 pub fn size_of(text: &[u8], most: usize) -> Option<u128>
@@ -35,7 +36,7 @@ fn negative(size: u128) -> Option<i128>
     }
 }
 
-/// Reads a number of 1 to `most` digits without leading zeros, with `-` before it if it is
+/// Reads a decimal number of 1 to `most` digits without leading zeros, with `-` before it if it is
 /// negative, or returns `None` if `text` isn't one; `-0` isn't. `most` is at most 38.
 #[tactic(auto, unfolding(crate::specs::Workings::LineReading::number_of))]
 pub fn number_of(text: &[u8], most: usize) -> Option<i128>
@@ -49,8 +50,8 @@ pub fn number_of(text: &[u8], most: usize) -> Option<i128>
     }
 }
 
-/// Reads the level in millionths that follows `word` on `line`, a number of at most 14 digits, or
-/// returns `None` unless `line` is `word` and such a number.
+/// Reads the level, in millionths of the station's unit, that follows `word` on `line`, a number of at
+/// most 14 digits, or returns `None` unless `line` is `word` and such a number.
 pub fn level_after(word: &[u8], line: &[u8]) -> Option<i64>
     ensures { result ≡ option_and_then (number_of LEVEL_DIGITS) (after word.now line.now) }
 {

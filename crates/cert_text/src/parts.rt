@@ -23,14 +23,16 @@ pub fn word(lines: &mut LineCursor<'_>, word: &str) -> Result<(), CertFault>
     }
 }
 
-/// Reads the title line of a certificate and returns its version, 1 or 2.
+/// Reads the title line of a certificate and returns its version, 1 or 2. Any other line is a fault with
+/// the line's number.
 pub fn version(lines: &mut LineCursor<'_>) -> Result<u32, CertFault>
     ensures { Takes (line_of version_of) lines.old lines.new result }
 {
     version_of(lines.next()?).ok_or(lines.fault())
 }
 
-/// Reads the line of the station and returns the station's name.
+/// Reads the line of the station and returns the station's name. Any other line is a fault with the
+/// line's number.
 pub fn station<'a>(lines: &mut LineCursor<'a>) -> Result<&'a str, CertFault>
     ensures { MatchResult result
         (λ name. line_of station_of lines.old ≡ Ok (name.now, lines.new))
@@ -39,14 +41,16 @@ pub fn station<'a>(lines: &mut LineCursor<'a>) -> Result<&'a str, CertFault>
     station_of(lines.next()?).ok_or(lines.fault())
 }
 
-/// Reads a line of `word` and a moment, and returns the moment in minutes since 1970-01-01T00:00Z.
+/// Reads a line of `word` and a moment, and returns the moment in minutes since 1970-01-01T00:00Z. Any
+/// other line is a fault with the line's number.
 pub fn moment(lines: &mut LineCursor<'_>, word: &str) -> Result<i64, CertFault>
     ensures { Takes (line_of (moment_after word.now)) lines.old lines.new result }
 {
     moment_after(word.as_bytes(), lines.next()?).ok_or(lines.fault())
 }
 
-/// Reads the line of the mark and returns the mark, in millionths, or `None` for `mark none`.
+/// Reads the line of the mark and returns the mark, in millionths of the station's unit, or `None` for
+/// `mark none`. Any other line is a fault with the line's number.
 pub fn mark(lines: &mut LineCursor<'_>) -> Result<Option<i64>, CertFault>
     ensures { Takes (line_of mark_of) lines.old lines.new result }
 {

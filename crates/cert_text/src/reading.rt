@@ -66,7 +66,7 @@ fn read_slack(alloc: Global, lines: &mut LineCursor<'_>) -> Result<Option<Cells>
     read_track_if(lines.is_next(track.heading()), alloc, lines, track)
 }
 
-/// Reads the mark's track if there is a mark.
+/// Reads the mark's track if `mark` isn't `None`, and otherwise returns `None`.
 fn read_crossings(
     alloc: Global,
     lines: &mut LineCursor<'_>,
@@ -77,7 +77,8 @@ fn read_crossings(
     read_track_if(mark.is_some(), alloc, lines, TrackName::Mark)
 }
 
-/// Reads the last line of a certificate, `done`, and checks that no byte is unread.
+/// Reads the last line of a certificate, `done`, and checks that no byte is unread. Otherwise it returns
+/// the fault with the line's number.
 pub fn read_last(lines: &mut LineCursor<'_>) -> Result<(), CertFault>
     ensures { Takes last_part lines.old lines.new result }
 {
@@ -85,7 +86,7 @@ pub fn read_last(lines: &mut LineCursor<'_>) -> Result<(), CertFault>
     lines.finish()
 }
 
-/// Reads the tracks and the last line.
+/// Reads the tracks and the last line. The mark's track is read only if `mark` isn't `None`.
 fn read_tracks(
     alloc: Global,
     lines: &mut LineCursor<'_>,

@@ -6,7 +6,8 @@ ghost use Rattle.cert_text.specs.Lines.{certificate_text, joined};
 ghost use Rattle.cert_text.specs.Readings.{certificate_of};
 ghost use Rattle.cert_text.specs.Worked.{pier, pier_lines, narrows, narrows_lines, pier_with, changes};
 
-/// Proves which texts two example certificates have.
+/// Proves the texts of two example certificates: one with a single track, and one with all three tracks
+/// and a mark.
 pub fn worked_texts()
     ensures pier { certificate_text pier ≡ joined pier_lines }
     ensures narrows { certificate_text narrows ≡ joined narrows_lines }

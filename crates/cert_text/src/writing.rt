@@ -107,7 +107,7 @@ fn push_track_if_there(
     }
 }
 
-/// Returns the text of `cert`; the parts of `cert` are in their ranges.
+/// Returns the text of `cert`; the fields of `cert` are in the ranges that [`Certificate`] lists.
 ///
 /// # Examples
 /// ```

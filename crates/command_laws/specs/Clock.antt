@@ -65,11 +65,11 @@ is_turn High = true
 is_turn Low = true
 is_turn _ = false
 
--- the turns among events
+-- the turns among events: high and low waters, and of a current maximum and minimum floods and ebbs
 abbrev pub turns_in : List Event → List Event
 turns_in events = filter (λ event. is_turn event.kind) events
 
--- the kind of the next turn, by whether the level rises
+-- the kind of the next turn: a high water if the level rises, else a low water
 abbrev pub next_turn : Bool → Kind
 next_turn rising = if rising then High else Low
 
@@ -93,7 +93,8 @@ pub record IsClock (book : Book) (table : List Offsets) (clock : Question) (give
   pub lines_are : lines ≡ flat_map (event_line_in given.zone units) events
   pub first_turn : ForSome (slice_get (turns_in events) 0) (λ turn. turn.kind ≡ next_turn rising)
 
--- each answer of `clock` has this form
+-- each answer of `clock` has the line that `heights` prints for the present minute, and the lines that
+-- `predict` prints for the 1,440 minutes from there on
 abbrev pub ShowsThePresentAndTheNextDay : Type 0
 ShowsThePresentAndTheNextDay = (book : Book) (table : List Offsets) (clock : Question) (given : Given) (answer : Answer) →
     clock.command ≡ Clock → answered book table clock given ≡ Ok answer → IsClock book table clock given answer

@@ -38,17 +38,18 @@ has_own_time basis kind = is_slack kind && is_some basis.slack
 abbrev pub IsEventBelow : Basis → ℤ → Event → Type 0
 IsEventBelow basis level event = has_own_time basis event.kind ≡ false → event.level ≤ℤ level
 
--- a row with a level of at most `level`, if it is before the end
+-- a row with a level of at most `level`, if its minute is before `end`
 abbrev pub IsRowBelow : ℤ → ℤ → Row → Type 0
 IsRowBelow end level row = row.minute <ℤ end → row.level ≤ℤ level
 
--- a listing of `predict` has these events, and none of them is above the level
+-- a listing of `predict` has these events, and none of them is above `level`, slacks with separate
+-- offsets excluded
 pub record ListsEventsBelow (predict : Question) (there : Given) (name : List ℕ) (site : Site) (level : ℤ)
     (events : List Event) (listing : Answer) : Type 0 where
   pub text : listing.text ≡ events_text predict.layout name site.station.units events there.zone
   pub below : All (IsEventBelow site.basis level) events
 
--- a listing of `heights` has these rows, and none of them before the end is above the level
+-- a listing of `heights` has these rows, and none of them before `end` is above `level`
 pub record ListsRowsBelow (heights : Question) (there : Given) (name : List ℕ) (site : Site) (end level : ℤ)
     (rows : List Row) (listing : Answer) : Type 0 where
   pub text : listing.text ≡ heights_text heights.layout name site.station.units rows there.zone
@@ -83,8 +84,8 @@ NothingIsHigher = (book : Book) (table : List Offsets) (highest : Question) (giv
 
 -- ---- a small station
 
--- a current with levels 10 below its reference's, and with separate offsets for slacks, which leave them
--- at the reference's minutes
+-- a current with levels 10 knots below its reference's, and with separate offsets for slacks, which
+-- leave them at the reference's minutes
 abbrev pub sill : Site
 sill =
     let lower : Offset = record { add = pos 0; times = pos 1000000; plus = negsuc 9999999 } in

@@ -32,7 +32,8 @@ pub record IsPage (events : List Event) (page : ReportPage) : Type 0 where
   pub within : length page.events ≤ page.sheet.limit
   pub complete : length page.events < page.sheet.limit → page.events ≡ events
 
--- the text of a report: a page of each requested sheet, one after the other in the order of the sheets
+-- the text of a report: a page of each requested sheet, one after the other in the order of `sheets`,
+-- not of the request
 pub record IsReport (sheets : List SheetMeaning) (wanted : List (List ℕ)) (head : Head) (events : List Event) (text : List ℕ) : Type 0 where
   pub pages : List ReportPage
   pub text_is : text ≡ flat_map (text_of head) pages

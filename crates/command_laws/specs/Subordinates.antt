@@ -62,15 +62,17 @@ pub record AsksSubordinate (book : Book) (table : List Offsets) (row : Offsets) 
   pub is_row : basis.row ≡ Some index
   pub at : slice_get table index ≡ Some row
 
--- a request to `predict` about the reference of the row, over the span that its offsets widen
+-- a request to `predict` about the reference of the row, over the span from `begin` to `end` as its
+-- offsets widen it
 pub record AsksReference (row : Offsets) (basis : Basis) (begin end : ℤ) (question : Question) : Type 0 where
   pub command : question.command ≡ Predict
   pub named : question.station ≡ Some row.reference
   pub begins : question.begin ≡ Some (widened_of basis begin end).begin
   pub ends : question.end ≡ Some (widened_of basis begin end).end
 
--- the station's level, which is the reference's times the factor plus the added level, crosses its mark
--- at the same minutes as the reference's level crosses the reference's mark
+-- the station's level, which is the reference's times the factor of the high-water offset plus its added
+-- level, crosses the station's mark at the same minutes as the reference's level crosses the reference's
+-- mark
 abbrev pub MeansOneMark : Basis → Option ℤ → Option ℤ → Type 0
 MeansOneMark basis None None = Unit {0}
 MeansOneMark basis None (Some there) = ⊥
@@ -89,11 +91,12 @@ abbrev pub has_own_slack : Units → Basis → Bool
 has_own_slack units basis = asks_slack units basis && is_none basis.slack && not (int_eq basis.high.plus (pos 0))
 
 -- the second step: the events of the reference, each moved and scaled by the offset of its kind; the
--- events within the span are kept, in order
+-- events within the span are kept, in the order of their minutes
 abbrev pub second_step : Units → Basis → ℤ → ℤ → List Event → List Event
 second_step units basis begin end events = ordered (moved_within basis begin end (filter (has_too units basis) events))
 
--- both answers, from the events of the requests
+-- the answers to both requests: the station's turns are the reference's, moved and scaled; and so are
+-- all its events, if both marks mean one and the station has no slacks at minutes of its own
 pub record AreTwoSteps (book : Book) (table : List Offsets) (question reference : Question) (given there : Given)
     (row : Offsets) (basis : Basis) (begin end : ℤ) (answer first : Answer) : Type 0 where
   pub name : List ℕ
@@ -129,7 +132,7 @@ ReferenceIsAnswered = (book : Book) (table : List Offsets) (question reference :
 
 -- ---- a small station
 
--- a current with levels 0.5 above its reference's, and without separate offsets for slacks
+-- a current with levels 0.5 knots above its reference's, and without separate offsets for slacks
 abbrev pub stream : Site
 stream =
     let higher : Offset = record { add = pos 0; times = pos 1000000; plus = pos 500000 } in

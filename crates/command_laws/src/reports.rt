@@ -13,8 +13,8 @@ pub fn reports_are_complete()
     ensures { ReportsAreComplete }
 {}
 
-/// Proves an example: the events of two minutes on a sheet of ten events, on a full sheet, and as
-/// `predict` lists them.
+/// Proves an example: the events of two minutes as `predict` lists them, on a sheet with a limit of ten
+/// events, and on a sheet with a limit of one, which is full.
 pub fn worked_reports()
     ensures all { pier_answer (first_sheet 10 ∷ [])
         (codes "report file=p station=Pier begin=2000-01-10T11:59Z end=2000-01-10T12:01Z mark=0.99998 sheets=first")

@@ -28,7 +28,7 @@ pub fn subordinates_list_in_two_steps()
 {}
 
 /// Proves an example: the high water of a pier, and the one of a harbour 30 minutes later at twice the
-/// level and 0.5 more; and that two requests about them have an answer.
+/// level and 0.5 feet more; and that two requests about them have an answer.
 pub fn worked_steps()
     ensures widened { widened_of harbour (pos 15791789) (pos 15791790) ≡ record { begin = pos 15791759; end = pos 15791760 } }
     ensures first { events_of pier_book (record { basis = reference_basis 0; station = pier })
@@ -49,8 +49,8 @@ pub fn worked_steps()
         (record { zone = Zone.Utc; certificate = []; now = pos 0 })) }
 {}
 
-/// Proves an example: a current whose level is its reference's plus 0.5 has a slack at a minute where
-/// its level crosses 0, and its reference has none there.
+/// Proves an example: a current whose level is its reference's plus 0.5 knots has a slack at a minute
+/// where its level crosses 0, and its reference has none there.
 pub fn worked_own_slack()
     ensures own { events_of pier_book stream (record { begin = pos 15791999; end = pos 15792000; mark = None })
         ≡ record { minute = pos 15791999; kind = Kind.EbbBegins; level = pos 7576 } ∷ [] }

@@ -10,7 +10,8 @@ use curve_law::{Cell, Cells, Curve, Kind, Verdict};
 use std::alloc::Global;
 use std::process::Abort;
 
-/// Returns true if cells may be checked on `curve`, not yet evaluated.
+/// Returns true if cells from minute `begin` up to `end`, not included, may be checked on `curve`, which
+/// was not evaluated yet.
 fn can_check<C: Curve>(curve: &C, begin: i64, end: i64) -> bool
     ensures { IsTrue result → (begin ≤ℤ end) × ((C.state curve.now).facts.meaning.first ≤ℤ begin)
         × (end ≤ℤ (C.state curve.now).facts.meaning.last) × ((C.state curve.now).count ≡ 0) }
@@ -18,7 +19,8 @@ fn can_check<C: Curve>(curve: &C, begin: i64, end: i64) -> bool
     begin <= end && curve.first() <= begin && end <= curve.last() && curve.evaluations() == 0
 }
 
-/// Returns the verdict on `cells` if they may be checked.
+/// Returns the verdict on `cells` from minute `begin` up to `end`, not included, or `None` if they may
+/// not be checked.
 fn verdict<C: Curve>(curve: &mut C, begin: i64, end: i64, cells: &Cells) -> Option<Verdict> {
     if can_check(curve, begin, end) && cells.as_slice().len() <= 1000 {
         Some(check_track(curve, cells, begin, end))

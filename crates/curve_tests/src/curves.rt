@@ -113,7 +113,8 @@ fn is_decided<C: Curve + Drop>(curve: C, is_quiet: bool, cell: Cell) -> bool {
     }
 }
 
-/// Returns true if the eight minutes from 0 on of a line are as expected.
+/// Returns true if `is_quiet` says whether the eight minutes from 0 on of a line are quiet, and `cell`
+/// is the cell of the first one.
 fn is_line_decided(start: i64, falls: bool, rate: i64, is_quiet: bool, cell: Cell) -> bool {
     if start.unsigned_abs() > 1000 || !(1..=1000).contains(&rate) {
         return false;

@@ -65,8 +65,8 @@ pub fn event(minute: i64, kind: Kind, level: i64) -> Event {
     }
 }
 
-/// Returns offsets: highs 30 minutes later at 1.1 times the level and 0.1 more, lows 10 minutes
-/// earlier at 0.9 times.
+/// Returns offsets: high waters 30 minutes later at 1.1 times the level and 0.1 units more, low waters
+/// 10 minutes earlier at 0.9 times the level.
 pub fn dock(slack: Option<Slack>) -> Basis
     requires { ForSome slack IsSlack }
     ensures { HasOffsets result }

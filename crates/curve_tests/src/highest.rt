@@ -18,7 +18,8 @@ use highest_water::{
 use std::alloc::Global;
 use std::process::Abort;
 
-/// Returns true if the curve is valid over a span that has a minute.
+/// Returns true if the span from `begin` up to `end`, not included, has a minute, and the curve has all
+/// its minutes.
 fn covers_span<C: Curve>(curve: &C, begin: i64, end: i64) -> bool
     ensures { IsTrue result → (begin <ℤ end) × ((C.state curve.now).facts.meaning.first ≤ℤ begin)
         × (end ≤ℤ (C.state curve.now).facts.meaning.last) }
@@ -38,7 +39,8 @@ fn is_asked_little<C: Curve>(curve: &C) -> bool
     curve.evaluations() <= 1_000_000
 }
 
-/// Returns true if the highest water of a span may be searched.
+/// Returns true if the highest water from `begin` up to `end`, not included, may be searched: the curve
+/// has these minutes, which are 1 to 5,270,400 in number, and was evaluated at most 1,000,000 times.
 fn can_find<C: Curve>(curve: &C, begin: i64, end: i64) -> bool
     ensures { IsTrue result → (begin <ℤ end) × ((C.state curve.now).facts.meaning.first ≤ℤ begin)
         × (end ≤ℤ (C.state curve.now).facts.meaning.last) × ((end -ℤ begin) ≤ℤ pos 5270400)
@@ -56,7 +58,8 @@ fn found<C: Curve>(alloc: Global, curve: &mut C, begin: i64, end: i64) -> Option
     }
 }
 
-/// Returns true if the written highest water may be checked.
+/// Returns true if the written highest water may be checked: its value is less than 10^37 in size, and
+/// it has at most 1,000,000 cells.
 fn is_small(peak: &Peak) -> bool
     ensures { IsTrue result → (unsigned_abs peak.now.value < 10 ^ 37) × (length peak.now.cells ≤ 10 ^ 6) }
 {
@@ -250,7 +253,8 @@ fn covers_are_those_of_the_rule(rt: HostRuntime) {
     assert_holds(&rt, ripple, "ripple");
 }
 
-/// Returns the verdict on a highest water of two equal maxima, at minutes 2 and 6, over minutes 0 to 8.
+/// Returns the verdict on a highest water of two equal maxima, at minutes 2 and 6, over the 8 minutes
+/// from 0 on.
 fn verdict(alloc: Global, at: i64, value: i128, cells: &[PeakCell]) -> Option<PeakVerdict> {
     let cells = PeakCells::from_vec(Vec::from_slice(alloc, cells).ok()?);
     let first = Top { at: 2, value: 5 };

@@ -44,7 +44,8 @@ fn are_listed(units: Units, events: &[Event]) -> bool
     events.iter().all(|event| is_listed(units, event))
 }
 
-/// Returns minutes, kinds and levels as events, or an error if one can't be listed.
+/// Returns minutes since 1970-01-01T00:00Z, kinds and levels in millionths of `units` as events, or an
+/// error if one can't be listed.
 pub fn events_of(
     alloc: Global,
     units: Units,
@@ -73,7 +74,8 @@ fn are_rows(rows: &[Row]) -> bool
     rows.iter().all(|row| is_row(row))
 }
 
-/// Returns minutes and levels as rows, or an error if one is out of range.
+/// Returns minutes since 1970-01-01T00:00Z and levels in millionths as rows, or an error if a minute
+/// isn't in the years 2 to 9300 or on the day before them.
 pub fn rows_of(alloc: Global, items: &[(i64, i64)]) -> Result<Rows, AllocError>
     ensures { IfOk result (All (λ row. InZoneYears row.minute)) }
 {

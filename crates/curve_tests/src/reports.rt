@@ -22,8 +22,8 @@ pub fn is_printable(name: &str) -> bool
     name.as_bytes().iter().all(|b| *b >= 32 && *b != 127)
 }
 
-/// Returns the text of the sheets whose words are in `wanted`, separated by '|', if the name and the
-/// events are in range.
+/// Returns the text of the sheets whose words are in `wanted`, separated by '|', or an error if the name
+/// or an event can't be listed.
 fn report(
     alloc: Global,
     sheets: Vec<Box<dyn Sheet>>,

@@ -9,7 +9,8 @@ use curve_law::{Cell, Curve, Kind};
 use interval_search::{Found, Search, search};
 use std::alloc::Global;
 
-/// Returns true if a search may begin on `curve`, not yet evaluated.
+/// Returns true if a search from minute `begin` up to `end`, not included, may begin on `curve`, which
+/// was not evaluated yet.
 fn can_search<C: Curve>(curve: &C, begin: i64, end: i64) -> bool
     ensures { IsTrue result → (begin ≤ℤ end) × ((C.state curve.now).facts.meaning.first ≤ℤ begin)
         × (end ≤ℤ (C.state curve.now).facts.meaning.last) × ((C.state curve.now).count ≡ 0) }

@@ -66,7 +66,7 @@ fn steps_of_speeds(rt: HostRuntime) {
     }
 }
 
-/// An angle and its place on the circle.
+/// An angle and its place on the circle, both in units of which 216,000,000,000 are the circle.
 const PLACES: &[(i128, i64)] = &[
     (-1, 215_999_999_999),
     (0, 0),
@@ -120,7 +120,8 @@ fn sines_and_cosines_of_binary_angles(rt: HostRuntime) {
     }
 }
 
-/// The approximate sines are the sines in the middle of each of 8,192 parts of the circle, in 2^15 billionths.
+/// The approximate sines are the sines in the middle of each of 8,192 parts of the circle, in units of
+/// 2^15 billionths.
 const APPROXIMATE_SINES: &[Sines] = &[
     (0, 12, 30_518),
     (300_000_000, 269, 30_516),

@@ -27,7 +27,7 @@ const BEGIN: i64 = 15_778_080;
 /// The first minute of 2001.
 const END: i64 = 16_305_120;
 
-/// Returns true if a curve that wasn't evaluated yet is valid over the year.
+/// Returns true if a curve that wasn't evaluated yet has all minutes of the year 2000.
 fn has_year<C: Curve>(curve: &C) -> bool
     ensures { IsTrue result → ((C.state curve.now).facts.meaning.first ≤ℤ pos 15778080)
         × (pos 16305120 ≤ℤ (C.state curve.now).facts.meaning.last) × ((C.state curve.now).count ≡ 0) }
@@ -35,7 +35,8 @@ fn has_year<C: Curve>(curve: &C) -> bool
     curve.first() <= BEGIN && END <= curve.last() && curve.evaluations() == 0
 }
 
-/// Returns the cells of a curve over the year, or an error if it isn't valid there.
+/// Returns the cells of a curve over the year 2000, or an error if the curve doesn't have all its
+/// minutes.
 fn year_cells<C: Curve>(alloc: Global, curve: &mut C) -> Result<Cells, AllocError>
     ensures { IfOk result (λ cells. all_minutes cells ≤ 6000000) }
 {
@@ -46,7 +47,7 @@ fn year_cells<C: Curve>(alloc: Global, curve: &mut C) -> Result<Cells, AllocErro
     Ok(cells)
 }
 
-/// Returns the cells of a pier's turns over the year, and the number of evaluations.
+/// Returns the cells of a pier's turns over the year 2000, and the number of evaluations.
 fn pier_cells(alloc: Global) -> Result<(Cells, u64), AllocError>
     ensures { IfOk result (λ found. all_minutes found.0 ≤ 6000000) }
 {

@@ -59,7 +59,8 @@ fn is_in_file(m: i64) -> bool
     year_start(1999) <= m && m <= year_start(2002)
 }
 
-/// Returns the curve of the one station of a book of the years 1999 to 2001.
+/// Returns the curve of the one station of a book of the years 1999 to 2001, for the minutes from
+/// `first` to `last`, both included.
 fn minutes_of(alloc: Global, book: &Book, first: i64, last: i64) -> Result<StationCurve, CurveFault>
     requires book { IsBook book.now }
     requires one { length book.now.stations ≡ 1 }
@@ -76,7 +77,7 @@ fn minutes_of(alloc: Global, book: &Book, first: i64, last: i64) -> Result<Stati
     StationCurve::over(alloc, book, 0, first, last)
 }
 
-/// Returns the same curve for the minutes from `first` to `last`.
+/// Returns the curve of the one station of a file for the minutes from `first` to `last`, both included.
 fn curve_over(
     alloc: Global,
     file: &[u8],
@@ -108,7 +109,7 @@ fn has_level(curve: &StationCurve, m: i64, level: i64, rises: bool) -> bool {
     is_in_years(curve, m) && curve.millionths(m) == level && (curve.slope(m) > 0) == rises
 }
 
-/// A minute, its level, and true if it rises there.
+/// A minute since 1970-01-01T00:00Z, the level there in millionths of a foot, and true if it rises.
 const LEVELS: &[(i64, i64, bool)] = &[
     (15_777_960, 500_000, true),
     (15_778_020, 866_025, true),

@@ -28,7 +28,7 @@ const NAME: &str =
     0123456789abcdefghijklmnopqrstuvwxyz0123456789abcdefghijklmnopqrstuvwxyz01234567\
     0123456789abcdefghijklmnopqrstuvwxyz0123456789abcdefghijklmnopqrstuvwxyz01234567";
 
-/// Returns 1,412 low and high waters by turns, one foot below and above 0.
+/// Returns the events of a year: 1,412 low and high waters by turns, one foot below and above 0.
 fn events_of_year(alloc: Global) -> Result<Events, AllocError>
     ensures { IfOk result (All (IsListed Units.Feet)) }
 {

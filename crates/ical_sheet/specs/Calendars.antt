@@ -29,7 +29,7 @@ stamp_of moment =
 abbrev pub nearest_moment : ℤ → ℤ
 nearest_moment minute = int_min (int_max minute (negsuc 1035593279)) (pos 4223371679)
 
--- the number of a kind of event in identifiers
+-- the number of a kind of event in identifiers, from 0 to 5
 abbrev pub number_of : Kind → List ℕ
 number_of High = codes "0"
 number_of Low = codes "1"
@@ -50,7 +50,7 @@ summary_line name units event =
     codes "SUMMARY:" ++ escaped name ++ codes " " ++ word_text (word_of units event.kind event.level)
     ++ codes " " ++ level_text event.level ++ codes " " ++ text_of_unit units
 
--- the content lines of an event
+-- the content lines of an event in a calendar, without their CR LF
 unfoldable pub event_lines : Head → Event → List (List ℕ)
 event_lines head event =
     codes "BEGIN:VEVENT"
@@ -61,7 +61,7 @@ event_lines head event =
     ∷ codes "END:VEVENT"
     ∷ []
 
--- the content lines before the first event
+-- the content lines of a calendar before the first event, without their CR LF
 abbrev pub first_lines : List (List ℕ)
 first_lines = codes "BEGIN:VCALENDAR" ∷ codes "VERSION:2.0" ∷ codes "PRODID:-//Tide desk//Tide predictor//EN" ∷ []
 
@@ -75,11 +75,11 @@ content_lines head (event ∷ events) =
 unfoldable pub calendar_of : Head → List Event → List ℕ
 calendar_of head events = flat_map folded (content_lines head events)
 
--- an event whose minute and level fit 64 bits
+-- an event whose minute and level are less than 2^64 in size
 pub record IsNarrow (event : Event) : Type 0 where
   pub minute : unsigned_abs event.minute < 2 ^ 64
   pub level : unsigned_abs event.level < 2 ^ 64
 
--- the sheet `ical` with a limit
+-- the definition of the sheet `ical` that accepts at most `limit` events
 abbrev pub ical_sheet : ℕ → SheetMeaning
 ical_sheet limit = record { word = codes "ical"; limit = limit; layout = calendar_of }

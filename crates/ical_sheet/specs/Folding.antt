@@ -67,7 +67,7 @@ cut_up zero (octet ∷ rest) = []
 cut_up (suc more) (octet ∷ rest) =
     let text = octet ∷ rest in let n = prefix_length 74 text in take n text ∷ cut_up more (drop n text)
 
--- the pieces after the first
+-- the pieces of a line after the first, of at most 74 octets each
 abbrev pub further_pieces : List ℕ → List (List ℕ)
 further_pieces rest = cut_up (length rest) rest
 

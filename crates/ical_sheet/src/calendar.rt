@@ -15,8 +15,8 @@ use report_sheets::Head;
 use std::alloc::{AllocError, Global};
 
 /// Returns an iCalendar text of `events`, or no text if there is none. Each event has a
-/// [`word`](event_text::word) in the head's unit, and a minute in the years 2 to 9300 or on the day
-/// before them.
+/// [`word`](event_text::word) in the head's unit, a level in millionths of this unit, and a minute in
+/// the years 2 to 9300 or on the day before them.
 #[tactic(auto, unfolding(crate::specs::Calendars::calendar_of))]
 pub(crate) fn calendar(alloc: Global, head: &Head, events: &[Event]) -> Result<Bytes, AllocError>
     requires { All (IsListed head.now.units) events.now }

@@ -30,8 +30,8 @@ pub fn lines_are_cut_between_characters()
         further_pieces text ≡ take (prefix_length 74 text) text ∷ further_pieces (drop (prefix_length 74 text) text) }
 {}
 
-/// Proves that folded lines have at most 75 octets each, and that unfolding them returns the content lines,
-/// each with a CR LF.
+/// Proves that the physical lines of folded content lines have at most 75 octets each without their CR
+/// LF, and that unfolding them returns the content lines, each with a CR LF.
 pub fn folded_lines_unfold()
     ensures line { (line : List ℕ) → IsContentLine line → unfolded (folded line) ≡ line ++ codes "\r\n" }
     ensures lines { (lines : List (List ℕ)) → All IsContentLine lines →
@@ -39,8 +39,9 @@ pub fn folded_lines_unfold()
     ensures length_bound { (lines : List (List ℕ)) → All IsContentLine lines → AreShort (physical_lines (flat_map folded lines)) }
 {}
 
-/// Proves that the lines of a calendar have at most 75 octets each, and that unfolding them returns its
-/// content lines, each with a CR LF, if the station's name is text without control characters.
+/// Proves that the physical lines of a calendar have at most 75 octets each without their CR LF, and
+/// that unfolding them returns its content lines, each with a CR LF, if the station's name is text
+/// without control characters.
 pub fn calendars_unfold()
     ensures lines { (head : Head) (events : List Event) → IsUtf8 head.name → IsHead head → All IsNarrow events →
         unfolded (calendar_of head events) ≡ flat_map (λ line. line ++ codes "\r\n") (content_lines head events) }

@@ -8,8 +8,9 @@ use Rattle.harmonics_book.specs.declared.book.Units.{Units}
 abbrev pub names_of : List ℕ → List ℕ → List ℕ
 names_of name reference = name ++ codes "\nreference " ++ reference ++ codes "\n"
 
--- three lines: the unit, the number of constituents, and the bound on the difference between the slope
--- and the steps of the level
+-- three lines: the unit, the number of constituents, and the agreement: a bound on the difference
+-- between the slope and the steps of the level from minute to minute, of which about 1.4257 * 10^35 are
+-- one unit a minute
 abbrev pub facts_of : Units → ℕ → ℤ → List ℕ
 facts_of units constituents agreement =
     codes "units " ++ text_of_unit units

@@ -9,15 +9,15 @@ use Rattle.listing.specs.declared.row.Row.{Row}
 use Rattle.zone_time.specs.declared.zone.Zone.{Zone}
 use Rattle.zone_time.specs.Zones.{local_in}
 
--- the line of a level, in the local time of a zone
+-- the line of a level in the local time of a zone, with its LF
 abbrev pub row_line_in : Zone → Units → Row → List ℕ
 row_line_in zone units row = height_line_of (local_in zone row.minute) row.level units ++ codes "\n"
 
--- the station's name, and a line for each event
+-- the station's name, and a line for each event in the local time of a zone
 unfoldable pub plain_events_of : List ℕ → Units → List Event → Zone → List ℕ
 plain_events_of name units events zone = name ++ codes "\n" ++ flat_map (event_line_in zone units) events
 
--- the station's name, and a line for each level
+-- the station's name, and a line for each level in the local time of a zone
 unfoldable pub plain_heights_of : List ℕ → Units → List Row → Zone → List ℕ
 plain_heights_of name units rows zone = name ++ codes "\n" ++ flat_map (row_line_in zone units) rows
 
@@ -26,17 +26,19 @@ abbrev pub direction_of : Bool → List ℕ
 direction_of true = codes "Rising"
 direction_of false = codes "Falling"
 
--- the line of the present level and its direction
+-- the line of the level at the present minute, and whether it rises; the level is in millionths of the
+-- unit
 abbrev pub now_line_of : Zone → Units → ℤ → ℤ → Bool → List ℕ
 now_line_of zone units now level rising =
     codes "Now " ++ height_line_of (local_in zone now) level units ++ codes "  " ++ direction_of rising ++ codes "\n"
 
--- the line of the highest level
+-- the line of the highest level, which is in millionths of the unit, and its minute
 abbrev pub highest_line_of : Zone → Units → ℤ → ℤ → List ℕ
 highest_line_of zone units minute level =
     codes "Highest " ++ height_line_of (local_in zone minute) level units ++ codes "\n"
 
--- the station's name, and the line of its highest level
+-- the station's name, and the line of its highest level, which is in millionths of the unit, and its
+-- minute
 unfoldable pub highest_text_of : List ℕ → Units → ℤ → ℤ → Zone → List ℕ
 highest_text_of name units minute level zone = name ++ codes "\n" ++ highest_line_of zone units minute level
 

@@ -22,26 +22,26 @@ record_of fields = row_text default_writer fields
 abbrev pub time_in : Zone → ℤ → List ℕ
 time_in zone minute = time_text (local_in zone minute).minute
 
--- a level in millionths, as a number with six decimals
+-- a level in millionths of the unit, as a number of units with six decimals
 abbrev pub millionths_text : ℤ → List ℕ
 millionths_text level = write_of level 6
 
--- the names of an event's fields
+-- the names of the fields of an event's record
 abbrev pub event_header : List (List ℕ)
 event_header =
     codes "station" ∷ codes "moment" ∷ codes "local" ∷ codes "event" ∷ codes "level" ∷ codes "units" ∷ []
 
--- the fields of an event
+-- the fields of an event's record, in the order of their names
 abbrev pub event_fields : List ℕ → Units → Zone → Event → List (List ℕ)
 event_fields name units zone event =
     name ∷ moment_text event.minute ∷ time_in zone event.minute ∷ word_text (word_of units event.kind event.level)
     ∷ millionths_text event.level ∷ text_of_unit units ∷ []
 
--- the names of a level's fields
+-- the names of the fields of a level's record
 abbrev pub row_header : List (List ℕ)
 row_header = codes "station" ∷ codes "moment" ∷ codes "local" ∷ codes "level" ∷ codes "units" ∷ []
 
--- the fields of a level
+-- the fields of a level's record, in the order of their names
 abbrev pub row_fields : List ℕ → Units → Zone → Row → List (List ℕ)
 row_fields name units zone row =
     name ∷ moment_text row.minute ∷ time_in zone row.minute ∷ millionths_text row.level ∷ text_of_unit units ∷ []

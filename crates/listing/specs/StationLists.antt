@@ -9,7 +9,7 @@ use Rattle.harmonics_book.specs.declared.book.Units.{Units}
 use Rattle.station_table.specs.declared.offsets.Offsets.{Offsets}
 use Rattle.event_text.specs.Lines.{text_of_unit}
 
--- the unit of the first station with a name
+-- the unit of the first station with this name, or None if there is none
 abbrev pub unit_in : List Station → List ℕ → Option Units
 unit_in stations name = option_map (λ station. station.units) (find (λ station. bytes_eq name station.name) stations)
 
@@ -18,11 +18,11 @@ abbrev pub unit_or_dash : Option Units → List ℕ
 unit_or_dash None = codes "-"
 unit_or_dash (Some units) = text_of_unit units
 
--- the line of a reference station
+-- the line of a reference station, such as `Ref feet Pier`
 abbrev pub reference_line : Station → List ℕ
 reference_line station = codes "Ref " ++ text_of_unit station.units ++ codes " " ++ station.name ++ codes "\n"
 
--- the line of a subordinate station, with the unit of its reference
+-- the line of a subordinate station with the unit of its reference, such as `Sub feet Dock (Pier)`
 abbrev pub subordinate_line : List Station → Offsets → List ℕ
 subordinate_line stations row =
     codes "Sub " ++ unit_or_dash (unit_in stations row.reference) ++ codes " " ++ row.name

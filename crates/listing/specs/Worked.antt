@@ -2,6 +2,6 @@
 use Rattle.std.specs.Prelude.{pos}
 use Rattle.listing.specs.declared.row.Row.{Row}
 
--- one foot at 2000-01-10T03:00Z
+-- a level of one foot at 2000-01-10T03:00Z
 abbrev pub level_now : Row
 level_now = record { minute = pos 15791220; level = pos 1000000 }

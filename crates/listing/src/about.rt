@@ -11,7 +11,8 @@ use std::alloc::{AllocError, Global};
 /// Returns five lines about a station: its `name`; the word `reference` and its reference's name; the
 /// word `units` and the unit of its levels; the word `constituents` and their number; and the word
 /// `agreement` and a bound on the difference between the station's slope and the steps of its levels
-/// from minute to minute, in the slope's unit (docs/FORMATS.md).
+/// from minute to minute, in units of which about 1.4257 * 10^35 are one of `units` a minute
+/// (docs/FORMATS.md).
 #[tactic(auto, unfolding(crate::specs::Abouts::about_text_of))]
 pub fn about_text(
     alloc: Global,
@@ -29,7 +30,7 @@ pub fn about_text(
     Ok(Bytes::from_vec(text.into_bytes()))
 }
 
-/// Returns the first two lines.
+/// Returns two lines about a station: its name, and the word `reference` with its reference's name.
 fn names(alloc: Global, name: &Text, reference: &Text) -> Result<String, AllocError>
     ensures { IfOk result (λ text. string_bytes text ≡ names_of name.now reference.now) }
 {
@@ -40,7 +41,8 @@ fn names(alloc: Global, name: &Text, reference: &Text) -> Result<String, AllocEr
     Ok(text)
 }
 
-/// Returns the last three lines.
+/// Returns three lines about a station: its unit, its number of constituents, and its agreement, as
+/// [`about_text`] returns them.
 fn facts(
     alloc: Global,
     units: Units,

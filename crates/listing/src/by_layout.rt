@@ -18,8 +18,8 @@ use zone_time::Zone;
 /// Returns the listing of the events of the station `name` in `layout`: the same as [`plain_events`] or
 /// [`csv_events`].
 ///
-/// Each event has a [`word`](event_text::word) in `units`, and a minute in the years 2 to 9300 or on the
-/// day before them.
+/// Each event has a [`word`](event_text::word) in `units`, a level in millionths of `units`, and a
+/// minute, counted from 1970-01-01T00:00Z, in the years 2 to 9300 or on the day before them.
 ///
 /// # Errors
 /// [`AllocError`] if memory runs out.
@@ -42,7 +42,8 @@ pub fn events_text(
 }
 
 /// Returns the listing of the levels of the station `name` in `layout`: the same as [`plain_heights`] or
-/// [`csv_heights`]. The minutes are in the years 2 to 9300 or on the day before them.
+/// [`csv_heights`]. The levels are in millionths of `units`, and the minutes, counted from
+/// 1970-01-01T00:00Z, are in the years 2 to 9300 or on the day before them.
 ///
 /// # Errors
 /// [`AllocError`] if memory runs out.

@@ -43,7 +43,8 @@ pub fn clock_text(
     Ok(Bytes::from_vec(text))
 }
 
-/// Appends the line of the level now.
+/// Appends the line of the `level`, in millionths of `units`, at the minute `now` since
+/// 1970-01-01T00:00Z.
 fn push_now(
     text: &mut Vec<u8>,
     units: Units,

@@ -34,7 +34,8 @@ pub fn highest_text(
     Ok(Bytes::from_vec(text))
 }
 
-/// Appends the line of the highest water.
+/// Appends the line of the highest water: its `level` in millionths of `units`, and its `minute` since
+/// 1970-01-01T00:00Z.
 fn push_highest(
     text: &mut Vec<u8>,
     units: Units,

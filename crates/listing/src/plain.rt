@@ -19,8 +19,8 @@ use zone_time::{Zone, ZoneClock};
 /// Returns the station's `name`, and the line of each event in the zone's local time, as
 /// [`event_line`] writes it.
 ///
-/// Each event has a [`word`](event_text::word) in `units`, and a minute in the years 2 to 9300 or
-/// on the day before them.
+/// Each event has a [`word`](event_text::word) in `units`, a level in millionths of `units`, and a
+/// minute, counted from 1970-01-01T00:00Z, in the years 2 to 9300 or on the day before them.
 ///
 /// # Examples
 /// ```
@@ -44,8 +44,8 @@ pub fn plain_events(
 }
 
 /// Appends a listing to `text`: the station's `name`, and the line of each event in the zone's local
-/// time. Each event has a [`word`](event_text::word) in `units`, and a minute in the years 2 to 9300 or
-/// on the day before them.
+/// time. Each event has a [`word`](event_text::word) in `units`, a level in millionths of `units`, and a
+/// minute, counted from 1970-01-01T00:00Z, in the years 2 to 9300 or on the day before them.
 #[tactic(auto, unfolding(crate::specs::Listings::plain_events_of))]
 pub fn push_plain_events(
     text: &mut Vec<u8>,
@@ -63,9 +63,9 @@ pub fn push_plain_events(
     push_events(text, units, events.as_slice(), &zone.clock())
 }
 
-/// Returns the station's `name`, and the line of each level in the zone's local time, as
-/// [`height_line`] writes it, with LF. The minutes are in the years 2 to 9300 or on the day before
-/// them.
+/// Returns the station's `name`, and the line of each level in the zone's local time, as [`height_line`]
+/// writes it, with LF. The levels are in millionths of `units`, and the minutes, counted from
+/// 1970-01-01T00:00Z, are in the years 2 to 9300 or on the day before them.
 #[tactic(auto, unfolding(crate::specs::Listings::plain_heights_of))]
 pub fn plain_heights(
     alloc: Global,
@@ -111,7 +111,7 @@ pub(crate) fn push_events(
     Ok(())
 }
 
-/// Appends the line of `event`.
+/// Appends the line of `event` in the local time of `zone`.
 fn push_event(
     text: &mut Vec<u8>,
     units: Units,
@@ -127,7 +127,7 @@ fn push_event(
     text.extend_from_slice(line.as_str().as_bytes())
 }
 
-/// Appends the line of the level `row`.
+/// Appends the line of the level `row` in the local time of `zone`.
 fn push_row(
     text: &mut Vec<u8>,
     units: Units,

@@ -32,10 +32,10 @@ use zone_time::{Zone, ZoneClock, write_moment, write_time};
 
 /// Returns the header `station,moment,local,event,level,units` and a record for each event. The moment
 /// is in universal time, such as `2000-01-10T11:59Z`, and the local time is in the zone, such as
-/// `2000-01-10 11:59`. The level has six decimals.
+/// `2000-01-10 11:59`. A record has the level in `units`, with six decimals.
 ///
-/// Each event has a [`word`](event_text::word) in `units`, and a minute in the years 2 to 9300 or on the
-/// day before them.
+/// Each event has a [`word`](event_text::word) in `units`, a level in millionths of `units`, and a
+/// minute, counted from 1970-01-01T00:00Z, in the years 2 to 9300 or on the day before them.
 #[tactic(auto, unfolding(crate::specs::Records::csv_events_of))]
 pub fn csv_events(
     alloc: Global,
@@ -58,8 +58,10 @@ pub fn csv_events(
 }
 
 /// Returns the header `station,moment,local,level,units` and a record for each level. The moment is in
-/// universal time, such as `2000-01-10T11:59Z`, and the local time is the zone's, such as `2000-01-10
-/// 11:59`. The level has six decimals. The minutes are in the years 2 to 9300 or on the day before them.
+/// universal time, such as `2000-01-10T11:59Z`, and the local time is the zone's, such as
+/// `2000-01-10 11:59`. A record has the level in `units`, with six decimals. The levels are in
+/// millionths of `units`, and the minutes, counted from 1970-01-01T00:00Z, are in the years 2 to 9300 or
+/// on the day before them.
 #[tactic(auto, unfolding(crate::specs::Records::csv_heights_of))]
 pub fn csv_heights(
     alloc: Global,
@@ -111,7 +113,7 @@ fn push_record(records: &mut Writer<Vec<u8>>, fields: &[&[u8]]) -> Result<(), Al
     }
 }
 
-/// Appends the header of events.
+/// Appends the header of events, `station,moment,local,event,level,units`.
 fn push_event_header(records: &mut Writer<Vec<u8>>) -> Result<(), AllocError>
     requires start { IsAtRecord records.old }
     ensures end { OnOk result (IsAtRecord records.new) }
@@ -130,7 +132,7 @@ fn push_event_header(records: &mut Writer<Vec<u8>>) -> Result<(), AllocError>
     )
 }
 
-/// Appends the header of levels.
+/// Appends the header of levels, `station,moment,local,level,units`.
 fn push_row_header(records: &mut Writer<Vec<u8>>) -> Result<(), AllocError>
     requires start { IsAtRecord records.old }
     ensures end { OnOk result (IsAtRecord records.new) }
@@ -156,7 +158,8 @@ struct Texts {
     level: ArrayString<24>,
 }
 
-/// Returns the fields of a `level` in millionths at `minute`.
+/// Returns the fields of a `level`, in millionths of the unit, at `minute`, counted from
+/// 1970-01-01T00:00Z.
 fn texts_of(minute: i64, level: i64, zone: &ZoneClock<'_>) -> Texts
     requires minute { InZoneYears minute }
     ensures moment { result.moment.bytes ≡ moment_text minute }

@@ -22,35 +22,37 @@ use Rattle.decimal_text.specs.Expected.{Source, memory, outside, given}
 use Rattle.named_files.specs.declared.no_answer.NoAnswer.{NoAnswer}
 use Rattle.named_files.specs.declared.no_answer.NoAnswer.TheVariants.{Unread, Faulty, Refused}
 
--- the result of a step that uses no file and no clock
+-- the result of a step that reads no file and no clock, with its fault as the reason why there is no
+-- answer
 abbrev pub faulty : {A : Type 0} → Result A Fault → Result A NoAnswer
 faulty (Ok value) = Ok value
 faulty (Err fault) = Err (Faulty fault)
 
--- the result of a step with a table; a refusal carries the table's rows
+-- the result of a step with a table; the reason after a refusal has the table's rows
 abbrev pub refused_over : {A : Type 0} → List Offsets → Result A Refusal → Result A NoAnswer
 refused_over rows (Ok value) = Ok value
 refused_over rows (Err refusal) = Err (Refused refusal rows)
 
--- the exit status of a reason
+-- the exit status for a reason why there is no answer
 abbrev pub status_of : NoAnswer → Status
 status_of Unread = status.ReadFault
 status_of (Faulty fault) = status_of_fault fault
 status_of (Refused refusal rows) = status_of_refusal refusal
 
--- the line of a reason
+-- the line for a reason why there is no answer
 abbrev pub line_of : NoAnswer → List ℕ
 line_of Unread = codes "read fault\n"
 line_of (Faulty fault) = line_of_fault [] fault
 line_of (Refused refusal rows) = line_of_fault rows (faults.Refused refusal)
 
--- a reason with a line that can be printed
+-- a reason why there is no answer, with a line that can be printed: its moments are in the years 1 to
+-- 9999, and its row is an index into the table
 abbrev pub IsPrintable : NoAnswer → Type 0
 IsPrintable Unread = Unit {0}
 IsPrintable (Faulty fault) = IsPrintableFault [] fault
 IsPrintable (Refused refusal rows) = IsPrintableRefusal rows refusal
 
--- a reason is that memory ran out
+-- the reason why there is no answer is that memory ran out
 abbrev pub is_out_of_memory : NoAnswer → Bool
 is_out_of_memory Unread = false
 is_out_of_memory (Faulty fault) = fault_is_out_of_memory fault
@@ -62,23 +64,23 @@ source_of Unread = outside
 source_of (Faulty fault) = if fault_is_out_of_memory fault then memory else given
 source_of (Refused refusal rows) = if refusal_is_out_of_memory refusal then memory else given
 
--- the exit status for a file or a clock that couldn't be read
+-- an exit status is the one for a file or a clock that couldn't be read
 abbrev pub is_read_fault : Status → Bool
 is_read_fault status.ReadFault = true
 is_read_fault _ = false
 
--- the reason that a file or the clock couldn't be read
+-- the reason why there is no answer is that a file or the clock couldn't be read
 abbrev pub is_unread : NoAnswer → Bool
 is_unread Unread = true
 is_unread (Faulty fault) = false
 is_unread (Refused refusal rows) = false
 
--- a file or the clock couldn't be read
+-- the result is that a file or the clock couldn't be read
 abbrev pub reading_failed : {A : Type 0} → Result A NoAnswer → Bool
 reading_failed (Ok value) = false
 reading_failed (Err none) = is_unread none
 
--- the file that is too long or isn't in its format, if this is the fault
+-- the file that is too long or isn't in its format, if this is the fault; else None
 abbrev pub file_of_fault : Fault → Option Slot
 file_of_fault (faults.TooLong slot) = Some slot
 file_of_fault (faults.Book form) = Some slots.File
@@ -88,12 +90,13 @@ file_of_fault (faults.Ask ask) = None
 file_of_fault (faults.NoSheet word) = None
 file_of_fault (faults.Refused refusal) = None
 
--- the file that is too long or isn't in its format, if this is the reason
+-- the file that is too long or isn't in its format, if this is the reason why there is no answer; else
+-- None
 abbrev pub file_of : NoAnswer → Option Slot
 file_of Unread = None
 file_of (Faulty fault) = file_of_fault fault
 file_of (Refused refusal rows) = None
 
--- if a file is the reason, it is this one
+-- if a file is the reason why there is no answer, it is this one
 abbrev pub IsOf : Slot → NoAnswer → Type 0
 IsOf slot none = ForSome (file_of none) (λ other. other ≡ slot)

@@ -33,7 +33,8 @@ use Rattle.decimal_text.specs.declared.limits.TheConstants.{MOST_BYTES}
 
 -- ---- The bytes of a file
 
--- the greatest number of bytes of a file, by the purpose for which it is read
+-- the greatest number of bytes of a file, by its purpose: 67,108,864 for harmonic constants and for a
+-- table, 1,048,576 for a zone, and 400,000,000 for a certificate
 abbrev pub limit_of : Slot → ℕ
 limit_of slots.File = 67108864
 limit_of slots.Offsets = 67108864
@@ -102,8 +103,8 @@ zone_named folder (words.Named name) = do
   bytes ← bytes_of slots.Zone (folder name)
   zone_from (zone_of bytes)
 
--- the text in the file with a name; no bytes if no certificate is named; its format is checked when the
--- request is answered
+-- the text of the certificate in the file with a name; no bytes if no certificate is named; its format
+-- is checked when the request is answered
 unfoldable pub certificate_named : Folder → Option (List ℕ) → Result (List ℕ) NoAnswer
 certificate_named folder None = Ok []
 certificate_named folder (Some name) = bytes_of slots.Certificate (folder name)
@@ -113,7 +114,7 @@ certificate_named folder (Some name) = bytes_of slots.Certificate (folder name)
 abbrev pub Folders : Type 0
 Folders = Slot → Folder
 
--- the contents of all files of a request in their order; its harmonics file has this name
+-- the contents of all files of a request in the order of reading; its harmonics file has this name
 unfoldable pub files_in : Folders → Question → List ℕ → Result Materials NoAnswer
 files_in folders question name = do
   book ← book_named (folders slots.File) name
@@ -124,25 +125,26 @@ files_in folders question name = do
 
 -- ---- The bytes that may be read
 
--- the name of a zone's file
+-- the name of a zone's file, or None for universal time and for a fixed offset
 abbrev pub zone_file : ZoneWord → Option (List ℕ)
 zone_file words.Utc = None
 zone_file (words.Fixed minutes) = None
 zone_file (words.Named name) = Some name
 
--- the bytes that may be read of a file, if it is named
+-- the allowance for a file, if it is named: how many files may be opened and how many bytes read
 abbrev pub allowed_for : Slot → Option (List ℕ) → Allowance
 allowed_for slot None = no_file
 allowed_for slot (Some name) = one_file (limit_of slot)
 
--- the bytes that may be read of all files of a request
+-- the allowance for all files of a request: how many may be opened and how many bytes read
 abbrev pub files_allowed : Question → Allowance
 files_allowed question =
     both (one_file (limit_of slots.File))
     (both (allowed_for slots.Offsets question.offsets)
     (both (allowed_for slots.Zone (zone_file question.zone)) (allowed_for slots.Certificate question.certificate)))
 
--- the bytes that may be read up to the file that is the reason, or of all files if none is
+-- the allowance for the files up to the one that is the reason why there is no answer, or for all if
+-- none is
 abbrev pub allowed_to : Question → Option Slot → Allowance
 allowed_to question None = files_allowed question
 allowed_to question (Some slots.File) = one_file (limit_of slots.File)

@@ -10,12 +10,13 @@ use Rattle.named_files.specs.NoAnswers.{status_of, line_of, is_unread}
 abbrev pub WroteLine : SinkState → SinkState → List ℕ → Type 0
 WroteLine before after line = (failed : Bool) × Wrote before after failed line
 
--- the status is the given one and its line was written, or memory ran out
+-- the status is `own` and `line` was written, or memory ran out, with its own status and line
 abbrev pub ReportsFault : Status → List ℕ → Status → SinkState → SinkState → Type 0
 ReportsFault own line status before after =
     ((status ≡ own) × WroteLine before after line) ⊎ ((status ≡ NoMemory) × WroteLine before after (codes "no memory\n"))
 
--- the status and the line of a reason; or memory ran out, except if a file or the clock couldn't be read
+-- the status and the line for a reason why there is no answer; or memory ran out, except if a file or
+-- the clock couldn't be read
 abbrev pub Reports : NoAnswer → Status → SinkState → SinkState → Type 0
 Reports none status before after =
     ((status ≡ status_of none) × WroteLine before after (line_of none))

@@ -227,7 +227,7 @@ fn read_file<F: Files>(
     }
 }
 
-/// Returns the greatest number of bytes that are read of the file of `slot`.
+/// Returns the greatest number of bytes that are read of a file with the purpose `slot`.
 fn limit_of(slot: Slot) -> u64
     ensures { result ≡ limit_of slot }
 {

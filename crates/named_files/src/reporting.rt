@@ -12,8 +12,8 @@ use std::alloc::Global;
 use tide_edge::{Sink, write_all};
 use tide_fault::{Fault, Status, fault_line, fault_status};
 
-/// Writes the line of the reason `none` to `err`, and returns the exit status, which doesn't depend on
-/// whether the write fails.
+/// Writes the line for `none`, the reason why there is no answer, to `err`. Returns the exit status for
+/// it, even if the write fails.
 pub fn report<E: Sink>(alloc: Global, none: NoAnswer, err: &mut E) -> Status
     requires { IsPrintable none }
     ensures reported { Reports none result (E.state err.old) (E.state err.new) }

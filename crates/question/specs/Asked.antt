@@ -26,19 +26,20 @@ use Rattle.question.specs.declared.question.Question.{Question}
 use Rattle.question.specs.declared.question.ZoneWord.{ZoneWord}
 use Rattle.question.specs.declared.question.ZoneWord.TheVariants.{Utc, Fixed, Named}
 
--- a fixed offset is at most 15 hours and 59 minutes
+-- a zone's fixed offset from universal time is at most 15 hours and 59 minutes (959 minutes) either way
 abbrev pub IsZoneWord : ZoneWord → Type 0
 IsZoneWord Utc = Unit {0}
 IsZoneWord (Fixed minutes) = unsigned_abs minutes ≤ 959
 IsZoneWord (Named name) = Unit {0}
 
--- the question has a station and a span
+-- the question names a station, the first minute of a span and the span's end
 pub record HasSpan (q : Question) : Type 0 where
   pub station : IsSome q.station
   pub begin : IsSome q.begin
   pub end : IsSome q.end
 
--- the values that a command requires, from a command line and from a query
+-- the question has the values, other than files, that the command requires in a command line and in a
+-- query
 abbrev pub HasNeeded : Command → Question → Type 0
 HasNeeded Predict q = HasSpan q
 HasNeeded Certify q = HasSpan q
@@ -56,7 +57,7 @@ HasNeeded Peak q = HasSpan q
 HasNeeded PeakCheck q = Unit {0}
 HasNeeded About q = IsSome q.station
 
--- the files that a command requires of a command line
+-- the question has the files that the command requires in a command line
 abbrev pub HasFiles : Command → Question → Type 0
 HasFiles Check q = IsSome q.file × IsSome q.certificate
 HasFiles PeakCheck q = IsSome q.file × IsSome q.certificate
@@ -69,7 +70,9 @@ abbrev pub NamesFiles : Origin → Question → Type 0
 NamesFiles Line q = HasFiles q.command q
 NamesFiles Query q = Unit {0}
 
--- the span, the mark and the step of a question are in the ranges of their keys
+-- each value that is given is in the range of its key: the span's first minute and its end in the years
+-- from 1 to 9999, the mark at most 10,000,000,000 millionths of the station's unit either way, and the
+-- step from 1 to 44,640 minutes
 pub record AreInRange (q : Question) : Type 0 where
   pub begin : ForSome q.begin IsMoment
   pub end : ForSome q.end IsMoment
@@ -77,7 +80,7 @@ pub record AreInRange (q : Question) : Type 0 where
   pub step_first : pos 1 ≤ℤ q.step
   pub step_last : q.step ≤ℤ pos 44640
 
--- a question has all values that its command requires, and they are in their ranges
+-- a question has all values that its command requires, and its values are in the ranges of their keys
 pub record IsAsked (q : Question) : Type 0 where
   pub whole : HasNeeded q.command q
   pub ranges : AreInRange q

@@ -16,14 +16,14 @@ use Rattle.question.specs.declared.question.ZoneWord.TheVariants.{Utc, Fixed, Na
 unfoldable pub some_text : List ℕ → Option (List ℕ)
 some_text text = if nat_lt 0 (length text) then Some text else None
 
--- the number that a text writes in 1 to `digits` digits, if it is from `least` to `most`
+-- the number that a text writes in 1 to `digits` digits, if it is from `least` to `most`, both included
 unfoldable pub number_of : ℕ → ℕ → ℕ → List ℕ → Option ℕ
 number_of digits least most text =
     if nat_lt 0 (length text) && nat_le (length text) digits && list_all is_ascii_digit text
     && nat_le least (digits_value 10 text) && nat_le (digits_value 10 text) most
     then Some (digits_value 10 text) else None
 
--- the seed that a text writes, of 64 bits
+-- the seed that a text writes, from 0 to 2^64 - 1
 abbrev pub seed_of : List ℕ → Option ℕ
 seed_of text = number_of 20 0 18446744073709551615 text
 
@@ -35,16 +35,17 @@ port_of text = number_of 5 1 65535 text
 abbrev pub step_of : List ℕ → Option ℤ
 step_of text = option_map pos (number_of 6 1 44640 text)
 
--- a mark in millionths: a decimal read in millionths, if it is from -10,000,000,000 to 10,000,000,000
+-- a mark in millionths of the station's unit: a decimal read in millionths, if it is from
+-- -10,000,000,000 to 10,000,000,000
 abbrev pub mark_from : Result ℤ DecimalFault → Option ℤ
 mark_from (Ok millionths) = if nat_le (unsigned_abs millionths) 10000000000 then Some millionths else None
 mark_from (Err fault) = None
 
--- the mark that a text writes, in millionths
+-- the mark that a text writes, in millionths of the station's unit
 unfoldable pub mark_of : List ℕ → Option ℤ
 mark_of text = mark_from (read_of text 6)
 
--- the rest of a text after the byte `first`, if it begins with it
+-- the rest of a text after the byte `first`, or None if it doesn't begin with it
 abbrev pub after : ℕ → List ℕ → Option (List ℕ)
 after first [] = None
 after first (byte ∷ rest) = if byte == first then Some rest else None
@@ -52,11 +53,11 @@ after first (byte ∷ rest) = if byte == first then Some rest else None
 abbrev pub is_colon : ℕ → Bool
 is_colon byte = byte == 58
 
--- the number that exactly two digits write, up to `most`
+-- the number that exactly two digits write, from 0 to `most`
 abbrev pub two_digits_of : ℕ → List ℕ → Option ℕ
 two_digits_of most text = if length text == 2 then number_of 2 0 most text else None
 
--- the minutes of hours up to 15 and minutes below 60, as `05:30`
+-- the size in minutes of an offset such as `05:30`: hours from 0 to 15 and minutes from 0 to 59
 unfoldable pub clock_of : List ℕ → Option ℕ
 clock_of text =
     option_and_then
@@ -70,7 +71,7 @@ offset_of text =
     (option_map pos (option_and_then clock_of (after 43 text)))
     (option_map (λ minutes. neg_ℤ (pos minutes)) (option_and_then clock_of (after 45 text)))
 
--- a zone by the name of its file, which a query can't have
+-- the zone of a file with this name; None for an empty name, and in a query, which can't name files
 abbrev pub file_zone : Origin → List ℕ → Option ZoneWord
 file_zone Line name = option_map Named (some_text name)
 file_zone Query name = None

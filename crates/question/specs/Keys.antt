@@ -81,8 +81,8 @@ Field key.Layout = Layout
 Field key.Port = ℕ
 Field k = Option (Value k)
 
--- how a command needs a key: whether the key is required, and the field of a question for its value, if
--- it is given
+-- how a command needs a key: whether the key is required, and the question's field for the key's value,
+-- or for no value if the key isn't given
 pub record Need (V F : Type 0) : Type 0 where
   pub is_needed : Bool
   pub field : Option V → F
@@ -151,7 +151,7 @@ of_step = Heights ∷ []
 abbrev pub of_zone : List Command
 of_zone = Predict ∷ Check ∷ Heights ∷ Calendar ∷ Clock ∷ Highest ∷ []
 
--- the commands that have the key `layout`
+-- the commands that have the key `layout` (columns or comma-separated values)
 abbrev pub of_layout : List Command
 of_layout = Predict ∷ Heights ∷ []
 

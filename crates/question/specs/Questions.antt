@@ -1,4 +1,5 @@
--- The question of pairs, or their first fault (this project).
+-- The question that a command with its items (arguments, or pairs of a query) makes, or their first
+-- fault (this project).
 use Rattle.std.specs.Prelude.{
   ℕ,
   ◌+◌,
@@ -50,7 +51,7 @@ abbrev pub is_out_of_memory : AskFault → Bool
 is_out_of_memory NoMemory = true
 is_out_of_memory _ = false
 
--- the text that items give to each key, if any
+-- the text that items (arguments, or pairs of a query) give to each key, if any
 abbrev pub Said : Type 0
 Said = Key → Option (List ℕ)
 
@@ -58,16 +59,16 @@ Said = Key → Option (List ℕ)
 abbrev pub nothing_said : Said
 nothing_said k = None
 
--- the texts of keys with another key's; keys are compared by their names
+-- the texts of keys with `text` for the key `new`; keys are compared by their names
 abbrev pub also : Key → List ℕ → Said → Said
 also new text said k = if bytes_eq (name_of k) (name_of new) then Some text else said k
 
--- the fault if the condition is true
+-- success, or the fault if the condition is true
 abbrev pub refuse_if : Bool → AskFault → Result (Unit {0}) AskFault
 refuse_if true fault = Err fault
 refuse_if false fault = Ok tt
 
--- a text has the form of a key in questions of this origin
+-- a text has the form of a key's values in questions of this origin
 abbrev pub has_form : Origin → Key → List ℕ → Bool
 has_form origin k text = is_some ((row_of k).form origin text)
 
@@ -100,11 +101,12 @@ abbrev pub complete : Option Key → Result (Unit {0}) AskFault
 complete None = Ok tt
 complete (Some k) = Err (MissingKey k)
 
--- the field of a question for a key
+-- the question's field for a key: the value of the key's text, or the default or None if the key has no
+-- text
 abbrev pub field_of : Origin → Said → (k : Key) → Field k
 field_of origin said k = (row_of k).need.field (option_and_then ((row_of k).form origin) (said k))
 
--- the question of a command with these texts
+-- the question of a command whose keys have these texts; a key without a text has its default
 abbrev pub asked : Origin → Command → Said → Question
 asked origin command said = record {
   command = command;

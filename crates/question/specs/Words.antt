@@ -11,7 +11,7 @@ use Rattle.question.specs.Commands.{word_of}
 abbrev pub is_equals_sign : ℕ → Bool
 is_equals_sign byte = byte == 61
 
--- the item of an argument, which is split at its first `=`; without `=` it has no value
+-- the key and value of an argument, which is split at its first `=`; without `=` it has no value
 abbrev pub item_of : List ℕ → Item
 item_of word =
     if list_any is_equals_sign word

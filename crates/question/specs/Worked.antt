@@ -13,15 +13,15 @@ use Rattle.question.specs.Words.{item_of, pairs_of}
 abbrev pub is_space : ℕ → Bool
 is_space byte = byte == 32
 
--- the result of reading a command line
+-- the result of reading a command line, written with one space between two arguments
 abbrev pub of_line : List ℕ → Result Question AskFault
 of_line words = question_of (pairs_of (slice_split is_space words))
 
--- the result of reading a query
+-- the result of reading a web query: the command of its path, and its pairs written as `key=value`
 abbrev pub of_query : List ℕ → List (List ℕ) → Result Question AskFault
 of_query command words = question_of (record { origin = Query; command = Some command; items = map item_of words })
 
--- a question with defaults for all keys
+-- a question in which all keys have their defaults
 abbrev pub bare : Command → Question
 bare command = record {
   command = command;

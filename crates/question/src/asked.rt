@@ -77,7 +77,7 @@ pub fn put_value(
     }
 }
 
-/// Puts `value` into `field`, and returns true if there is one.
+/// Puts `value` into `field`, and returns true if `value` isn't `None`.
 fn put<V: Copy>(value: Option<V>, field: &mut Option<V>) -> bool
     ensures put { field.new ≡ value }
     ensures is_some { result ≡ is_some value }
@@ -86,7 +86,7 @@ fn put<V: Copy>(value: Option<V>, field: &mut Option<V>) -> bool
     value.is_some()
 }
 
-/// Puts `value`, or `default` if there is none, into `field`, and returns true if there is one.
+/// Puts `value`, or `default` if that is `None`, into `field`, and returns true if `value` isn't `None`.
 fn put_or<V: Copy>(value: Option<V>, default: V, field: &mut V) -> bool
     ensures put { field.new ≡ unwrap_or value default }
     ensures is_some { result ≡ is_some value }

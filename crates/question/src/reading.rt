@@ -49,9 +49,10 @@ pub fn read_question(alloc: Global, pairs: &Pairs) -> Result<Question, AskFault>
 /// Returns the question of `command` with `items`.
 ///
 /// # Errors
-/// For each item, from the left, [`AskFault::NotAPair`], [`AskFault::UnknownKey`],
-/// [`AskFault::RepeatedKey`] or [`AskFault::BadValue`]; then [`AskFault::MissingKey`] with the first key
-/// of the table that the command requires; [`AskFault::NoMemory`] if memory runs out.
+/// For each item (an argument, or a pair of a query), from the left, [`AskFault::NotAPair`],
+/// [`AskFault::UnknownKey`], [`AskFault::RepeatedKey`] or [`AskFault::BadValue`]; then
+/// [`AskFault::MissingKey`] with the first key of the table that the command requires;
+/// [`AskFault::NoMemory`] if memory runs out.
 pub fn read_items(
     alloc: Global,
     origin: Origin,
@@ -88,7 +89,7 @@ fn read_command(origin: Origin, word: &Option<Text>) -> Result<Command, AskFault
     }
 }
 
-/// Puts the values of `items` into `question`, the bare question of `command`.
+/// Puts the values of `items` into `question`, in which all keys have their defaults.
 fn fill(
     alloc: Global,
     origin: Origin,

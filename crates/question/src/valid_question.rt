@@ -6,8 +6,9 @@ ghost use Rattle.question.specs.Asked.{AreInRange};
 use crate::question::Question;
 use std::marker::Model;
 
-/// A borrowed question, proved to be valid: its span, mark and step are in the ranges of their keys. In
-/// contracts its value is the question.
+/// A borrowed question, proved to be valid: each of these that is given is in the range of its key: the
+/// span's first minute and end in the years from 1 to 9999, the mark at most 10,000,000,000 millionths
+/// either way, and the step from 1 to 44,640 minutes. In contracts its value is the question.
 #[derive(Drop)]
 pub struct ValidQuestion<'a> {
     question: &'a Question,
@@ -26,8 +27,9 @@ impl<'a> Model for ValidQuestion<'a> {
 }
 
 impl<'a> ValidQuestion<'a> {
-    /// Returns `question` as a valid question; the caller proves that its span, mark and step are in
-    /// their ranges, as they are in each question that was read from text.
+    /// Returns `question` as a valid question. The caller proves that its span, mark and step are in the
+    /// ranges of their keys, as they are in each question that [`read_question`](crate::read_question)
+    /// returns.
     pub fn new(question: &'a Question) -> ValidQuestion<'a>
         requires { AreInRange question.now }
         ensures { result ≡ question.now }

@@ -10,10 +10,10 @@ ghost use Rattle.question.specs.Forms.{some_text, number_of, seed_of, port_of, s
 use decimal_text::{Text, are_digits, read};
 use std::alloc::{AllocError, Global};
 
-/// The decimal places of a mark.
+/// The most decimal places of a mark, which is held in millionths.
 const MARK_PLACES: u32 = 6;
 
-/// The size of the greatest mark, in millionths.
+/// The size of the greatest mark, in millionths of the station's unit.
 const GREATEST_MARK: u128 = 10_000_000_000;
 
 /// Returns `text`, or `None` if it is empty.
@@ -30,7 +30,7 @@ pub fn some_text(alloc: Global, text: &str) -> Result<Option<Text>, AllocError>
     Ok(Some(Text::from_str(alloc, text)?))
 }
 
-/// Returns the number that `digits` write, or `None` if it exceeds 64 bits.
+/// Returns the decimal number that `digits` write, or `None` if it is greater than 2^64 - 1.
 fn value(digits: &str) -> Option<u64>
     requires some { 0 < length digits.now }
     requires digits { list_all is_ascii_digit digits.now ≡ true }
@@ -40,7 +40,7 @@ fn value(digits: &str) -> Option<u64>
 }
 
 /// Returns the number that `text` writes in 1 to `digits` digits, or `None` unless it is from `least` to
-/// `most`.
+/// `most`, both included.
 #[tactic(auto, unfolding(crate::specs::Forms::number_of))]
 pub fn number(text: &str, digits: usize, least: u64, most: u64) -> Option<u64>
     ensures value { result ≡ number_of digits least most text.now }
@@ -72,7 +72,8 @@ pub fn port(text: &str) -> Option<u16>
     Some(number as u16)
 }
 
-/// Parses `text` as the number of minutes from one height to the next, from 1 to 44,640.
+/// Parses `text` as the number of minutes from one height to the next, from 1 to 44,640, or returns
+/// `None`.
 pub fn step(text: &str) -> Option<i64>
     ensures { result ≡ step_of text.now }
 {
@@ -80,8 +81,8 @@ pub fn step(text: &str) -> Option<i64>
     Some(number as i64)
 }
 
-/// Parses `text` as a mark, a decimal with at most six places, and returns it in millionths, from
-/// -10,000,000,000 to 10,000,000,000.
+/// Parses `text` as a mark, a decimal with at most six places, and returns it in millionths of the
+/// station's unit, from -10,000,000,000 to 10,000,000,000; else returns `None`.
 #[tactic(auto, unfolding(crate::specs::Forms::mark_of))]
 pub fn mark(text: &str) -> Option<i64>
     ensures { result ≡ mark_of text.now }

@@ -27,7 +27,8 @@ fn two_digits(text: &str, most: u64) -> Option<u64>
     number(text, 2, 0, most)
 }
 
-/// Returns the minutes of a time such as `05:30`, at most 15:59.
+/// Returns the minutes that a time such as `05:30` has, from 00:00 to 15:59, or `None` if `text` isn't
+/// such a time.
 #[tactic(auto, unfolding(crate::specs::Forms::clock_of))]
 fn clock(text: &str) -> Option<i32>
     ensures value { result ≡ option_map pos (clock_of text.now) }
@@ -38,7 +39,8 @@ fn clock(text: &str) -> Option<i32>
     Some((60 * hours + minutes) as i32)
 }
 
-/// Returns the minutes of an offset from universal time, such as `+05:30` or `-05:30`.
+/// Returns the minutes of an offset from universal time, such as `+05:30` or `-05:30`, or `None` if
+/// `text` isn't such an offset.
 #[tactic(auto, unfolding(crate::specs::Forms::offset_of))]
 fn offset(text: &str) -> Option<i32>
     ensures { result ≡ offset_of text.now }
@@ -59,8 +61,8 @@ fn file_zone(alloc: Global, origin: Origin, name: &str) -> Result<Option<ZoneWor
     Ok(some_text(alloc, name)?.map(|name| ZoneWord::Named(name)))
 }
 
-/// Parses `text` as a zone: `UTC`, an offset such as `+05:30`, or, on a command line, `@` and the name of a
-/// zone file.
+/// Parses `text` as a zone: `UTC`, an offset such as `+05:30`, or, on a command line, `@` and the name
+/// of a zone file. Returns `None` if it isn't a zone.
 ///
 /// # Errors
 /// [`AllocError`] if memory runs out.

@@ -112,7 +112,8 @@ fn has_head(station: &Station) -> bool {
         && station.units == Units::Feet
 }
 
-/// The number of a line, its text, and the line and the number of the fault.
+/// Changes of the pier's file: the number of a line, counted from 1, the text in its place, and the line
+/// and the number of the fault, or two zeros if there is none.
 pub const CHANGES: &[(usize, &str, u32, u32)] = &[
     (2, "2", 4, 3),
     (2, "0000000001", 2, 1),

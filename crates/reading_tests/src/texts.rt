@@ -2,7 +2,8 @@
 
 use std::alloc::{AllocError, Global};
 
-/// A pier with a half-daily tide, from 1999 to 2001.
+/// A file of harmonic constants for 1999 to 2001: a pier with one constituent of 12 hours and an
+/// amplitude of 1 foot.
 pub const PIER: &str =
     "# Pier test\n1\nS2 30.0000000\n1999\n3\nS2\n0 0 0\n*END*\n3\nS2\n1 1 1\n*END*\nPier\n0:00 :UTC\n0 feet\nS2 1 0\n";
 

@@ -10,6 +10,6 @@ use Rattle.report_sheets.specs.Sheets.{SheetMeaning}
 abbrev pub lines_of : Head → List Event → List ℕ
 lines_of head events = plain_events_of head.name head.units events Utc
 
--- the sheet `first` with a limit
+-- the definition of the sheet `first` that accepts at most `limit` events
 abbrev pub first_sheet : ℕ → SheetMeaning
 first_sheet limit = record { word = codes "first"; limit = limit; layout = lines_of }

@@ -10,11 +10,11 @@ use Rattle.report_sheets.specs.Sheets.{SheetMeaning}
 unfoldable pub page_of : Head → List Event → SheetMeaning → List ℕ
 page_of head events sheet = sheet.layout head (take sheet.limit events)
 
--- the word of a sheet is among the requested words
+-- the word of a sheet is one of the requested words
 abbrev pub is_wanted : List (List ℕ) → SheetMeaning → Bool
 is_wanted wanted sheet = list_any (λ word. bytes_eq word sheet.word) wanted
 
--- the pages of the requested sheets, one after the other, in the order of the sheets
+-- the pages of the requested sheets, one after the other, in the order of `sheets`, not of the request
 unfoldable pub pages_of : List SheetMeaning → List (List ℕ) → Head → List Event → List ℕ
 pages_of sheets wanted head events = flat_map (page_of head events) (filter (is_wanted wanted) sheets)
 

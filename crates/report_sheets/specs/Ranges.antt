@@ -12,13 +12,15 @@ use Rattle.report_sheets.specs.declared.extreme.Extreme.TheVariants.{Highest, Lo
 use Rattle.report_sheets.specs.declared.head.Head.{Head}
 use Rattle.report_sheets.specs.Sheets.{SheetMeaning}
 
--- a kind belongs to an end of the range: high waters to the highest, low waters to the lowest
+-- a kind of event belongs to an end of the range: high waters to the highest water, low waters to the
+-- lowest
 abbrev pub is_of : Extreme → Kind → Bool
 is_of Highest High = true
 is_of Lowest Low = true
 is_of _ _ = false
 
--- a level is at least as extreme as another level
+-- a level is at least as extreme as another: not below it for the highest water, not above it for the
+-- lowest
 abbrev pub reaches : Extreme → ℤ → ℤ → Bool
 reaches Highest level other = int_le other level
 reaches Lowest level other = int_le level other
@@ -31,12 +33,13 @@ first_of extreme events = find (λ event. list_all (λ other. reaches extreme ev
 abbrev pub extreme_of : Extreme → List Event → Option Event
 extreme_of extreme events = first_of extreme (filter (λ event. is_of extreme event.kind) events)
 
--- the first word of an end's line
+-- the first word of the line for the highest or the lowest water
 abbrev pub label_of : Extreme → List ℕ
 label_of Highest = codes "Highest "
 label_of Lowest = codes "Lowest "
 
--- the line of an end: the level with its unit and its moment; no line if there is no event
+-- the line of the highest or the lowest water: the level with its unit, and its moment in universal
+-- time; no line if there is no such event
 abbrev pub range_line : Extreme → Units → Option Event → List ℕ
 range_line extreme units None = []
 range_line extreme units (Some event) =
@@ -48,6 +51,6 @@ ranges_of head events =
     head.name ++ codes "\n" ++ range_line Highest head.units (extreme_of Highest events)
     ++ range_line Lowest head.units (extreme_of Lowest events)
 
--- the sheet `range` with a limit
+-- the definition of the sheet `range` that accepts at most `limit` events
 abbrev pub range_sheet : ℕ → SheetMeaning
 range_sheet limit = record { word = codes "range"; limit = limit; layout = ranges_of }

@@ -20,11 +20,11 @@ use Rattle.harmonics_book.specs.declared.book.Units.{Units}
 use Rattle.report_sheets.specs.declared.head.Head.{Head}
 use Rattle.report_sheets.specs.Sheets.{SheetMeaning}
 
--- the names in the order of their lines
+-- the names of events, in the order of the lines of a tally
 abbrev pub names : List EventWord
 names = HighTide ∷ LowTide ∷ MaxFlood ∷ MinFlood ∷ MaxEbb ∷ MinEbb ∷ SlackFloodBegins ∷ SlackEbbBegins ∷ MarkRising ∷ MarkFalling ∷ []
 
--- the index of a name in this order
+-- the index of a name in `names`, the order of the lines
 abbrev pub place_of : EventWord → ℕ
 place_of HighTide = 0
 place_of LowTide = 1
@@ -37,7 +37,7 @@ place_of SlackEbbBegins = 7
 place_of MarkRising = 8
 place_of MarkFalling = 9
 
--- the number of events with the name at an index
+-- the number of events whose name is the one at this index of `names`
 abbrev pub count_at : Units → List Event → ℕ → ℕ
 count_at units events place = count_by (λ event. place_of (word_of units event.kind event.level) == place) events
 
@@ -50,6 +50,6 @@ unfoldable pub tally_of : Head → List Event → List ℕ
 tally_of head events =
     head.name ++ codes "\n" ++ flat_map (λ word. count_line (count_at head.units events (place_of word)) word) names
 
--- the sheet `tally` with a limit
+-- the definition of the sheet `tally` that accepts at most `limit` events
 abbrev pub tally_sheet : ℕ → SheetMeaning
 tally_sheet limit = record { word = codes "tally"; limit = limit; layout = tally_of }

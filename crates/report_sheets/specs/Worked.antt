@@ -21,7 +21,7 @@ tides =
 abbrev pub pier : Head
 pier = record { name = codes "Pier"; units = Feet; now = pos 15791220 }
 
--- the station of a current
+-- the station of a current, in knots
 abbrev pub gate : Head
 gate = record { name = codes "Gate"; units = Knots; now = pos 15791220 }
 
@@ -32,6 +32,7 @@ ebbs =
     ∷ (record { minute = pos 15791400; kind = MarkFalling; level = negsuc 2999999 })
     ∷ (record { minute = pos 15791760; kind = Low; level = negsuc 1999999 }) ∷ []
 
--- three sheets, the last with a limit
+-- the sheets `tally`, `range` and `first`; the first two accept 1,000,000 events, and the last one
+-- accepts `limit`
 abbrev pub sheets_with : ℕ → List SheetMeaning
 sheets_with limit = tally_sheet 1000000 ∷ range_sheet 1000000 ∷ first_sheet limit ∷ []

@@ -18,8 +18,9 @@ pub struct Collected {
     /// The greatest number of events that the sheet accepts, from 1 to 1,000,000.
     pub limit: u32,
     pub head: Head,
-    /// The events in their order. Each has a [`word`](event_text::word) in the head's unit, and a
-    /// minute in the years 2 to 9300 or on the day before them.
+    /// The events in the order in which the sheet accepted them. Each has a [`word`](event_text::word)
+    /// in the head's unit, a level in millionths of this unit, and a minute in the years 2 to 9300 or on
+    /// the day before them.
     pub events: Vec<Event>,
     pub ghost limited: { IsLimit limit },
     pub ghost headed: { IsHead head },

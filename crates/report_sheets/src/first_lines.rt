@@ -42,7 +42,7 @@ impl Layout for FirstLinesPage {
     }
 }
 
-/// Appends the line of `event`.
+/// Appends the line of `event` in universal time.
 fn push_line(text: &mut Vec<u8>, units: Units, event: &Event) -> Result<(), AllocError>
     requires { IsListed units event.now }
     ensures { OnOk result (text.new.items ≡ text.old.items ++ event_line_in Zone.Utc units event.now) }

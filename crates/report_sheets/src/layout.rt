@@ -12,7 +12,8 @@ use std::alloc::{AllocError, Global};
 /// The layout of a sheet: the word that requests the sheet, and the text that it writes for a head and
 /// events.
 pub trait Layout {
-    /// The definition of the sheet with a limit: its word, its limit and its text.
+    /// The definition of the sheet that accepts at most this number of events: its word, its limit and
+    /// its text.
     ghost sheet: { ℕ → SheetMeaning };
 
     /// Returns the word that requests the sheet.
@@ -20,7 +21,8 @@ pub trait Layout {
         ensures { (limit : ℕ) → result.now ≡ (sheet limit).word };
 
     /// Returns the text for `head` and `events`. Each event has a [`word`](event_text::word) in the
-    /// head's unit, and a minute in the years 2 to 9300 or on the day before them.
+    /// head's unit, a level in millionths of this unit, and a minute in the years 2 to 9300 or on the
+    /// day before them.
     fn text(alloc: Global, head: &Head, events: &[Event]) -> Result<Bytes, AllocError>
         requires { All (IsListed head.now.units) events.now }
         ensures { (limit : ℕ) → IfOk result (λ text. text ≡ (sheet limit).layout head.entry.now events.now) };

@@ -14,8 +14,8 @@ use curve_law::{Event, Events};
 use decimal_text::{Bytes, Text, Words};
 use std::alloc::{AllocError, Global};
 
-/// Returns the index of the first word in `wanted` that no sheet has, or `None` if there isn't one. It
-/// doesn't allocate.
+/// Returns the index of the first word in `wanted` that no sheet has, or `None` if each word has a
+/// sheet. It doesn't allocate.
 pub fn missing(sheets: &Vec<Box<dyn Sheet>>, wanted: &Words) -> Option<u64>
     ensures { result ≡ missing_of (map meaning sheets.now.items) wanted.now }
 {
@@ -50,8 +50,8 @@ fn is_named(sheet: &Box<dyn Sheet>, word: &Text) -> bool
 /// of `sheets`. A page shows the head and the first events, up to the limit of its sheet.
 ///
 /// The name has no control characters, and the unit isn't knots squared. Each event has a
-/// [`word`](event_text::word) in the head's unit, and a minute in the years 2 to 9300 or on the day
-/// before them.
+/// [`word`](event_text::word) in the head's unit, a level in millionths of this unit, and a minute in
+/// the years 2 to 9300 or on the day before them.
 #[tactic(auto, using(crate::proofs::PageLemmas::pages_more, crate::proofs::PageLemmas::pages_kept), unfolding(crate::specs::Pages::pages_of))]
 pub fn fill(
     alloc: Global,
@@ -108,7 +108,7 @@ fn push_page(
     push_text(text, sheet)
 }
 
-/// Passes `event` to `sheet`.
+/// Passes `event` to `sheet`, and returns whether the sheet took it or is full.
 fn offer(sheet: &mut Box<dyn Sheet>, event: &Event) -> Result<Taken, AllocError>
     requires { IsListed (heading sheet.old).units event.now }
     ensures unchanged { meaning sheet.new ≡ meaning sheet.old }

@@ -44,7 +44,7 @@ impl Layout for RangesPage {
     }
 }
 
-/// Appends the line of the end `extreme`, if `events` has one.
+/// Appends the line of the highest or the lowest water, as `extreme` says, if `events` has one.
 fn push_extreme(
     text: &mut Vec<u8>,
     extreme: Extreme,
@@ -83,7 +83,7 @@ fn better(extreme: Extreme, best: Option<Event>, event: &Event) -> Event
     }
 }
 
-/// Appends the line of `event` as the end `extreme`.
+/// Appends the line of `event` as the highest or the lowest water, as `extreme` says.
 fn push_range(
     text: &mut Vec<u8>,
     extreme: Extreme,

@@ -18,13 +18,14 @@ use std::alloc::AllocError;
 ///
 /// Its word, its limit and its layout never change.
 pub trait Sheet: Drop {
-    /// The word, the limit and the layout.
+    /// The word, the limit and the layout of the sheet.
     ghost meaning: { Self → SheetMeaning };
 
     /// The head with which the sheet was last opened.
     ghost heading: { Self → Head };
 
-    /// The events accepted since then, in their order.
+    /// The events that the sheet has accepted since it was last opened, in the order in which it
+    /// accepted them.
     ghost list: { Self → List Event };
 
     /// Returns true if `word` is the sheet's word. It doesn't allocate.
@@ -46,8 +47,8 @@ pub trait Sheet: Drop {
 
     /// Appends `event`, or returns [`Taken::Full`] if the list has as many events as the limit.
     ///
-    /// The event has a [`word`](event_text::word) in the head's unit, and a minute in the years 2
-    /// to 9300 or on the day before them.
+    /// The event has a [`word`](event_text::word) in the head's unit, a level in millionths of this
+    /// unit, and a minute in the years 2 to 9300 or on the day before them.
     ///
     /// # Errors
     /// [`AllocError`] if memory runs out: then nothing changes.

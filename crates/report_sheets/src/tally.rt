@@ -84,7 +84,7 @@ fn place(word: EventWord) -> usize
     word as usize
 }
 
-/// Appends a line for each name with a count.
+/// Appends a line for each name whose count isn't 0.
 fn push_counts(text: &mut Vec<u8>, counts: &[u64]) -> Result<(), AllocError>
     requires { length counts.now ≡ 10 }
     ensures { OnOk result (text.new.items

@@ -21,8 +21,8 @@ pub fn worked_ranges()
     ensures none { ranges_of pier [] ≡ codes "Pier\n" }
 {}
 
-/// Proves an example of a report: the pages of the requested sheets in the order of the sheets; the last
-/// sheet has a limit of two events.
+/// Proves an example of a report: the pages of the requested sheets are in the order of the list of
+/// sheets, not of the request, and the last sheet shows at most two events.
 pub fn worked_pages()
     ensures first { pages_of (sheets_with 2) (codes "first" ∷ codes "tally" ∷ []) pier tides
         ≡ codes "Pier\n2 High Tide\n2 Low Tide\nPier\n2000-01-10 06:00 UTC      -1.00 feet  Low Tide\n2000-01-10 11:59 UTC       1.00 feet  High Tide\n" }

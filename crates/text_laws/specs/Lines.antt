@@ -8,7 +8,7 @@ pub record IsLine (line : List ℕ) : Type 0 where
   pub ends : line ≡ bytes ++ codes "\n"
   pub no_control : All (λ byte. 32 ≤ byte) bytes
 
--- a level that fits 64 bits
+-- a level in millionths of the unit that is at most 2^63 in size
 abbrev pub IsLevel : ℤ → Type 0
 IsLevel level = unsigned_abs level ≤ 2 ^ 63
 
@@ -16,7 +16,8 @@ IsLevel level = unsigned_abs level ≤ 2 ^ 63
 abbrev pub listing_of : List ℕ → List (List ℕ) → List ℕ
 listing_of name lines = name ++ codes "\n" ++ flat_map (λ line. line) lines
 
--- two listings of one station with equally many lines, which are related pair by pair, in order
+-- two listings of one station with equally many lines, of which each line of the one is related to the
+-- line at the same index of the other
 pub record AreListings (name : List ℕ) (Related : List ℕ → List ℕ → Type 0) (text other : List ℕ) : Type 0 where
   pub lines : List (List ℕ)
   pub others : List (List ℕ)
@@ -26,8 +27,9 @@ pub record AreListings (name : List ℕ) (Related : List ℕ → List ℕ → Ty
   pub single_there : All IsLine others
   pub related : AllZip Related lines others
 
--- two listings of one station, with equally many lines after a first line: the first lines are related in one way,
--- and the later ones in another, pair by pair, in order
+-- two listings of one station, with equally many lines after a first line: the first lines are related
+-- in one way, and each later line is related in another way to the line at the same index of the other
+-- listing
 pub record AreListingsAfter (name : List ℕ) (First Related : List ℕ → List ℕ → Type 0) (text other : List ℕ) : Type 0 where
   pub first : List ℕ
   pub first_there : List ℕ

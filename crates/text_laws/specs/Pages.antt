@@ -34,7 +34,7 @@ pub record CalendarLine : Type 0 where
   pub day : ℤ
   pub events : List Event
 
--- the line of a date
+-- the line of a local date: the date, and the local time, the level and the name of each of its events
 abbrev pub line_of : Zone → Units → CalendarLine → List ℕ
 line_of zone units calendar_line = date_text calendar_line.day ++ flat_map (entry_in zone units) calendar_line.events ++ codes "\n"
 
@@ -42,7 +42,8 @@ line_of zone units calendar_line = date_text calendar_line.day ++ flat_map (entr
 abbrev pub all_events : List CalendarLine → List Event
 all_events calendar_lines = flat_map (λ calendar_line. calendar_line.events) calendar_lines
 
--- the local dates of the first and the last minute of a span and of events
+-- the local dates of the first and the last minute of a span, from `begin` up to but not including
+-- `end`, and of events
 abbrev pub dates_of : Zone → List Event → ℤ → ℤ → List ℤ
 dates_of zone events begin end = day_in zone begin ∷ day_in zone (end -ℤ pos 1) ∷ event_days zone events
 

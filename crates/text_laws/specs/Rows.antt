@@ -17,8 +17,8 @@ use Rattle.zone_time.specs.Zones.{local_in}
 abbrev pub records_in : List ℕ → List (List (List ℕ))
 records_in text = records default_config (strip_bom text)
 
--- the line of a minute and a level, from its local time without a label and its unit; the level is rounded
--- to hundredths
+-- the line of a minute and a level, in millionths of the unit, from its local time without a label and
+-- its unit; the level is rounded to hundredths of the unit
 abbrev pub line_by : Zone → ℤ → ℤ → List ℕ → List ℕ → List ℕ
 line_by zone minute level local unit =
     local ++ codes " " ++ label_text (local_in zone minute).label ++ codes "  "
@@ -34,7 +34,8 @@ pub record ShowOneEvent (name : List ℕ) (zone : Zone) (row : List (List ℕ)) 
   pub millionths : field_of row 4 ≡ write_of level 6
   pub line_is : line ≡ line_by zone minute level (field_of row 2) (field_of row 5) ++ codes "  " ++ field_of row 3 ++ codes "\n"
 
--- a record and a line of one level
+-- a record and a line of one level: the record has the minute and the level in millionths, and the line
+-- has the record's local time and unit
 pub record ShowOneLevel (name : List ℕ) (zone : Zone) (row : List (List ℕ)) (line : List ℕ) : Type 0 where
   pub minute : ℤ
   pub level : ℤ
@@ -43,8 +44,8 @@ pub record ShowOneLevel (name : List ℕ) (zone : Zone) (row : List (List ℕ)) 
   pub millionths : field_of row 3 ≡ write_of level 6
   pub line_is : line ≡ line_by zone minute level (field_of row 2) (field_of row 4) ++ codes "\n"
 
--- equally many records after the header of one text and lines after the name of the other, related pair by
--- pair, in order
+-- equally many records after the header of one text and lines after the name of the other, each record
+-- related to the line at the same index
 pub record AreOneList (header : List (List ℕ)) (name : List ℕ) (Related : List (List ℕ) → List ℕ → Type 0)
     (csv plain : List ℕ) : Type 0 where
   pub rows : List (List (List ℕ))

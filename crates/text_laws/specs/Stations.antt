@@ -30,7 +30,8 @@ pub record FindsRow (book : Book) (table : List Offsets) (name : List ℕ) : Typ
   pub named : row.name ≡ name
   pub found : basis_of book table name ≡ basis_over book index row
 
--- the unit on a row's line
+-- the unit on the line of a row in the list of stations: the unit of its reference, or `-` if there is
+-- no such station
 abbrev pub unit_of_row : Book → Offsets → List ℕ
 unit_of_row book row = unit_or_dash (unit_in book.stations row.reference)
 

@@ -14,19 +14,19 @@ abbrev pub page_text : InfoPage → List ℕ
 page_text Help = help_text
 page_text Version = version_text
 
--- an argument is an option, in its short or its long form
+-- an argument is this option, in its short or its long form
 abbrev pub is_option : List ℕ → List ℕ → List ℕ → Bool
 is_option short long word = bytes_eq word short || bytes_eq word long
 
--- the option for help
+-- an argument is the option for help, `-h` or `--help`
 abbrev pub asks_for_help : List ℕ → Bool
 asks_for_help word = is_option (codes "-h") (codes "--help") word
 
--- the option for the version
+-- an argument is the option for the version, `-V` or `--version`
 abbrev pub asks_for_version : List ℕ → Bool
 asks_for_version word = is_option (codes "-V") (codes "--version") word
 
--- the first argument is the option for the version
+-- the first argument is the option for the version, `-V` or `--version`
 abbrev pub first_asks_for_version : List (List ℕ) → Bool
 first_asks_for_version [] = false
 first_asks_for_version (word ∷ words) = asks_for_version word
@@ -40,7 +40,7 @@ page_of words =
 
 -- ---- The three kinds of arguments
 
--- the page as an answer
+-- a page about the program as the answer of a run
 abbrev pub page_answer : InfoPage → Result Answer NoAnswer
 page_answer page = Ok (record { text = page_text page; rejected = false; cells = 0 })
 

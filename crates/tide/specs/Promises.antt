@@ -18,11 +18,12 @@ use Rattle.tide.specs.ArgumentErrors.{Given, HasWords, LacksWords, line_of, stat
 use Rattle.tide.specs.Pages.{AsksAnswer, AsksService, page_answer, page_of}
 use Rattle.tide.specs.declared.arguments.ArgumentError.{ArgumentError}
 
--- the sheets of a report, in their order, each with the greatest number of its events
+-- the sheets of a report in the order of their pages, each with the greatest number of events that it
+-- accepts
 abbrev pub program_sheets : List SheetMeaning
 program_sheets = tally_sheet 1000000 ∷ range_sheet 1000000 ∷ first_sheet 10 ∷ ical_sheet 100000 ∷ []
 
--- the objects of the program
+-- the objects of the program: files, a port, standard output, standard error and a clock
 pub record World (F D O E K : Type 0) : Type 0 where
   pub files : F
   pub door : D

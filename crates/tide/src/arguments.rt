@@ -47,7 +47,7 @@ fn why_of(kind: ErrorKind) -> ArgumentError
     }
 }
 
-/// Returns the arguments after the program's name, all of them and in their order.
+/// Returns all arguments after the program's name, in the order of the command line.
 pub fn words_of(alloc: Global, mut arguments: Args) -> Result<Words, AllocError>
     ensures { IfOk result (λ words. words ≡ map string_bytes (drop 1 (into_iter_items arguments))) }
 {
@@ -59,7 +59,8 @@ pub fn words_of(alloc: Global, mut arguments: Args) -> Result<Words, AllocError>
     Ok(Words::from_vec(words))
 }
 
-/// Writes the line of the reason `why` to `err`, and returns its exit status.
+/// Writes the line for the reason `why` to `err`, and returns the exit status for it, even if the write
+/// fails.
 pub fn report_argument_error<E: Sink>(why: ArgumentError, err: &mut E) -> Status
     ensures status { result ≡ status_of why }
     ensures line { (failed : Bool) × Wrote (E.state err.old) (E.state err.new) failed (line_of why) }

@@ -11,13 +11,13 @@ use std::alloc::{AllocError, Global};
 use tide_edge::{Clock, Door, Files, Sink};
 use tide_fault::Status;
 
-/// The greatest number of events of the sheets `tally` and `range`.
+/// The greatest number of events that each of the sheets `tally` and `range` accepts.
 const MOST_COUNTED: u32 = 1_000_000;
 
-/// The greatest number of events of the sheet `first`.
+/// The greatest number of events that the sheet `first` accepts.
 const MOST_FIRST: u32 = 10;
 
-/// The greatest number of events of the sheet `ical`.
+/// The greatest number of events that the sheet `ical` accepts.
 const MOST_IN_CALENDAR: u32 = 100_000;
 
 /// Responds to the arguments `words`, like [`respond`], with the sheets `tally`, `range`, `first` and

@@ -100,7 +100,8 @@ use Rattle.tide_answer.specs.Trials.{trial_of}
 abbrev pub text_alone : List ℕ → Answer
 text_alone text = record { text = text; rejected = false; cells = 0 }
 
--- an answer that lists events, with the number of cells of their curves
+-- an answer that lists events, with the number of cells of the requested tracks over the minutes that
+-- were searched
 abbrev pub text_of_events : Book → Site → Asked → List ℕ → Answer
 text_of_events book site asked text = record { text = text; rejected = false; cells = cells_of book site asked }
 
@@ -114,13 +115,13 @@ text_rejected line = record { text = line; rejected = true; cells = 0 }
 
 -- ---- events
 
--- the answer of `predict`
+-- the answer of the command `predict`: the events of a station over a span, or the first refusal
 unfoldable pub predicted : Book → List Offsets → List ℕ → Asked → Layout → Zone → Result Answer Refusal
 predicted book table name asked layout zone = do
   site ← site_in Events book table name asked
   Ok (text_of_events book site asked (events_text layout name site.station.units (events_of book site asked) zone))
 
--- the answer of `calendar`
+-- the answer of the command `calendar`: the events of a station by local date, or the first refusal
 unfoldable pub on_calendar : Book → List Offsets → List ℕ → Asked → Zone → Result Answer Refusal
 on_calendar book table name asked zone = do
   site ← site_in Events book table name asked
@@ -140,7 +141,7 @@ certificate_by book site name asked = record {
   tracks = tracks_of book site asked;
 }
 
--- the answer of `certify`
+-- the answer of the command `certify`: the certificate of a station's events, or the first refusal
 unfoldable pub certified : Book → List Offsets → List ℕ → Asked → Result Answer Refusal
 certified book table name asked = do
   site ← site_in Events book table name asked
@@ -151,7 +152,8 @@ abbrev pub certificate_from : Result Certificate CertFault → Result Certificat
 certificate_from (Ok cert) = Ok cert
 certificate_from (Err fault) = Err (refusal_of_cert fault)
 
--- the version of the rates by which a certificate is checked
+-- the version of the rates (bounds on how much a curve changes in a minute) by which a certificate is
+-- checked
 abbrev pub version_of : Certificate → Version
 version_of cert = if cert.version == 1 then First else Second
 
@@ -162,7 +164,7 @@ judged book site cert zone None =
     text_accepted (plain_events_of cert.station site.station.units (events_of book site (asked_by_certificate cert)) zone)
 judged book site cert zone (Some rejection) = text_rejected (rejection_line rejection)
 
--- the answer of `check`
+-- the answer of the command `check`: whether a certificate is valid, or the first refusal
 unfoldable pub checked : Book → List Offsets → List ℕ → Zone → Result Answer Refusal
 checked book table bytes zone = do
   cert ← certificate_from (certificate_of bytes)
@@ -172,7 +174,8 @@ checked book table bytes zone = do
 
 -- ---- levels
 
--- the number of rows of a span, one at each step, the end included if a step leads to it
+-- the number of rows of a span, one every `step` minutes from `begin` on; `end` has a row if a step
+-- leads to it
 abbrev pub row_count : ℤ → ℤ → ℤ → ℕ
 row_count begin end step = unsigned_abs (end -ℤ begin) / unsigned_abs step + 1
 
@@ -180,21 +183,23 @@ row_count begin end step = unsigned_abs (end -ℤ begin) / unsigned_abs step + 1
 abbrev pub row_limit : ℕ
 row_limit = 100000
 
--- the step of the rows: there are at most 100,000
+-- the check of the number of rows: more than 100,000 are refused
 unfoldable pub rows_in : ℤ → ℤ → ℤ → Result (Unit {0}) Refusal
 rows_in begin end step =
     if nat_lt row_limit (row_count begin end step) then Err (TooManyRows (pos (row_count begin end step))) else Ok tt
 
--- the row of heights at an index
+-- the row of heights at an index: `place` steps of `step` minutes after `begin`
 abbrev pub row_at : Book → Site → ℤ → ℤ → ℕ → Row
 row_at book site begin step place =
     let minute = begin +ℤ (step *ℤ pos place) in record { minute = minute; level = level_at book site minute }
 
--- the rows of heights of a span
+-- the rows of heights of a span, one every `step` minutes from `begin` on; `end` has a row if a step
+-- leads to it
 abbrev pub rows_of : Book → Site → ℤ → ℤ → ℤ → List Row
 rows_of book site begin end step = map (row_at book site begin step) (range_with_len 0 (row_count begin end step))
 
--- the answer of `heights`
+-- the answer of the command `heights`: the levels of a station at even steps of time, or the first
+-- refusal
 unfoldable pub heights : Book → List Offsets → List ℕ → Asked → ℤ → Layout → Zone → Result Answer Refusal
 heights book table name asked step layout zone = do
   site ← site_in Levels book table name asked
@@ -202,8 +207,8 @@ heights book table name asked step layout zone = do
   few ← rows_in asked.begin asked.end step
   Ok (text_alone (heights_text layout name site.station.units (rows_of book site asked.begin asked.end step) zone))
 
--- the answer of `clock`: the level at a minute and whether it rises, and the events of the 1,440 minutes
--- from there on
+-- the answer of the command `clock`: the level at a minute and whether it rises, and the events of the
+-- 1,440 minutes from there on
 unfoldable pub on_clock : Book → List Offsets → List ℕ → ℤ → Zone → Result Answer Refusal
 on_clock book table name now zone = do
   site ← site_in Events book table name (asked_from_minute now)
@@ -214,23 +219,24 @@ on_clock book table name now zone = do
 
 -- ---- the highest water
 
--- the listing of a highest water, by the reference's minute
+-- the listing of a highest water; `at` is its minute at the reference station, which the high-water
+-- offset moves
 abbrev pub highest_text_at : Book → Site → List ℕ → ℤ → Zone → List ℕ
 highest_text_at book site name at zone =
     let minute = at +ℤ site.basis.high.add in highest_text_of name site.station.units minute (level_at book site minute) zone
 
--- the answer of `highest`
+-- the answer of the command `highest`: the highest water of a station over a span, or the first refusal
 unfoldable pub highest : Book → List Offsets → List ℕ → Asked → Zone → Result Answer Refusal
 highest book table name asked zone = do
   site ← highest_site book table name asked
   Ok (text_alone (highest_text_at book site name (highest_of book site asked).at zone))
 
--- the certificate of the highest water of a span
+-- the certificate of the highest water of a station over a span
 abbrev pub peak_certificate_by : Book → Site → List ℕ → Asked → PeakCertificate
 peak_certificate_by book site name asked =
     record { station = name; begin = asked.begin; end = asked.end; peak = highest_of book site asked }
 
--- the answer of `peak`
+-- the answer of the command `peak`: the certificate of the highest water of a span, or the first refusal
 unfoldable pub peak_certified : Book → List Offsets → List ℕ → Asked → Result Answer Refusal
 peak_certified book table name asked = do
   site ← highest_site book table name asked
@@ -252,7 +258,8 @@ abbrev pub peak_judged : Book → Site → PeakCertificate → PeakVerdict → A
 peak_judged book site cert Accepted = text_accepted (highest_text_at book site cert.station cert.peak.at Utc)
 peak_judged book site cert verdict = text_rejected (verdict_line verdict)
 
--- the answer of `peakcheck`
+-- the answer of the command `peakcheck`: whether a certificate of a highest water is valid, or the first
+-- refusal
 unfoldable pub peak_checked : Book → List Offsets → List ℕ → Result Answer Refusal
 peak_checked book table bytes = do
   cert ← peak_from (peak_of bytes)
@@ -265,7 +272,7 @@ peak_checked book table bytes = do
 abbrev pub constituent_count : Station → ℕ
 constituent_count station = count_by (λ amplitude. not (int_eq amplitude (pos 0))) station.amplitude
 
--- the answer of `about`
+-- the answer of the command `about`: the facts about a station, or the first refusal
 unfoldable pub station_about : Book → List Offsets → List ℕ → Result Answer Refusal
 station_about book table name = do
   site ← station_in book table name
@@ -297,7 +304,7 @@ asks_name question next = do
   name ← named_by question.station
   next name
 
--- the events that a question requests, for a report
+-- the events of the station, span and mark of a question, for a report
 unfoldable pub listed : Book → List Offsets → Question → Result Listed Refusal
 listed book table question = do
   name ← named_by question.station

@@ -5,8 +5,8 @@ use Rattle.tide_answer.specs.declared.given.GivenView.{GivenView}
 use Rattle.zone_time.specs.Zones.{IsZone}
 use Rattle.decimal_text.specs.declared.limits.TheConstants.{MOST_BYTES}
 
--- the inputs are in their ranges: a zone that has a local time at each minute, a text of at most
--- 400,000,000 bytes, and a minute that a clock can show
+-- the inputs are in their ranges: a zone that has a local time at each minute, a certificate's text of
+-- at most 400,000,000 bytes, and a minute from -10,000,000,000 to 10,000,000,000 since 1970-01-01T00:00Z
 pub record IsGiven (given : Given) : Type 0 where
   pub zone : IsZone given.zone
   pub certificate : length given.certificate ≤ MOST_BYTES

@@ -28,39 +28,40 @@ use Rattle.tide_answer.specs.Asking.{asked_by_certificate}
 use Rattle.station_span.specs.Following.{followed}
 use Rattle.station_span.specs.Sites.{Site, site_in}
 
--- a request that a command line can make: its moments are in the years 1 to 9999, and its mark is at most
--- 10,000 units in size
+-- a request that a command line can make: its moments are in the years 1 to 9999, and its mark is at
+-- most 10,000 of the station's units in size
 pub record IsAskable (asked : Asked) : Type 0 where
   pub begin : IsMoment asked.begin
   pub end : IsMoment asked.end
   pub mark : ForSome asked.mark IsMark
 
--- the answer is the line `Accepted`, and then the listing of the prediction
+-- the answer is the line `Accepted`, and then the listing of this other answer
 abbrev pub AcceptsListing : Result Answer Refusal → Answer → Type 0
 AcceptsListing prediction answer =
     (listing : Answer) × (prediction ≡ Ok listing) × (answer ≡ text_alone (codes "Accepted\n" ++ listing.text))
 
--- the certificate of a request is accepted, with the listing of the same request's prediction
+-- `check` accepts each certificate that `certify` returns: it prints `Accepted`, and then what `predict`
+-- prints as lines, in the same zone, for the same station, span and mark
 abbrev pub AcceptsWhatIsCertified : Type 0
 AcceptsWhatIsCertified = (book : Book) (table : List Offsets) (name : List ℕ) (asked : Asked) (zone : Zone) (certificate : Answer) →
     IsBook book → IsTable table → IsAskable asked → certified book table name asked ≡ Ok certificate →
     (answer : Answer) × (checked book table certificate.text zone ≡ Ok answer)
     × AcceptsListing (predicted book table name asked Plain zone) answer
 
--- the certificate of a request has fewer than 333,000,000 bytes
+-- a certificate that `certify` returns has fewer than 333,000,000 bytes
 abbrev pub CertifiesInShort : Type 0
 CertifiesInShort = (book : Book) (table : List Offsets) (name : List ℕ) (asked : Asked) (certificate : Answer) →
     IsBook book → IsTable table → IsAskable asked → certified book table name asked ≡ Ok certificate → length certificate.text < 333000000
 
--- the events in a track's cells are the events found by looking at every minute of the span; no track is
--- present without its curve
+-- the events in a track's cells are the events found by looking at every minute of the span; a track is
+-- present exactly if its curve is
 abbrev pub ListsTrack : Span → Option Meaning → Option (List Cell) → Type 0
 ListsTrack span (Some curve) (Some cells) = cell_events span.begin cells ≡ events_over span curve
 ListsTrack span None None = Unit {0}
 ListsTrack span (Some curve) None = ⊥
 ListsTrack span None (Some cells) = ⊥
 
--- each track has exactly the events of its curve
+-- each track of a certificate has exactly the events of its curve over the span
 pub record ListsEvents (span : Span) (curves : Followed) (tracks : Tracks) : Type 0 where
   pub turn : ListsTrack span (Some curves.turn) (Some tracks.turn)
   pub slack : ListsTrack span curves.slack tracks.slack
@@ -77,13 +78,14 @@ pub record IsTrueCertificate (book : Book) (table : List Offsets) (bytes : List 
       (followed book site (asked_by_certificate certificate)) certificate.tracks
   pub listing : AcceptsListing (predicted book table certificate.station (asked_by_certificate certificate) Plain zone) answer
 
--- every accepted certificate is true, however it was made
+-- every certificate that `check` accepts has exactly the events of its station, span and mark, however
+-- it was made
 abbrev pub AcceptsOnlyWhatIsTrue : Type 0
 AcceptsOnlyWhatIsTrue = (book : Book) (table : List Offsets) (bytes : List ℕ) (zone : Zone) (answer : Answer) →
     IsBook book → IsTable table → checked book table bytes zone ≡ Ok answer → answer.rejected ≡ false
     → IsTrueCertificate book table bytes zone answer
 
--- every accepted certificate has fewer than 333,000,000 bytes, however it was made
+-- every certificate that `check` accepts has fewer than 333,000,000 bytes, however it was made
 abbrev pub AcceptsOnlyInShort : Type 0
 AcceptsOnlyInShort = (book : Book) (table : List Offsets) (bytes : List ℕ) (zone : Zone) (answer : Answer) →
     IsBook book → IsTable table → checked book table bytes zone ≡ Ok answer → answer.rejected ≡ false → length bytes < 333000000

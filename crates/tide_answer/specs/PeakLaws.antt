@@ -21,13 +21,15 @@ use Rattle.tide_answer.specs.Laws.{IsAskable, AcceptsListing}
 
 -- ---- the highest water
 
--- a minute of the reference that the offset moves into the span
+-- a minute of the reference that the high-water offset moves into the span, from its first minute up to
+-- but not including its end
 pub record IsMovedInto (site : Site) (asked : Asked) (m : ℤ) : Type 0 where
   pub from : asked.begin ≤ℤ (m +ℤ site.basis.high.add)
   pub before : (m +ℤ site.basis.high.add) <ℤ asked.end
 
--- the first of the reference's minutes moved into the span that have the greatest level; and no level of
--- the station in the span is higher than the one at the minute to which it is moved
+-- `at` is the first of the minutes with the greatest level of the reference, among those that the
+-- high-water offset moves into the span; and no level of the station in the span is higher than the one
+-- at the minute to which `at` is moved
 pub record IsHighestWater (book : Book) (site : Site) (asked : Asked) (at : ℤ) : Type 0 where
   pub inside : IsMovedInto site asked at
   pub greatest : (m : ℤ) → IsMovedInto site asked m → predicted_level book site.station m ≤ℤ predicted_level book site.station at
@@ -35,7 +37,7 @@ pub record IsHighestWater (book : Book) (site : Site) (asked : Asked) (at : ℤ)
   pub level : (minute : ℤ) → asked.begin ≤ℤ minute → minute <ℤ asked.end
       → level_at book site minute ≤ℤ level_at book site (at +ℤ site.basis.high.add)
 
--- the answer prints the highest water of the station's span
+-- the answer prints the highest water of the station's span in the local time of a zone
 pub record IsReportedHighest (book : Book) (table : List Offsets) (name : List ℕ) (asked : Asked) (zone : Zone)
     (answer : Answer) : Type 0 where
   pub site : Site
@@ -51,21 +53,22 @@ ReportsTheHighest = (book : Book) (table : List Offsets) (name : List ℕ) (aske
 
 -- ---- its certificates
 
--- the certificate of a request is accepted, with what `highest` prints for the same request in universal
--- time
+-- `peakcheck` accepts the certificate that `peak` returns: it prints `Accepted`, and then what `highest`
+-- prints in universal time for the same station and span
 abbrev pub AcceptsWhatPeakCertifies : Type 0
 AcceptsWhatPeakCertifies = (book : Book) (table : List Offsets) (name : List ℕ) (asked : Asked) (certificate : Answer) →
     IsBook book → IsTable table → IsAskable asked → peak_certified book table name asked ≡ Ok certificate →
     (answer : Answer) × (peak_checked book table certificate.text ≡ Ok answer) × AcceptsListing (highest book table name asked Utc) answer
 
--- the certificate of a request has fewer than 10,542,000 bytes
+-- a certificate that `peak` returns has fewer than 10,542,000 bytes
 abbrev pub PeakCertifiesInShort : Type 0
 PeakCertifiesInShort = (book : Book) (table : List Offsets) (name : List ℕ) (asked : Asked) (certificate : Answer) →
     IsBook book → IsTable table → IsAskable asked → peak_certified book table name asked ≡ Ok certificate
     → length certificate.text < 10542000
 
 -- the bytes are the text of a certificate; its minute has the highest water of its station and span, its
--- value is a million times the reference's level there, and the answer is what `highest` prints for them
+-- value is a million times the reference's level there (of which 4,147,200,000,000,000,000 are a
+-- millionth of the unit), and the answer is what `highest` prints for them
 pub record IsTruePeak (book : Book) (table : List Offsets) (bytes : List ℕ) (answer : Answer) : Type 0 where
   pub certificate : PeakCertificate
   pub site : Site
@@ -75,12 +78,13 @@ pub record IsTruePeak (book : Book) (table : List Offsets) (bytes : List ℕ) (a
   pub value : certificate.peak.value ≡ pos 1000000 *ℤ predicted_level book site.station certificate.peak.at
   pub listing : AcceptsListing (highest book table certificate.station (asked_by_peak_certificate certificate) Utc) answer
 
--- every accepted certificate of a highest water is true, however it was made
+-- every certificate that `peakcheck` accepts has the highest water of its station and span, however it
+-- was made
 abbrev pub AcceptsOnlyTruePeaks : Type 0
 AcceptsOnlyTruePeaks = (book : Book) (table : List Offsets) (bytes : List ℕ) (answer : Answer) →
     IsBook book → IsTable table → peak_checked book table bytes ≡ Ok answer → answer.rejected ≡ false → IsTruePeak book table bytes answer
 
--- every accepted certificate of a highest water has fewer than 10,542,000 bytes, however it was made
+-- every certificate that `peakcheck` accepts has fewer than 10,542,000 bytes, however it was made
 abbrev pub AcceptsOnlyPeaksInShort : Type 0
 AcceptsOnlyPeaksInShort = (book : Book) (table : List Offsets) (bytes : List ℕ) (answer : Answer) →
     IsBook book → IsTable table → peak_checked book table bytes ≡ Ok answer → answer.rejected ≡ false → length bytes < 10542000

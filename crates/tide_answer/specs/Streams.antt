@@ -29,22 +29,24 @@ can_stream Predict = true
 can_stream Certify = true
 can_stream _ = false
 
--- the text layout
+-- the layout is the one of text in columns
 abbrev pub is_plain_layout : Layout → Bool
 is_plain_layout Plain = true
 is_plain_layout _ = false
 
--- a zone that is a file
+-- the zone is one of a zone file
 abbrev pub is_zone_file : Zone → Bool
 is_zone_file (zones.File file) = true
 is_zone_file _ = false
 
--- an answer is streamed: its station has no offsets, its layout is text, and its zone isn't a file
+-- an answer is streamed (written while it is computed): its station has no offsets, its layout is lines
+-- of text, and its zone isn't a file
 abbrev pub streams_by : Basis → Layout → Zone → Bool
 streams_by basis layout zone =
     is_plain basis && (is_plain_layout layout && (if is_zone_file zone then false else true))
 
--- the prepared answer if it is streamed, or the first refusal
+-- the prepared answer, which has a text if it is streamed (written while it is computed), or the first
+-- refusal
 unfoldable pub prepared : Book → List Offsets → Question → Given → Result Ready Refusal
 prepared book table question given = do
   answer ← answered book table question given

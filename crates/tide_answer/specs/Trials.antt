@@ -42,7 +42,7 @@ use Rattle.station_span.specs.Following.{followed, events_of, tracks_of}
 use Rattle.station_cells.specs.Rejections.{rejection_of}
 use Rattle.station_span.specs.Sites.{Site, site_in}
 
--- the span of the trial: from 2000-12-01T00:00Z up to 2001-02-01T00:00Z, without a mark
+-- the span of the trial: from 2000-12-01T00:00Z up to 2001-02-01T00:00Z, not included, without a mark
 abbrev pub trial_span : Asked
 trial_span = record { begin = pos 16260480; end = pos 16349760; mark = None }
 
@@ -63,7 +63,7 @@ abbrev pub accepted_if : Option Rejection → ℕ
 accepted_if None = 1
 accepted_if (Some rejection) = 0
 
--- the counts of a station: the minutes of all tracks, each over the evaluated minutes; the events; the
+-- the counts of a station: the number of tracks times the minutes that were searched; the events; the
 -- cells, and the quiet ones among them; and the certificates that are accepted
 unfoldable pub tally_by : Span → Tracks → List Event → Option Rejection → Tally
 tally_by span tracks events rejection = record {
@@ -74,14 +74,15 @@ tally_by span tracks events rejection = record {
   accepted = accepted_if rejection;
 }
 
--- the counts of a station over a span
+-- the counts of a trial at a station over a span
 unfoldable pub tally_at : Book → Site → Asked → Tally
 tally_at book site asked =
     let span = widened_of site.basis asked.begin asked.end in
     let tracks = tracks_of book site asked in
     tally_by span tracks (events_of book site asked) (rejection_of (followed book site asked) span tracks)
 
--- the counts of a station that is predicted, certified and checked
+-- the counts of a trial at a station, which is predicted, certified and checked over the trial's span;
+-- or the first refusal
 unfoldable pub station_tally : Book → List ℕ → Result Tally Refusal
 station_tally book name = do
   site ← site_in Events book [] name trial_span
@@ -99,7 +100,7 @@ plus sum one = record {
   accepted = sum.accepted + one.accepted;
 }
 
--- the counts of no station
+-- the counts of no station, which are 0
 abbrev pub nothing : Tally
 nothing = record { minutes = 0; events = 0; cells = 0; quiet = 0; accepted = 0 }
 
@@ -121,7 +122,7 @@ abbrev pub book_from : Result Book At → Result Book Refusal
 book_from (Ok book) = Ok book
 book_from (Err fault) = Err (BadSample fault.line fault.why)
 
--- the line of a count
+-- the line of a count: a word, a space and the number
 abbrev pub number_line : List ℕ → ℕ → List ℕ
 number_line what number = what ++ codes " " ++ decimal number ++ codes "\n"
 
@@ -136,7 +137,7 @@ trial_text seed sum =
     ++ number_line (codes "quiet") sum.quiet
     ++ number_line (codes "accepted") sum.accepted
 
--- the answer of `trial`: the counts of the first stations of a seed's file
+-- the answer of `trial`: the counts of the first 40 stations of the file that a seed determines
 unfoldable pub trial_of : ℕ → Result (List ℕ) Refusal
 trial_of seed = do
   book ← book_from (book_of (sample_of seed))

@@ -13,7 +13,7 @@ use rate_bound::Version;
 use station_cells::{Rejection, rejection_over};
 use station_span::{FoundStation, mark_curve, slack_curve, turn_curve};
 
-/// Returns the first fault of the tracks of `cert`, by the rules of its version, or `None` if they are
+/// Returns the first fault of the tracks of `cert`, by the rates of its version, or `None` if they are
 /// right. It checks first whether the slack track is present exactly if it is required, and then the
 /// cells of each track. It doesn't allocate.
 pub fn find_rejection(found: &FoundStation, cert: &Certificate) -> Option<Rejection>
@@ -29,7 +29,8 @@ pub fn find_rejection(found: &FoundStation, cert: &Certificate) -> Option<Reject
     rejection_over(turn, slack, mark, &found.span, &cert.tracks)
 }
 
-/// Returns the version of the rates by which `cert` is checked.
+/// Returns the version of the rates (bounds on how much a curve changes in a minute) by which `cert` is
+/// checked.
 fn version_of(cert: &Certificate) -> Version
     ensures { result ≡ version_of cert.now }
 {

@@ -40,7 +40,7 @@ pub fn send_certificate<S: Sink>(
     send(out, sent, "done\n")
 }
 
-/// Writes the lines before the tracks.
+/// Writes the lines of a certificate before its tracks.
 fn send_head<S: Sink>(out: &mut S, name: &Text, found: &FoundStation) -> Result<Sent, WriteFailed>
     requires name { length name.now ≤ 400 }
     requires moments { AreMoments found.now.asked }
@@ -54,7 +54,8 @@ fn send_head<S: Sink>(out: &mut S, name: &Text, found: &FoundStation) -> Result<
     send(out, sent, lines.as_str())
 }
 
-/// Writes the tracks of all curves of the station.
+/// Writes the tracks of all curves of the station. `sent` has the counts of the bytes and cells that
+/// were written before.
 fn send_tracks<S: Sink>(out: &mut S, sent: Sent, found: &FoundStation) -> Result<Sent, WriteFailed>
     requires reach { found.now.reach ≡ Reach.Events }
     requires cells { HasCells (tracks_of found.now.curve.book (site_of found.now) found.now.asked) }

@@ -34,7 +34,10 @@ use zone_time::ZoneClock;
 ///
 /// # Errors
 /// The first [`Refusal`]: [`Refusal::NotACertificate`], and then, for the station, the span and the mark
-/// of the certificate: the station, its unit, the span, the bounds on its constants, the mark.
+/// of the certificate: the station isn't found, it is a hydraulic current, the span is backward or
+/// outside the file's years, its constants are over a bound ([`Refusal::TooLarge`] or
+/// [`Refusal::TooSteep`]), the span is longer than 5,270,400 minutes, a mark is given but the offsets of
+/// its high and low waters differ.
 #[tactic(auto, unfolding(crate::specs::Answers::checked))]
 pub fn check(
     alloc: Global,

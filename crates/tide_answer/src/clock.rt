@@ -22,8 +22,10 @@ use zone_time::{MINUTES_OF_DAY, ZoneClock};
 /// 1970-01-01T00:00Z, from -10,000,000,000 to 10,000,000,000.
 ///
 /// # Errors
-/// The first [`Refusal`] in this order: the station, its unit, the span, the bounds on its constants, a
-/// level at each minute.
+/// The first [`Refusal`] in this order: the station isn't found, it is a hydraulic current, the span is
+/// backward or outside the file's years, its constants are over a bound ([`Refusal::TooLarge`] or
+/// [`Refusal::TooSteep`]), the span is longer than 5,270,400 minutes, a level is needed at each minute
+/// but the offsets of its high and low waters differ.
 #[tactic(auto, unfolding(crate::specs::Answers::on_clock))]
 pub fn clock_answer(
     alloc: Global,

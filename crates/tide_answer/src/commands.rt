@@ -38,8 +38,11 @@ use zone_time::ZoneClock;
 ///
 /// # Errors
 /// The first [`Refusal`] in this order, as `specs/Answers.antt` defines it: the format of a certificate,
-/// the station, its unit, the span, the bounds on its constants, the mark, a level at each minute, the
-/// number of rows. If memory runs out, [`Refusal::NoMemory`] is returned in place of any other result.
+/// the station isn't found, it is a hydraulic current, the span is backward, empty for a highest water,
+/// or outside the file's years, its constants are over a bound ([`Refusal::TooLarge`] or
+/// [`Refusal::TooSteep`]), the span is longer than 5,270,400 minutes, a mark is given or a level is
+/// needed at each minute but the offsets of its high and low waters differ, there are more than 100,000
+/// rows. If memory runs out, [`Refusal::NoMemory`] is returned in place of any other result.
 ///
 /// # Examples
 /// ```

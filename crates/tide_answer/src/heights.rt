@@ -18,15 +18,18 @@ use std::alloc::{AllocError, Global};
 use tide_fault::Refusal;
 use zone_time::ZoneClock;
 
-/// The greatest number of rows of a list.
+/// The greatest number of rows of a list of heights.
 const ROW_LIMIT: u64 = 100_000;
 
 /// Returns the levels of the requested station, one every `step` minutes from the beginning of the span
 /// to its end, which is listed if the steps lead to it. `step` is from 1 to 44,640.
 ///
 /// # Errors
-/// The first [`Refusal`] in this order: the station, its unit, the span, the bounds on its constants,
-/// the mark, a level at each minute, and [`Refusal::TooManyRows`] for more than 100,000 rows.
+/// The first [`Refusal`] in this order: the station isn't found, it is a hydraulic current, the span is
+/// backward or outside the file's years, its constants are over a bound ([`Refusal::TooLarge`] or
+/// [`Refusal::TooSteep`]), the span is longer than 5,270,400 minutes, a mark is given or a level is
+/// needed at each minute but the offsets of its high and low waters differ, and [`Refusal::TooManyRows`]
+/// for more than 100,000 rows.
 #[tactic(auto, unfolding(crate::specs::Answers::heights))]
 pub fn list_heights(
     alloc: Global,
@@ -71,7 +74,8 @@ fn check_rows(found: &FoundStation, step: i64) -> Result<(), Refusal>
     Ok(())
 }
 
-/// Returns the number of rows.
+/// Returns the number of rows of the requested span, one every `step` minutes; the span's end has a row
+/// if a step leads to it.
 fn row_count(found: &FoundStation, step: i64) -> u64
     requires step { IsStep step }
     ensures exact { result ≡ row_count found.now.asked.begin found.now.asked.end step }
@@ -80,7 +84,7 @@ fn row_count(found: &FoundStation, step: i64) -> u64
     asked_minutes(found) / step.unsigned_abs() + 1
 }
 
-/// Returns the number of minutes of the span.
+/// Returns the number of minutes from the first minute of the requested span to its end.
 fn asked_minutes(found: &FoundStation) -> u64
     ensures exact { result ≡ unsigned_abs (found.now.asked.end -ℤ found.now.asked.begin) }
     ensures count_bound { result ≤ 40000000000 }
@@ -88,7 +92,7 @@ fn asked_minutes(found: &FoundStation) -> u64
     (found.asked.end - found.asked.begin).unsigned_abs()
 }
 
-/// Returns the rows.
+/// Returns the rows of the requested span, one every `step` minutes.
 fn rows_of(alloc: Global, found: &FoundStation, step: i64) -> Result<Rows, AllocError>
     requires step { IsStep step }
     requires levels { AreLooked found.now }
@@ -104,7 +108,8 @@ fn rows_of(alloc: Global, found: &FoundStation, step: i64) -> Result<Rows, Alloc
     Ok(Rows::from_vec(rows))
 }
 
-/// Returns the row at index `place`.
+/// Returns the row at index `place`, which is `place` steps of `step` minutes after the beginning of the
+/// span.
 fn row_at(found: &FoundStation, step: i64, place: u64) -> Row
     requires step { IsStep step }
     requires place { place ≤ row_limit }
@@ -118,7 +123,8 @@ fn row_at(found: &FoundStation, step: i64, place: u64) -> Row
     }
 }
 
-/// Returns the minute of the row at index `place`.
+/// Returns the minute of the row at index `place`, which is `place` steps of `step` minutes after
+/// `begin`.
 fn minute_at(begin: i64, step: i64, place: u64) -> i64
     requires begin { unsigned_abs begin ≤ 20000000000 }
     requires step { IsStep step }
@@ -138,7 +144,8 @@ fn minutes_to(step: i64, place: u64) -> i64
     step * place as i64
 }
 
-/// Proves the number of rows of some spans: the end has a row if the steps lead to it.
+/// Proves examples of the number of rows that a span has for a step: the end has a row if a step leads
+/// to it.
 #[tactic(auto, unfolding(crate::specs::Answers::rows_in))]
 pub fn worked_rows()
     ensures empty_span { row_count (pos 0) (pos 0) (pos 60) ≡ 1 }

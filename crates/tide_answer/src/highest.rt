@@ -27,8 +27,10 @@ use zone_time::ZoneClock;
 /// `zone`.
 ///
 /// # Errors
-/// The first [`Refusal`] in this order: the station, its unit, the span, the bounds on its constants,
-/// the mark, a level at each minute.
+/// The first [`Refusal`] in this order: the station isn't found, it is a hydraulic current, the span is
+/// backward, empty or outside the file's years, its constants are over a bound ([`Refusal::TooLarge`] or
+/// [`Refusal::TooSteep`]), the span is longer than 5,270,400 minutes, a mark is given or a level is
+/// needed at each minute but the offsets of its high and low waters differ.
 #[tactic(auto, unfolding(crate::specs::Answers::highest))]
 pub fn highest_answer(
     alloc: Global,
@@ -47,7 +49,7 @@ pub fn highest_answer(
 }
 
 /// Returns the listing of a highest water: the station's name, and the minute and the level that the
-/// offset makes of the reference's at minute `at`.
+/// high-water offset makes of the reference's minute `at` and its level.
 pub fn highest_text_at(
     alloc: Global,
     found: &FoundStation,
@@ -67,8 +69,10 @@ pub fn highest_text_at(
 /// Returns the certificate of the highest water of the requested station over its span.
 ///
 /// # Errors
-/// The first [`Refusal`] in this order: the station, its unit, the span, the bounds on its constants,
-/// the mark, a level at each minute.
+/// The first [`Refusal`] in this order: the station isn't found, it is a hydraulic current, the span is
+/// backward, empty or outside the file's years, its constants are over a bound ([`Refusal::TooLarge`] or
+/// [`Refusal::TooSteep`]), the span is longer than 5,270,400 minutes, a mark is given or a level is
+/// needed at each minute but the offsets of its high and low waters differ.
 #[tactic(auto, unfolding(crate::specs::Answers::peak_certified))]
 pub fn certify_peak(
     alloc: Global,

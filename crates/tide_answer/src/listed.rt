@@ -32,12 +32,15 @@ pub struct Listed {
 }
 
 /// Returns the events of the station, span and mark of `question`. Each event has a
-/// [`word`](event_text::word) in the unit, and a minute that the clock of any zone can show; the name
-/// has no control characters.
+/// [`word`](event_text::word) in the station's unit, a level in millionths of this unit, and a minute
+/// that the clock of any zone can show; the name has no control characters.
 ///
 /// # Errors
-/// The first [`Refusal`] in this order: the station, its unit, the span, the bounds on its constants,
-/// the mark. If memory runs out, [`Refusal::NoMemory`] is returned in place of any other result.
+/// The first [`Refusal`] in this order: the station isn't found, it is a hydraulic current, the span is
+/// backward or outside the file's years, its constants are over a bound ([`Refusal::TooLarge`] or
+/// [`Refusal::TooSteep`]), the span is longer than 5,270,400 minutes, a mark is given but the offsets of
+/// its high and low waters differ. If memory runs out, [`Refusal::NoMemory`] is returned in place of any
+/// other result.
 ///
 /// # Examples
 /// ```

@@ -17,7 +17,8 @@ use station_cells::{LineBuffer, Sent, send_name};
 use tide_edge::{Sink, WriteFailed};
 use zone_time::ZoneClock;
 
-/// Writes the line of each remaining event of `merge`.
+/// Writes the line of each remaining event of `merge`. `sent` has the counts of the bytes and cells that
+/// were written before.
 ///
 /// # Errors
 /// [`WriteFailed`] if the sink fails: then it has a prefix of the lines.

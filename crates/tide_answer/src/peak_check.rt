@@ -31,7 +31,10 @@ use zone_time::Zone;
 ///
 /// # Errors
 /// The first [`Refusal`]: [`Refusal::NotACertificate`], and then, for the station and the span of the
-/// certificate: the station, its unit, the span, the bounds on its constants, a level at each minute.
+/// certificate: the station isn't found, it is a hydraulic current, the span is backward, empty or
+/// outside the file's years, its constants are over a bound ([`Refusal::TooLarge`] or
+/// [`Refusal::TooSteep`]), the span is longer than 5,270,400 minutes, a level is needed at each minute
+/// but the offsets of its high and low waters differ.
 #[tactic(auto, unfolding(crate::specs::Answers::peak_checked))]
 pub fn check_peak_text(
     alloc: Global,

@@ -13,14 +13,15 @@ use peak_text::{
 };
 
 /// Proves that the command `highest` prints the highest water of the requested span: it is at the minute
-/// to which the offset moves the first of the reference's minutes with the greatest level, among the
-/// minutes moved into the span. No level of the station in the span is higher than the printed one.
+/// to which the high-water offset moves the first of the reference's minutes with the greatest level,
+/// among the minutes that the offset moves into the span. No level of the station in the span is higher
+/// than the printed one.
 pub fn highest_is_reported()
     ensures { ReportsTheHighest }
 {}
 
-/// Proves that the command `peakcheck` accepts what `peak` returned, with what `highest` prints in
-/// universal time for the same station and span.
+/// Proves that the command `peakcheck`, for the text that `peak` returned, prints `Accepted` and then
+/// what `highest` prints in universal time for the same station and span.
 pub fn peak_certified_is_accepted()
     ensures { AcceptsWhatPeakCertifies }
 {
@@ -36,8 +37,9 @@ pub fn peak_certified_is_short()
 }
 
 /// Proves that a certificate that the command `peakcheck` accepts is true, however it was made: its
-/// minute is the minute of the highest water of its station and span, its value is the reference's level
-/// there, and the answer is what `highest` prints for them.
+/// minute is the minute of the highest water of its station and span, its value is a million times the
+/// reference's level there (of which 4,147,200,000,000,000,000 are a millionth of the unit), and the
+/// answer is what `highest` prints for them.
 pub fn accepted_peak_is_true()
     ensures { AcceptsOnlyTruePeaks }
 {

@@ -23,15 +23,15 @@ use tide_edge::{Sink, WriteFailed};
 use tide_fault::Refusal;
 use zone_time::Zone;
 
-/// The prepared source of an answer, which can be streamed: written while it is computed.
+/// The prepared source of an answer, which may be streamed: written while it is computed.
 #[derive(Drop)]
 pub struct Ready {
     stream: Option<Stream>,
 }
 
 impl Ready {
-    /// Returns true if the answer is streamed: the station has no offsets, the layout is text, and the
-    /// zone isn't a file.
+    /// Returns true if the answer is streamed: the station has no offsets, the layout is lines of text,
+    /// and the zone isn't a file.
     pub fn streams(&self) -> bool
         ensures { result ≡ is_some self.now.stream }
     {
@@ -43,8 +43,11 @@ impl Ready {
 /// [`answer_into`](crate::answer_into) writes the answer.
 ///
 /// # Errors
-/// The first [`Refusal`] in this order: the station, its unit, the span, the bounds on its constants,
-/// the mark. If memory runs out, [`Refusal::NoMemory`] is returned in place of any other result.
+/// The first [`Refusal`] in this order: the station isn't found, it is a hydraulic current, the span is
+/// backward or outside the file's years, its constants are over a bound ([`Refusal::TooLarge`] or
+/// [`Refusal::TooSteep`]), the span is longer than 5,270,400 minutes, a mark is given but the offsets of
+/// its high and low waters differ. If memory runs out, [`Refusal::NoMemory`] is returned in place of any
+/// other result.
 pub fn prepare(
     alloc: Global,
     book: &Book,
@@ -109,8 +112,8 @@ pub fn answer_into<S: Sink>(ready: &Ready, out: &mut S) -> Result<u64, WriteFail
     }
 }
 
-/// Returns true if answers of `command` can be streamed. Whether a given answer is, [`Ready::streams`]
-/// says.
+/// Returns true if answers of `command` can be streamed: written while they are computed. Whether a
+/// given answer is streamed, [`Ready::streams`] says.
 pub fn can_stream(command: Command) -> bool
     ensures { result ≡ can_stream command }
 {
@@ -127,7 +130,8 @@ fn form_of(command: Command) -> Form
     }
 }
 
-/// Returns the zone if the answer is streamed, and otherwise `None`.
+/// Returns `zone` if the answer is streamed (the station has no offsets, the layout is lines of text,
+/// and the zone isn't a file), and otherwise `None`.
 fn streamed_zone(basis: &Basis, layout: Layout, zone: &Zone) -> Option<Zone>
     ensures { result ≡ (if streams_by basis.now layout zone.now then Some zone.now else None) }
 {

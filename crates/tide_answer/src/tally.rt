@@ -30,7 +30,7 @@ use std::alloc::{AllocError, Global};
 /// The counts of a trial at one station, or their sums over several stations.
 #[derive(Clone, Copy)]
 pub struct Tally {
-    /// The number of minutes of all tracks together.
+    /// The sum, over the tracks, of the minutes that were searched for events.
     pub minutes: u128,
     /// The number of events that were predicted.
     pub events: u128,
@@ -91,7 +91,7 @@ impl Tally {
     }
 }
 
-/// Returns the minutes of all tracks.
+/// Returns the number of tracks times the minutes of `span`.
 fn minutes_of(span: &Span, tracks: &Tracks) -> u128
     requires { IsSpanInRange span.now }
     ensures exact { result ≡ span_minutes span.now * length (tracks_in tracks.now) }

@@ -12,8 +12,8 @@ pub struct Answer {
     pub text: Bytes,
     /// True if a certificate was checked and isn't valid. The text then reports the fault.
     pub rejected: bool,
-    /// The number of cells of the requested tracks, each over all evaluated minutes of the reference, if
-    /// the answer lists events, and 0 otherwise.
+    /// The number of cells of the requested tracks, each over all minutes of the reference that were
+    /// searched, if the answer lists events, and 0 otherwise.
     pub cells: u64,
 }
 

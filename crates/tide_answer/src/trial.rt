@@ -25,7 +25,7 @@ use tide_fault::Refusal;
 /// The number of stations that are tried.
 const STATIONS: usize = 40;
 
-/// The span of the trial: from 2000-12-01T00:00Z up to 2001-02-01T00:00Z.
+/// The span of the trial: from 2000-12-01T00:00Z up to 2001-02-01T00:00Z, not included.
 const SPAN: Asked = Asked {
     begin: 16_260_480,
     end: 16_349_760,

@@ -57,7 +57,7 @@ abbrev pub ask_from : {A : Type 0} → Result A AskFault → Result A Fault
 ask_from (Ok value) = Ok value
 ask_from (Err fault) = Err (Ask fault)
 
--- the result of a step, with its refusal as a fault of the run
+-- the result of answering, with a refusal as a fault of the run
 abbrev pub refused_from : {A : Type 0} → Result A Refusal → Result A Fault
 refused_from (Ok value) = Ok value
 refused_from (Err refusal) = Err (Refused refusal)
@@ -70,12 +70,12 @@ question_in words = if asks_to_serve words then Err UnknownCommand else question
 abbrev pub wanted_by : Question → List (List ℕ)
 wanted_by question = unwrap_or question.sheets []
 
--- the requested word at an index
+-- the requested word at an index; no bytes if there is none
 abbrev pub word_at : List (List ℕ) → ℕ → List ℕ
 word_at wanted place = unwrap_or (slice_get wanted place) []
 
--- the step of the sheets: each requested word must be the word of a sheet, or the first that isn't is
--- the fault
+-- the step of the sheets: each requested word must be the word of a sheet; `place` is the index of the
+-- first one that isn't, if there is one
 abbrev pub found_in : List (List ℕ) → Option ℕ → Result (Unit {0}) Fault
 found_in wanted None = Ok tt
 found_in wanted (Some place) = Err (NoSheet (word_at wanted place))
@@ -91,7 +91,7 @@ question_of_words sheets words = do
 abbrev pub NamesFile : Result Question Fault → Type 0
 NamesFile asked = IsOkAnd asked (λ question. IsSome question.file)
 
--- the request names files that exist and can be read
+-- the request names files that exist, can be read and are in their formats
 abbrev pub HasFiles : Folders → Result Question Fault → Type 0
 HasFiles folders asked = IsOkAnd asked (λ question. IsSomeAnd question.file (λ name. IsOk (files_in folders question name)))
 
@@ -117,18 +117,18 @@ ReadsClock asked = IsOkAnd asked (λ question. IsTrue (reads_clock question.comm
 
 -- ---- The bytes that may be read
 
--- the bytes that may be read for a request
+-- how many files may be opened for a request, and how many bytes read
 abbrev pub question_allowed : Question → Allowance
 question_allowed question = option_map_or (λ name. files_allowed question) question.file no_file
 
--- the bytes that may be read for a command line; none if it isn't a request
+-- how many files may be opened for a command line, and how many bytes read; none if it isn't a request
 abbrev pub allowed_by : Result Question Fault → Allowance
 allowed_by (Ok question) = question_allowed question
 allowed_by (Err fault) = no_file
 
 -- ---- The answer, or the first reason for which there is none
 
--- the command that writes sheets
+-- the command is the one that writes sheets, `report`
 abbrev pub is_report : Command → Bool
 is_report Report = true
 is_report _ = false
@@ -143,7 +143,8 @@ reported sheets book table question now = do
   events ← listed book table question
   Ok (text_alone (pages_of sheets (wanted_by question) (head_of events now) events.events))
 
--- the answer with harmonic constants and a table: a report, or an answer without sheets
+-- the answer with harmonic constants and a table: a report if the Bool is true, else an answer without
+-- sheets
 abbrev pub answered_over_book : Bool → List SheetMeaning → Book → List Offsets → Question → Given → Result Answer Refusal
 answered_over_book true sheets book table question given = reported sheets book table question given.now
 answered_over_book false sheets book table question given = answered book table question given

@@ -49,9 +49,9 @@ abbrev pub answer_held : {F O E K : Type 0} → States F O E K → List SheetMea
     → Result Answer NoAnswer
 answer_held s sheets words o = answer_of sheets (folder_held s o) (next_minute (s.clock o.clock)) words
 
--- The files are observable and steady; the clock is observable and has not failed, if the command line
--- reads it; and no write of the answer has failed. (A saturated count of faults counts as one that
--- grew.)
+-- The files are observable and steady (one that exists can always be opened and read); the clock is
+-- observable and has not failed, if the command line reads it; and no write of the answer has failed. (A
+-- saturated count of faults counts as one that grew.)
 pub record NothingFailed {F O E K : Type 0} (s : States F O E K) (sheets : List SheetMeaning) (words : List (List ℕ))
     (before after : Objects F O E K) : Type 0 where
   pub observable : IsTrue (s.files before.files).store.is_observable
@@ -79,17 +79,19 @@ pub record RanOut {F O E K : Type 0} (status : Status) (before after : Objects F
   pub ends : status ≡ NoMemory
   pub unwritten : after.out ≡ before.out
 
--- A run over objects that don't fail ends with the answer to its command line, or out of memory: with a
--- read fault only if a file that the command line names is missing, and never with a write fault.
+-- A run over files, a clock and outputs that don't fail ends with the answer to its command line, or out
+-- of memory: with a read fault only if a file that the command line names is missing, and never with a
+-- write fault.
 abbrev pub EndsByItsAnswer : {F O E K : Type 0} → States F O E K → Type 0
 EndsByItsAnswer {F} {O} {E} {K} s = (sheets : List SheetMeaning) (words : List (List ℕ)) (status : Status)
     (before after : Objects F O E K) →
     AnswersAs s sheets words status before after → NothingFailed s sheets words before after →
     EndsWhole s (answer_held s sheets words before) status before after ⊎ RanOut status before after
 
--- A run over objects of any kind, the machine's too, ends with the answer for the bytes that were read
--- of the opened files and the minute that the clock returned, unless a write of the answer has failed.
--- So it ends with a read fault only if the clock couldn't be read or a file couldn't be read to its end.
+-- A run over files, a clock and outputs of any kind, the machine's too, ends with the answer for the
+-- bytes that were read of the opened files and the minute that the clock returned, unless a write of the
+-- answer has failed. So it ends with a read fault only if the clock couldn't be read or a file couldn't
+-- be read to its end.
 abbrev pub EndsByWhatCame : {F O E K : Type 0} → States F O E K → Type 0
 EndsByWhatCame {F} {O} {E} {K} s = (sheets : List SheetMeaning) (words : List (List ℕ)) (status : Status) (before after : Objects F O E K)
     (answers : AnswersAs s sheets words status before after) → ¬ (Rose (s.out before.out).faults (s.out after.out).faults) →
@@ -98,9 +100,9 @@ EndsByWhatCame {F} {O} {E} {K} s = (sheets : List SheetMeaning) (words : List (L
 
 -- ---- A request that nothing refuses
 
--- The command line is a request whose files are all present, within their limits and in their formats,
--- and with their contents it has this answer: its station is found and has a curve, its span is in the
--- file's years, and no bound is exceeded.
+-- The command line is a request whose files are all present, no longer than may be read and in their
+-- formats, and with their contents it has this answer: its station is found and has a curve, its span is
+-- in the file's years, and no bound is exceeded.
 pub record HasAnswer (sheets : List SheetMeaning) (folder : Folder) (minute : ℤ) (words : List (List ℕ)) (answer : Answer)
     : Type 0 where
   pub question : Question
@@ -112,7 +114,8 @@ pub record HasAnswer (sheets : List SheetMeaning) (folder : Folder) (minute : �
   pub unrefused : answered_over_book (is_report question.command) sheets read.book read.table question
       (given_with read (minute_for question.command minute)) ≡ Ok answer
 
--- done, or rejected if that is the answer to a certificate, with the whole text and nothing else written
+-- the status is done, or rejected if the answer rejects a certificate; the whole text of the answer was
+-- written to `out`, and nothing to `err`
 pub record WroteAll {F O E K : Type 0} (s : States F O E K) (answer : Answer) (status : Status) (before after : Objects F O E K)
     : Type 0 where
   pub ends : status ≡ (if answer.rejected then Rejected else Done)
@@ -120,8 +123,8 @@ pub record WroteAll {F O E K : Type 0} (s : States F O E K) (answer : Answer) (s
   pub silent : after.err ≡ before.err
 
 -- A request that nothing refuses ends with its whole text written, or out of memory, if the files are
--- steady, have the contents that the command line names, and are within their limits, and if the clock
--- and the outputs don't fail.
+-- steady (one that exists can always be opened and read), have the contents that the command line names,
+-- and are no longer than may be read, and if the clock and the outputs don't fail.
 abbrev pub IsComplete : {F O E K : Type 0} → States F O E K → Type 0
 IsComplete {F} {O} {E} {K} s = (sheets : List SheetMeaning) (words : List (List ℕ)) (status : Status) (before after : Objects F O E K)
     (answer : Answer) →
@@ -131,7 +134,7 @@ IsComplete {F} {O} {E} {K} s = (sheets : List SheetMeaning) (words : List (List 
 
 -- ---- A valid certificate
 
--- the run is done with an answer that meets the condition, or out of memory
+-- the run is done with an answer that meets this condition, or memory ran out and nothing was written
 abbrev pub EndsAccepting : {F O E K : Type 0} → States F O E K → (Answer → Type 0) → Status → Objects F O E K → Objects F O E K
     → Type 0
 EndsAccepting s accepts status before after =
@@ -158,12 +161,13 @@ pub record IsValidPeak (book : Book) (table : List Offsets) (text : List ℕ) : 
   pub unrefused : highest_site book table certificate.station (asked_by_peak_certificate certificate) ≡ Ok site
   pub accepted : highest_verdict book site (asked_by_peak_certificate certificate) certificate.peak ≡ Accepted
 
--- every accepted certificate is valid
+-- every certificate that `check` accepts is valid: the curve of each of its tracks accepts the track's
+-- cells
 abbrev pub IsValidIfAccepted : Type 0
 IsValidIfAccepted = (book : Book) (table : List Offsets) (text : List ℕ) (zone : Zone) (answer : Answer) →
     checked book table text zone ≡ Ok answer → answer.rejected ≡ false → IsValid book table text
 
--- every accepted certificate of a highest water is valid
+-- every certificate of a highest water that `peakcheck` accepts is valid: the level's curve accepts it
 abbrev pub IsValidPeakIfAccepted : Type 0
 IsValidPeakIfAccepted = (book : Book) (table : List Offsets) (text : List ℕ) (answer : Answer) →
     peak_checked book table text ≡ Ok answer → answer.rejected ≡ false → IsValidPeak book table text
@@ -176,8 +180,8 @@ pub record HoldsFiles (folder : Folder) (question : Question) (book : Book) (tab
   pub offsets : table_named folder question.offsets ≡ Ok table
   pub certificate : certificate_named folder question.certificate ≡ Ok text
 
--- A check of a valid certificate over objects that don't fail accepts it, with the listing of the
--- certificate's station, span and mark, or runs out of memory.
+-- A check of a valid certificate over files, a clock and outputs that don't fail accepts it, with the
+-- listing of the certificate's station, span and mark, or runs out of memory.
 abbrev pub AcceptsValid : {F O E K : Type 0} → States F O E K → Type 0
 AcceptsValid {F} {O} {E} {K} s = (sheets : List SheetMeaning) (words : List (List ℕ)) (check : Question) (book : Book)
     (table : List Offsets) (text : List ℕ) (zone : Zone) (status : Status) (before after : Objects F O E K) →
@@ -186,8 +190,8 @@ AcceptsValid {F} {O} {E} {K} s = (sheets : List SheetMeaning) (words : List (Lis
     IsValid book table text → AnswersAs s sheets words status before after → NothingFailed s sheets words before after →
     EndsAccepting s (IsTrueAnswer sheets (folder_held s before) check) status before after
 
--- A check of a valid certificate of a highest water over objects that don't fail accepts it, with the
--- highest water, or runs out of memory.
+-- A check of a valid certificate of a highest water over files, a clock and outputs that don't fail
+-- accepts it, with the highest water, or runs out of memory.
 abbrev pub AcceptsValidPeaks : {F O E K : Type 0} → States F O E K → Type 0
 AcceptsValidPeaks {F} {O} {E} {K} s = (sheets : List SheetMeaning) (words : List (List ℕ)) (check : Question) (book : Book)
     (table : List Offsets) (text : List ℕ) (status : Status) (before after : Objects F O E K) →

@@ -9,7 +9,7 @@ use Rattle.tide_fault.specs.declared.status.Status.TheVariants.{Done, Rejected, 
 use Rattle.tide_desk.specs.Answers.{ReadsClock, answer_of, question_of_words}
 use Rattle.tide_desk.specs.Outcomes.{EndsAs, IsFirm, Outputs, Says, Sources, outputs, sources, text_with}
 
--- the objects of a run in memory
+-- the objects of a run in memory: files, two outputs and a clock
 pub record Held : Type 0 where
   pub files : HeldFiles
   pub out : HeldSink
@@ -28,7 +28,9 @@ outputs_in held = outputs (sink_state held.out) (sink_state held.err)
 abbrev pub answer_in : List SheetMeaning → Held → List (List ℕ) → Result Answer NoAnswer
 answer_in sheets held words = answer_of sheets (folder_of held.files.files) held.clock.minute words
 
--- the clause of a run over observable files, for files in memory
+-- in memory, what a run promises over observable files and an observable clock: it ends as by the answer
+-- over their contents, if the files are steady and the clock hasn't failed, or if the status isn't a
+-- read fault
 abbrev pub EndsAsPromised : List SheetMeaning → List (List ℕ) → Status → Held → Held → Type 0
 EndsAsPromised sheets words status before after =
     IsTrue (files_state before.files).store.is_observable

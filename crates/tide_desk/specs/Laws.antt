@@ -29,7 +29,7 @@ pub record NameSameFiles (question other : Question) : Type 0 where
   pub file : question.file ≡ other.file
   pub offsets : question.offsets ≡ other.offsets
 
--- the station, the span and the mark of a request or of a certificate
+-- the subject of a request or of a certificate: its station, span and mark
 pub record Subject : Type 0 where
   pub station : Option (List ℕ)
   pub begin : Option ℤ
@@ -50,7 +50,8 @@ subject_in certificate = record {
   mark = certificate.mark;
 }
 
--- a request to `predict` that lists a subject as text, with the files and in the zone of a check
+-- a request to `predict` this station, span and mark (the subject), in lines of text, with the files of
+-- a check and in its zone
 pub record AsksListing (check : Question) (subject : Subject) (question : Question) : Type 0 where
   pub command : question.command ≡ Predict
   pub files : NameSameFiles question check
@@ -90,7 +91,8 @@ pub record AcceptsWith (sheets : List SheetMeaning) (folder : Folder) (asks : Qu
       asks question → question.certificate ≡ None
       → answered_over_optional_file sheets (λ slot. folder) minute question question.file ≡ Ok shown
 
--- the answer is the line `Accepted`, and then what `predict` prints for a subject
+-- the answer is the line `Accepted`, and then what `predict` prints for a subject (station, span and
+-- mark) with the files of the check and in its zone
 abbrev pub AcceptsWithListing : List SheetMeaning → Folder → Question → Subject → Answer → Type 0
 AcceptsWithListing sheets folder check subject = AcceptsWith sheets folder (AsksListing check subject)
 
@@ -119,7 +121,8 @@ pub record IsTrueAnswer (sheets : List SheetMeaning) (folder : Folder) (check : 
   pub is_true : IsTrueCertificate book table text zone answer
   pub listing : AcceptsWithListing sheets folder check (subject_in is_true.certificate) answer
 
--- every certificate that `check` accepts is true, however it was made
+-- every certificate that `check` accepts has exactly the events of its station, span and mark, however
+-- it was made
 abbrev pub AcceptsOnlyTrueCertificates : Type 0
 AcceptsOnlyTrueCertificates = (sheets : List SheetMeaning) (folder : Folder) (minute : ℤ) (words : List (List ℕ))
     (check : Question) (answer : Answer) →

@@ -31,12 +31,12 @@ use Rattle.tide_edge.specs.Whole.{Allowance, ReadWithin}
 use Rattle.named_files.specs.declared.no_answer.NoAnswer.{NoAnswer}
 use Rattle.named_files.specs.NoAnswers.{status_of, line_of}
 
--- the status of an answer that couldn't be written
+-- the status is the one of an answer that couldn't be written
 abbrev pub is_write_fault : Status → Bool
 is_write_fault WriteFault = true
 is_write_fault _ = false
 
--- a status other than out of memory and a read fault
+-- the status isn't the one of a run that ran out of memory or couldn't read a file or the clock
 abbrev pub is_settled : Status → Bool
 is_settled NoMemory = false
 is_settled ReadFault = false
@@ -62,7 +62,8 @@ abbrev pub text_with : Result Answer NoAnswer → List ℕ
 text_with (Ok answer) = answer.text
 text_with (Err none) = []
 
--- the text that is written to standard output with a status
+-- the text that is written to standard output with this status: the answer's, or none for a refusal, a
+-- read fault or out of memory
 abbrev pub output_with : Result Answer NoAnswer → Status → List ℕ
 output_with expected Done = text_with expected
 output_with expected Rejected = text_with expected
@@ -74,7 +75,8 @@ abbrev pub refusal_line : Result Answer NoAnswer → List ℕ
 refusal_line (Ok answer) = []
 refusal_line (Err none) = line_of none
 
--- the line that is written to standard error with a status
+-- the line that is written to standard error with this status: none with an answer, else the line of the
+-- reason
 abbrev pub line_with : Result Answer NoAnswer → Status → List ℕ
 line_with expected Done = []
 line_with expected Rejected = []
@@ -109,7 +111,8 @@ pub record Sources : Type 0 where
 abbrev pub sources : FilesState → ClockState → Sources
 sources files clock = record { files = files; clock = clock }
 
--- the files are steady, and no clock that was to be read has failed
+-- the files are steady (one that exists can always be opened and read), and the clock, if it was to be
+-- read, has not failed
 pub record IsFirm (asks : Type 0) (before after : Sources) : Type 0 where
   pub files : IsTrue before.files.store.is_steady
   pub clock : ¬ (asks × Rose before.clock.faults after.clock.faults)

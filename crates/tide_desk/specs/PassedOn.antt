@@ -34,9 +34,9 @@ pub record IsDone {F O E K : Type 0} (s : States F O E K) (sheets : List SheetMe
   pub observable : IsTrue (s.files before.files).store.is_observable
   pub empty : (s.out before.out).taken ≡ []
 
--- A check over objects that don't fail accepts a certificate that is, byte for byte, what a run of
--- `certify` that was done has written, with the same constants and table, and lists its events; or it
--- runs out of memory.
+-- A check over files, a clock and outputs that don't fail accepts a certificate that is, byte for byte,
+-- what a run of `certify` that was done has written, with the same constants and table, and lists its
+-- events; or it runs out of memory.
 abbrev pub ChecksWhatWasCertified : {F O E K G P D L : Type 0} → States F O E K → States G P D L → Type 0
 ChecksWhatWasCertified {F} {O} {E} {K} {G} {P} {D} {L} s t = (sheets : List SheetMeaning) (words more : List (List ℕ))
     (certify check : Question) (zone : Zone) (before after : Objects F O E K) (status : Status) (first last : Objects G P D L) →
@@ -46,8 +46,8 @@ ChecksWhatWasCertified {F} {O} {E} {K} {G} {P} {D} {L} s t = (sheets : List Shee
     zone_named (folder_held t first) check.zone ≡ Ok zone →
     EndsAccepting t (AcceptsWithListing sheets (folder_held t first) check (subject_of certify)) status first last
 
--- A `peakcheck` over objects that don't fail accepts a certificate that is what a run of `peak` that was
--- done has written, and prints the highest water; or it runs out of memory.
+-- A `peakcheck` over files, a clock and outputs that don't fail accepts a certificate that is what a run
+-- of `peak` that was done has written, and prints the highest water; or it runs out of memory.
 abbrev pub ChecksWhatPeakCertified : {F O E K G P D L : Type 0} → States F O E K → States G P D L → Type 0
 ChecksWhatPeakCertified {F} {O} {E} {K} {G} {P} {D} {L} s t = (sheets : List SheetMeaning) (words more : List (List ℕ))
     (peak check : Question) (before after : Objects F O E K) (status : Status) (first last : Objects G P D L) →
@@ -58,8 +58,8 @@ ChecksWhatPeakCertified {F} {O} {E} {K} {G} {P} {D} {L} s t = (sheets : List She
 
 -- ---- By the bytes that were read, over objects of any kind
 
--- The bytes that were read for a request are all bytes of its files, within their limits and in their
--- formats, and these are their contents.
+-- The bytes that were read for a request are all bytes of its files, no longer than may be read and in
+-- their formats, and these are their contents.
 pub record CameAs (sheets : List SheetMeaning) (words : List (List ℕ)) (question : Question) (openings : List Opening) (read : Materials)
     : Type 0 where
   pub name : List ℕ
@@ -72,11 +72,12 @@ pub record IsPassedOn (first second : Materials) (written : List ℕ) : Type 0 w
   pub offsets : second.table ≡ first.table
   pub certificate : second.certificate ≡ written
 
--- the station, the span and the mark of a name and a span
+-- the subject of a request for this name and span: the station, the span and the mark
 abbrev pub subject_over : List ℕ → Asked → Subject
 subject_over name asked = record { station = Some name; begin = Some asked.begin; end = Some asked.end; mark = asked.mark }
 
--- the answer is the line `Accepted`, and the listing of a subject with constants and a table, in a zone
+-- the answer is the line `Accepted`, and the listing of the events of a subject (station, span and mark)
+-- with these constants and table, in the local time of a zone
 pub record AcceptsSubject (book : Book) (table : List Offsets) (zone : Zone) (subject : Subject) (answer : Answer) : Type 0 where
   pub name : List ℕ
   pub asked : Asked
@@ -95,8 +96,8 @@ ChecksWhatCame {F} {O} {E} {K} {G} {P} {D} {L} s t = (sheets : List SheetMeaning
     ¬ (Rose (t.out first.out).faults (t.out last.out).faults) →
     EndsAccepting t (AcceptsSubject one.book one.table two.zone (subject_of certify)) status first last
 
--- the answer is the line `Accepted`, and the highest water of a subject with constants and a table, in
--- universal time
+-- the answer is the line `Accepted`, and the highest water of a subject (station and span) with these
+-- constants and table, in universal time
 pub record AcceptsPeakOf (book : Book) (table : List Offsets) (subject : Subject) (answer : Answer) : Type 0 where
   pub name : List ℕ
   pub asked : Asked

@@ -26,7 +26,8 @@ subject_of_peak certificate = record {
   mark = None;
 }
 
--- a request to `highest` for a subject, with the files of a check and in universal time
+-- a request to `highest` for this station and span (the subject), with the files of a check and in
+-- universal time
 pub record AsksHighest (check : Question) (subject : Subject) (question : Question) : Type 0 where
   pub command : question.command ≡ Highest
   pub files : NameSameFiles question check
@@ -35,7 +36,8 @@ pub record AsksHighest (check : Question) (subject : Subject) (question : Questi
 
 -- ---- the answers
 
--- the answer is the line `Accepted`, and then what `highest` prints for a subject
+-- the answer is the line `Accepted`, and then what `highest` prints for a subject (station and span)
+-- with the files of the check, in universal time
 abbrev pub AcceptsWithHighest : List SheetMeaning → Folder → Question → Subject → Answer → Type 0
 AcceptsWithHighest sheets folder check subject = AcceptsWith sheets folder (AsksHighest check subject)
 
@@ -61,7 +63,8 @@ pub record IsTruePeakAnswer (sheets : List SheetMeaning) (folder : Folder) (chec
   pub is_true : IsTruePeak book table text answer
   pub reported : AcceptsWithHighest sheets folder check (subject_of_peak is_true.certificate) answer
 
--- every certificate that `peakcheck` accepts is true, however it was made
+-- every certificate that `peakcheck` accepts has the highest water of its station and span, however it
+-- was made
 abbrev pub AcceptsOnlyTruePeaks : Type 0
 AcceptsOnlyTruePeaks = (sheets : List SheetMeaning) (folder : Folder) (minute : ℤ) (words : List (List ℕ))
     (check : Question) (answer : Answer) →

@@ -1,4 +1,4 @@
--- The contract of a run, over objects of any kind (this project).
+-- The contract of a run, over files, a clock and outputs of any kind (this project).
 use Rattle.std.specs.Prelude.{◌≡◌, ◌⊎◌, ℕ, ℤ, List, IsTrue, Ok}
 use Rattle.report_sheets.specs.Sheets.{SheetMeaning}
 use Rattle.named_files.specs.NoAnswers.{is_read_fault}
@@ -11,7 +11,7 @@ use Rattle.tide_desk.specs.Answers.{ReadsClock, HasFiles, NamesFile, allowed_by,
 use Rattle.tide_desk.specs.Outcomes.{EndsAs, IsFirm, IsSilent, IsUntouched, Outputs, Sources, WentOn, is_settled, outputs, sources}
 use Rattle.tide_desk.specs.Shown.{EndsAsShown}
 
--- the objects of a run
+-- the objects of a run: files, two outputs and a clock
 pub record Objects (F O E K : Type 0) : Type 0 where
   pub files : F
   pub out : O
@@ -22,7 +22,7 @@ pub record Objects (F O E K : Type 0) : Type 0 where
 abbrev pub objects : {F O E K : Type 0} → F → O → E → K → Objects F O E K
 objects files out err clock = record { files = files; out = out; err = err; clock = clock }
 
--- the states of objects of any kind
+-- the states of files, a clock and outputs of any kind
 pub record States (F O E K : Type 0) : Type 0 where
   pub files : F → FilesState
   pub out : O → SinkState

@@ -53,8 +53,8 @@ answer_shown sheets folders given words = do
 
 -- ---- The openings and the minute
 
--- the names of a request's files in their order, up to the file that is the reason why there is no
--- answer
+-- the names of a request's files in the order of reading, up to the file that is the reason why there is
+-- no answer
 abbrev pub names_by : Question → Option (List ℕ) → Option Slot → List (List ℕ)
 names_by question None why = []
 names_by question (Some name) why = names_to name question why
@@ -79,8 +79,8 @@ answer_by sheets words openings before after =
     answer_shown sheets (folders_by (question_of_words sheets words) openings) (given_between before after) words
 
 -- A run ends with the answer to its command line, from what it opened and what the clock returned. It
--- opened the first of the files that the command line names, in their order, each once; and unless
--- memory ran out, none after the one that is the reason.
+-- opened the first of the files that the command line names, in the order of reading, each once; and
+-- unless memory ran out, none after the one that is the reason why there is no answer.
 pub record EndsAsShown (sheets : List SheetMeaning) (words : List (List ℕ)) (before after : Sources) (status : Status)
     (unwritten written : Outputs) : Type 0 where
   pub openings : List Opening

@@ -11,7 +11,7 @@ use Rattle.tide_desk.specs.Promises.{Objects, States, objects, states}
 abbrev pub no_calls : HeldCalls
 no_calls = record { fails = []; made = 0; faults = 0 }
 
--- the files of the example
+-- the files of the example: one under the name `f`, with the constants of a pier
 abbrev pub pier_files : HeldFiles
 pier_files = record {
   files = record { name = codes "f"; bytes = file_of pier_lines } ∷ [];
@@ -21,7 +21,7 @@ pier_files = record {
   calls = no_calls;
 }
 
--- an output in memory, empty
+-- an empty output in memory, which accepts at most 10 bytes in a write and 1,000 bytes in all
 abbrev pub empty_sink : HeldSink
 empty_sink = record { taken = []; most = 10; room = 1000; calls = no_calls }
 
@@ -33,10 +33,10 @@ pier_clock = record { minute = pos 15791220; given = []; calls = no_calls }
 abbrev pub in_memory : States HeldFiles HeldSink HeldSink HeldClock
 in_memory = states files_state sink_state sink_state clock_state
 
--- the objects of the example
+-- the objects of the example: its files, two empty outputs, and a clock at 2000-01-10T03:00Z
 abbrev pub pier : Objects HeldFiles HeldSink HeldSink HeldClock
 pier = objects pier_files empty_sink empty_sink pier_clock
 
--- the command line of the example
+-- the command line of the example, `stations file=f`
 abbrev pub pier_words : List (List ℕ)
 pier_words = codes "stations" ∷ codes "file=f" ∷ []

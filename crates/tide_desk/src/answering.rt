@@ -45,8 +45,9 @@ use tide_answer::{Given, StationData, answer_alone};
 use tide_edge::{Clock, Files};
 use tide_fault::{Fault, Refusal};
 
-/// Returns the answer to the arguments `words`, ready to be written. The files are opened in their
-/// order, and the clock is read after them, for the commands `clock` and `report` only.
+/// Returns the answer to the arguments `words`, ready to be written. The files are opened in this order:
+/// the harmonic constants, the table, the zone and the certificate; and the clock is read after them,
+/// only for the commands `clock` and `report`.
 ///
 /// # Errors
 /// The first reason in this order: the command line, a sheet that doesn't exist, the files, the clock,

@@ -19,9 +19,10 @@ use tide_fault::Status;
 /// there is none to `err`, and returns the exit status, 0 to 8. A failed write to `err` doesn't change
 /// the status, and nothing is tried again after a failure.
 ///
-/// The files that the arguments name are opened in their order, each once, and none after a fault.
-/// Together at most the sum of their limits, plus 65,536 bytes for each file, is read. The clock is read
-/// once, after all files, and only for the commands `clock` and `report`.
+/// The files that the arguments name are opened in the order harmonic constants, table, zone and
+/// certificate, each once, and none after a fault. Together at most the sum of their limits (67,108,864
+/// bytes, but 1,048,576 for a zone and 400,000,000 for a certificate), plus 65,536 bytes for each file,
+/// is read. The clock is read once, after all files, and only for the commands `clock` and `report`.
 ///
 /// A report has the pages of those `sheets` whose words are requested, in the order of `sheets`. A
 /// requested word that no sheet has is refused before any file is opened.
@@ -75,7 +76,8 @@ fn write_reply<O: Sink, E: Sink>(reply: &Reply, out: &mut O, err: &mut E) -> Sta
     }
 }
 
-/// Returns the status of an answer that was written.
+/// Returns the status of a run with an answer that was written: rejected if `rejected` is true, else
+/// done.
 fn judged(rejected: bool) -> Status
     ensures { result ≡ (if rejected then Status.Rejected else Status.Done) }
 {

@@ -14,8 +14,9 @@ pub fn what_peak_answers_is_accepted()
 }
 
 /// Proves that a certificate that the command `peakcheck` accepts is true, however it was made: its
-/// minute is the minute of the highest water of its station and span, its value is the reference's level
-/// there, and the answer is what `highest` prints for them in universal time.
+/// minute is the minute of the highest water of its station and span, its value is a million times the
+/// reference's level there (of which 4,147,200,000,000,000,000 are a millionth of the unit), and the
+/// answer is what `highest` prints for them in universal time.
 pub fn what_peakcheck_accepts_is_true()
     ensures { AcceptsOnlyTruePeaks }
 {

@@ -38,7 +38,8 @@ impl Reply {
         }
     }
 
-    /// Returns the answer with the source `body`, ready to be written.
+    /// Returns the answer with the source `body` (a text in memory, or one that is written while it is
+    /// computed), ready to be written.
     pub fn of(body: Body) -> Reply
         requires { IsReply body }
         ensures { result ≡ answer_in body }

@@ -20,7 +20,8 @@ use zone_time::Zone;
 
 /// Returns the source of the answer to `question` about `stations`: for the command `report` the pages
 /// of the requested sheets, and otherwise the text of [`answer`](tide_answer::answer). The answer is
-/// streamed exactly if both the request and the prepared source allow it; otherwise its text is made.
+/// streamed (written while it is computed) exactly if both the request and the prepared source allow it;
+/// otherwise its text is made.
 ///
 /// # Errors
 /// The first [`Refusal`] in the order of [`answer`](tide_answer::answer).
@@ -83,7 +84,8 @@ fn body_for(
     Ok(Body::Text(answer(alloc, book, table, question, given)?))
 }
 
-/// Returns true if the answer is streamed for a station without offsets.
+/// Returns true if the command, the layout and the zone let the answer be streamed (written while it is
+/// computed), as it then is for a station without offsets.
 fn may_stream(question: &Question, zone: &Zone) -> bool
     ensures { result ≡ may_stream question.now zone.now }
 {

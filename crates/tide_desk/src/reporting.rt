@@ -20,8 +20,10 @@ use tide_fault::Refusal;
 /// mark. The head of each page has the present minute.
 ///
 /// # Errors
-/// The first [`Refusal`] in this order: the station, its unit, the span, the bounds on its constants,
-/// the mark.
+/// The first [`Refusal`] in this order: the station isn't found, it is a hydraulic current, the span is
+/// backward or outside the file's years, its constants are over a bound ([`Refusal::TooLarge`] or
+/// [`Refusal::TooSteep`]), the span is longer than 5,270,400 minutes, a mark is given but the offsets of
+/// its high and low waters differ.
 #[tactic(auto, unfolding(crate::specs::Answers::reported))]
 pub fn report(
     alloc: Global,

@@ -22,7 +22,8 @@ pub fn worked_minutes()
     ensures no_clock { minute_for Command.Heights (pos 7) ≡ pos 0 }
 {}
 
-/// Proves the fault of the first word that no sheet has, in arguments that have no other fault.
+/// Proves examples of arguments with no other fault, in which a word is the first that no sheet has: the
+/// fault names this word.
 #[tactic(auto, unfolding(crate::specs::Answers::question_of_words, report_sheets::specs::Pages::missing_of, question::specs::Questions::question_of, question::specs::Questions::with_items, question::specs::Questions::with_item, question::specs::Forms::some_text, question::specs::Forms::sheets_of))]
 pub fn worked_sheets()
     ensures no_sheet { found_in (codes "first" ∷ []) (missing_of [] (codes "first" ∷ [])) ≡ Err (Fault.NoSheet (codes "first")) }

@@ -11,7 +11,7 @@ use Rattle.tide_edge.specs.declared.host_line.HostLine.{HostLine}
 use Rattle.tide_edge.specs.declared.host_files.HostFiles.{HostFiles}
 use Rattle.tide_edge.specs.declared.host_sink.HostSink.{HostSink}
 
--- the writer below a sink
+-- the machine's writer that a sink of the machine writes to
 abbrev pub writer_of : {W : Type 0} → HostSink W → W
 writer_of sink = sink.writer
 
@@ -21,16 +21,16 @@ abbrev pub WritesThrough : Option (List ℕ) → Option (List ℕ) → Result �
 WritesThrough before after (Ok count) piece = Appends before after (take count piece)
 WritesThrough before after (Err failed) piece = (count : ℕ) × (count ≤ length piece) × Appends before after (take count piece)
 
--- the open file of the machine, if there is one
+-- the file that is open in the machine's file system, or None if none is open
 abbrev pub file_of : {R F D : Type 0} → HostFiles R F D → Option F
 file_of files = files.opened
 
--- the known unread bytes of an open file; none if no file is open
+-- the known bytes of the open file that were not read yet; none if no file is open
 abbrev pub left_of : {F : Type 0} → (F → Option (List ℕ)) → Option F → Option (List ℕ)
 left_of remaining None = Some []
 left_of remaining (Some file) = remaining file
 
--- the stream below a connection
+-- the machine's stream that a connection reads and writes
 abbrev pub stream_of : {S : Type 0} → HostLine S → S
 stream_of line = line.stream
 

@@ -4,7 +4,8 @@ use Rattle.std.specs.List.{list_any}
 use Rattle.tide_edge.specs.declared.failed.Failed.{Failed}
 use Rattle.tide_edge.specs.Faults.{counted, faults_after}
 
--- the numbers of the calls that are to fail, the number of calls made, and the number of failures
+-- the calls on an object in memory: the numbers of the calls that are to fail, counted from 1; the
+-- number of calls made; and the number of failures
 pub record HeldCalls : Type 0 where
   pub fails : List ℕ
   pub made : ℕ
@@ -14,7 +15,7 @@ pub record HeldCalls : Type 0 where
 abbrev pub is_to_fail : HeldCalls → Bool
 is_to_fail calls = list_any (λ n. n == counted calls.made) calls.fails
 
--- the counts after another call, which failed if the first argument is true
+-- the calls with another one counted; the Bool says whether it failed
 abbrev pub after_call : Bool → HeldCalls → HeldCalls
 after_call failed calls = record {
   fails = calls.fails;

@@ -51,7 +51,8 @@ abbrev pub asked : ℕ → Bool → Doorway
 asked port listens =
     record { port = Some port; listens = listens; taken = 0; is_open = false; is_over = false }
 
--- the observable part of a door's state after `next`: another connection is open, or there are no more
+-- the observable part of a door's state after `next` with this result: another connection is open, or
+-- there are no more, or it failed and nothing has changed
 abbrev pub after_next : Result Bool Failed → Doorway → Doorway
 after_next (Ok true) d =
     record { port = d.port; listens = d.listens; taken = counted d.taken; is_open = true; is_over = d.is_over }
@@ -59,7 +60,7 @@ after_next (Ok false) d =
     record { port = d.port; listens = d.listens; taken = d.taken; is_open = d.is_open; is_over = true }
 after_next (Err failed) d = d
 
--- the observable part of a door's state after `close`
+-- the observable part of a door's state after `close`: no connection is open
 abbrev pub closed : Doorway → Doorway
 closed d =
     record { port = d.port; listens = d.listens; taken = d.taken; is_open = false; is_over = d.is_over }
@@ -77,7 +78,7 @@ abbrev pub first_or_empty : {A : Type 0} → List (List A) → List A
 first_or_empty [] = []
 first_or_empty (first ∷ more) = first
 
--- the pieces without their first `count` bytes
+-- the pieces without the first `count` bytes of all of them; a piece of which no byte is left is dropped
 abbrev pub left_after : ℕ → List (List ℕ) → List (List ℕ)
 left_after count [] = []
 left_after count (piece ∷ more) =
@@ -119,7 +120,7 @@ pub record Connection : Type 0 where
   pub read_failed : Bool
   pub write_failed : Bool
 
--- all connections in order, in two parts: all but the last, and the last
+-- all connections in the order in which they were accepted, in two parts: all but the last, and the last
 pub record Connections : Type 0 where
   pub earlier : List Connection
   pub latest : Option Connection
@@ -127,7 +128,7 @@ pub record Connections : Type 0 where
 abbrev pub no_connections : Connections
 no_connections = record { earlier = []; latest = None }
 
--- all connections in order
+-- all connections in the order in which they were accepted
 abbrev pub connections_of : Connections → List Connection
 connections_of c = c.earlier ++ listed c.latest
 
@@ -135,7 +136,7 @@ connections_of c = c.earlier ++ listed c.latest
 abbrev pub IsUntouched : Doorway → Connections → Type 0
 IsUntouched doorway connections = (doorway ≡ not_listening) × (connections ≡ no_connections)
 
--- a connection that was just accepted
+-- a connection that was just accepted: no byte was read or written yet
 abbrev pub just_taken : Connection
 just_taken = record { came = []; is_ended = false; sent = []; read_failed = false; write_failed = false }
 
@@ -176,18 +177,18 @@ pub record DoorState : Type 0 where
   pub faults : ℕ
   pub line_faults : ℕ
 
--- the traffic after a change, if it is observable, else unchanged
+-- the traffic after a change, if the requests and replies of the door are observable, else unchanged
 abbrev pub observed_traffic : (Traffic → Traffic) → DoorState → Traffic
 observed_traffic change s = if s.is_observable then change s.traffic else s.traffic
 
--- the door after `listen`
+-- the state of a door after `listen` on `port` with this result
 abbrev pub door_after_listen : {T : Type 0} → Result T Failed → ℕ → DoorState → DoorState
 door_after_listen result port s = record s {
   doorway = asked port (is_ok result);
   faults = faults_after (is_err result) s.faults;
 }
 
--- the door after `next`
+-- the state of a door after `next` with this result
 abbrev pub door_after_next : Result Bool Failed → DoorState → DoorState
 door_after_next result s = record s {
   doorway = after_next result s.doorway;
@@ -196,7 +197,7 @@ door_after_next result s = record s {
   faults = faults_after (is_err result) s.faults;
 }
 
--- the door after `read`; `room` is the caller's buffer after the call
+-- the state of a door after `read` with this result; `room` is the caller's buffer after the call
 abbrev pub door_after_read : Result ℕ Failed → List ℕ → DoorState → DoorState
 door_after_read result room s = record s {
   connections = change_latest (connection_after_read result room) s.connections;
@@ -204,7 +205,7 @@ door_after_read result room s = record s {
   line_faults = faults_after (is_err result) s.line_faults;
 }
 
--- the door after `write` of `piece`
+-- the state of a door after `write` of `piece` with this result
 abbrev pub door_after_write : Result ℕ Failed → List ℕ → DoorState → DoorState
 door_after_write result piece s = record s {
   connections = change_latest (connection_after_write result piece) s.connections;
@@ -212,6 +213,6 @@ door_after_write result piece s = record s {
   line_faults = faults_after (is_err result) s.line_faults;
 }
 
--- the door after `close`
+-- the state of a door after `close`
 abbrev pub door_after_close : DoorState → DoorState
 door_after_close s = record s { doorway = closed s.doorway }

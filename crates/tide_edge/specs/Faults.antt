@@ -6,7 +6,7 @@ use Rattle.std.specs.Prelude.{ℕ, ◌+◌, ◌-◌, ◌^◌, ◌==◌, ◌≤�
 abbrev pub counted : ℕ → ℕ
 counted n = if n == 2 ^ 64 - 1 then n else n + 1
 
--- n + 1 (saturating) if the condition is true, else n
+-- n + 1, or n if n is the greatest `u64`, if the condition is true; else n
 abbrev pub counted_if : Bool → ℕ → ℕ
 counted_if is n = if is then counted n else n
 

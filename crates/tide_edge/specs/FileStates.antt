@@ -57,7 +57,7 @@ pub record Opening : Type 0 where
   pub bytes : List ℕ
   pub is_ended : Bool
 
--- all calls of `open` in order, in two parts: all but the last, and the last
+-- all calls of `open`, the earliest first, in two parts: all but the last, and the last
 pub record Openings : Type 0 where
   pub earlier : List Opening
   pub latest : Option Opening
@@ -70,7 +70,7 @@ abbrev pub listed : {A : Type 0} → Option A → List A
 listed None = []
 listed (Some value) = value ∷ []
 
--- all openings in order
+-- all calls of `open`, the earliest first
 abbrev pub openings_of : Openings → List Opening
 openings_of o = o.earlier ++ listed o.latest
 
@@ -78,18 +78,19 @@ openings_of o = o.earlier ++ listed o.latest
 abbrev pub just_opened : Bool → List ℕ → Opening
 just_opened is_open name = record { name = name; is_open = is_open; bytes = []; is_ended = false }
 
--- the openings after `open`
+-- the openings after another call of `open` for `name`; `is_open` says whether it opened a file
 abbrev pub openings_after_open : Bool → List ℕ → Openings → Openings
 openings_after_open is_open name o = record { earlier = openings_of o; latest = Some (just_opened is_open name) }
 
--- the opening after `count` bytes were read into the first bytes of `room`
+-- the opening after `count` bytes were read into the first bytes of `room`; a count of 0 is the end of
+-- the file
 abbrev pub opening_after_read : ℕ → List ℕ → Opening → Opening
 opening_after_read count room opening = record opening {
   bytes = opening.bytes ++ take count room;
   is_ended = (count == 0) || opening.is_ended;
 }
 
--- the openings after `read` of `count` bytes
+-- the openings after a `read` of `count` bytes, which belong to the latest opening
 abbrev pub openings_after_read : ℕ → List ℕ → Openings → Openings
 openings_after_read count room o = record o { latest = option_map (opening_after_read count room) o.latest }
 
@@ -107,11 +108,11 @@ pub record FilesState : Type 0 where
 abbrev pub counted_up : ℕ → ℕ → ℕ
 counted_up more n = min (n + more) (2 ^ 64 - 1)
 
--- the counts after another `open`
+-- the counts of calls after another `open`
 abbrev pub one_opening : Reads → Reads
 one_opening reads = record reads { opens = counted reads.opens }
 
--- the counts after a `read` of `count` bytes
+-- the counts of calls after a `read` of `count` bytes; a count of 0 is the end of the file
 abbrev pub one_reading : ℕ → Reads → Reads
 one_reading count reads = record reads {
   ends = counted_if (count == 0) reads.ends;
@@ -123,7 +124,7 @@ abbrev pub begun : {T : Type 0} → Result T Failed → Option (List ℕ) → Li
 begun (Ok opened) file = unwrap_or file []
 begun (Err failed) file = []
 
--- the files after `open`
+-- the state of files after `open` of `name` with this result
 abbrev pub files_after_open : {T : Type 0} → Result T Failed → List ℕ → FilesState → FilesState
 files_after_open result name s = record s {
   rest = (if s.store.is_observable then begun result (s.store.folder name) else s.rest);
@@ -132,7 +133,7 @@ files_after_open result name s = record s {
   faults = faults_after (is_err result) s.faults;
 }
 
--- the files after `read`; `room` is the caller's buffer after the call
+-- the state of files after `read` with this result; `room` is the caller's buffer after the call
 abbrev pub files_after_read : Result ℕ Failed → List ℕ → FilesState → FilesState
 files_after_read (Ok count) room s = record s {
   rest = (if s.store.is_observable then drop count s.rest else s.rest);

@@ -82,7 +82,7 @@ files_state held = record {
 abbrev pub found : HeldFiles → List ℕ → Option (List ℕ)
 found held name = (if is_to_fail held.calls then None else folder_of held.files name)
 
--- the files after `open`
+-- the files in memory after `open` of `name`
 abbrev pub after_open : HeldFiles → List ℕ → HeldFiles
 after_open held name = record {
   files = held.files;
@@ -96,7 +96,7 @@ after_open held name = record {
 abbrev pub read_count : HeldFiles → ℕ → ℕ
 read_count held room = (if is_to_fail held.calls then 0 else min room (length held.rest))
 
--- the files after `read` with a buffer of length `room`; `filled` is the buffer after the call
+-- the files in memory after `read` with a buffer of length `room`; `filled` is the buffer after the call
 abbrev pub after_read : HeldFiles → ℕ → List ℕ → HeldFiles
 after_read held room filled = record {
   files = held.files;
@@ -106,7 +106,8 @@ after_read held room filled = record {
   calls = after_call (is_to_fail held.calls) held.calls;
 }
 
--- the bytes accepted, the most bytes of one call, and the most bytes of all calls
+-- a sink in memory: the bytes accepted, the most bytes that one call accepts, the most bytes that all
+-- calls accept, and the calls
 pub record HeldSink : Type 0 where
   pub taken : List ℕ
   pub most : ℕ
@@ -126,7 +127,7 @@ abbrev pub write_count : HeldSink → ℕ → ℕ
 write_count held piece =
     (if is_refused held then 0 else min piece (min held.most (held.room - length held.taken)))
 
--- the sink after `write` of `piece`
+-- the sink in memory after `write` of `piece`
 abbrev pub after_write : HeldSink → List ℕ → HeldSink
 after_write held piece = record {
   taken = held.taken ++ take (write_count held (length piece)) piece;
@@ -165,7 +166,7 @@ door_state held = record {
   line_faults = held.line_faults;
 }
 
--- the result of the next call of `next`
+-- the result of the next call of `next` of a door in memory: whether a request waits, or a failure
 abbrev pub comes : HeldDoor → Result Bool Failed
 comes held = answer (is_to_fail held.calls) (nat_lt 0 (length held.waiting))
 
@@ -174,7 +175,7 @@ abbrev pub is_taken : Result Bool Failed → Bool
 is_taken (Ok comes) = comes
 is_taken (Err failed) = false
 
--- the door after `listen`
+-- the door in memory after `listen` on `port`
 abbrev pub after_listen : HeldDoor → ℕ → HeldDoor
 after_listen held port = record {
   doorway = asked port (not (is_to_fail held.calls));
@@ -187,7 +188,7 @@ after_listen held port = record {
   line_faults = held.line_faults;
 }
 
--- the door after `next`
+-- the door in memory after `next`
 abbrev pub after_taking : HeldDoor → HeldDoor
 after_taking held = record {
   doorway = after_next (comes held) held.doorway;
@@ -209,11 +210,11 @@ after_line_call calls = record { fails = calls.fails; made = counted calls.made;
 abbrev pub line_count : HeldDoor → ℕ → ℕ
 line_count held room = (if is_to_fail held.calls then 0 else min room (length (first_or_empty held.coming)))
 
--- the result of a `read` with a buffer of length `room`
+-- the result of the next `read` of a door in memory with a buffer of length `room`
 abbrev pub line_read : HeldDoor → ℕ → Result ℕ Failed
 line_read held room = answer (is_to_fail held.calls) (line_count held room)
 
--- the door after `read` with a buffer of length `room`; `filled` is the buffer after the call
+-- the door in memory after `read` with a buffer of length `room`; `filled` is the buffer after the call
 abbrev pub after_line_read : HeldDoor → ℕ → List ℕ → HeldDoor
 after_line_read held room filled = record {
   doorway = held.doorway;
@@ -234,11 +235,11 @@ is_shut held = is_to_fail held.calls || (held.room == 0)
 abbrev pub reply_count : HeldDoor → ℕ → ℕ
 reply_count held piece = (if is_shut held then 0 else min piece held.room)
 
--- the result of a `write` of `piece`
+-- the result of the next `write` of `piece` to a door in memory
 abbrev pub line_write : HeldDoor → List ℕ → Result ℕ Failed
 line_write held piece = answer (is_shut held) (reply_count held (length piece))
 
--- the door after `write` of `piece`
+-- the door in memory after `write` of `piece`
 abbrev pub after_line_write : HeldDoor → List ℕ → HeldDoor
 after_line_write held piece = record {
   doorway = held.doorway;
@@ -251,7 +252,7 @@ after_line_write held piece = record {
   line_faults = faults_after (is_shut held) held.line_faults;
 }
 
--- the door after `close`
+-- the door in memory after `close`
 abbrev pub after_close : HeldDoor → HeldDoor
 after_close held = record {
   doorway = closed held.doorway;
@@ -280,7 +281,7 @@ clock_state held = record {
   faults = held.calls.faults;
 }
 
--- the clock after another reading
+-- the clock in memory after another reading
 abbrev pub after_minute : HeldClock → HeldClock
 after_minute held = record {
   minute = held.minute;

@@ -21,11 +21,12 @@ pub record AreOfStore (s : FilesState) : Type 0 where
   pub earlier : All (λ o. (left : List ℕ) × IsReadOf s.store.folder left o) s.openings.earlier
   pub latest : IfSome s.openings.latest (λ o. IsReadOf s.store.folder s.rest o)
 
--- `AreOfStore` holds before any file is opened
+-- before any file is opened, the bytes read after each opening are a prefix of its file (`AreOfStore`)
 abbrev pub StartsOfStore : Type 0
 StartsOfStore = (s : FilesState) → s.openings ≡ no_openings → AreOfStore s
 
--- `AreOfStore` is preserved by a call of `open` that meets its contract
+-- a call of `open` that meets its contract preserves that the bytes read after each opening are a prefix
+-- of its file (`AreOfStore`)
 abbrev pub OpenKeepsStore : Type 0
 OpenKeepsStore = (s : FilesState) (result : Result (Unit {0}) Failed) (name : List ℕ)
     → IsTrue s.store.is_observable
@@ -33,7 +34,8 @@ OpenKeepsStore = (s : FilesState) (result : Result (Unit {0}) Failed) (name : Li
     → AreOfStore s
     → AreOfStore (files_after_open result name s)
 
--- `AreOfStore` is preserved by a call of `read` that meets its contract
+-- a call of `read` that meets its contract preserves that the bytes read after each opening are a prefix
+-- of its file (`AreOfStore`)
 abbrev pub ReadKeepsStore : Type 0
 ReadKeepsStore = (s : FilesState) (result : Result ℕ Failed) (room : List ℕ)
     → IsTrue s.store.is_observable

@@ -41,12 +41,12 @@ abbrev pub as_came : ℕ → Opening → Option (List ℕ)
 as_came limit opening =
     if opening.is_open && (opening.is_ended || nat_lt limit (length opening.bytes)) then Some opening.bytes else None
 
--- another file was opened, and more than `limit` bytes were read of it
+-- one more file was opened since `before`, and more than `limit` bytes were read of it
 abbrev pub HasPassed : ℕ → Openings → Openings → Type 0
 HasPassed limit before after =
     (opening : Opening) × (after ≡ record { earlier = openings_of before; latest = Some opening }) × (limit < length opening.bytes)
 
--- the cause of each fault of reading a whole file
+-- the cause of each fault of reading a whole file: the outside, the given file, or memory
 abbrev pub source_of : ReadAllFault → Source
 source_of Failed = outside
 source_of TooLong = given
@@ -65,7 +65,7 @@ no_file = record { files = 0; bytes = 0 }
 abbrev pub one_file : ℕ → Allowance
 one_file limit = record { files = 1; bytes = limit + PIECE }
 
--- the sum of two allowances
+-- the sum of two allowances: of the files, and of the bytes
 abbrev pub both : Allowance → Allowance → Allowance
 both first second = record { files = first.files + second.files; bytes = first.bytes + second.bytes }
 

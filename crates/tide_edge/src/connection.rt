@@ -36,7 +36,7 @@ impl OneConnection {
     ghost use Rattle.std.specs.Prelude.{IfOk};
     ghost use Rattle.tide_edge.specs.Doors.{connection_after_read, connection_after_write, just_taken};
 
-    /// Returns a connection that was just accepted.
+    /// Returns a connection that was just accepted: no byte was read or written yet.
     pub(crate) fn new() -> OneConnection
         ensures { result ≡ just_taken }
     {

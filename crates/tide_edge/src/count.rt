@@ -1,4 +1,4 @@
-//! Counts that saturate.
+//! Counts that stop at the greatest `u64`.
 
 ghost use Rattle.std.specs.Prelude.{◌≡◌};
 ghost use Rattle.tide_edge.specs.Faults.{counted};

@@ -27,7 +27,7 @@ pub struct HostClock<R: rt::Clock + Drop> {
 }
 
 impl<R: rt::Clock + Drop> HostClock<R> {
-    /// Returns the system clock of `system`.
+    /// Returns a clock that reads the time of the machine from `system`.
     pub fn new(system: R) -> HostClock<R>
         ensures given { (⟦<HostClock<R> as Clock>⟧.state result).given ≡ [] }
         ensures faults { (⟦<HostClock<R> as Clock>⟧.state result).faults ≡ 0 }
@@ -58,7 +58,8 @@ impl<R: rt::Clock + Drop> Clock for HostClock<R> {
     }
 }
 
-/// Returns `now` in minutes since 1970-01-01T00:00Z, or `None` if this exceeds 10,000,000,000.
+/// Returns the time `now` in whole minutes since 1970-01-01T00:00Z, or `None` if this exceeds
+/// 10,000,000,000.
 fn minute_at(now: SystemTime) -> Option<i64>
     ensures exact { MatchOption result (10000000000 < system_time_nanos now / 1000000000 / 60)
         (λ minute. minute ≡ pos (system_time_nanos now / 1000000000 / 60)) }
@@ -70,8 +71,7 @@ fn minute_at(now: SystemTime) -> Option<i64>
     }
 }
 
-/// Returns the minute of the second `seconds` since 1970-01-01T00:00Z, or `None` if it exceeds
-/// 10,000,000,000.
+/// Returns `seconds` since 1970-01-01T00:00Z in whole minutes, or `None` if this exceeds 10,000,000,000.
 fn minute_of(seconds: u64) -> Option<i64>
     ensures exact { MatchOption result (10000000000 < seconds / 60) (λ minute. minute ≡ pos (seconds / 60)) }
     ensures in_range { IfSome result IsClockMinute }

@@ -43,7 +43,7 @@ pub struct HostDoor<R: Net + rt::Clock + Drop> {
 impl<R: Net + rt::Clock + Drop> HostDoor<R> {
     ghost use Rattle.tide_edge.specs.Doors.{no_connections, not_listening};
 
-    /// Returns a door of `system` that doesn't listen yet.
+    /// Returns a door at the ports of `system`, the machine, that doesn't listen yet.
     pub fn new(system: R) -> HostDoor<R>
         ensures doorway { (⟦<HostDoor<R> as Door>⟧.state result).doorway ≡ not_listening }
         ensures connections { (⟦<HostDoor<R> as Door>⟧.state result).connections ≡ no_connections }

@@ -30,7 +30,7 @@ pub struct HostFiles<R: rt::Files + Drop> {
 impl<R: rt::Files + Drop> HostFiles<R> {
     ghost use Rattle.tide_edge.specs.Adapters.{file_of};
 
-    /// Returns the file system of `system`, with no file open.
+    /// Returns the files of `system`, the machine; none is open.
     pub fn new(system: R) -> HostFiles<R>
         ensures none_open { file_of result ≡ None }
         ensures openings { (⟦<HostFiles<R> as Files>⟧.state result).openings ≡ no_openings }

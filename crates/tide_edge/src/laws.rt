@@ -13,7 +13,8 @@ use crate::memory_files::MemoryFiles;
 use crate::memory_sink::MemorySink;
 use crate::sink::Sink;
 
-/// Proves that files in memory are observable, and steady if none of their calls is to fail.
+/// Proves that files in memory are observable, and steady if none of their calls is to fail: then
+/// opening and reading an existing file doesn't fail.
 pub fn memory_files_are_observable()
     ensures { (m : HeldFiles) → ⟦<MemoryFiles as Files>⟧.state m ≡ files_state m }
 {}

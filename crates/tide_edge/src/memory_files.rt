@@ -124,7 +124,7 @@ fn first_named(files: &[NamedFile], name: &Text) -> Option<usize>
         .position(|file| file.name.as_str() == name.as_str())
 }
 
-/// Returns the bytes of the file with index `opened` from byte `at` on: none if no file is open.
+/// Returns the bytes of the file with index `opened` from byte `at` on: none if `opened` is `None`.
 fn rest_at(files: &[NamedFile], opened: Option<usize>, at: usize) -> &[u8]
     ensures rest { result.now ≡ rest_of files.now opened at }
     ensures fits { at + length result.now < 2 ^ 64 }

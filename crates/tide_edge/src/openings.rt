@@ -27,7 +27,7 @@ impl Model for Openings {
 impl Openings {
     ghost use Rattle.tide_edge.specs.FileStates.{no_openings, openings_after_open, openings_after_read};
 
-    /// Returns the record before any call.
+    /// Returns the record of openings before any call of `open`.
     pub(crate) fn none() -> Openings
         ensures { result ≡ no_openings }
     {

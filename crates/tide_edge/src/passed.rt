@@ -34,7 +34,7 @@ impl Connections {
       change_latest,
     };
 
-    /// Returns the record before any call.
+    /// Returns the record of connections before any is accepted.
     pub(crate) fn none() -> Connections
         ensures { result ≡ no_connections }
     {

@@ -41,7 +41,8 @@ impl Pieces {
         }
     }
 
-    /// Copies the next bytes of the first piece into the first bytes of `room`, and returns their count.
+    /// Copies the next bytes of the first piece into the first bytes of `room`, and returns their count:
+    /// 0 if none are left.
     pub(crate) fn read(&mut self, room: &mut [u8]) -> usize
         requires { 0 < length room.old }
         ensures end { (result ≡ 0) ↔ (concat self.old ≡ []) }

@@ -75,7 +75,7 @@ pub fn pass_file<F: Files, R: Receiver>(
 }
 
 /// Passes the unread bytes of the open file to `receiver`, in pieces of at most the length of `room`, if
-/// at most `limit` bytes are unread.
+/// at most `limit` bytes are unread. The file was just opened, and `receiver` has received none before.
 fn pass_rest<F: Files, R: Receiver>(
     files: &mut F,
     room: &mut [u8],

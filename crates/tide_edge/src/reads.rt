@@ -6,7 +6,7 @@ use crate::count::{more, one_more};
 use std::marker::Model;
 
 /// The number of calls of `open`, of calls of `read` that found the end, and of bytes read. Each
-/// saturates.
+/// saturates at the greatest `u64`.
 #[derive(Drop)]
 pub(crate) struct Reads {
     opens: u64,

@@ -78,7 +78,8 @@ impl Replies {
         self.room
     }
 
-    /// Returns the reply with index `place`, counted from 0.
+    /// Returns the reply with index `place`, counted from 0, or `None` if at most `place` replies were
+    /// begun.
     pub(crate) fn get(&self, place: u64) -> Option<&[u8]>
         ensures { MatchOption result (length self.now.replies ≤ place)
             (λ reply. slice_get self.now.replies place ≡ Some reply.now) }

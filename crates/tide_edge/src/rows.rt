@@ -11,7 +11,8 @@ ghost use Rattle.tide_edge.specs.declared.piece.TheConstants.{PIECE};
 
 use crate::read_all_fault::ReadAllFault;
 
-/// Proves examples of the definitions: whole files, counts, pieces, connections and clocks.
+/// Proves examples of the definitions: which files are read whole, and how counts, pieces, connections
+/// and clocks change with each call.
 pub fn worked_rows()
     ensures piece { PIECE ≡ 65536 }
     ensures fits { whole 3 (Some (7 ∷ 8 ∷ 9 ∷ [])) ≡ Ok (7 ∷ 8 ∷ 9 ∷ []) }

@@ -93,14 +93,14 @@ status_of (Refused refusal) = status_of_refusal refusal
 
 -- ---- lines
 
--- the word for a file in the lines that report faults
+-- the word for a file in the lines that report faults, such as `offsets`
 abbrev pub slot_name : Slot → List ℕ
 slot_name slots.File = codes "file"
 slot_name slots.Offsets = codes "offsets"
 slot_name slots.Zone = codes "zone"
 slot_name slots.Certificate = codes "certificate"
 
--- the line about an item by its number, counted from 1
+-- the line about an argument, or a pair of a query, by its number, counted from 1
 abbrev pub pair_line : ℕ → List ℕ → List ℕ
 pair_line pair what = codes "words: pair " ++ decimal pair ++ what
 
@@ -135,7 +135,7 @@ unfoldable pub table_line : OffsetFault → List ℕ
 table_line table.NoMemory = codes "no memory\n"
 table_line (table.At row why) = row_line row why
 
--- the name of the reference of the row at an index of the table
+-- the name of the reference station of the row at an index of the table, counted from 0
 abbrev pub reference_at : List TableRow → ℕ → List ℕ
 reference_at rows place = option_map_or (λ row. row.reference) (slice_get rows place) []
 
@@ -143,12 +143,12 @@ reference_at rows place = option_map_or (λ row. row.reference) (slice_get rows 
 abbrev pub naming_line : List ℕ → List ℕ → List ℕ
 naming_line what name = what ++ name ++ codes "\n"
 
--- the line for a span outside the file's years
+-- the line for a span outside the file's years: their first minute, and the minute after their last
 abbrev pub years_line : ℤ → ℤ → List ℕ
 years_line first last =
     codes "refused: out of years: file has " ++ moment_text first ++ codes " to " ++ moment_text last ++ codes "\n"
 
--- the line of a refusal; the list has the rows of the table that was read
+-- the line of a refusal; `rows` has the rows of the table that was read
 unfoldable pub refusal_line : List TableRow → Refusal → List ℕ
 refusal_line rows NoMemory = codes "no memory\n"
 refusal_line rows (NotACertificate line) = codes "certificate: line " ++ decimal line ++ codes "\n"
@@ -166,7 +166,7 @@ refusal_line rows MarkNotHere = codes "refused: mark not here\n"
 refusal_line rows LevelNotHere = codes "refused: level not here\n"
 refusal_line rows (TooManyRows count) = codes "limit: " ++ signed_decimal count ++ codes " rows\n"
 
--- the line of a fault; the list has the rows of the table that was read
+-- the line of a fault; `rows` has the rows of the table that was read
 unfoldable pub line_of : List TableRow → Fault → List ℕ
 line_of rows (Ask fault) = ask_line fault
 line_of rows (NoSheet word) = naming_line (codes "refused: no sheet ") word
@@ -183,7 +183,8 @@ IsPrintableRefusal rows (OutOfYears first last) = IsMoment first × IsMoment las
 IsPrintableRefusal rows (NoReference place) = place < length rows
 IsPrintableRefusal rows _ = Unit {0}
 
--- a fault with a line that can be printed
+-- a fault with a line that can be printed: its moments are in the years 1 to 9999, and its row is an
+-- index into the table
 abbrev pub IsPrintable : List TableRow → Fault → Type 0
 IsPrintable rows (Refused refusal) = IsPrintableRefusal rows refusal
 IsPrintable rows _ = Unit {0}
@@ -195,7 +196,7 @@ abbrev pub refusal_is_out_of_memory : Refusal → Bool
 refusal_is_out_of_memory NoMemory = true
 refusal_is_out_of_memory _ = false
 
--- the status of a run that ran out of memory
+-- the status is the one of a run that ran out of memory
 abbrev pub is_memory : Status → Bool
 is_memory status.NoMemory = true
 is_memory _ = false

@@ -13,7 +13,7 @@ use Rattle.tide_fault.specs.declared.status.Status.TheVariants.{
   NoMemory,
 }
 
--- the number of an exit status
+-- the number of an exit status, from 0 to 8
 abbrev pub number_of : Status → ℕ
 number_of Done = 0
 number_of Rejected = 1

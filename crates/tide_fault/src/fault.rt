@@ -11,7 +11,7 @@ use harmonics_text::BookFault;
 use question::AskFault;
 use station_table::OffsetFault;
 
-/// The reason why a request has no answer. The variants are in the order in which they are found.
+/// The reason why a request has no answer. The variants are in the order in which a run looks for them.
 #[derive(Drop)]
 pub enum Fault {
     /// The command line or query isn't a request.
@@ -24,7 +24,7 @@ pub enum Fault {
     Book(BookFault),
     /// The table of subordinate stations has a bad row, or memory ran out.
     Offsets(OffsetFault),
-    /// The time zone's file isn't a zone file, or its rule contradicts its table.
+    /// The time zone's file isn't a zone file, or the rule at its end contradicts its table of changes.
     BadZone,
     /// The files were read, and the request has no answer with their contents.
     Refused(Refusal),

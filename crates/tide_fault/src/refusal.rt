@@ -29,21 +29,24 @@ pub enum Refusal {
     /// The request is for the highest water of a span without any minute.
     EmptySpan,
     /// The span isn't within the file's years. `first` is the first minute of these years and `last` the
-    /// minute after their last, since 1970-01-01T00:00Z.
+    /// minute after their last, both in minutes since 1970-01-01T00:00Z.
     OutOfYears { first: i64, last: i64 },
     /// In a year the sizes of the amplitudes of the station's constituents sum to more than
-    /// 1,000,000,000 millionths; `year` is the first such year.
+    /// 1,000,000,000 millionths of its unit; `year` is the first such year.
     TooLarge { year: i32 },
     /// In a year the sizes of the amplitudes times the speeds of the station's constituents sum to more
-    /// than 10^17; `year` is the first such year.
+    /// than 10^17 millionths of its unit times ten-millionths of a degree an hour; `year` is the first
+    /// such year.
     TooSteep { year: i32 },
-    /// The span has `minutes` minutes, more than the program answers.
+    /// The span has `minutes` minutes, more than the 5,270,400 that the program answers.
     SpanTooLong { minutes: i64 },
-    /// The request has a mark, and the station's highs and lows have different offsets.
+    /// The request has a mark, and the offsets of the station's high waters differ from those of its low
+    /// waters.
     MarkNotHere,
-    /// The request is for a level, and the station's highs and lows have different offsets.
+    /// The request is for levels at any minute, and the offsets of the station's high waters differ from
+    /// those of its low waters.
     LevelNotHere,
-    /// The request is for `rows` heights, more than the program lists.
+    /// The request is for `rows` heights, more than the 100,000 that the program lists.
     TooManyRows { rows: i64 },
 }
 

@@ -18,7 +18,7 @@ pub enum Slot {
 impl Slot {
     ghost use Rattle.tide_fault.specs.Faults.{slot_name};
 
-    /// Returns the word for the file in the lines that report faults.
+    /// Returns the word for the file in the lines that report faults, such as `offsets`.
     pub fn text(self) -> &'static str
         ensures { result.now ≡ slot_name self }
     {

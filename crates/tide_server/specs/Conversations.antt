@@ -34,8 +34,8 @@ use Rattle.tide_server.specs.Serving.{Answers, Exchange, IsEnough, has_byte}
 -- ---- One connection
 
 -- The connection was read until its bytes determined the reply, its end was found, or a read failed, and
--- not much further: at some point at most one piece before the end, the bytes didn't determine the
--- reply.
+-- not much further: at some point at most 65,536 bytes before the end of these bytes, the bytes didn't
+-- determine the reply.
 pub record IsReadEnough (c : Connection) : Type 0 where
   pub before : ℕ
   pub waits : ¬ (IsEnough (take before c.came))
@@ -47,7 +47,8 @@ pub record IsReadEnough (c : Connection) : Type 0 where
 abbrev pub reads_clock : Connection → Bool
 reads_clock c = not c.read_failed && has_byte c.came
 
--- an answer was sent whole, or a proper prefix of it if a write failed
+-- the bytes that were sent are a whole answer, or a proper prefix of one if the Bool says that a write
+-- failed
 abbrev pub IsSent : Bool → (List ℕ → Type 0) → List ℕ → Type 0
 IsSent false answers sent = answers sent
 IsSent true answers sent = (rest : List ℕ) × ¬ (rest ≡ []) × answers (sent ++ rest)
@@ -69,7 +70,7 @@ pub record IsServed (served_data : ServedData) (c : Connection) (minute : Option
   pub asked : is_some minute ≡ reads_clock c
   pub answered : IsAnswered served_data c minute
 
--- a connection for which the clock failed, and to which nothing was sent
+-- a connection for which the clock couldn't be read, and to which nothing was sent
 pub record IsLeft (c : Connection) : Type 0 where
   pub read : IsReadEnough c
   pub asked : reads_clock c ≡ true
@@ -77,14 +78,15 @@ pub record IsLeft (c : Connection) : Type 0 where
 
 -- ---- One after the other
 
--- the connections were served in this order, at these minutes
+-- the connections were served in this order, each at the minute that the clock returned for it, if it
+-- was read
 unfoldable pub AreServed : ServedData → List Connection → List ℤ → Type 0
 AreServed served_data [] minutes = minutes ≡ []
 AreServed served_data (c ∷ more) minutes =
     (minute : Option ℤ) × (later : List ℤ) × (minutes ≡ listed minute ++ later) × IsServed served_data c minute
     × AreServed served_data more later
 
--- the connection for which the clock failed, if it did
+-- the connection, if any, is one for which the clock couldn't be read, and to which nothing was sent
 abbrev pub IsLast : Option Connection → Type 0
 IsLast None = Unit {0}
 IsLast (Some c) = IsLeft c

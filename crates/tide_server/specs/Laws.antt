@@ -7,7 +7,7 @@ use Rattle.tide_server.specs.declared.served_data.ServedData.{ServedData}
 use Rattle.tide_server.specs.Openings.{ServerStates}
 use Rattle.tide_server.specs.Serving.{Answers, MayLeave, RoseBy}
 
--- the objects of a server in memory
+-- the objects of a server in memory: files, a port, standard error and a clock
 pub record InMemory : Type 0 where
   pub files : HeldFiles
   pub door : HeldDoor
@@ -23,7 +23,7 @@ server_states_in held = record {
   clock = clock_state held.clock;
 }
 
--- each reply answers the bytes of its request
+-- each reply answers the bytes of its request, at this minute; there are as many replies as requests
 abbrev pub AreAnswered : ServedData → ℤ → List (List (List ℕ)) → List (List ℕ) → Type 0
 AreAnswered served_data minute [] [] = Unit {0}
 AreAnswered served_data minute [] (reply ∷ more) = ⊥
@@ -31,7 +31,8 @@ AreAnswered served_data minute (request ∷ requests) [] = ⊥
 AreAnswered served_data minute (request ∷ requests) (reply ∷ more) =
     Answers served_data minute (concat request) reply × AreAnswered served_data minute requests more
 
--- each reply answers the bytes of its request, except `failed` of them or fewer
+-- each reply answers the bytes of its request, at this minute, except at most `failed` of them; there
+-- are as many replies as requests
 abbrev pub AreAnsweredBut : ℕ → ServedData → ℤ → List (List (List ℕ)) → List (List ℕ) → Type 0
 AreAnsweredBut failed served_data minute [] [] = Unit {0}
 AreAnsweredBut failed served_data minute [] (reply ∷ more) = ⊥

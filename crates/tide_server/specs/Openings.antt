@@ -57,7 +57,7 @@ abbrev pub asks_another : List (List ℕ) → Bool
 asks_another [] = false
 asks_another (word ∷ words) = not (asks_to_serve (word ∷ words))
 
--- the request to serve of a command line
+-- the request of a command line to serve, or its fault
 abbrev pub service_in : List (List ℕ) → Result Question AskFault
 service_in words = if asks_another words then Err UnknownCommand else question_of (pairs_of words)
 
@@ -66,20 +66,21 @@ abbrev pub service_from : Result Question AskFault → Result Question Fault
 service_from (Ok question) = Ok question
 service_from (Err fault) = Err (Ask fault)
 
--- the request to serve of the arguments
+-- the request of the arguments to serve, or their fault
 unfoldable pub service_of : List (List ℕ) → Result Question Fault
 service_of words = service_from (service_in words)
 
 -- ---- The files; the harmonics file has the name
 
--- the data of a request
+-- the data that a request to serve names: harmonic constants, a table and a port; the harmonics file has
+-- this name
 unfoldable pub served_data_named : Folders → Question → List ℕ → Result ServedData NoAnswer
 served_data_named folders question name = do
   book ← book_named (folders slots.File) name
   table ← table_named (folders slots.Offsets) question.offsets
   Ok (record { book = book; table = table; port = question.port })
 
--- the data of a request, which must name a file
+-- the data that a request to serve names, which must name a file of harmonic constants
 abbrev pub served_data_by : Folders → Question → Option (List ℕ) → Result ServedData NoAnswer
 served_data_by folders question None = Err (Faulty (Ask (MissingKey keys.File)))
 served_data_by folders question (Some name) = served_data_named folders question name
@@ -94,14 +95,14 @@ served_data_from folders words = do
 abbrev pub served_data_of : Folder → List (List ℕ) → Result ServedData NoAnswer
 served_data_of folder words = served_data_from (λ slot. folder) words
 
--- the bytes that may be read of the files that the arguments name
+-- how many files may be opened for the arguments, and how many bytes read
 abbrev pub files_asked : Result Question Fault → Allowance
 files_asked (Ok question) = both (allowed_for slots.File question.file) (allowed_for slots.Offsets question.offsets)
 files_asked (Err fault) = no_file
 
 -- ---- The lines on standard error
 
--- the line of the port at which the server listens
+-- the line of the port at which the server listens, such as `http://127.0.0.1:8080/`
 abbrev pub notice_of : ℕ → List ℕ
 notice_of port = codes "http://127.0.0.1:" ++ decimal port ++ codes "/\n"
 
@@ -109,7 +110,7 @@ notice_of port = codes "http://127.0.0.1:" ++ decimal port ++ codes "/\n"
 abbrev pub notice_at : ℕ → Doorway → List ℕ
 notice_at port door = if door.listens then notice_of port else []
 
--- the status and the line of a reason, or memory ran out
+-- the status and the line are those for this reason why there is no data, or memory ran out
 abbrev pub IsSaid : NoAnswer → Status → List ℕ → Type 0
 IsSaid why status line = ((status ≡ status_of why) × (line ≡ line_of why)) ⊎ ((status ≡ NoMemory) × (line ≡ codes "no memory\n"))
 
@@ -142,7 +143,7 @@ pub record IsRefused (firm : Type 0) (expected : Result ServedData NoAnswer) (st
   pub door : after.door ≡ before.door
   pub clock : after.clock ≡ before.clock
 
--- the line of the end
+-- the last line on standard error: no line after a server that is done, else `read fault`
 abbrev pub end_line : Status → List ℕ
 end_line Done = []
 end_line _ = codes "read fault\n"

@@ -23,7 +23,7 @@ use Rattle.tide_server.specs.Openings.{
 use Rattle.tide_server.specs.Serving.{IsOver}
 use Rattle.tide_server.specs.Shown.{EndsAsShown}
 
--- the objects of a server
+-- the objects of a server: files, a port, standard error and a clock
 pub record Services (F D E K : Type 0) : Type 0 where
   pub files : F
   pub door : D

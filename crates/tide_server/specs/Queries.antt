@@ -12,11 +12,11 @@ use Rattle.http_rows.specs.Rows.{Asking}
 unfoldable pub said_by : List ℕ → List ℕ
 said_by encoded = utf8_lossy (decode encoded)
 
--- the pair of a name and a value, which may be empty
+-- the pair of an encoded name and an encoded value, which may be empty
 abbrev pub item_of : List ℕ × List ℕ → Item
 item_of pair = record { key = said_by pair.0; value = Some (said_by pair.1) }
 
--- the pairs of a query
+-- the pairs of a query, decoded
 abbrev pub items_of : List ℕ → List Item
 items_of query = map item_of (raw_pairs query)
 

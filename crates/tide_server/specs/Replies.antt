@@ -26,7 +26,7 @@ use Rattle.tide_server.specs.Queries.{pairs_of}
 use Rattle.http_rows.specs.Responses.{response, rejection_of}
 use Rattle.http_rows.specs.Rows.{ReplyRow, rejects, asks, Asking, IsRow}
 
--- a zone that is a file
+-- the zone is one of a zone file
 abbrev pub names_file : ZoneWord → Bool
 names_file word = is_some (zone_file word)
 
@@ -60,11 +60,11 @@ question_reply book table minute asking (Err fault) = fault_reply code.BadReques
 unfoldable pub asking_reply : Book → List Offsets → ℤ → Asking → List ℕ
 asking_reply book table minute asking = question_reply book table minute asking (question_of (pairs_of asking))
 
--- the reply to a request, from its row
+-- the reply to a request by its row of the table of HTTP statuses: a fixed reply, or the answer
 abbrev pub reply_of : Book → List Offsets → ℤ → ReplyRow → List ℕ
 reply_of book table minute (rejects rejection bodiless) = rejection_of rejection bodiless
 reply_of book table minute (asks asking) = asking_reply book table minute asking
 
--- the reply to a whole request
+-- the bytes are the reply to a whole request, by its row of the table of HTTP statuses
 abbrev pub IsReply : Book → List Offsets → ℤ → List ℕ → List ℕ → Type 0
 IsReply book table minute request reply = (row : ReplyRow) × IsRow request row × (reply ≡ reply_of book table minute row)

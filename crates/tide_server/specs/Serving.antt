@@ -36,7 +36,8 @@ use Rattle.http_rows.specs.Rows.{ReplyRow, IsRow, is_settled}
 
 -- ---- One connection
 
--- the reply 503, which replaces another if memory runs out; a fixed reply needs no memory
+-- the reply with HTTP status 503, which replaces another if memory runs out; a reply with a fixed text
+-- is never replaced
 abbrev pub IsUnavailable : List ℕ → List ℕ → Type 0
 IsUnavailable request reply = (row : ReplyRow) × IsRow request row × (fixed_of row ≡ None) × (reply ≡ unavailable_of row)
 
@@ -88,7 +89,7 @@ clock_with is_asked clock = if is_asked then clock_after (Ok (next_minute clock)
 abbrev pub clock_failed : ClockState → ClockState
 clock_failed clock = record clock { asked = counted clock.asked; faults = counted clock.faults }
 
--- the clock after a list of connections
+-- the clock after these connections, for each of which it was read once or not at all
 unfoldable pub clock_after_all : List Conversation → ClockState → ClockState
 clock_after_all [] clock = clock
 clock_after_all (c ∷ more) clock = clock_after_all more (clock_with c.is_asked clock)
@@ -100,7 +101,7 @@ AreHeld served_data clock (c ∷ more) = IsHeld served_data (next_minute clock) 
 
 -- ---- The bytes that are read
 
--- the bytes read until now determine the row of their request
+-- the bytes read until now determine the request's row of the table of HTTP statuses
 abbrev pub IsEnough : List ℕ → Type 0
 IsEnough request = (row : ReplyRow) × IsRow request row × IsTrue (is_settled row)
 
@@ -130,11 +131,11 @@ pub record Exchange : Type 0 where
 abbrev pub exchange : DoorState → ClockState → Exchange
 exchange door clock = record { door = door; clock = clock }
 
--- a count grew by `more`, unless it is saturated
+-- a count grew by `more`, unless it is saturated at the greatest `u64`
 abbrev pub RoseBy : ℕ → ℕ → ℕ → Type 0
 RoseBy more before now = (now ≡ before + more) ⊎ (now ≡ 2 ^ 64 - 1)
 
--- there are no more connections, or the most were accepted
+-- there are no more connections, or 2^64 - 1 were accepted
 abbrev pub IsOver : Doorway → Type 0
 IsOver door = (door.is_over ≡ true) ⊎ (door.taken ≡ 2 ^ 64 - 1)
 

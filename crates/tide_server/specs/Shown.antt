@@ -32,18 +32,18 @@ abbrev pub names_served : Result Question Fault → Option Slot → List (List �
 names_served (Ok question) why = names_by question question.file why
 names_served (Err fault) why = []
 
--- the files of the arguments as the openings show them
+-- the contents of the files of the arguments, as the openings show them
 abbrev pub folders_by : Result Question Fault → List Opening → Folders
 folders_by (Ok question) openings = folders_shown question openings
 folders_by (Err fault) openings = λ slot name. None
 
--- the data of the arguments, from the openings
+-- the data that the arguments name, from the openings of their files
 abbrev pub served_data_by_openings : List (List ℕ) → List Opening → Result ServedData NoAnswer
 served_data_by_openings words openings = served_data_from (folders_by (service_of words) openings) words
 
 -- A server ends with the data of its arguments, from what it opened. It opened the first of the files
--- that the arguments name, in their order, each once; and unless memory ran out, none after the one that
--- is the reason.
+-- that the arguments name, in the order of reading, each once; and unless memory ran out, none after the
+-- one that is the reason why there are no data.
 pub record EndsAsShown (words : List (List ℕ)) (status : Status) (before after : ServerStates) : Type 0 where
   pub openings : List Opening
   pub all : openings_of after.files.openings ≡ openings_of before.files.openings ++ openings

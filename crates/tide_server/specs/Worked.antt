@@ -14,7 +14,7 @@ use Rattle.tide_server.specs.Promises.{ServiceStates, Services, service_states, 
 abbrev pub no_calls : HeldCalls
 no_calls = record { fails = []; made = 0; faults = 0 }
 
--- the files of the example
+-- the files of the example: one under the name `f`, with the constants of a pier
 abbrev pub pier_files : HeldFiles
 pier_files = record {
   files = record { name = codes "f"; bytes = file_of pier_lines } ∷ [];
@@ -41,15 +41,16 @@ quiet_door = record {
 abbrev pub in_memory : ServiceStates HeldFiles HeldDoor HeldSink HeldClock
 in_memory = service_states files_state door_state sink_state clock_state
 
--- the objects of the example
+-- the objects of the example: its files, a port at which no request waits, an empty standard error, and
+-- a clock at 2000-01-10T03:00Z
 abbrev pub pier : Services HeldFiles HeldDoor HeldSink HeldClock
 pier = services pier_files quiet_door (record { taken = []; most = 10; room = 1000; calls = no_calls })
     (record { minute = pos 15791220; given = []; calls = no_calls })
 
--- the arguments of the example
+-- the arguments of the example, `serve file=f`
 abbrev pub pier_words : List (List ℕ)
 pier_words = codes "serve" ∷ codes "file=f" ∷ []
 
--- the data of the example
+-- the data of the example: the constants of a pier, a table without rows, and the port 8080
 abbrev pub pier_data : ServedData
 pier_data = record { book = pier_book; table = []; port = 8080 }

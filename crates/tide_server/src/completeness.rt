@@ -12,8 +12,8 @@ use harmonics_text::worked_files;
 use tide_edge::{Clock, Door, Files, Sink};
 
 /// Proves that a server that returns is done, or ran out of memory before it listened, if the files are
-/// steady, have the contents that the arguments name, and are within their limits, and if the clock and
-/// the port don't fail.
+/// steady (one that exists can always be opened and read), have the contents that the arguments name,
+/// and are no longer than may be read (67,108,864 bytes each), and if the clock and the port don't fail.
 pub fn servers_are_complete<F: Files, D: Door, E: Sink, K: Clock>()
     ensures { IsComplete (service_states F.state D.state E.state K.state) }
 {}

@@ -73,7 +73,7 @@ fn answer_connection<D: Door, K: Clock>(
 }
 
 /// Returns true if nothing more is to be read after a piece of `count` bytes; `row` is the row of the
-/// bytes read until now.
+/// table of HTTP statuses for the bytes read until now.
 fn ends_reading(count: usize, row: &ReplyRow<'_>) -> bool
     ensures { result ≡ (count == 0 || is_settled (row_seen row.now)) }
 {
@@ -98,7 +98,7 @@ fn answer_row<D: Door, K: Clock>(
     Ok(())
 }
 
-/// Sends the reply to a request, or, if memory runs out, the reply 503.
+/// Sends the reply to a request, or, if memory runs out, the reply with HTTP status 503.
 fn send_reply<D: Door>(
     alloc: Global,
     served_data: &ValidServedData,
@@ -131,7 +131,7 @@ fn send_response<D: Door>(response: &Response, door: &mut D) -> Result<(), Faile
     send(door, body)
 }
 
-/// Sends the fixed reply for `rejection`.
+/// Sends the reply with a fixed text for `rejection`.
 fn send_rejection<D: Door>(
     rejection: RequestRejection,
     bodiless: bool,
@@ -145,7 +145,7 @@ fn send_rejection<D: Door>(
     send(door, text.as_str().as_bytes())
 }
 
-/// Sends the reply 503, which replaces another if memory runs out.
+/// Sends the reply with HTTP status 503, which replaces another if memory runs out.
 fn send_unavailable<D: Door>(bodiless: bool, door: &mut D) -> Result<(), Failed>
     requires { IsTrue (D.state door.old).doorway.is_open }
     ensures { SentBy (is_err result) (unavailable_to bodiless) (D.state door.old) (D.state door.new) }

@@ -28,7 +28,8 @@ use tide_answer::{Fault, GivenView, Refusal, StationData, answer_valid, fault_li
 use zone_time::Zone;
 
 /// Returns the reply to `request`, a whole request, with the harmonic constants `book` and the offsets
-/// `table`, at the minute `now` since 1970-01-01T00:00Z. Bytes after the request are ignored.
+/// `table`, at the minute `now` since 1970-01-01T00:00Z, from -10,000,000,000 to 10,000,000,000. Bytes
+/// after the request are ignored.
 ///
 /// The program doesn't call it: it writes fixed replies without allocating, and makes only the others.
 ///
@@ -75,7 +76,7 @@ fn whole_reply(
     asking_reply(alloc, stations, asking, now)?.joined(alloc)
 }
 
-/// Returns the fixed reply for `rejection`.
+/// Returns the reply with a fixed text for `rejection`.
 fn rejection_reply(
     alloc: Global,
     rejection: RequestRejection,
@@ -125,7 +126,7 @@ pub(crate) fn asking_reply(
     }
 }
 
-/// Returns the question of a request.
+/// Returns the question that the path and the query of a request make, or its fault.
 fn read_question(alloc: Global, asking: &Asking<'_>) -> Result<Question, AskFault>
     ensures exact { ReturnsUnless is_out_of_memory (question_of (pairs_of (asking_seen asking.now))) result }
     ensures asked { IfOk result IsAsked }
@@ -223,7 +224,8 @@ fn refusal_is_out_of_memory(refusal: Refusal) -> bool
     matches!(refusal, Refusal::NoMemory)
 }
 
-/// Returns the line that reports `fault` as a reply.
+/// Returns the reply with the line that reports `fault`, as HTTP status `code`. If `bodiless`, the line
+/// isn't sent.
 fn fault_reply(
     alloc: Global,
     code: Code,

@@ -18,38 +18,41 @@ ghost use Rattle.tide_server.specs.Replies.{IsReply, names_file};
 ghost use Rattle.tide_server.specs.Responses.{fixed_of};
 ghost use Rattle.tide_server.specs.Rows.{ReplyRow, IsRow, is_settled};
 
-/// Proves that each request has exactly one row of the table of statuses.
+/// Proves that each request has exactly one row of the table of HTTP statuses, which says how it is
+/// replied to.
 pub fn one_row()
     ensures { (request : List ℕ) (a b : ReplyRow) → IsRow request a → IsRow request b → a ≡ b }
 {}
 
-/// Proves that further bytes don't change the row of a request, if the bytes received until now
-/// determine it.
+/// Proves that further bytes don't change a request's row of the table of HTTP statuses, if the bytes
+/// received until now determine it.
 pub fn settled_rows_stay()
     ensures { (request more : List ℕ) (row : ReplyRow)
         → IsRow request row → IsTrue (is_settled row) → IsRow (request ++ more) row }
 {}
 
-/// Proves that the row of a request is determined by as many bytes as the longest request has.
+/// Proves that a request's row of the table of HTTP statuses is determined by as many bytes as the
+/// longest request has, 4,202,496.
 pub fn long_requests_are_settled()
     ensures { (request : List ℕ) (row : ReplyRow) → IsRow request row → LONGEST ≤ length request → IsTrue (is_settled row) }
 {}
 
-/// Proves that each request has exactly one reply.
+/// Proves that each request has exactly one reply, for the same harmonic constants, table and minute.
 pub fn one_reply()
     ensures { (book : Book) (table : List Offsets) (minute : ℤ) (request a b : List ℕ)
         → IsReply book table minute request a → IsReply book table minute request b → a ≡ b }
 {}
 
 /// Proves that further bytes don't change the reply to a request, if the bytes received until now
-/// determine its row.
+/// determine its row of the table of HTTP statuses.
 pub fn settled_replies_stay()
     ensures { (book : Book) (table : List Offsets) (minute : ℤ) (request more reply : List ℕ) (row : ReplyRow)
         → IsRow request row → IsTrue (is_settled row)
         → IsReply book table minute request reply → IsReply book table minute (request ++ more) reply }
 {}
 
-/// Proves that the reply of a fixed row of the table of statuses is the same for all harmonic constants.
+/// Proves that a reply that doesn't depend on tides (for a row of the table of HTTP statuses with a
+/// fixed text) is the same for all harmonic constants, tables and minutes.
 pub fn fixed_rows_reply()
     ensures { (book : Book) (table : List Offsets) (minute : ℤ) (request reply : List ℕ) (row : ReplyRow)
         → IsRow request row → fixed_of row ≡ Some reply → IsReply book table minute request reply }

@@ -5,8 +5,8 @@ use std::alloc::{AllocError, Global};
 use std::marker::Model;
 use tide_edge::{Door, Failed, PIECE};
 
-/// The bytes received of a request, in memory that is allocated once for the longest request. In
-/// contracts its value is the bytes.
+/// The bytes received of a request, in memory that is allocated once for the longest request, of
+/// 4,202,496 bytes. In contracts its value is the bytes.
 #[derive(Drop)]
 pub(crate) struct Request {
     bytes: Vec<u8>,
@@ -32,7 +32,7 @@ impl Request {
     ghost use Rattle.tide_edge.specs.Doors.{door_after_read, first_or_empty};
     ghost use Rattle.tide_server.specs.declared.limits.TheConstants.{LONGEST};
 
-    /// Returns a request without bytes, with memory for the longest request.
+    /// Returns a request without bytes, with memory for the longest request, of 4,202,496 bytes.
     pub(crate) fn new(alloc: Global) -> Result<Request, AllocError>
         ensures { IfOk result (λ request. request ≡ []) }
     {
@@ -56,8 +56,8 @@ impl Request {
         self.bytes.clear();
     }
 
-    /// Reads the next bytes of the open connection, at most a piece, and appends them. Returns their
-    /// number, which is 0 at the end of the connection. It doesn't allocate.
+    /// Reads the next bytes of the open connection, at most 65,536 of them, and appends them. Returns
+    /// their number, which is 0 at the end of the connection. It doesn't allocate.
     ///
     /// # Errors
     /// [`Failed`] if the read failed.

@@ -38,8 +38,8 @@ impl Model for ValidServedData {
 }
 
 impl ValidServedData {
-    /// Returns `served_data` as valid data; the caller proves that the harmonic constants are in their
-    /// ranges.
+    /// Returns `served_data` as valid data. The caller proves that its harmonic constants are valid, as
+    /// all are that were read from a file.
     pub fn new(served_data: ServedData) -> ValidServedData
         requires { IsBook served_data.book }
         ensures { result ≡ served_data }

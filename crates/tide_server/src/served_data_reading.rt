@@ -22,7 +22,8 @@ use tide_edge::Files;
 use tide_fault::Fault;
 
 /// Reads the data that the arguments `words` name, with the command `serve`: the harmonic constants, and
-/// then the table. Each file is read and its contents checked before the next is opened.
+/// then the table of subordinate stations. Each file is read and its contents checked before the next is
+/// opened.
 ///
 /// # Errors
 /// The first reason in this order: the arguments, the harmonic constants, the table.

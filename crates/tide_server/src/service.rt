@@ -37,8 +37,8 @@ use tide_edge::{Clock, Door, Files, Sink};
 use tide_fault::Status;
 
 /// Serves answers with the files that the arguments `words` name, at the port of 127.0.0.1 that they
-/// name: reads arguments and files, allocates for the longest request, listens, and serves one
-/// connection after the other. Returns the exit status, 0 to 8.
+/// name: reads arguments and files, allocates for the longest request, of 4,202,496 bytes, listens, and
+/// serves one connection after the other. Returns the exit status, 0 to 8.
 ///
 /// It prints to `err` the port at which it listens and, if something failed, the reason why it ends; a
 /// failed write to `err` changes nothing. A failed read or write of a connection ends only this

@@ -26,7 +26,7 @@ pub struct Case {
 }
 
 impl Case {
-    /// Returns the case of the arguments in `line`.
+    /// Returns the case of the arguments in `line`, separated by `|`.
     pub fn new(
         alloc: Global,
         book: Book,

@@ -7,12 +7,12 @@ use Rattle.zone_time.specs.declared.zone.Zone.{Zone}
 use Rattle.zone_time.specs.Dates.{IsDay, date_text}
 use Rattle.calendar_sheet.specs.Calendars.{day_in, days_through, entry_in, events_on}
 
--- a date, by its day number, with events
+-- a date, by its day number with 1970-01-01 as 0, and events
 pub record CalendarPage : Type 0 where
   pub day : ℤ
   pub events : List Event
 
--- a date without events
+-- a date, by its day number with 1970-01-01 as 0, without events
 abbrev pub empty_page : ℤ → CalendarPage
 empty_page day = record { day = day; events = [] }
 
@@ -24,17 +24,17 @@ page_of zone events day = record { day = day; events = events_on zone events day
 abbrev pub pages_of : Zone → List Event → ℤ → ℤ → List CalendarPage
 pages_of zone events first last = map (page_of zone events) (days_through first last)
 
--- the line of a date with its events
+-- the line of a local date: the date, and the local time, the level and the name of each of its events
 abbrev pub line_of_page : Zone → Units → CalendarPage → List ℕ
 line_of_page zone units page = date_text page.day ++ flat_map (entry_in zone units) page.events ++ codes "\n"
 
--- a range of day numbers that have a date
+-- a range of day numbers, both ends included, each of which has a date that can be written
 pub record AreDays (first last : ℤ) : Type 0 where
   pub first_day : IsDay first
   pub last_day : IsDay last
   pub forward : first ≤ℤ last
 
--- an event with a local date in the range
+-- an event with a local date in the range, both ends included
 pub record IsAmong (zone : Zone) (first last : ℤ) (event : Event) : Type 0 where
   pub least : first ≤ℤ day_in zone event.minute
   pub most : day_in zone event.minute ≤ℤ last

@@ -40,29 +40,31 @@ use Rattle.cert_text.specs.declared.track_name.TrackName.TheVariants.{Turn, Slac
 use Rattle.cert_text.specs.declared.numbers.TheConstants.{LEVEL_DIGITS}
 use Rattle.cert_text.specs.Lines.{prefix_of}
 
--- the part of a line after the prefix `word`
+-- the part of a line after the prefix `word`, or None if the line doesn't begin with it
 unfoldable pub after : List ℕ → List ℕ → Option (List ℕ)
 after word line = if bytes_eq (take (length word) line) word then Some (drop (length word) line) else None
 
--- the number of 1 to `most` digits without leading zeros
+-- the number that 1 to `most` decimal digits without leading zeros write, or None
 unfoldable pub size_of : ℕ → List ℕ → Option ℕ
 size_of most text = if nat_lt 1 (length text) && slice_index text 0 == 48 then None else digits_of most text
 
--- a negative number by its size
+-- the negative number of this size, or None if the size is 0
 abbrev pub negative : ℕ → Option ℤ
 negative zero = None
 negative (suc n) = Some (negsuc n)
 
--- the number of a text, or of the digits after its minus sign
+-- the number that a text writes, or the negative number of the digits after its minus sign, if it has
+-- one
 abbrev pub number_from : ℕ → Option (List ℕ) → List ℕ → Option ℤ
 number_from most None text = option_map pos (size_of most text)
 number_from most (Some digits) text = option_and_then negative (size_of most digits)
 
--- the number of a text with or without a minus sign
+-- the number that a text of 1 to `most` decimal digits writes, with or without a minus sign before them,
+-- or None
 unfoldable pub number_of : ℕ → List ℕ → Option ℤ
 number_of most text = number_from most (after (codes "-") text) text
 
--- the version of a title
+-- the version, 1 or 2, that the first line of a certificate has
 unfoldable pub version_of : List ℕ → Option ℕ
 version_of line =
     if bytes_eq line (codes "tide certificate 1") then Some 1
@@ -78,19 +80,20 @@ is_station_name name =
 abbrev pub named : List ℕ → Option (List ℕ)
 named name = if is_station_name name then Some name else None
 
--- the name of the station's line
+-- the name on the line of the station
 unfoldable pub station_of : List ℕ → Option (List ℕ)
 station_of line = option_and_then named (after (codes "station ") line)
 
--- the moment after a word
+-- the moment after a word on a line, in minutes since 1970-01-01T00:00Z
 unfoldable pub moment_after : List ℕ → List ℕ → Option ℤ
 moment_after word line = option_and_then moment_of (after word line)
 
--- a mark, if it is at most 10,000,000,000 millionths in size
+-- a mark in millionths of the station's unit, if it is from -10,000,000,000 to 10,000,000,000
 abbrev pub mark_within : ℤ → Option (Option ℤ)
 mark_within mark = if nat_le (unsigned_abs mark) 10000000000 then Some (Some mark) else None
 
--- the mark of its line, which may be none
+-- the mark on its line, in millionths of the station's unit: `Some None` for the line `mark none`, and
+-- None for a line that is no mark's
 unfoldable pub mark_of : List ℕ → Option (Option ℤ)
 mark_of line =
     if bytes_eq line (codes "mark none") then Some None
@@ -104,24 +107,24 @@ quiet_for n = if nat_le 2 n && nat_le n MOST_MINUTES then Some (cells.Quiet n) e
 unfoldable pub quiet_of : List ℕ → Option Cell
 quiet_of line = option_and_then quiet_for (option_and_then (size_of LEVEL_DIGITS) (after (codes "q ") line))
 
--- the cell of a line with an event of a kind
+-- the cell of a line with an event of this kind, such as `t low -1000000`
 unfoldable pub event_cell_of : Kind → List ℕ → Option Cell
 event_cell_of kind line =
     option_map (λ level. cells.Turn kind level) (option_and_then (number_of LEVEL_DIGITS) (after (prefix_of kind) line))
 
--- the first kind of a track's events
+-- the first of the two kinds of a track's events
 abbrev pub first_kind : TrackName → Kind
 first_kind Turn = High
 first_kind Slack = FloodBegins
 first_kind Mark = MarkRising
 
--- the second kind of a track's events
+-- the second of the two kinds of a track's events
 abbrev pub second_kind : TrackName → Kind
 second_kind Turn = Low
 second_kind Slack = EbbBegins
 second_kind Mark = MarkFalling
 
--- the cell of a line in a track
+-- the cell of a line, or None if the line isn't a cell of the track
 unfoldable pub cell_of : TrackName → List ℕ → Option Cell
 cell_of track line =
     if bytes_eq line (codes "s") then Some cells.Still

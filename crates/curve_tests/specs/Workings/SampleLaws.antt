@@ -7,7 +7,7 @@ use Rattle.curve_law.specs.Meaning.{IsApproximateValue, IsLawful}
 use Rattle.curve_law.specs.CurveStates.{CurveFacts}
 use Rattle.highest_water.specs.Samples.{hill, hills}
 
--- the facts about that curve: each approximate value is the value
+-- the facts about the curve with two maxima: each approximate value is the value
 abbrev pub hills_facts : ℤ → ℤ → ℤ → ℤ → ℤ → CurveFacts
 hills_facts at top other_at other_top rate = record {
   meaning = hills at top other_at other_top rate;

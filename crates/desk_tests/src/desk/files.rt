@@ -27,7 +27,8 @@ const TABLE: &str =
 const SHORT: &str =
     "name,reference,high_add,low_add,high_times,low_times,high_plus,low_plus\nDock,Pier,0:30,-0:10,1.1,0.9,0.1\n";
 
-/// Files other than the harmonic constants: the first fault in their order.
+/// Runs with files other than the harmonic constants, each with the first fault in the order of the
+/// files.
 pub static FILES: [Case<'static>; 12] = [
     Case {
         words: OFFSETS,
@@ -129,7 +130,7 @@ pub static FILES: [Case<'static>; 12] = [
     },
 ];
 
-/// Files as long as they may be, and longer ones.
+/// Runs over files that are as long as they may be, and over longer ones.
 pub static LIMITS: [Case<'static>; 4] = [
     Case {
         file: Source::Behind(67_108_864, PIER),

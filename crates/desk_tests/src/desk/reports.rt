@@ -27,7 +27,7 @@ const RANGE_CALENDAR_STAMP: &str = "Pier\n\
 
 const CURRENT: &str = "Pier\n2 Max Flood\n2 Max Ebb\n2 Slack Flood Begins\n2 Slack Ebb Begins\n";
 
-/// Reports, and the order of their refusals.
+/// Runs that report, and runs whose report is refused, in the order of the refusals.
 pub static REPORTS: [Case<'static>; 12] = [
     Case {
         words: "report|file=pier.txt|station=Pier|begin=2000-01-10T00:00Z|end=2000-01-11T00:00Z|sheets=first,tally,range",

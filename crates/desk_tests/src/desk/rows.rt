@@ -27,7 +27,7 @@ pub const ELEVEN_YEARS: &str =
     0.9800 0.9840 0.9880 0.9920 0.9960 1.0000 1.0040 1.0080 1.0120 1.0160 1.0200\n*END*\n\
     Pier\n0:00\n1 feet\nM2 3 40\n";
 
-/// Runs that are answered.
+/// Runs that are answered, with what they print.
 pub static ANSWERS: [Case<'static>; 17] = [
     CASE,
     Case {
@@ -127,7 +127,8 @@ pub static ANSWERS: [Case<'static>; 17] = [
     },
 ];
 
-/// Arguments over eleven years, the number of bytes and lines of the text, its beginning and its end.
+/// Examples over eleven years: arguments, and the number of bytes and of lines of the text, its
+/// beginning and its end.
 pub const LONG_TEXTS: &[(&str, usize, usize, &str, &str)] = &[
     (
         "predict|file=pier.txt|station=Pier|begin=2000-01-01T00:00Z|end=2001-01-01T00:00Z",

@@ -5,7 +5,7 @@ use Rattle.zone_time.specs.Zones.{IsZone}
 use Rattle.named_files.specs.declared.materials.Materials.{Materials}
 use Rattle.decimal_text.specs.declared.limits.TheConstants.{MOST_BYTES}
 
--- valid harmonic constants, a valid zone, and a certificate's text within its limit
+-- valid harmonic constants, a valid zone, and a certificate's text of at most 400,000,000 bytes
 pub record AreMaterials (read : Materials) : Type 0 where
   pub book : IsBook read.book
   pub zone : IsZone read.zone

@@ -20,7 +20,8 @@ text_after (item ∷ items) k earlier = text_after items k (if bytes_eq (name_of
 abbrev pub said_by : List Item → Said
 said_by items k = text_after items k None
 
--- the field of a question for a key with a text
+-- the field of a question for a key with a text: the value, or the key's default if the text isn't in
+-- the form of the key's values
 abbrev pub read_as : Origin → (k : Key) → List ℕ → Field k
 read_as origin k text = (row_of k).need.field ((row_of k).form origin text)
 
@@ -41,7 +42,8 @@ with_value origin key.Seed text q = record q { seed = read_as origin key.Seed te
 with_value origin key.Port text q = record q { port = read_as origin key.Port text }
 with_value origin key.Sheets text q = record q { sheets = read_as origin key.Sheets text }
 
--- the expected result is the question that was made, or the fault is excused
+-- without a fault, what was made is the expected result; a fault is the expected one, or says that
+-- memory ran out
 abbrev pub Makes : {V : Type 0} → Result V AskFault → V → Result (Unit {0}) AskFault → Type 0
 Makes expected made (Ok done) = expected ≡ Ok made
 Makes expected made (Err fault) = Excused (is_out_of_memory fault) expected fault

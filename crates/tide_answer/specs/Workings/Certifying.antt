@@ -29,12 +29,13 @@ certificate_in name asked tracks = record {
   tracks = tracks;
 }
 
--- the first fault of a certificate's tracks
+-- the first fault of a certificate's tracks, or None if they are right
 abbrev pub rejection_in : Book → Site → Certificate → Option Rejection
 rejection_in book site cert =
     rejection_of (followed_by (version_of cert) book site cert.mark) (widened_of site.basis cert.begin cert.end) cert.tracks
 
--- the answer to a certificate that was read
+-- the answer to the check of a certificate that was read: it is accepted or rejected, or there is a
+-- refusal
 unfoldable pub judged_in : Book → List Offsets → Certificate → Zone → Result Answer Refusal
 judged_in book table cert zone = do
   site ← site_in Events book table cert.station (asked_by_certificate cert)

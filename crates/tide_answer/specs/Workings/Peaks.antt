@@ -16,7 +16,8 @@ use Rattle.tide_answer.specs.Asking.{asked_by_peak_certificate}
 abbrev pub peak_certificate_in : List ℕ → Asked → Peak → PeakCertificate
 peak_certificate_in name asked peak = record { station = name; begin = asked.begin; end = asked.end; peak = peak }
 
--- the answer to a certificate of a highest water that was read
+-- the answer to the check of a certificate of a highest water that was read: it is accepted or rejected,
+-- or there is a refusal
 unfoldable pub peak_judged_in : Book → List Offsets → PeakCertificate → Result Answer Refusal
 peak_judged_in book table cert = do
   site ← highest_site book table cert.station (asked_by_peak_certificate cert)

@@ -7,7 +7,7 @@ use Rattle.station_span.specs.Sites.{Site}
 use Rattle.zone_time.specs.Zones.{InZoneYears}
 use Rattle.tide_answer.specs.Answers.{row_at}
 
--- a step that a request can name
+-- a step between heights that a request can name: from 1 to 44,640 minutes
 pub record IsStep (step : ℤ) : Type 0 where
   pub first : pos 1 ≤ℤ step
   pub last : step ≤ℤ pos 44640

@@ -23,21 +23,21 @@ use Rattle.tide_answer.specs.Answers.{certificate_by}
 use Rattle.tide_answer.specs.declared.text.Answer.{Answer}
 use Rattle.station_span.specs.Workings.Spans.{AreMoments}
 
--- the text of an answer of a form
+-- the text of a streamed answer: a listing or a certificate, as the form says
 abbrev pub stream_text : Form → Book → Site → List ℕ → Asked → Zone → List ℕ
 stream_text Listing book site name asked zone = plain_events_of name site.station.units (events_of book site asked) zone
 stream_text Certificate book site name asked zone = certificate_text (certificate_by book site name asked)
 
--- the answer of a form for a station
+-- a streamed answer for a station: a listing or a certificate, as the form says
 abbrev pub stream_answer : Form → Book → Site → List ℕ → Asked → Zone → Answer
 stream_answer form book site name asked zone =
     record { text = stream_text form book site name asked zone; rejected = false; cells = cells_of book site asked }
 
--- the answer of a form for a station that was found
+-- a streamed answer for a station that was found: a listing or a certificate, as the form says
 abbrev pub stream_of : Form → FoundStation → List ℕ → Zone → Answer
 stream_of form found name zone = stream_answer form found.curve.book (site_of found) name found.asked zone
 
--- the form of the answers of a command
+-- the form of the streamed answers of a command: a certificate for `certify`, else a listing
 abbrev pub form_of : Command → Form
 form_of Certify = Certificate
 form_of _ = Listing
@@ -58,12 +58,13 @@ head_text name asked =
     codes "tide certificate 2\nstation " ++ name ++ codes "\n"
     ++ (ended (begin_line_of asked.begin) ++ ended (end_line_of asked.end) ++ ended (mark_line_of asked.mark))
 
--- the lines of its tracks
+-- the lines of a certificate's tracks
 abbrev pub tracks_text : Tracks → List ℕ
 tracks_text tracks =
     joined (track_lines_of Turn tracks.turn) ++ joined (lines_if_there Slack tracks.slack) ++ joined (lines_if_there Mark tracks.mark)
 
--- tracks whose cells have lines
+-- tracks whose cells can be written as lines: quiet ones have 2 to 1,024 minutes, and levels at most 14
+-- digits
 pub record HasCells (tracks : Tracks) : Type 0 where
   pub turn : All IsCell tracks.turn
   pub slack : IfSome tracks.slack (All IsCell)

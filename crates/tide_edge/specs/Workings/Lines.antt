@@ -1,12 +1,13 @@
 -- The bytes and replies of a door in memory (this project).
 use Rattle.std.specs.Prelude.{ℕ, List, [], ◌∷◌, take, drop}
 
--- the pieces without the first `at` bytes of the first piece
+-- the pieces without the first `at` bytes of the first of them
 abbrev pub pieces_from : ℕ → List (List ℕ) → List (List ℕ)
 pieces_from at [] = []
 pieces_from at (piece ∷ more) = drop at piece ∷ more
 
--- the bytes cut into parts that begin at these indices; each part ends where the next begins
+-- the bytes cut into parts that begin at these indices; each part ends before the next begins, and the
+-- last at the end
 abbrev pub parts : List ℕ → List ℕ → List (List ℕ)
 parts [] bytes = []
 parts (start ∷ []) bytes = drop start bytes ∷ []

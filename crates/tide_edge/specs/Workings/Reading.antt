@@ -7,7 +7,7 @@ use Rattle.tide_edge.specs.Whole.{as_came}
 use Rattle.tide_edge.specs.declared.piece.TheConstants.{PIECE}
 use Rattle.tide_edge.specs.declared.read_all_fault.ReadAllFault.{ReadAllFault}
 
--- all bytes that a receiver got, or the failure before their end
+-- all bytes that a receiver got, or the failure that happened before the end of the file
 abbrev pub all_taken : List ℕ → Result (Unit {0}) ReadAllFault → Result (List ℕ) ReadAllFault
 all_taken bytes (Ok done) = Ok bytes
 all_taken bytes (Err fault) = Err fault
@@ -21,11 +21,11 @@ pub record IsReadOn (limit : ℕ) (failed : Bool) (before after : FilesState) : 
   pub bytes : after.reads.bytes ≤ before.reads.bytes + (limit + PIECE)
   pub faults : after.faults ≡ faults_after failed before.faults
 
--- a file was just opened
+-- the latest call of `open` opened a file, and no byte of it was read yet
 abbrev pub IsFresh : Openings → Type 0
 IsFresh o = (name : List ℕ) × (o.latest ≡ Some (just_opened true name))
 
--- the result is the expected one for the bytes read after the latest opening
+-- a result is the expected one for the bytes that were read after the latest opening
 abbrev pub HasCome : {T E : Type 0} → (E → Source) → (Option (List ℕ) → Result T E) → ℕ → Openings → Openings → Result T E → Type 0
 HasCome source expected limit before after result =
     (name bytes : List ℕ) × (is_ended : Bool)

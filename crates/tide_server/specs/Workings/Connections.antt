@@ -37,7 +37,8 @@ pub record IsRead (bytes request : List ℕ) : Type 0 where
   pub parts : bytes ≡ request ++ rest
   pub enough : (rest ≡ []) ⊎ IsEnough request
 
--- the row of the bytes that were read; a connection without bytes has none
+-- the row of the table of HTTP statuses for the bytes that were read; a connection without bytes has
+-- none
 abbrev pub IsReadAs : List ℕ → Option ReplyRow → Type 0
 IsReadAs bytes None = bytes ≡ []
 IsReadAs bytes (Some row) = (request : List ℕ) × IsRead bytes request × ¬ (request ≡ []) × IsRow request row
@@ -57,7 +58,7 @@ abbrev pub sending : List ℕ → Bool → Connection → Connection
 sending text false connection = record connection { sent = connection.sent ++ text }
 sending text true connection = record connection { sent = connection.sent ++ text; write_failed = true }
 
--- the port after a text was sent over the open connection
+-- the port after a text was sent over the open connection; the Bool says whether a write failed
 abbrev pub sent : List ℕ → Bool → DoorState → DoorState
 sent text failed d = record d {
   connections = change_latest (sending text failed) d.connections;
@@ -65,18 +66,19 @@ sent text failed d = record d {
   line_faults = faults_after failed d.line_faults;
 }
 
--- a text was sent whole, or a proper prefix of it
+-- a text was sent whole, or a proper prefix of it if the Bool says that a write failed
 abbrev pub SentBy : Bool → List ℕ → DoorState → DoorState → Type 0
 SentBy false text before after = after ≡ sent text false before
 SentBy true text before after = (count : ℕ) × (count < length text) × (after ≡ sent (take count text) true before)
 
--- the reply of a row, or, unless it is a fixed reply, the reply 503 if memory runs out
+-- the reply for a row of the table of HTTP statuses, or, unless its text is fixed, the reply 503 if
+-- memory runs out
 abbrev pub Replies : ServedData → ℤ → ReplyRow → List ℕ → Type 0
 Replies served_data minute row text =
     (text ≡ reply_of served_data.book served_data.table minute row) ⊎ ((fixed_of row ≡ None) × (text ≡ unavailable_of row))
 
--- The reply of a row was sent, at the minute that the clock returned; or the clock has failed, and nothing
--- was sent.
+-- The reply for a row of the table of HTTP statuses was sent, at the minute that the clock returned; or
+-- the clock has failed, and nothing was sent.
 abbrev pub RowSent : Bool → ServedData → ReplyRow → Exchange → Exchange → Type 0
 RowSent false served_data row before after =
     (text : List ℕ) × (failed : Bool) × (minute : ℤ)
@@ -91,7 +93,7 @@ abbrev pub clock_given : Option ℤ → ClockState → ClockState
 clock_given None clock = clock
 clock_given (Some minute) clock = clock_after (Ok minute) clock
 
--- a minute that the clock returned is the next one
+-- the minute that the clock returned, if it was read, is this one
 abbrev pub IsNextMinute : Option ℤ → ℤ → Type 0
 IsNextMinute None next = Unit {0}
 IsNextMinute (Some minute) next = minute ≡ next

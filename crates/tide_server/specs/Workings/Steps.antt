@@ -42,22 +42,22 @@ use Rattle.tide_server.specs.Serving.{
 }
 use Rattle.tide_server.specs.Workings.Connections.{IsNextMinute, Talk, clock_given, talked}
 
--- the port failed
+-- the failure is that the port couldn't listen or accept a connection
 abbrev pub is_door : Outage → Bool
 is_door outages.Door = true
 is_door outages.Clock = false
 
--- the clock failed
+-- the failure is that the clock couldn't be read
 abbrev pub is_clock : Outage → Bool
 is_clock outages.Door = false
 is_clock outages.Clock = true
 
--- the result is that the port failed
+-- the result is that the port couldn't listen or accept a connection
 abbrev pub is_door_outage : {T : Type 0} → Result T Outage → Bool
 is_door_outage (Ok value) = false
 is_door_outage (Err outage) = is_door outage
 
--- the result is that the clock failed
+-- the result is that the clock couldn't be read
 abbrev pub is_clock_outage : {T : Type 0} → Result T Outage → Bool
 is_clock_outage (Ok value) = false
 is_clock_outage (Err outage) = is_clock outage
@@ -68,7 +68,8 @@ is_clock_outage (Err outage) = is_clock outage
 abbrev pub door_with : Talk → DoorState → DoorState
 door_with talk d = door_after_close (talked talk (door_after_next (Ok true) d))
 
--- the connection as the definitions see it
+-- an ended connection: the pieces that the client sent, its reply, whether a read or write failed, and
+-- whether the clock was read for it
 abbrev pub conversation : List (List ℕ) → Talk → Conversation
 conversation request talk =
     record { request = request; reply = talk.reply; is_cut = talk.is_cut; is_asked = is_some talk.minute }
@@ -120,7 +121,7 @@ StepBy (Err outages.Clock) served_data before after = LeftNext before after
 
 -- ---- Several steps
 
--- the port after `taken` connections
+-- the port at which the server listens after it accepted `taken` connections, none of which is open
 abbrev pub serving : ℕ → ℕ → Doorway
 serving port taken = record { port = Some port; listens = true; taken = taken; is_open = false; is_over = false }
 
@@ -134,7 +135,7 @@ pub record IsKept (door_failed clock_failed : Bool) (before after : Exchange) : 
   pub asked : ℕ
   pub clock : after.clock ≡ record before.clock { given = given; asked = asked; faults = faults_after clock_failed before.clock.faults }
 
--- this many connections were served
+-- `count` connections were served one after the other, in the order in which they waited
 pub record WereServed (served_data : ServedData) (count : ℕ) (before after : Exchange) : Type 0 where
   pub served : List Conversation
   pub requests : before.door.traffic.waiting ≡ map (λ c. c.request) served ++ after.door.traffic.waiting
