@@ -7,7 +7,7 @@ use Rattle.decimal_text.specs.Expected.{ReturnsUnless}
 use Rattle.cert_text.specs.declared.fault.CertFault.{CertFault}
 use Rattle.cert_text.specs.declared.fault.CertFault.TheVariants.{NoMemory, NotACertificate}
 use Rattle.cert_text.specs.Texts.{ended, joined, IsTextBy, BeginsBy, IsFaultBy, RefusedBy, ReadsBy}
-use Rattle.cert_text.specs.ByLine.{Place, Part, handed, ◌>>=◌, lines_in, last_in, place_at, without_place, read_by, is_out_of_memory, Takes}
+use Rattle.cert_text.specs.ByLine.{Place, Part, handed, ◌>>=◌, lines_in, last_in, place_at, without_place, read_by, is_out_of_memory, Takes, TakesExactly}
 use Rattle.cert_text.proofs.CutLemmas.{AreFree, are_free_prefix, lines_in-joined, bytes_of_lines}
 use Rattle.cert_text.proofs.PartLemmas.{Lines, at, Whole, Broken, IsReader}
 
@@ -26,6 +26,11 @@ pub then_takes : {A B : Type 0} (part : Part A) (next : A → Part B) (old here 
     → part old ≡ Ok (value, here) → Takes (next value) here new result → Takes (part >>= next) old new result
 then_takes part next old here new value (Ok said) h k = ap (handed next) h ∙ k
 then_takes part next old here new value (Err fault) h k = λ m. ap (handed next) h ∙ k m
+
+pub then_takes_exactly : {A B : Type 0} (part : Part A) (next : A → Part B) (old here new : Place) (value : A) (result : Result B CertFault)
+    → part old ≡ Ok (value, here) → TakesExactly (next value) here new result → TakesExactly (part >>= next) old new result
+then_takes_exactly part next old here new value (Ok said) h k = ap (handed next) h ∙ k
+then_takes_exactly part next old here new value (Err fault) h k = ap (handed next) h ∙ k
 
 -- what a function returns, without the place where it stops
 pub returned_by : {C : Type 0} (part : Part C) (old new : Place) (result : Result C CertFault) → Takes part old new result

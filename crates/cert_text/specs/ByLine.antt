@@ -163,3 +163,9 @@ is_out_of_memory (NotACertificate line) = false
 abbrev pub Takes : {A : Type 0} → Part A → Place → Place → Result A CertFault → Type 0
 Takes part old new (Ok value) = part old ≡ Ok (value, new)
 Takes part old new (Err fault) = is_out_of_memory fault ≡ false → part old ≡ Err fault
+
+-- a function that doesn't allocate returns the part's value and stops at the position after it, or returns
+-- its fault
+abbrev pub TakesExactly : {A : Type 0} → Part A → Place → Place → Result A CertFault → Type 0
+TakesExactly part old new (Ok value) = part old ≡ Ok (value, new)
+TakesExactly part old new (Err fault) = part old ≡ Err fault

@@ -2,7 +2,7 @@
 
 ghost use Rattle.std.specs.Prelude.{◌≡◌, ◌≤◌, ℕ, List, Option, length, IfNone, MatchOption, MatchResult};
 ghost use Rattle.decimal_text.specs.declared.limits.TheConstants.{MOST_BYTES};
-ghost use Rattle.cert_text.specs.ByLine.{Takes, place_at, first_item, any_line, is_next, end_of_text};
+ghost use Rattle.cert_text.specs.ByLine.{TakesExactly, place_at, first_item, any_line, is_next, end_of_text};
 
 use crate::fault::CertFault;
 use crate::lines::next_line;
@@ -105,7 +105,7 @@ impl<'a> LineCursor<'a> {
     /// # Errors
     /// [`CertFault::NotACertificate`] with the number of the next line, if there is another byte.
     pub fn finish(&self) -> Result<(), CertFault>
-        ensures { Takes end_of_text self.now self.now result }
+        ensures { TakesExactly end_of_text self.now self.now result }
     {
         if self.rest.is_empty() {
             Ok(())

@@ -1,7 +1,7 @@
 //! The parts of which the texts of certificates consist.
 
 ghost use Rattle.std.specs.Prelude.{◌≡◌, IfOk, MatchResult};
-ghost use Rattle.cert_text.specs.ByLine.{Takes, line_of, is_word, items_of};
+ghost use Rattle.cert_text.specs.ByLine.{TakesExactly, line_of, is_word, items_of};
 ghost use Rattle.cert_text.specs.Workings.LineReading.{version_of, station_of, moment_after, mark_of};
 
 use crate::fault::CertFault;
@@ -14,7 +14,7 @@ use std::alloc::{AllocError, Global};
 /// # Errors
 /// [`CertFault::NotACertificate`] with the number of this line, if it is any other line.
 pub fn word(lines: &mut LineCursor<'_>, word: &str) -> Result<(), CertFault>
-    ensures { Takes (line_of (is_word word.now)) lines.old lines.new result }
+    ensures { TakesExactly (line_of (is_word word.now)) lines.old lines.new result }
 {
     if lines.next()? == word.as_bytes() {
         Ok(())
@@ -26,7 +26,7 @@ pub fn word(lines: &mut LineCursor<'_>, word: &str) -> Result<(), CertFault>
 /// Reads the title line of a certificate and returns its version, 1 or 2. Any other line is a fault with
 /// the line's number.
 pub fn version(lines: &mut LineCursor<'_>) -> Result<u32, CertFault>
-    ensures { Takes (line_of version_of) lines.old lines.new result }
+    ensures { TakesExactly (line_of version_of) lines.old lines.new result }
 {
     version_of(lines.next()?).ok_or(lines.fault())
 }
@@ -44,7 +44,7 @@ pub fn station<'a>(lines: &mut LineCursor<'a>) -> Result<&'a str, CertFault>
 /// Reads a line of `word` and a moment, and returns the moment in minutes since 1970-01-01T00:00Z. Any
 /// other line is a fault with the line's number.
 pub fn moment(lines: &mut LineCursor<'_>, word: &str) -> Result<i64, CertFault>
-    ensures { Takes (line_of (moment_after word.now)) lines.old lines.new result }
+    ensures { TakesExactly (line_of (moment_after word.now)) lines.old lines.new result }
 {
     moment_after(word.as_bytes(), lines.next()?).ok_or(lines.fault())
 }
@@ -52,7 +52,7 @@ pub fn moment(lines: &mut LineCursor<'_>, word: &str) -> Result<i64, CertFault>
 /// Reads the line of the mark and returns the mark, in millionths of the station's unit, or `None` for
 /// `mark none`. Any other line is a fault with the line's number.
 pub fn mark(lines: &mut LineCursor<'_>) -> Result<Option<i64>, CertFault>
-    ensures { Takes (line_of mark_of) lines.old lines.new result }
+    ensures { TakesExactly (line_of mark_of) lines.old lines.new result }
 {
     mark_of(lines.next()?).ok_or(lines.fault())
 }

@@ -3,7 +3,7 @@
 ghost use Rattle.std.specs.Prelude.{◌≡◌, ◌≤◌, length, IfOk, is_some};
 ghost use Rattle.decimal_text.specs.Expected.{ReturnsUnless};
 ghost use Rattle.decimal_text.specs.declared.limits.TheConstants.{MOST_BYTES};
-ghost use Rattle.cert_text.specs.ByLine.{Takes, part_if, part_after};
+ghost use Rattle.cert_text.specs.ByLine.{Takes, TakesExactly, part_if, part_after};
 ghost use Rattle.cert_text.specs.Certificates.{IsCertificate};
 ghost use Rattle.cert_text.specs.Lines.{heading_of};
 ghost use Rattle.cert_text.specs.Spelling.{Reads};
@@ -80,7 +80,7 @@ fn read_crossings(
 /// Reads the last line of a certificate, `done`, and checks that no byte is unread. Otherwise it returns
 /// the fault with the line's number.
 pub fn read_last(lines: &mut LineCursor<'_>) -> Result<(), CertFault>
-    ensures { Takes last_part lines.old lines.new result }
+    ensures { TakesExactly last_part lines.old lines.new result }
 {
     word(lines, "done")?;
     lines.finish()

@@ -3,7 +3,7 @@
 ghost use Rattle.std.specs.Prelude.{◌≤◌, length, IfOk};
 ghost use Rattle.decimal_text.specs.Expected.{ReturnsUnless};
 ghost use Rattle.decimal_text.specs.declared.limits.TheConstants.{MOST_BYTES};
-ghost use Rattle.cert_text.specs.ByLine.{Takes, line_of};
+ghost use Rattle.cert_text.specs.ByLine.{Takes, TakesExactly, line_of};
 ghost use Rattle.peak_text.specs.PeakTexts.{IsPeakCertificate};
 ghost use Rattle.peak_text.specs.PeakSpelling.{ReadsPeak};
 ghost use Rattle.peak_text.specs.PeakReadings.{cells_part, peak_part, peak_of, is_out_of_memory};
@@ -34,7 +34,7 @@ impl ItemForm for CellForm {
 
 /// Reads the line of the value.
 fn read_value(lines: &mut LineCursor<'_>) -> Result<i128, CertFault>
-    ensures { Takes (line_of value_of) lines.old lines.new result }
+    ensures { TakesExactly (line_of value_of) lines.old lines.new result }
 {
     value_of(lines.next()?).ok_or(lines.fault())
 }

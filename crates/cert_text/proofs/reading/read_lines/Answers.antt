@@ -7,7 +7,7 @@ use Rattle.cert_text.proofs.reading.read_lines.Goals as goal
 pub returns-in_err-version : goal.returns-in_err-version
 returns-in_err-version c =
     let p = err_from_is_err_and c.from_residual.result c.from_residual.ensures.1 in
-    rw (p.1, p.2) (λ m. rw (c.in_err-version.ensures m) refl)
+    rw (p.1, p.2) (λ m. rw (c.in_err-version.ensures) refl)
 
 pub returns-in_err-station : goal.returns-in_err-station
 returns-in_err-station c =
@@ -17,17 +17,17 @@ returns-in_err-station c =
 pub returns-in_err-begin : goal.returns-in_err-begin
 returns-in_err-begin c =
     let p = err_from_is_err_and c.from_residual-in_err-begin.result c.from_residual-in_err-begin.ensures.1 in
-    rw (p.1, p.2) (λ m. rw (c.in_ok-version.ensures, c.in_ok-station.ensures, c.in_err-begin.ensures m) refl)
+    rw (p.1, p.2) (λ m. rw (c.in_ok-version.ensures, c.in_ok-station.ensures, c.in_err-begin.ensures) refl)
 
 pub returns-in_err-end : goal.returns-in_err-end
 returns-in_err-end c =
     let p = err_from_is_err_and c.from_residual-in_err-end.result c.from_residual-in_err-end.ensures.1 in
-    rw (p.1, p.2) (λ m. rw (c.in_ok-version.ensures, c.in_ok-station.ensures, c.in_ok-begin.ensures, c.in_err-end.ensures m) refl)
+    rw (p.1, p.2) (λ m. rw (c.in_ok-version.ensures, c.in_ok-station.ensures, c.in_ok-begin.ensures, c.in_err-end.ensures) refl)
 
 pub returns-in_err-mark : goal.returns-in_err-mark
 returns-in_err-mark c =
     let p = err_from_is_err_and c.from_residual-in_err-mark.result c.from_residual-in_err-mark.ensures.1 in
-    rw (p.1, p.2) (λ m. rw (c.in_ok-version.ensures, c.in_ok-station.ensures, c.in_ok-begin.ensures, c.in_ok-end.ensures, c.in_err-mark.ensures m) refl)
+    rw (p.1, p.2) (λ m. rw (c.in_ok-version.ensures, c.in_ok-station.ensures, c.in_ok-begin.ensures, c.in_ok-end.ensures, c.in_err-mark.ensures) refl)
 
 pub returns-in_err-tracks : goal.returns-in_err-tracks
 returns-in_err-tracks c =

@@ -6,7 +6,7 @@ pub returns-in_err-word : goal.returns-in_err-word
 returns-in_err-word c =
     let p = err_from_is_err_and c.from_residual.result c.from_residual.ensures.1 in
     let stop = rw c.heading.ensures at c.in_err-word.ensures in
-    rw (p.1, p.2) (λ m. rw (stop m) refl)
+    rw (p.1, p.2) (λ m. rw stop refl)
 
 pub returns-in_err-items : goal.returns-in_err-items
 returns-in_err-items c =

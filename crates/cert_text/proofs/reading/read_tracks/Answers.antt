@@ -20,7 +20,7 @@ returns-in_err-crossings c =
 pub returns-in_err-read_last : goal.returns-in_err-read_last
 returns-in_err-read_last c =
     let p = err_from_is_err_and c.from_residual-in_err-read_last.result c.from_residual-in_err-read_last.ensures.1 in
-    rw (p.1, p.2) (λ m. rw (c.in_ok-turn.ensures, c.in_ok-slack.ensures, c.in_ok-crossings.ensures, c.in_err-read_last.ensures m) refl)
+    rw (p.1, p.2) (λ m. rw (c.in_ok-turn.ensures, c.in_ok-slack.ensures, c.in_ok-crossings.ensures, c.in_err-read_last.ensures) refl)
 
 pub returns : goal.returns
 returns c = rw (c.in_ok-turn.ensures, c.in_ok-slack.ensures, c.in_ok-crossings.ensures, c.in_ok-read_last.ensures) refl

@@ -15,7 +15,7 @@ pub returns-in_err-read_last : goal.returns-in_err-read_last
 returns-in_err-read_last c =
     let p = err_from_is_err_and c.from_residual-in_err-read_last.result c.from_residual-in_err-read_last.ensures.1 in
     rw (p.1, p.2) (then_takes (items_of cell_of) last_tail c.args.lines.now c.items.new.lines c.read_last.new.lines
-    c.in_ok-cells.cells.items (Err c.in_err-read_last.field-0.0) c.in_ok-cells.ensures (λ m. rw (c.in_err-read_last.ensures m) refl))
+    c.in_ok-cells.cells.items (Err c.in_err-read_last.field-0.0) c.in_ok-cells.ensures (λ m. rw (c.in_err-read_last.ensures) refl))
 
 pub returns : goal.returns
 returns c =

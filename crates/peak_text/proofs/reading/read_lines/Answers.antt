@@ -10,7 +10,7 @@ pub returns-in_err-word : goal.returns-in_err-word
 unfolding peak_title
 returns-in_err-word c =
     let p = err_from_is_err_and c.from_residual.result c.from_residual.ensures.1 in
-    rw (p.1, p.2) (λ m. rw (c.in_err-word.ensures m) refl)
+    rw (p.1, p.2) (λ m. rw (c.in_err-word.ensures) refl)
 
 pub returns-in_err-station : goal.returns-in_err-station
 unfolding peak_title
@@ -22,25 +22,25 @@ pub returns-in_err-begin : goal.returns-in_err-begin
 unfolding peak_title
 returns-in_err-begin c =
     let p = err_from_is_err_and c.from_residual-in_err-begin.result c.from_residual-in_err-begin.ensures.1 in
-    rw (p.1, p.2) (λ m. rw (c.in_ok-word.ensures, c.in_ok-station.ensures, c.in_err-begin.ensures m) refl)
+    rw (p.1, p.2) (λ m. rw (c.in_ok-word.ensures, c.in_ok-station.ensures, c.in_err-begin.ensures) refl)
 
 pub returns-in_err-end : goal.returns-in_err-end
 unfolding peak_title
 returns-in_err-end c =
     let p = err_from_is_err_and c.from_residual-in_err-end.result c.from_residual-in_err-end.ensures.1 in
-    rw (p.1, p.2) (λ m. rw (c.in_ok-word.ensures, c.in_ok-station.ensures, c.in_ok-begin.ensures, c.in_err-end.ensures m) refl)
+    rw (p.1, p.2) (λ m. rw (c.in_ok-word.ensures, c.in_ok-station.ensures, c.in_ok-begin.ensures, c.in_err-end.ensures) refl)
 
 pub returns-in_err-at : goal.returns-in_err-at
 unfolding peak_title
 returns-in_err-at c =
     let p = err_from_is_err_and c.from_residual-in_err-at.result c.from_residual-in_err-at.ensures.1 in
-    rw (p.1, p.2) (λ m. rw (c.in_ok-word.ensures, c.in_ok-station.ensures, c.in_ok-begin.ensures, c.in_ok-end.ensures, c.in_err-at.ensures m) refl)
+    rw (p.1, p.2) (λ m. rw (c.in_ok-word.ensures, c.in_ok-station.ensures, c.in_ok-begin.ensures, c.in_ok-end.ensures, c.in_err-at.ensures) refl)
 
 pub returns-in_err-value : goal.returns-in_err-value
 unfolding peak_title
 returns-in_err-value c =
     let p = err_from_is_err_and c.from_residual-in_err-value.result c.from_residual-in_err-value.ensures.1 in
-    rw (p.1, p.2) (λ m. rw (c.in_ok-word.ensures, c.in_ok-station.ensures, c.in_ok-begin.ensures, c.in_ok-end.ensures, c.in_ok-at.ensures, c.in_err-value.ensures m) refl)
+    rw (p.1, p.2) (λ m. rw (c.in_ok-word.ensures, c.in_ok-station.ensures, c.in_ok-begin.ensures, c.in_ok-end.ensures, c.in_ok-at.ensures, c.in_err-value.ensures) refl)
 
 pub returns-in_err-cells : goal.returns-in_err-cells
 unfolding peak_title
