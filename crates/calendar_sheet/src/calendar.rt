@@ -71,7 +71,7 @@ fn push_pages(
     Ok(())
 }
 
-/// Appends the line of one date.
+/// Appends the line of the date `page`, whose events have names in `units`.
 fn push_page(
     text: &mut Vec<u8>,
     units: Units,

@@ -8,8 +8,8 @@ ghost use Rattle.command_laws.specs.Worked.{pier_answer, pier_with_certificate};
 
 use tide_desk::what_certify_answers_is_accepted;
 
-/// Proves that `check` prints, for the text that `certify` returned, `Accepted` and then what `predict`
-/// prints for the same station, span and mark: with the same arguments as `certify` had.
+/// Proves that `check`, given the text that `certify` returned, prints `Accepted` and then what `predict`
+/// prints with the station, span and mark that `certify` had.
 pub fn check_shows_predict()
     ensures any_words { CheckShowsPredict }
     ensures arguments { TakesItsArguments }

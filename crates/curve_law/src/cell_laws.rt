@@ -31,7 +31,7 @@ pub fn spans_are_cut_into_blocks()
 {}
 
 /// Proves that each value in a quiet cell, both ends included, is on the same side of zero as the value
-/// at the cell's begin, and that there is no event after any of the cell's minutes.
+/// at the cell's first minute, so no event lies between a minute of the cell and the next minute.
 pub fn quiet_cells_have_no_event()
     ensures sides { (c : Meaning) (a : ℤ) (n : ℕ) → IsLawful c → IsSpan c a n → is_quiet c a n ≡ true →
         (k : ℕ) → k ≤ n → side_at c.track (a +ℤ pos k) ≡ side_at c.track a }

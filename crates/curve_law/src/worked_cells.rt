@@ -52,8 +52,9 @@ pub fn worked_covers()
         cover c (pos 0) 2049 ≡ Cell.Quiet 1024 ∷ Cell.Quiet 1024 ∷ Cell.Still ∷ [] }
 {}
 
-/// Proves examples of verdicts on claimed cells of a line, for the 8 minutes from minute 0 on. The line
-/// rises past 0 after minute 2, where its level is 2.
+/// Proves examples of verdicts on claimed cells of a curve that is a straight line, for the 8 minutes from
+/// minute 0 on. The curve's value rises past 0 between the minutes 2 and 3, and its level at a minute is
+/// that minute's number.
 #[tactic(auto, unfolding(crate::specs::Cover::keeps_side, crate::specs::Cover::is_quiet, crate::specs::Cells::all_minutes, crate::specs::Verdicts::cell_verdict, crate::specs::Verdicts::cells_verdict, crate::specs::Verdicts::verdict))]
 pub fn worked_verdicts()
     ensures by_halves { verdict (line (negsuc 1) false (pos 1)) (pos 0) 8

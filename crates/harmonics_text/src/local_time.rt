@@ -113,11 +113,11 @@ fn zone_name(alloc: Global, token: &[u8]) -> Result<Text, LineFault>
     }
 }
 
-/// Returns the meridian and the name of the zone, which may be missing, of line `text`, such as `-5:00
-/// :America/New_York`.
+/// Reads the line `text`, such as `-5:00 :America/New_York`: a meridian and the name of a zone, which may
+/// be missing.
 ///
 /// # Errors
-/// [`Why::BadMeridian`] if the line isn't a meridian and a zone; [`LineFault::NoMemory`] if memory runs
+/// [`Why::BadMeridian`] if the line isn't a meridian, alone or followed by a zone; [`LineFault::NoMemory`] if memory runs
 /// out.
 #[tactic(auto, unfolding(crate::specs::Rules::local_time_of, crate::specs::Rules::local_time_from))]
 pub fn local_time_of_line(alloc: Global, text: &[u8]) -> Result<LocalTime, LineFault>

@@ -16,11 +16,11 @@ use crate::verdict::PeakVerdict;
 use curve_law::{Curve, Point, point_at};
 
 /// Checks whether `peak` is the highest water of the minutes from `begin` up to but not including
-/// `end`, both minutes of `curve`. It checks first whether the cells of `peak` have these minutes, then
-/// whether its minute is one of them, and then each cell in turn. If `peak` is accepted, its minute is
-/// the first with the greatest value, and its value is this value, however it was made.
+/// `end`, both minutes of `curve`. It checks first whether the cells of `peak` cover exactly these
+/// minutes, then whether its minute is one of them, and then each cell in turn. If `peak` is accepted, its
+/// minute is the first with the greatest value, and its value is this value, whoever made `peak`.
 ///
-/// The value of `peak` is below 10^37 in size. There are fewer than 2^32 cells, and the cells and the
+/// The caller ensures that the value of `peak` is below 10^37 in size, that there are fewer than 2^32 cells, and the cells and the
 /// earlier evaluations of the curve together number at most 2^62. The call evaluates the curve at most
 /// once per cell, plus once.
 pub fn check_peak<C: Curve>(curve: &mut C, peak: &Peak, begin: i64, end: i64) -> PeakVerdict

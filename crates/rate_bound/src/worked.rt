@@ -37,9 +37,9 @@ pub fn worked_rates()
         ≡ Some (pos (2000000 * 165792618547200000000000)) }
 {}
 
-/// Proves cells of the pier's slope. From midnight on the slope falls from 0, by 0.04 per cent too fast
-/// for one quiet cell of eight minutes. Across a new year a cell is quiet only by the second version of
-/// the rates.
+/// Proves cells of the pier's slope. From midnight on the slope falls from 0, and its rate is 0.04 per cent
+/// too great for one quiet cell of eight minutes. A cell across a new year is quiet by the rates of the
+/// second version, and not by those of the first.
 pub fn worked_turns()
     ensures from_midnight { cover (predicted_turn Version.First pier_book pier) (pos 15791040) 8
         ≡ Cell.Still ∷ Cell.Still ∷ Cell.Quiet 2 ∷ Cell.Quiet 4 ∷ [] }

@@ -16,8 +16,8 @@ pub struct MinuteRange {
 }
 
 impl MinuteRange {
-    /// Returns true if the year whose first minute is `start`, and after which the next year begins at
-    /// `end`, is at most 60 minutes from one of these minutes.
+    /// Returns true if a minute of this range is in the year from `start` up to but not including `end`, or
+    /// at most 60 minutes before or after that year.
     pub fn touches(self, start: i64, end: i64) -> bool
         requires last { unsigned_abs self.last ≤ 10 ^ 12 }
         requires end { unsigned_abs end ≤ 10 ^ 12 }

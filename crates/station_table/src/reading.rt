@@ -61,7 +61,8 @@ fn read_table(
     read_rows(alloc, records, header)
 }
 
-/// Returns the records of the CSV text `bytes`, of any numbers of fields.
+/// Returns an iterator over the records of the CSV text `bytes`, before its first record. A record may
+/// have any number of fields.
 fn records_of(alloc: Global, bytes: &[u8]) -> ByteRecordsIntoIter<&[u8]>
     ensures { HasGiven bytes.now [] result }
 {

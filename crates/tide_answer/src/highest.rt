@@ -48,8 +48,8 @@ pub fn highest_answer(
     Ok(text_alone(text))
 }
 
-/// Returns the listing of a highest water: the station's name, and the minute and the level that the
-/// high-water offset makes of the reference's minute `at` and its level.
+/// Returns the listing of the highest water: the station's name, and the minute and level that result if
+/// the offset of high waters is applied to the minute `at` of the reference station and its level then.
 pub fn highest_text_at(
     alloc: Global,
     found: &FoundStation,

@@ -11,8 +11,8 @@ ghost use Rattle.tide_edge.specs.declared.piece.TheConstants.{PIECE};
 
 use crate::read_all_fault::ReadAllFault;
 
-/// Proves examples of the definitions: which files are read whole, and how counts, pieces, connections
-/// and clocks change with each call.
+/// Proves examples of the definitions of outside objects: which files are read whole, and how each call
+/// changes the count of faults, the pieces of a connection that wait, the connections and the clock.
 pub fn worked_rows()
     ensures piece { PIECE ≡ 65536 }
     ensures fits { whole 3 (Some (7 ∷ 8 ∷ 9 ∷ [])) ≡ Ok (7 ∷ 8 ∷ 9 ∷ []) }
