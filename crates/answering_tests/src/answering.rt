@@ -8,7 +8,6 @@ ghost use Rattle.std.specs.Prelude.{[], IfOk};
 ghost use Rattle.harmonics_book.specs.Books.{IsBook};
 ghost use Rattle.question.specs.Asked.{IsAsked};
 ghost use Rattle.tide_answer.specs.Givens.{IsGiven};
-ghost use Rattle.tide_fault.specs.Faults.{IsPrintable};
 
 use crate::asserts::{assert_bytes, assert_count, assert_holds, lines_of};
 use case::{Case, asked, written};
@@ -239,7 +238,6 @@ fn assert_line(
     status: u8,
     line: &str,
 ) -> Result<(), AllocError>
-    requires { IsPrintable [] fault }
 {
     let printed = fault_line(alloc, &fault, &OffsetTable::new(alloc))?;
     assert_count(

@@ -12,8 +12,6 @@ use Rattle.station_table.specs.Bases.{basis_of}
 use Rattle.station_span.specs.declared.asked.Asked.{Asked}
 use Rattle.station_span.specs.declared.reach.Reach.{Reach}
 use Rattle.tide_fault.specs.declared.refusal.Refusal.{Refusal}
-use Rattle.tide_fault.specs.declared.refusal.Refusal.TheVariants.{NoReference, OutOfYears}
-use Rattle.tide_fault.specs.Faults.{IsPrintableRefusal}
 use Rattle.station_span.specs.Sites.{Site, basis_from, level_unit, span_in, curve_from, length_in, mark_in, site_at, site_in, station_in}
 use Rattle.station_span.specs.declared.found_station.FoundStation.{FoundStation}
 use Rattle.station_span.specs.Workings.Finds.{FindsIn}
@@ -161,7 +159,3 @@ unfolding site_in
 refused_name memory reach book table name asked refusal from = excused_by memory _ refusal (rw from refl)
 
 -- a refusal whose line can be printed without a table can be printed with any
-pub printable_any : (rows : List Offsets) (refusal : Refusal) → IsPrintableRefusal [] refusal → IsPrintableRefusal rows refusal
-printable_any rows (NoReference place) printable = absurd (omega (arith, printable))
-printable_any rows (OutOfYears first last) printable = printable
-printable_any rows _ printable = tt

@@ -1,9 +1,8 @@
 //! The highest water of a station over a span.
 
-ghost use Rattle.std.specs.Prelude.{◌≡◌, ◌<◌, ◌≤◌, ◌^◌, ◌+ℤ◌, length, unsigned_abs, IfErr, IfOk, OnOk};
+ghost use Rattle.std.specs.Prelude.{◌≡◌, ◌<◌, ◌≤◌, ◌^◌, ◌+ℤ◌, length, unsigned_abs, IfOk, OnOk};
 ghost use Rattle.cert_text.specs.Certificates.{IsStationName};
 ghost use Rattle.highest_water.specs.declared.verdict.PeakVerdict.{PeakVerdict};
-ghost use Rattle.tide_fault.specs.Faults.{IsPrintableRefusal};
 ghost use Rattle.station_span.specs.Peaks.{highest_of, highest_site, highest_verdict};
 ghost use Rattle.station_span.specs.Workings.Finds.{FindsIn, HasPeak, IsLooked, site_of, tide_of_found};
 ghost use Rattle.station_span.specs.Workings.Peaks.{IsSourceIn, tide_levels};
@@ -45,7 +44,6 @@ pub fn find_level(
         (highest_site stations.now.book stations.now.table request.now.name request.now.asked) result }
     ensures peak { IfOk result HasPeak }
     ensures named { OnOk result (IsStationName request.now.name) }
-    ensures printable { IfErr result (IsPrintableRefusal stations.now.table) }
 {
     let found = find_station(alloc, stations, Reach::Highest, request)?;
     check_level(&found)?;

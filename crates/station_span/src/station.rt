@@ -1,30 +1,10 @@
 //! The steps of a request about a station's span, in the order of refusals.
 
-ghost use Rattle.std.specs.Prelude.{
-  ◌≡◌,
-  ℕ,
-  ◌<◌,
-  ◌≤◌,
-  pos,
-  ◌+ℤ◌,
-  ◌-ℤ◌,
-  ◌≤ℤ◌,
-  [],
-  length,
-  unsigned_abs,
-  int_lt,
-  IsTrue,
-  Some,
-  IfOk,
-  IfErr,
-  OnOk,
-  slice_get,
-};
+ghost use Rattle.std.specs.Prelude.{◌≡◌, ◌<◌, ◌≤◌, pos, ◌+ℤ◌, ◌-ℤ◌, ◌≤ℤ◌, length, unsigned_abs, int_lt, IsTrue, Some, IfOk, IfErr, OnOk, slice_get};
 ghost use Rattle.std.specs.Option.{ForSome};
 ghost use Rattle.cert_text.specs.Certificates.{IsStationName};
 ghost use Rattle.event_list.specs.Shifts.{HasOffsets};
 ghost use Rattle.station_table.specs.Bases.{IsBasis, basis_of, is_equal};
-ghost use Rattle.tide_fault.specs.Faults.{IsPrintableRefusal};
 ghost use Rattle.station_span.specs.Sites.{
   basis_from,
   site_in,
@@ -92,7 +72,6 @@ pub fn find_station(
     ensures exact { FindsIn reach stations.now.book request.now.asked
         (site_in reach stations.now.book stations.now.table request.now.name request.now.asked) result }
     ensures named { OnOk result (IsStationName request.now.name) }
-    ensures printable { IfErr result (IsPrintableRefusal stations.now.table) }
 {
     let basis = find_basis(stations, request.name())?;
     let book = stations.book();
@@ -109,7 +88,6 @@ pub fn find_basis(stations: &StationData<'_>, name: &Text) -> Result<Basis, Refu
     ensures exact { result ≡ basis_from (basis_of stations.now.book stations.now.table name.now) }
     ensures valid { IfOk result (IsBasis (length stations.now.book.stations)) }
     ensures named { OnOk result (IsStationName name.now) }
-    ensures printable { IfErr result (IsPrintableRefusal stations.now.table) }
 {
     let table = stations.table();
     table.ranges_hold();
@@ -132,9 +110,8 @@ fn find_at(
 ) -> Result<FoundStation, Refusal>
     requires basis { IsBasis (length book.now.stations) basis }
     requires place { slice_get book.now.stations basis.station ≡ Some station.now }
-    ensures exact { FindsIn reach book.now request.now.asked
+    ensures { FindsIn reach book.now request.now.asked
         (site_at reach book.now (site_with basis station.now) request.now.asked) result }
-    ensures printable { IfErr result (IsPrintableRefusal []) }
 {
     let asked = request.asked();
     level_units(station.units)?;
@@ -167,7 +144,6 @@ pub fn station_at(book: &Book, place: u32) -> &Station
 pub fn level_units(units: Units) -> Result<Units, Refusal>
     ensures exact { result ≡ level_unit units }
     ensures levels { OnOk result (HasLevels units) }
-    ensures printable { IfErr result (IsPrintableRefusal []) }
 {
     match units {
         Units::Feet => Ok(Units::Feet),
@@ -190,7 +166,6 @@ fn span_looked_at(
     ensures refused { IfErr result (λ refusal.
         span_in reach book.now basis.now request.now.asked.begin request.now.asked.end ≡ Err refusal) }
     ensures exact { IfOk result (λ span. span ≡ reached reach basis.now request.now.asked.begin request.now.asked.end) }
-    ensures printable { IfErr result (IsPrintableRefusal []) }
 {
     if is_backward(request) {
         return Err(Refusal::BackwardSpan);
@@ -311,7 +286,6 @@ fn last_minute(book: &ValidBook<'_>) -> i64
 fn check_length(request: &StationRequest<'_>) -> Result<(), Refusal>
     ensures exact { result ≡ length_in request.now.asked.begin request.now.asked.end }
     ensures count_bound { OnOk result ((request.now.asked.end -ℤ request.now.asked.begin) ≤ℤ span_limit) }
-    ensures printable { IfErr result (IsPrintableRefusal []) }
 {
     let minutes = asked_minutes(request);
     if minutes > SPAN_LIMIT {
@@ -332,7 +306,6 @@ fn asked_minutes(request: &StationRequest<'_>) -> i64
 fn check_mark(basis: &Basis, request: &StationRequest<'_>) -> Result<(), Refusal>
     ensures exact { result ≡ mark_in basis.now request.now.asked.mark }
     ensures here { OnOk result (ForSome request.now.asked.mark (λ level. IsTrue (is_equal basis.now))) }
-    ensures printable { IfErr result (IsPrintableRefusal []) }
 {
     match request.asked().mark {
         Some(_) if !basis.equal() => Err(Refusal::MarkNotHere),
