@@ -4,7 +4,7 @@ mod case;
 mod rows;
 mod sizes;
 
-ghost use Rattle.std.specs.Prelude.{[], IfOk};
+ghost use Rattle.std.specs.Prelude.{IfOk};
 ghost use Rattle.harmonics_book.specs.Books.{IsBook};
 ghost use Rattle.question.specs.Asked.{IsAsked};
 ghost use Rattle.tide_answer.specs.Givens.{IsGiven};
@@ -237,8 +237,7 @@ fn assert_line(
     fault: Fault,
     status: u8,
     line: &str,
-) -> Result<(), AllocError>
-{
+) -> Result<(), AllocError> {
     let printed = fault_line(alloc, &fault, &OffsetTable::new(alloc))?;
     assert_count(
         rt,

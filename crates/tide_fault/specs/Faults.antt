@@ -136,10 +136,13 @@ reference_at rows place = option_map_or (λ row. row.reference) (slice_get rows 
 abbrev pub naming_line : List ℕ → List ℕ → List ℕ
 naming_line what name = what ++ name ++ codes "\n"
 
--- the text of a minute; no byte outside the years 1 to 9999
+-- a minute of the years 1 to 9999
+abbrev pub is_moment : ℤ → Bool
+is_moment minute = int_le (negsuc 1035593279) minute && int_le minute (pos 4223371679)
+
+-- the text of a minute; no byte outside these years
 abbrev pub minute_text : ℤ → List ℕ
-minute_text minute =
-    if int_le (negsuc 1035593279) minute && int_le minute (pos 4223371679) then moment_text minute else []
+minute_text minute = if is_moment minute then moment_text minute else []
 
 -- the line for a span outside the file's years
 abbrev pub years_line : ℤ → ℤ → List ℕ

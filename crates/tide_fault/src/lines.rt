@@ -14,6 +14,7 @@ ghost use Rattle.tide_fault.specs.Faults.{
   refusal_line,
   years_line,
   minute_text,
+  is_moment,
 };
 
 use crate::fault::Fault;
@@ -164,12 +165,15 @@ fn refusal_text(alloc: Global, refusal: Refusal, table: &OffsetTable) -> Result<
 }
 
 /// Returns the name of the reference station at index `row` of `table`, and no byte past its end.
+#[tactic(auto, using(crate::proofs::LineLemmas::no_reference))]
 fn reference_at(table: &OffsetTable, row: u32) -> &str
     ensures { result.now ≡ reference_at table.now row }
 {
-    match table.as_slice().get(row as usize) {
-        Some(offsets) => offsets.reference.as_str(),
-        None => "",
+    let rows = table.as_slice();
+    if (row as usize) < rows.len() {
+        rows[row as usize].reference.as_str()
+    } else {
+        ""
     }
 }
 
@@ -203,8 +207,15 @@ fn minute_text(minute: i64) -> ArrayString<20>
     ensures { result.bytes ≡ minute_text minute }
 {
     let mut text = ArrayString::<20>::new();
-    if -1_035_593_280 <= minute && minute <= 4_223_371_679 {
+    if is_moment(minute) {
         write_moment(minute, &mut text);
     }
     text
+}
+
+/// Returns true if `minute` is in the years 1 to 9999.
+fn is_moment(minute: i64) -> bool
+    ensures { result ≡ is_moment minute }
+{
+    -1_035_593_280 <= minute && minute <= 4_223_371_679
 }
