@@ -24,7 +24,6 @@ ghost use Rattle.station_span.specs.Workings.Finds.{FindsIn};
 ghost use Rattle.station_span.specs.Workings.Looked.{site_with};
 ghost use Rattle.station_span.specs.Workings.Spans.{HasLevels};
 ghost use Rattle.year_blend.specs.Years.{year_start_of};
-ghost use Rattle.zone_time.specs.Moments.{IsMoment};
 
 use crate::found_station::FoundStation;
 use crate::reach::Reach;
@@ -266,16 +265,14 @@ fn has_minute(book: &ValidBook<'_>, minute: i64) -> bool
 
 /// Returns the first minute of the file's years.
 fn first_minute(book: &ValidBook<'_>) -> i64
-    ensures value { result ≡ year_start_of book.now.first_year }
-    ensures moment { IsMoment result }
+    ensures { result ≡ year_start_of book.now.first_year }
 {
     year_start(book.get().first_year)
 }
 
 // Returns the minute after the last of the file's years.
 fn last_minute(book: &ValidBook<'_>) -> i64
-    ensures value { result ≡ year_start_of (book.now.first_year +ℤ pos book.now.years) }
-    ensures moment { IsMoment result }
+    ensures { result ≡ year_start_of (book.now.first_year +ℤ pos book.now.years) }
 {
     let book = book.get();
     year_start(book.first_year + book.years as i32)
