@@ -157,5 +157,3 @@ pub refused_name : (memory : Bool) (reach : Reach) (book : Book) (table : List O
     → Excused memory (site_in reach book table name asked) refusal
 unfolding site_in
 refused_name memory reach book table name asked refusal from = excused_by memory _ refusal (rw from refl)
-
--- a refusal whose line can be printed without a table can be printed with any

@@ -1,4 +1,5 @@
 //! A station by its name, without a span.
+
 ghost use Rattle.station_span.specs.Sites.{station_in};
 ghost use Rattle.station_span.specs.Workings.Finds.{FindsReference};
 

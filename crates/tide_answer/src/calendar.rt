@@ -1,4 +1,5 @@
 //! The answer of `calendar`: the events of a station, date by date.
+
 ghost use Rattle.decimal_text.specs.Expected.{ReturnsUnless};
 ghost use Rattle.tide_answer.specs.Answers.{on_calendar};
 ghost use Rattle.tide_fault.specs.Faults.{refusal_is_out_of_memory};

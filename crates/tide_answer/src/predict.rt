@@ -1,4 +1,5 @@
 //! The answer of `predict`: the events of a station over a span.
+
 ghost use Rattle.decimal_text.specs.Expected.{ReturnsUnless};
 ghost use Rattle.tide_answer.specs.Answers.{predicted};
 ghost use Rattle.tide_fault.specs.Faults.{refusal_is_out_of_memory};
