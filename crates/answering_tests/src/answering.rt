@@ -4,11 +4,10 @@ mod case;
 mod rows;
 mod sizes;
 
-ghost use Rattle.std.specs.Prelude.{[], IfOk};
+ghost use Rattle.std.specs.Prelude.{IfOk};
 ghost use Rattle.harmonics_book.specs.Books.{IsBook};
 ghost use Rattle.question.specs.Asked.{IsAsked};
 ghost use Rattle.tide_answer.specs.Givens.{IsGiven};
-ghost use Rattle.tide_fault.specs.Faults.{IsPrintable};
 
 use crate::asserts::{assert_bytes, assert_count, assert_holds, lines_of};
 use case::{Case, asked, written};
@@ -241,9 +240,7 @@ fn assert_line(
     fault: Fault,
     status: u8,
     line: &str,
-) -> Result<(), AllocError>
-    requires { IsPrintable [] fault }
-{
+) -> Result<(), AllocError> {
     let printed = fault_line(alloc, &fault, &OffsetTable::new(alloc))?;
     assert_count(
         rt,

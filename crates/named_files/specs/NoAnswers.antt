@@ -15,8 +15,6 @@ use Rattle.tide_fault.specs.Faults.{
   line_of as line_of_fault,
   is_out_of_memory as fault_is_out_of_memory,
   refusal_is_out_of_memory,
-  IsPrintable as IsPrintableFault,
-  IsPrintableRefusal,
 }
 use Rattle.decimal_text.specs.Expected.{Source, memory, outside, given}
 use Rattle.named_files.specs.declared.no_answer.NoAnswer.{NoAnswer}
@@ -44,13 +42,6 @@ abbrev pub line_of : NoAnswer → List ℕ
 line_of Unread = codes "read fault\n"
 line_of (Faulty fault) = line_of_fault [] fault
 line_of (Refused refusal rows) = line_of_fault rows (faults.Refused refusal)
-
--- a reason why there is no answer, with a line that can be printed: its moments are in the years 1 to
--- 9999, and its row is an index into the table
-abbrev pub IsPrintable : NoAnswer → Type 0
-IsPrintable Unread = Unit {0}
-IsPrintable (Faulty fault) = IsPrintableFault [] fault
-IsPrintable (Refused refusal rows) = IsPrintableRefusal rows refusal
 
 -- the reason why there is no answer is that memory ran out
 abbrev pub is_out_of_memory : NoAnswer → Bool

@@ -5,7 +5,7 @@ ghost use Rattle.harmonics_book.specs.Books.{IsBook};
 ghost use Rattle.question.specs.Asked.{IsZoneWord};
 ghost use Rattle.zone_time.specs.Zones.{IsZone};
 ghost use Rattle.tide_edge.specs.Whole.{ReadWithin, one_file};
-ghost use Rattle.named_files.specs.NoAnswers.{IsOf, IsPrintable, file_of, is_unread, reading_failed, source_of};
+ghost use Rattle.named_files.specs.NoAnswers.{IsOf, file_of, is_unread, reading_failed, source_of};
 ghost use Rattle.named_files.specs.Opened.{AreOpened, Opened};
 ghost use Rattle.named_files.specs.Readings.{
   allowed_for,
@@ -59,7 +59,6 @@ pub fn read_files<F: Files>(
         (files_in (λ slot. (F.state files.old).store.folder) question.now name.now) result }
     ensures opened { AreOpened question.now name.now (F.state files.old).openings (F.state files.new).openings result }
     ensures valid { IfOk result AreMaterials }
-    ensures printable { IfErr result IsPrintable }
     ensures read { ReadWithin (files_allowed question.now) (reading_failed result) (F.state files.old) (F.state files.new) }
     ensures last { IfErr result (λ none.
         ReadWithin (allowed_to question.now (file_of none)) (is_unread none) (F.state files.old) (F.state files.new)) }
@@ -88,7 +87,6 @@ pub fn read_book<F: Files>(alloc: Global, files: &mut F, name: &Text) -> Result<
     ensures opened { Opened Slot.File (Some name.now) (λ file. book_named (λ _. file) name.now)
         (F.state files.old).openings (F.state files.new).openings result }
     ensures valid { IfOk result IsBook }
-    ensures printable { IfErr result IsPrintable }
     ensures read { ReadWithin (one_file (limit_of Slot.File)) (reading_failed result) (F.state files.old) (F.state files.new) }
     ensures fault { IfErr result (IsOf Slot.File) }
 {
@@ -114,7 +112,6 @@ pub fn read_table<F: Files>(
     ensures opened { Opened Slot.Offsets name.now (λ file. table_named (λ _. file) name.now)
         (F.state files.old).openings (F.state files.new).openings result }
     ensures unnamed { name.now ≡ None → result ≡ Ok [] }
-    ensures printable { IfErr result IsPrintable }
     ensures read { ReadWithin (allowed_for Slot.Offsets name.now) (reading_failed result) (F.state files.old) (F.state files.new) }
     ensures fault { IfErr result (IsOf Slot.Offsets) }
 {
@@ -130,7 +127,6 @@ pub fn read_table<F: Files>(
 /// Returns the table that was read, or the reason why there is none. It doesn't allocate.
 fn table_from(read: Result<OffsetTable, OffsetFault>) -> Result<OffsetTable, NoAnswer>
     ensures exact { result ≡ table_from read }
-    ensures printable { IfErr result IsPrintable }
     ensures read { reading_failed result ≡ false }
     ensures fault { IfErr result (IsOf Slot.Offsets) }
 {
@@ -153,7 +149,6 @@ fn read_zone_named<F: Files>(
         (F.state files.old).openings (F.state files.new).openings result }
     ensures unnamed { zone_file word.now ≡ None → result ≡ zone_named (λ _. None) word.now }
     ensures valid { IfOk result IsZone }
-    ensures printable { IfErr result IsPrintable }
     ensures read { ReadWithin (allowed_for Slot.Zone (zone_file word.now)) (reading_failed result) (F.state files.old) (F.state files.new) }
     ensures fault { IfErr result (IsOf Slot.Zone) }
 {
@@ -172,7 +167,6 @@ fn zone_from(read: Result<Zone, ZoneFault>) -> Result<Zone, NoAnswer>
     requires { IfOk read IsZone }
     ensures exact { result ≡ zone_from read }
     ensures valid { IfOk result IsZone }
-    ensures printable { IfErr result IsPrintable }
     ensures read { reading_failed result ≡ false }
     ensures fault { IfErr result (IsOf Slot.Zone) }
 {
@@ -196,7 +190,6 @@ fn read_certificate<F: Files>(
         (F.state files.old).openings (F.state files.new).openings result }
     ensures unnamed { name.now ≡ None → result ≡ Ok [] }
     ensures within { IfOk result (λ bytes. length bytes ≤ MOST_BYTES) }
-    ensures printable { IfErr result IsPrintable }
     ensures read { ReadWithin (allowed_for Slot.Certificate name.now) (reading_failed result) (F.state files.old) (F.state files.new) }
     ensures fault { IfErr result (IsOf Slot.Certificate) }
 {
@@ -217,7 +210,6 @@ fn read_file<F: Files>(
         → Meets source_of (IsTrue (F.state files.old).store.is_steady) (bytes_of slot ((F.state files.old).store.folder name.now)) result }
     ensures opened { Opened slot (Some name.now) (bytes_of slot) (F.state files.old).openings (F.state files.new).openings result }
     ensures within { IfOk result (λ bytes. length bytes ≤ limit_of slot) }
-    ensures printable { IfErr result IsPrintable }
     ensures read { ReadWithin (one_file (limit_of slot)) (reading_failed result) (F.state files.old) (F.state files.new) }
     ensures fault { IfErr result (IsOf slot) }
 {

@@ -1,8 +1,8 @@
 //! The line that reports why there is no answer.
 
 ghost use Rattle.std.specs.Prelude.{◌≡◌, Bool};
-ghost use Rattle.tide_fault.specs.Faults.{IsPrintable as IsPrintableFault, line_of as line_of_fault, status_of as status_of_fault};
-ghost use Rattle.named_files.specs.NoAnswers.{IsPrintable, is_read_fault, is_unread};
+ghost use Rattle.tide_fault.specs.Faults.{line_of as line_of_fault, status_of as status_of_fault};
+ghost use Rattle.named_files.specs.NoAnswers.{is_read_fault, is_unread};
 ghost use Rattle.tide_edge.specs.SinkStates.{Wrote};
 ghost use Rattle.named_files.specs.Reporting.{Reports, ReportsFault};
 
@@ -15,7 +15,6 @@ use tide_fault::{Fault, Status, fault_line, fault_status};
 /// Writes the line for `none`, the reason why there is no answer, to `err`. Returns the exit status for
 /// it, even if the write fails.
 pub fn report<E: Sink>(alloc: Global, none: NoAnswer, err: &mut E) -> Status
-    requires { IsPrintable none }
     ensures reported { Reports none result (E.state err.old) (E.state err.new) }
     ensures read { is_read_fault result ≡ is_unread none }
 {
@@ -33,7 +32,6 @@ pub fn report<E: Sink>(alloc: Global, none: NoAnswer, err: &mut E) -> Status
 
 /// Writes the line of `fault`, and returns its exit status.
 fn report_fault<E: Sink>(alloc: Global, fault: &Fault, table: &OffsetTable, err: &mut E) -> Status
-    requires { IsPrintableFault table.now fault.now }
     ensures { ReportsFault (status_of_fault fault.now) (line_of_fault table.now fault.now) result (E.state err.old) (E.state err.new) }
 {
     match fault_line(alloc, fault, table) {

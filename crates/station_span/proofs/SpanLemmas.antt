@@ -2,14 +2,12 @@
 use Rattle.std.proofs.Common.{◌≤ℤ◌, ◌≡◌, ℕ, ℤ, pos, ◌+ℤ◌, int_lt, Bool, true, false, ◌&&◌, refl, arith}
 use Rattle.std.proofs.lemmas.Int.{ints}
 use Rattle.event_list.specs.Shifts.{HasOffsets}
-use Rattle.jiff_core.proofs.SignedLemmas.{signed_arith}
 use Rattle.harmonics_book.specs.declared.book.Book.{Book}
 use Rattle.harmonics_book.specs.Books.{IsBook}
 use Rattle.station_table.specs.declared.basis.Basis.{Basis}
 use Rattle.station_table.specs.Bases.{IsBasis}
 use Rattle.year_blend.specs.Places.{AreYears, InDomain}
-use Rattle.year_blend.specs.Years.{year_start_of}
-use Rattle.year_blend.proofs.YearLemmas.{year_start_of_low, year_start_of_high, year_start_of_mono}
+use Rattle.year_blend.proofs.YearLemmas.{year_start_of_low, year_start_of_high}
 use Rattle.zone_time.specs.Moments.{IsMoment}
 use Rattle.station_span.specs.declared.reach.Reach.{Reach}
 use Rattle.station_span.specs.Sites.{lacks_minute, reached, has_minute, has_span}
@@ -65,19 +63,3 @@ moment first_year years m are inside =
     let least = file.least in
     let most = file.most in
     record { first = omega (arith, ints); last = omega (arith, ints) }
-
-pub first_moment : (book : Book) → IsBook book → IsMoment (year_start_of book.first_year)
-first_moment book is =
-    let are = book_years book is in
-    let low = are.least in
-    let later = year_start_of_mono book.first_year (book.first_year +ℤ pos book.years) (omega (arith, signed_arith))
-    (omega (arith, ints)) in
-    moment book.first_year book.years _ are (record { least = omega (arith, ints); most = later })
-
-pub last_moment : (book : Book) → IsBook book → IsMoment (year_start_of (book.first_year +ℤ pos book.years))
-last_moment book is =
-    let are = book_years book is in
-    let low = are.least in
-    let later = year_start_of_mono book.first_year (book.first_year +ℤ pos book.years) (omega (arith, signed_arith))
-    (omega (arith, ints)) in
-    moment book.first_year book.years _ are (record { least = later; most = omega (arith, ints) })

@@ -1,13 +1,12 @@
 //! The events of a station over a span, and the cells in which they are found.
 
-ghost use Rattle.std.specs.Prelude.{◌≡◌, ◌+◌, length, option_map, IsTrue, IfErr, IfOk, OnOk};
+ghost use Rattle.std.specs.Prelude.{◌≡◌, ◌+◌, length, option_map, IsTrue, IfOk, OnOk};
 ghost use Rattle.std.specs.Option.{ForSome};
 ghost use Rattle.cert_text.specs.Certificates.{IsStationName};
 ghost use Rattle.event_list.specs.Events.{cover_over};
 ghost use Rattle.event_list.specs.Merging.{cells_left};
 ghost use Rattle.event_list.specs.FreshCurves.{IsFreshOver};
 ghost use Rattle.station_table.specs.Bases.{is_plain};
-ghost use Rattle.tide_fault.specs.Faults.{IsPrintableRefusal};
 ghost use Rattle.station_span.specs.Following.{cells_of, events_of, tracks_of};
 ghost use Rattle.station_span.specs.Sites.{site_in};
 ghost use Rattle.station_span.specs.Workings.Finds.{AreReferences, IsSiteList, Lists, site_of};
@@ -49,7 +48,6 @@ pub fn list_station(
     ensures exact { Lists stations.now.book request.now.asked
         (site_in Reach.Events stations.now.book stations.now.table request.now.name request.now.asked) result }
     ensures named { OnOk result (IsStationName request.now.name) }
-    ensures printable { IfErr result (IsPrintableRefusal stations.now.table) }
 {
     let found = find_station(alloc, stations, Reach::Events, request)?;
     Ok(find_events(alloc, &found)?)

@@ -1,12 +1,11 @@
 //! The level of a station at a minute.
 
-ghost use Rattle.std.specs.Prelude.{◌≡◌, ◌-ℤ◌, pos, negsuc, [], IsTrue, Ok, Err, IfErr, OnOk};
+ghost use Rattle.std.specs.Prelude.{◌≡◌, ◌-ℤ◌, pos, negsuc, IsTrue, Ok, Err, OnOk};
 ghost use Rattle.event_list.specs.Shifts.{scaled};
 ghost use Rattle.event_list.specs.Worked.{dock};
 ghost use Rattle.station_table.specs.Bases.{is_equal};
 ghost use Rattle.station_span.specs.declared.reach.Reach.{Reach};
 ghost use Rattle.station_span.specs.Levels.{is_rising_at, level_at, level_in};
-ghost use Rattle.tide_fault.specs.Faults.{IsPrintableRefusal};
 ghost use Rattle.station_span.specs.Workings.Finds.{AreLooked, IsLooked, site_of};
 ghost use Rattle.station_curve.specs.Curves.{IsPredicted};
 
@@ -26,7 +25,6 @@ pub fn check_level(found: &FoundStation) -> Result<(), Refusal>
     ensures equal { OnOk result (IsTrue (is_equal found.now.basis)) }
     ensures first { found.now.reach ≡ Reach.Events → IsLooked found.now found.now.asked.begin }
     ensures all { OnOk result (found.now.reach ≡ Reach.Levels → AreLooked found.now) }
-    ensures printable { IfErr result (IsPrintableRefusal []) }
 {
     if found.basis.equal() {
         Ok(())

@@ -1,9 +1,8 @@
 //! The highest water of a station over a span.
 
-ghost use Rattle.std.specs.Prelude.{◌≡◌, ◌<◌, ◌≤◌, ◌^◌, pos, ◌+ℤ◌, true, length, unsigned_abs, IfErr, IfOk, OnOk};
+ghost use Rattle.std.specs.Prelude.{◌≡◌, ◌<◌, ◌≤◌, ◌^◌, pos, ◌+ℤ◌, true, length, unsigned_abs, IfOk, OnOk};
 ghost use Rattle.cert_text.specs.Certificates.{IsStationName};
 ghost use Rattle.highest_water.specs.declared.verdict.PeakVerdict.{PeakVerdict};
-ghost use Rattle.tide_fault.specs.Faults.{IsPrintableRefusal};
 ghost use Rattle.station_span.specs.Peaks.{highest_of, highest_site, highest_verdict};
 ghost use Rattle.rate_bound.specs.declared.version.Version.{Version};
 ghost use Rattle.rate_bound.specs.Meanings.{mark_meaning};
@@ -49,7 +48,6 @@ pub fn find_level(
         (highest_site stations.now.book stations.now.table request.now.name request.now.asked) result }
     ensures peak { IfOk result HasPeak }
     ensures named { OnOk result (IsStationName request.now.name) }
-    ensures printable { IfErr result (IsPrintableRefusal stations.now.table) }
 {
     let found = find_station(alloc, stations, Reach::Highest, request)?;
     check_level(&found)?;

@@ -1,7 +1,5 @@
 //! A station by its name, without a span.
 
-ghost use Rattle.std.specs.Prelude.{IfErr};
-ghost use Rattle.tide_fault.specs.Faults.{IsPrintableRefusal};
 ghost use Rattle.station_span.specs.Sites.{station_in};
 ghost use Rattle.station_span.specs.Workings.Finds.{FindsReference};
 
@@ -33,8 +31,7 @@ pub fn find_reference<'a>(
     stations: &StationData<'a>,
     name: &Text,
 ) -> Result<ReferenceStation<'a>, Refusal>
-    ensures exact { FindsReference stations.now.book (station_in stations.now.book stations.now.table name.now) result }
-    ensures printable { IfErr result (IsPrintableRefusal stations.now.table) }
+    ensures { FindsReference stations.now.book (station_in stations.now.book stations.now.table name.now) result }
 {
     let basis = find_basis(stations, name)?;
     let book = stations.book();

@@ -1,30 +1,10 @@
 //! The steps of a request about a station's span, in the order of refusals.
 
-ghost use Rattle.std.specs.Prelude.{
-  ◌≡◌,
-  ℕ,
-  ◌<◌,
-  ◌≤◌,
-  pos,
-  ◌+ℤ◌,
-  ◌-ℤ◌,
-  ◌≤ℤ◌,
-  [],
-  length,
-  unsigned_abs,
-  int_lt,
-  IsTrue,
-  Some,
-  IfOk,
-  IfErr,
-  OnOk,
-  slice_get,
-};
+ghost use Rattle.std.specs.Prelude.{◌≡◌, ◌<◌, ◌≤◌, pos, ◌+ℤ◌, ◌-ℤ◌, ◌≤ℤ◌, length, unsigned_abs, int_lt, IsTrue, Some, IfOk, IfErr, OnOk, slice_get};
 ghost use Rattle.std.specs.Option.{ForSome};
 ghost use Rattle.cert_text.specs.Certificates.{IsStationName};
 ghost use Rattle.event_list.specs.Shifts.{HasOffsets};
 ghost use Rattle.station_table.specs.Bases.{IsBasis, basis_of, is_equal};
-ghost use Rattle.tide_fault.specs.Faults.{IsPrintableRefusal};
 ghost use Rattle.station_span.specs.Sites.{
   basis_from,
   site_in,
@@ -43,7 +23,6 @@ ghost use Rattle.station_span.specs.Sites.{
 ghost use Rattle.station_span.specs.Workings.Finds.{FindsIn};
 ghost use Rattle.station_span.specs.Workings.Spans.{HasLevels, site_with};
 ghost use Rattle.year_blend.specs.Years.{year_start_of};
-ghost use Rattle.zone_time.specs.Moments.{IsMoment};
 
 use crate::found_station::FoundStation;
 use crate::reach::Reach;
@@ -91,7 +70,6 @@ pub fn find_station(
     ensures exact { FindsIn reach stations.now.book request.now.asked
         (site_in reach stations.now.book stations.now.table request.now.name request.now.asked) result }
     ensures named { OnOk result (IsStationName request.now.name) }
-    ensures printable { IfErr result (IsPrintableRefusal stations.now.table) }
 {
     let basis = find_basis(stations, request.name())?;
     let book = stations.book();
@@ -108,7 +86,6 @@ pub fn find_basis(stations: &StationData<'_>, name: &Text) -> Result<Basis, Refu
     ensures exact { result ≡ basis_from (basis_of stations.now.book stations.now.table name.now) }
     ensures valid { IfOk result (IsBasis (length stations.now.book.stations)) }
     ensures named { OnOk result (IsStationName name.now) }
-    ensures printable { IfErr result (IsPrintableRefusal stations.now.table) }
 {
     let table = stations.table();
     table.ranges_hold();
@@ -131,9 +108,8 @@ fn find_at(
 ) -> Result<FoundStation, Refusal>
     requires basis { IsBasis (length book.now.stations) basis }
     requires place { slice_get book.now.stations basis.station ≡ Some station.now }
-    ensures exact { FindsIn reach book.now request.now.asked
+    ensures { FindsIn reach book.now request.now.asked
         (site_at reach book.now (site_with basis station.now) request.now.asked) result }
-    ensures printable { IfErr result (IsPrintableRefusal []) }
 {
     let asked = request.asked();
     level_units(station.units)?;
@@ -166,7 +142,6 @@ pub fn station_at(book: &Book, place: u32) -> &Station
 pub fn level_units(units: Units) -> Result<Units, Refusal>
     ensures exact { result ≡ level_unit units }
     ensures levels { OnOk result (HasLevels units) }
-    ensures printable { IfErr result (IsPrintableRefusal []) }
 {
     match units {
         Units::Feet => Ok(Units::Feet),
@@ -190,7 +165,6 @@ fn span_looked_at(
     ensures refused { IfErr result (λ refusal.
         span_in reach book.now basis.now request.now.asked.begin request.now.asked.end ≡ Err refusal) }
     ensures exact { IfOk result (λ span. span ≡ reached reach basis.now request.now.asked.begin request.now.asked.end) }
-    ensures printable { IfErr result (IsPrintableRefusal []) }
 {
     if is_backward(request) {
         return Err(Refusal::BackwardSpan);
@@ -292,16 +266,14 @@ fn has_minute(book: &ValidBook<'_>, minute: i64) -> bool
 
 /// Returns the first minute of the file's years.
 fn first_minute(book: &ValidBook<'_>) -> i64
-    ensures value { result ≡ year_start_of book.now.first_year }
-    ensures moment { IsMoment result }
+    ensures { result ≡ year_start_of book.now.first_year }
 {
     year_start(book.get().first_year)
 }
 
 /// Returns the minute after the last of the file's years.
 fn last_minute(book: &ValidBook<'_>) -> i64
-    ensures value { result ≡ year_start_of (book.now.first_year +ℤ pos book.now.years) }
-    ensures moment { IsMoment result }
+    ensures { result ≡ year_start_of (book.now.first_year +ℤ pos book.now.years) }
 {
     let book = book.get();
     year_start(book.first_year + book.years as i32)
@@ -312,7 +284,6 @@ fn last_minute(book: &ValidBook<'_>) -> i64
 fn check_length(request: &StationRequest<'_>) -> Result<(), Refusal>
     ensures exact { result ≡ length_in request.now.asked.begin request.now.asked.end }
     ensures count_bound { OnOk result ((request.now.asked.end -ℤ request.now.asked.begin) ≤ℤ span_limit) }
-    ensures printable { IfErr result (IsPrintableRefusal []) }
 {
     let minutes = asked_minutes(request);
     if minutes > SPAN_LIMIT {
@@ -333,7 +304,6 @@ fn asked_minutes(request: &StationRequest<'_>) -> i64
 fn check_mark(basis: &Basis, request: &StationRequest<'_>) -> Result<(), Refusal>
     ensures exact { result ≡ mark_in basis.now request.now.asked.mark }
     ensures here { OnOk result (ForSome request.now.asked.mark (λ level. IsTrue (is_equal basis.now))) }
-    ensures printable { IfErr result (IsPrintableRefusal []) }
 {
     match request.asked().mark {
         Some(_) if !basis.equal() => Err(Refusal::MarkNotHere),

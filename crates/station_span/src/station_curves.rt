@@ -1,10 +1,10 @@
 //! The curve of a station, for the minutes of a span or for all.
 
-ghost use Rattle.std.specs.Prelude.{◌≡◌, ◌≤ℤ◌, [], IfErr, IfOk, Some, slice_get};
+ghost use Rattle.std.specs.Prelude.{◌≡◌, ◌≤ℤ◌, IfOk, Some, slice_get};
 ghost use Rattle.decimal_text.specs.Expected.{ReturnsUnless};
 ghost use Rattle.station_curve.specs.Curves.{curve_of, curve_over, prediction_of, prediction_over, IsPrediction};
 ghost use Rattle.station_span.specs.Sites.{curve_from};
-ghost use Rattle.tide_fault.specs.Faults.{refusal_is_out_of_memory, IsPrintableRefusal};
+ghost use Rattle.tide_fault.specs.Faults.{refusal_is_out_of_memory};
 ghost use Rattle.year_blend.specs.Places.{InDomain};
 
 use event_list::Span;
@@ -30,7 +30,6 @@ pub fn curve_over(
         (curve_from (curve_over book.now station.now span.now.begin span.now.end)) result }
     ensures predicts { IfOk result (λ curve. curve ≡ prediction_over book.now station.now span.now.begin span.now.end) }
     ensures valid { IfOk result IsPrediction }
-    ensures printable { IfErr result (IsPrintableRefusal []) }
 {
     match StationCurve::over(alloc, book.get(), place, span.begin, span.end) {
         Ok(curve) => {
@@ -57,7 +56,6 @@ pub fn whole_curve(
     ensures exact { ReturnsUnless refusal_is_out_of_memory (curve_from (curve_of book.now station.now)) result }
     ensures predicts { IfOk result (λ curve. curve ≡ prediction_of book.now station.now) }
     ensures valid { IfOk result IsPrediction }
-    ensures printable { IfErr result (IsPrintableRefusal []) }
 {
     match StationCurve::new(alloc, book.get(), place) {
         Ok(curve) => {

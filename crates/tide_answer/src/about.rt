@@ -1,9 +1,9 @@
 //! The answer of the command `about`: the facts about a station.
 
-ghost use Rattle.std.specs.Prelude.{◌≡◌, IfErr};
+ghost use Rattle.std.specs.Prelude.{◌≡◌};
 ghost use Rattle.decimal_text.specs.Expected.{ReturnsUnless};
 ghost use Rattle.tide_answer.specs.Answers.{constituent_count, station_about};
-ghost use Rattle.tide_fault.specs.Faults.{refusal_is_out_of_memory, IsPrintableRefusal};
+ghost use Rattle.tide_fault.specs.Faults.{refusal_is_out_of_memory};
 
 use crate::text::{Answer, text_alone};
 use decimal_text::Text;
@@ -27,8 +27,7 @@ pub fn about_answer(
     stations: &StationData<'_>,
     name: &Text,
 ) -> Result<Answer, Refusal>
-    ensures exact { ReturnsUnless refusal_is_out_of_memory (station_about stations.now.book stations.now.table name.now) result }
-    ensures printable { IfErr result (IsPrintableRefusal stations.now.table) }
+    ensures { ReturnsUnless refusal_is_out_of_memory (station_about stations.now.book stations.now.table name.now) result }
 {
     let found = find_reference(alloc, stations, name)?;
     let station = found.station;

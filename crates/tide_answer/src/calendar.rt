@@ -1,9 +1,8 @@
 //! The answer of the command `calendar`: the events of a station, date by date.
 
-ghost use Rattle.std.specs.Prelude.{IfErr};
 ghost use Rattle.decimal_text.specs.Expected.{ReturnsUnless};
 ghost use Rattle.tide_answer.specs.Answers.{on_calendar};
-ghost use Rattle.tide_fault.specs.Faults.{refusal_is_out_of_memory, IsPrintableRefusal};
+ghost use Rattle.tide_fault.specs.Faults.{refusal_is_out_of_memory};
 
 use crate::text::Answer;
 use calendar_sheet::calendar_text;
@@ -26,9 +25,8 @@ pub fn list_days(
     request: &StationRequest<'_>,
     zone: &ZoneClock<'_>,
 ) -> Result<Answer, Refusal>
-    ensures exact { ReturnsUnless refusal_is_out_of_memory
+    ensures { ReturnsUnless refusal_is_out_of_memory
         (on_calendar stations.now.book stations.now.table request.now.name request.now.asked zone.now) result }
-    ensures printable { IfErr result (IsPrintableRefusal stations.now.table) }
 {
     let listed = list_station(alloc, stations, request)?;
     let asked = request.asked();

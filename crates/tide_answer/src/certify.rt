@@ -1,9 +1,9 @@
 //! The answer of the command `certify`: the certificate of a station's events.
 
-ghost use Rattle.std.specs.Prelude.{◌≡◌, IfErr, IfOk};
+ghost use Rattle.std.specs.Prelude.{◌≡◌, IfOk};
 ghost use Rattle.decimal_text.specs.Expected.{ReturnsUnless};
 ghost use Rattle.tide_answer.specs.Answers.{certified};
-ghost use Rattle.tide_fault.specs.Faults.{refusal_is_out_of_memory, IsPrintableRefusal};
+ghost use Rattle.tide_fault.specs.Faults.{refusal_is_out_of_memory};
 ghost use Rattle.tide_answer.specs.Workings.Certifying.{certificate_in};
 ghost use Rattle.station_span.specs.Workings.Spans.{AreMoments};
 
@@ -30,9 +30,8 @@ pub fn certify(
     request: &StationRequest<'_>,
 ) -> Result<Answer, Refusal>
     requires { AreMoments request.now.asked }
-    ensures exact { ReturnsUnless refusal_is_out_of_memory
+    ensures { ReturnsUnless refusal_is_out_of_memory
         (certified stations.now.book stations.now.table request.now.name request.now.asked) result }
-    ensures printable { IfErr result (IsPrintableRefusal stations.now.table) }
 {
     let found = find_station(alloc, stations, Reach::Events, request)?;
     let tracks = find_tracks(alloc, &found)?;

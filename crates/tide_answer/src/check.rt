@@ -1,6 +1,6 @@
 //! The answer of the command `check`: the check of a certificate.
 
-ghost use Rattle.std.specs.Prelude.{◌≡◌, ◌≤◌, length, All, None, IfOk, IfErr};
+ghost use Rattle.std.specs.Prelude.{◌≡◌, ◌≤◌, length, All, None, IfOk};
 ghost use Rattle.cert_text.specs.Certificates.{IsCertificate};
 ghost use Rattle.decimal_text.specs.declared.limits.TheConstants.{MOST_BYTES};
 ghost use Rattle.decimal_text.specs.Expected.{ReturnsUnless};
@@ -12,7 +12,7 @@ ghost use Rattle.station_span.specs.Workings.Finds.{site_of};
 ghost use Rattle.tide_answer.specs.Answers.{checked, judged};
 ghost use Rattle.tide_answer.specs.Asking.{asked_by_certificate};
 ghost use Rattle.tide_answer.specs.Workings.Certifying.{judged_in, rejection_in};
-ghost use Rattle.tide_fault.specs.Faults.{refusal_is_out_of_memory, IsPrintableRefusal};
+ghost use Rattle.tide_fault.specs.Faults.{refusal_is_out_of_memory};
 
 use crate::certificate_rejection::find_rejection;
 use crate::requests::request_of_certificate;
@@ -46,8 +46,7 @@ pub fn check(
     zone: &ZoneClock<'_>,
 ) -> Result<Answer, Refusal>
     requires count_bound { length bytes.now ≤ MOST_BYTES }
-    ensures exact { ReturnsUnless refusal_is_out_of_memory (checked stations.now.book stations.now.table bytes.now zone.now) result }
-    ensures printable { IfErr result (IsPrintableRefusal stations.now.table) }
+    ensures { ReturnsUnless refusal_is_out_of_memory (checked stations.now.book stations.now.table bytes.now zone.now) result }
 {
     let cert = read_certificate(alloc, bytes)?;
     certificates_have_one_text();
@@ -63,8 +62,7 @@ fn judge(
 ) -> Result<Answer, Refusal>
     requires cert { IsCertificate cert.now }
     requires count_bound { HasFewCells cert.now.tracks }
-    ensures exact { ReturnsUnless refusal_is_out_of_memory (judged_in stations.now.book stations.now.table cert.now zone.now) result }
-    ensures printable { IfErr result (IsPrintableRefusal stations.now.table) }
+    ensures { ReturnsUnless refusal_is_out_of_memory (judged_in stations.now.book stations.now.table cert.now zone.now) result }
 {
     let request = request_of_certificate(cert);
     let found = find_station(alloc, stations, Reach::Events, &request)?;

@@ -1,10 +1,10 @@
 //! The answer of the command `clock`: the present level, and the events of the next 24 hours.
 
-ghost use Rattle.std.specs.Prelude.{◌≡◌, pos, negsuc, ◌≤ℤ◌, IfErr};
+ghost use Rattle.std.specs.Prelude.{◌≡◌, pos, negsuc, ◌≤ℤ◌};
 ghost use Rattle.decimal_text.specs.Expected.{ReturnsUnless};
 ghost use Rattle.tide_answer.specs.Answers.{on_clock};
 ghost use Rattle.tide_answer.specs.Asking.{asked_from_minute};
-ghost use Rattle.tide_fault.specs.Faults.{refusal_is_out_of_memory, IsPrintableRefusal};
+ghost use Rattle.tide_fault.specs.Faults.{refusal_is_out_of_memory};
 
 use crate::text::Answer;
 use decimal_text::Text;
@@ -36,8 +36,7 @@ pub fn clock_answer(
 ) -> Result<Answer, Refusal>
     requires earliest { negsuc 9999999999 ≤ℤ now }
     requires latest { now ≤ℤ pos 10000000000 }
-    ensures exact { ReturnsUnless refusal_is_out_of_memory (on_clock stations.now.book stations.now.table name.now now zone.now) result }
-    ensures printable { IfErr result (IsPrintableRefusal stations.now.table) }
+    ensures { ReturnsUnless refusal_is_out_of_memory (on_clock stations.now.book stations.now.table name.now now zone.now) result }
 {
     let request = day_from(name, now);
     let found = find_station(alloc, stations, Reach::Events, &request)?;

@@ -6,7 +6,7 @@ ghost use Rattle.harmonics_book.specs.Books.{IsBook};
 ghost use Rattle.listing.specs.StationLists.{stations_text_of};
 ghost use Rattle.question.specs.Asked.{AreInRange};
 ghost use Rattle.tide_answer.specs.Answers.{answered, asks_span, text_alone, text_over};
-ghost use Rattle.tide_fault.specs.Faults.{refusal_is_out_of_memory, IsPrintableRefusal};
+ghost use Rattle.tide_fault.specs.Faults.{refusal_is_out_of_memory};
 ghost use Rattle.tide_answer.specs.Givens.{IsGiven, given_seen};
 ghost use Rattle.station_span.specs.Workings.Spans.{AreMoments};
 
@@ -75,8 +75,7 @@ pub fn answer(
     requires book { IsBook book.now }
     requires ranges { AreInRange question.now }
     requires given { IsGiven given.now }
-    ensures exact { ReturnsUnless refusal_is_out_of_memory (answered book.now table.now question.now given.entry.now) result }
-    ensures printable { IfErr result (IsPrintableRefusal table.now) }
+    ensures { ReturnsUnless refusal_is_out_of_memory (answered book.now table.now question.now given.entry.now) result }
 {
     let stations = StationData::new(book, table);
     let question = ValidQuestion::new(question);
@@ -96,9 +95,8 @@ pub fn answer_valid(
     given: GivenView<'_>,
 ) -> Result<Answer, Refusal>
     requires given { IsGiven (given_seen given) }
-    ensures exact { ReturnsUnless refusal_is_out_of_memory
+    ensures { ReturnsUnless refusal_is_out_of_memory
         (answered stations.now.book stations.now.table question.now (given_seen given.entry)) result }
-    ensures printable { IfErr result (IsPrintableRefusal stations.now.table) }
 {
     let name = station_named(question);
     let zone = &given.zone.clock();
@@ -126,9 +124,8 @@ fn answer_over_span(
     question: &ValidQuestion<'_>,
     zone: &ZoneClock<'_>,
 ) -> Result<Answer, Refusal>
-    ensures exact { ReturnsUnless refusal_is_out_of_memory (asks_span question.now
+    ensures { ReturnsUnless refusal_is_out_of_memory (asks_span question.now
         (text_over question.now.command stations.now.book stations.now.table question.now zone.now)) result }
-    ensures printable { IfErr result (IsPrintableRefusal stations.now.table) }
 {
     let request = station_request(question)?;
     answer_request(alloc, stations, &request, question, zone)
@@ -143,10 +140,9 @@ fn answer_request(
     zone: &ZoneClock<'_>,
 ) -> Result<Answer, Refusal>
     requires { AreMoments request.now.asked }
-    ensures exact { ReturnsUnless refusal_is_out_of_memory
+    ensures { ReturnsUnless refusal_is_out_of_memory
         (text_over question.now.command stations.now.book stations.now.table question.now zone.now request.now.name request.now.asked)
         result }
-    ensures printable { IfErr result (IsPrintableRefusal stations.now.table) }
 {
     let Question { layout, step, .. } = question.get();
     match question.get().command {

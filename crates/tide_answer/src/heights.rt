@@ -1,9 +1,9 @@
 //! The answer of the command `heights`: the levels of a station in a span at even steps of time.
 
-ghost use Rattle.std.specs.Prelude.{◌≡◌, ◌≤◌, ◌+ℤ◌, ◌*ℤ◌, ◌-ℤ◌, pos, negsuc, [], All, unsigned_abs, Ok, Err, IfOk, IfErr, OnOk};
+ghost use Rattle.std.specs.Prelude.{◌≡◌, ◌≤◌, ◌+ℤ◌, ◌*ℤ◌, ◌-ℤ◌, pos, negsuc, All, unsigned_abs, Ok, Err, IfOk, OnOk};
 ghost use Rattle.decimal_text.specs.Expected.{ReturnsUnless};
 ghost use Rattle.tide_answer.specs.Answers.{heights, row_at, row_count, row_limit, rows_in, rows_of};
-ghost use Rattle.tide_fault.specs.Faults.{refusal_is_out_of_memory, IsPrintableRefusal};
+ghost use Rattle.tide_fault.specs.Faults.{refusal_is_out_of_memory};
 ghost use Rattle.tide_answer.specs.Workings.Rows.{IsStep};
 ghost use Rattle.station_span.specs.Workings.Finds.{AreLooked, IsLooked, site_of};
 ghost use Rattle.zone_time.specs.Zones.{InZoneYears};
@@ -40,9 +40,8 @@ pub fn list_heights(
     zone: &ZoneClock<'_>,
 ) -> Result<Answer, Refusal>
     requires step { IsStep step }
-    ensures exact { ReturnsUnless refusal_is_out_of_memory
+    ensures { ReturnsUnless refusal_is_out_of_memory
         (heights stations.now.book stations.now.table request.now.name request.now.asked step layout zone.now) result }
-    ensures printable { IfErr result (IsPrintableRefusal stations.now.table) }
 {
     let found = find_station(alloc, stations, Reach::Levels, request)?;
     check_level(&found)?;
@@ -65,7 +64,6 @@ fn check_rows(found: &FoundStation, step: i64) -> Result<(), Refusal>
     requires step { IsStep step }
     ensures exact { result ≡ rows_in found.now.asked.begin found.now.asked.end step }
     ensures count_bound { OnOk result (row_count found.now.asked.begin found.now.asked.end step ≤ row_limit) }
-    ensures printable { IfErr result (IsPrintableRefusal []) }
 {
     let rows = row_count(found, step);
     if rows > ROW_LIMIT {

@@ -1,11 +1,11 @@
 //! The answers of the commands `highest` and `peak`: the highest water of a station over a span, and its
 //! certificate.
 
-ghost use Rattle.std.specs.Prelude.{◌≡◌, IfErr, IfOk};
+ghost use Rattle.std.specs.Prelude.{◌≡◌, IfOk};
 ghost use Rattle.decimal_text.specs.Expected.{ReturnsUnless};
 ghost use Rattle.tide_answer.specs.Answers.{highest, highest_text_at, peak_certified};
 ghost use Rattle.tide_answer.specs.Workings.Peaks.{peak_certificate_in};
-ghost use Rattle.tide_fault.specs.Faults.{refusal_is_out_of_memory, IsPrintableRefusal};
+ghost use Rattle.tide_fault.specs.Faults.{refusal_is_out_of_memory};
 ghost use Rattle.station_span.specs.Workings.Finds.{HasPeak, site_of};
 ghost use Rattle.station_span.specs.Workings.Peaks.{IsSourceIn};
 ghost use Rattle.station_span.specs.Workings.Spans.{AreMoments};
@@ -38,9 +38,8 @@ pub fn highest_answer(
     request: &StationRequest<'_>,
     zone: &ZoneClock<'_>,
 ) -> Result<Answer, Refusal>
-    ensures exact { ReturnsUnless refusal_is_out_of_memory
+    ensures { ReturnsUnless refusal_is_out_of_memory
         (highest stations.now.book stations.now.table request.now.name request.now.asked zone.now) result }
-    ensures printable { IfErr result (IsPrintableRefusal stations.now.table) }
 {
     let found = find_level(alloc, stations, request)?;
     let at = highest_minute(&found);
@@ -80,9 +79,8 @@ pub fn certify_peak(
     request: &StationRequest<'_>,
 ) -> Result<Answer, Refusal>
     requires { AreMoments request.now.asked }
-    ensures exact { ReturnsUnless refusal_is_out_of_memory
+    ensures { ReturnsUnless refusal_is_out_of_memory
         (peak_certified stations.now.book stations.now.table request.now.name request.now.asked) result }
-    ensures printable { IfErr result (IsPrintableRefusal stations.now.table) }
 {
     let found = find_level(alloc, stations, request)?;
     let peak = find_highest(alloc, &found)?;

@@ -46,7 +46,7 @@ pub use peak_laws::{
     accepted_peak_is_short, accepted_peak_is_true, highest_is_reported, peak_certified_is_accepted,
     peak_certified_is_short,
 };
-pub use ready::{Ready, answer_into, can_stream, prepare};
+pub use ready::{Ready, answer_into, can_stream, prepare, prepare_valid};
 pub use station_cells::Rejection;
 pub use station_span::{Asked, Reach, StationData};
 pub use text::Answer;

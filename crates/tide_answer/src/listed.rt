@@ -1,6 +1,6 @@
 //! The events of a station, for a report.
 
-ghost use Rattle.std.specs.Prelude.{◌≢◌, ◌≤◌, All, IfErr, IfOk};
+ghost use Rattle.std.specs.Prelude.{◌≢◌, ◌≤◌, All, IfOk};
 ghost use Rattle.decimal_text.specs.Expected.{ReturnsUnless};
 ghost use Rattle.event_text.specs.Lines.{IsListed};
 ghost use Rattle.harmonics_book.specs.declared.book.Units.{Units};
@@ -8,7 +8,7 @@ ghost use Rattle.harmonics_book.specs.Books.{IsBook};
 ghost use Rattle.question.specs.Asked.{AreInRange};
 ghost use Rattle.tide_answer.specs.Answers.{listed};
 ghost use Rattle.tide_answer.specs.Givens.{IsGiven};
-ghost use Rattle.tide_fault.specs.Faults.{refusal_is_out_of_memory, IsPrintableRefusal};
+ghost use Rattle.tide_fault.specs.Faults.{refusal_is_out_of_memory};
 
 use crate::given::Given;
 use crate::requests::station_request;
@@ -60,7 +60,6 @@ pub fn station_events(
     requires ranges { AreInRange question.now }
     requires given { IsGiven given.now }
     ensures exact { ReturnsUnless refusal_is_out_of_memory (listed book.now table.now question.now) result }
-    ensures printable { IfErr result (IsPrintableRefusal table.now) }
     ensures lines { IfOk result (λ found. All (IsListed found.units) found.events) }
     ensures levels { IfOk result (λ found. found.units ≢ Units.KnotsSquared) }
     ensures printed { IfOk result (λ found. All (λ b. (32 ≤ b) × (b ≢ 127)) found.name) }

@@ -1,6 +1,6 @@
 //! The answer of the command `peakcheck`: the check of a certificate of a highest water.
 
-ghost use Rattle.std.specs.Prelude.{◌≡◌, ◌<◌, ◌≤◌, ◌^◌, length, [], IfErr, IfOk};
+ghost use Rattle.std.specs.Prelude.{◌≡◌, ◌<◌, ◌≤◌, ◌^◌, length, IfOk};
 ghost use Rattle.decimal_text.specs.Expected.{ReturnsUnless};
 ghost use Rattle.decimal_text.specs.declared.limits.TheConstants.{MOST_BYTES};
 ghost use Rattle.peak_text.specs.PeakReadings.{peak_of};
@@ -8,7 +8,7 @@ ghost use Rattle.peak_text.specs.PeakTexts.{IsPeakCertificate};
 ghost use Rattle.highest_water.specs.declared.verdict.PeakVerdict.{PeakVerdict};
 ghost use Rattle.tide_answer.specs.Answers.{peak_checked, peak_from, peak_judged};
 ghost use Rattle.tide_answer.specs.Workings.Peaks.{peak_judged_in};
-ghost use Rattle.tide_fault.specs.Faults.{refusal_is_out_of_memory, IsPrintableRefusal};
+ghost use Rattle.tide_fault.specs.Faults.{refusal_is_out_of_memory};
 ghost use Rattle.station_span.specs.Workings.Finds.{HasPeak, site_of};
 ghost use Rattle.station_span.specs.Workings.Peaks.{IsSourceIn};
 
@@ -42,8 +42,7 @@ pub fn check_peak_text(
     bytes: &[u8],
 ) -> Result<Answer, Refusal>
     requires count_bound { length bytes.now ≤ MOST_BYTES }
-    ensures exact { ReturnsUnless refusal_is_out_of_memory (peak_checked stations.now.book stations.now.table bytes.now) result }
-    ensures printable { IfErr result (IsPrintableRefusal stations.now.table) }
+    ensures { ReturnsUnless refusal_is_out_of_memory (peak_checked stations.now.book stations.now.table bytes.now) result }
 {
     let cert = peak_in(alloc, bytes)?;
     judge_peak(alloc, stations, &cert)
@@ -55,7 +54,6 @@ fn peak_in(alloc: Global, bytes: &[u8]) -> Result<PeakCertificate, Refusal>
     ensures exact { ReturnsUnless refusal_is_out_of_memory (peak_from (peak_of bytes.now)) result }
     ensures valid { IfOk result IsPeakCertificate }
     ensures count_bound { IfOk result (λ cert. length cert.peak.cells < 2 ^ 32) }
-    ensures printable { IfErr result (IsPrintableRefusal []) }
 {
     peak_certificates_have_one_text();
     match read_peak(alloc, bytes) {
@@ -74,8 +72,7 @@ fn judge_peak(
 ) -> Result<Answer, Refusal>
     requires cert { IsPeakCertificate cert.now }
     requires count_bound { length cert.now.peak.cells < 2 ^ 32 }
-    ensures exact { ReturnsUnless refusal_is_out_of_memory (peak_judged_in stations.now.book stations.now.table cert.now) result }
-    ensures printable { IfErr result (IsPrintableRefusal stations.now.table) }
+    ensures { ReturnsUnless refusal_is_out_of_memory (peak_judged_in stations.now.book stations.now.table cert.now) result }
 {
     let found = find_level(alloc, stations, &request_of_peak_certificate(cert))?;
     match judge_highest(&found, &cert.peak) {

@@ -1,9 +1,8 @@
 //! The answer of the command `predict`: the events of a station over a span.
 
-ghost use Rattle.std.specs.Prelude.{IfErr};
 ghost use Rattle.decimal_text.specs.Expected.{ReturnsUnless};
 ghost use Rattle.tide_answer.specs.Answers.{predicted};
-ghost use Rattle.tide_fault.specs.Faults.{refusal_is_out_of_memory, IsPrintableRefusal};
+ghost use Rattle.tide_fault.specs.Faults.{refusal_is_out_of_memory};
 
 use crate::text::Answer;
 use listing::events_text;
@@ -28,9 +27,8 @@ pub fn predict(
     layout: Layout,
     zone: &ZoneClock<'_>,
 ) -> Result<Answer, Refusal>
-    ensures exact { ReturnsUnless refusal_is_out_of_memory
+    ensures { ReturnsUnless refusal_is_out_of_memory
         (predicted stations.now.book stations.now.table request.now.name request.now.asked layout zone.now) result }
-    ensures printable { IfErr result (IsPrintableRefusal stations.now.table) }
 {
     let listed = list_station(alloc, stations, request)?;
     let text = events_text(

@@ -1,17 +1,17 @@
 //! Answers that are streamed.
 
-ghost use Rattle.std.specs.Prelude.{◌≡◌, if◌then◌else◌, Some, None, IsSome, IsTrue, IfErr, is_some};
+ghost use Rattle.std.specs.Prelude.{◌≡◌, if◌then◌else◌, Some, None, IsSome, IsTrue, is_some};
 ghost use Rattle.std.specs.Option.{ForSome};
 ghost use Rattle.decimal_text.specs.Expected.{ReturnsUnless};
 ghost use Rattle.harmonics_book.specs.Books.{IsBook};
 ghost use Rattle.question.specs.Asked.{AreInRange};
-ghost use Rattle.tide_fault.specs.Faults.{refusal_is_out_of_memory, IsPrintableRefusal};
-ghost use Rattle.tide_answer.specs.Givens.{IsGiven};
+ghost use Rattle.tide_fault.specs.Faults.{refusal_is_out_of_memory};
+ghost use Rattle.tide_answer.specs.Givens.{IsGiven, given_seen};
 ghost use Rattle.tide_answer.specs.Streams.{can_stream, prepared, streams_by, Streams};
 ghost use Rattle.tide_answer.specs.Workings.Streaming.{form_of};
 
 use crate::form::Form;
-use crate::given::Given;
+use crate::given::{Given, GivenView};
 use crate::requests::station_request;
 use crate::streaming::Stream;
 use harmonics_book::Book;
@@ -59,32 +59,35 @@ pub fn prepare(
     requires ranges { AreInRange question.now }
     requires given { IsGiven given.now }
     requires command { IsTrue (can_stream question.now.command) }
-    ensures exact { ReturnsUnless refusal_is_out_of_memory (prepared book.now table.now question.now given.entry.now) result }
-    ensures printable { IfErr result (IsPrintableRefusal table.now) }
+    ensures { ReturnsUnless refusal_is_out_of_memory (prepared book.now table.now question.now given.entry.now) result }
 {
     let stations = StationData::new(book, table);
     let question = ValidQuestion::new(question);
-    find_ready(alloc, &stations, &question, given)
+    prepare_valid(alloc, &stations, &question, given.view())
 }
 
-/// Returns the prepared source of the answer to a valid request.
+/// Returns the prepared source of the answer to the valid `question` about `stations`, like [`prepare`],
+/// from borrowed inputs.
+///
+/// # Errors
+/// The first [`Refusal`] in the order of `specs/Answers.antt`. If memory runs out, [`Refusal::NoMemory`] is
+/// returned in place of any other result.
 #[tactic(auto, unfolding(crate::specs::Streams::prepared))]
-fn find_ready(
+pub fn prepare_valid(
     alloc: Global,
     stations: &StationData<'_>,
     question: &ValidQuestion<'_>,
-    given: &Given,
+    given: GivenView<'_>,
 ) -> Result<Ready, Refusal>
-    requires given { IsGiven given.now }
+    requires given { IsGiven (given_seen given) }
     requires command { IsTrue (can_stream question.now.command) }
-    ensures exact { ReturnsUnless refusal_is_out_of_memory
-        (prepared stations.now.book stations.now.table question.now given.entry.now) result }
-    ensures printable { IfErr result (IsPrintableRefusal stations.now.table) }
+    ensures { ReturnsUnless refusal_is_out_of_memory
+        (prepared stations.now.book stations.now.table question.now (given_seen given.entry)) result }
 {
     let request = station_request(question)?;
     let found = find_station(alloc, stations, Reach::Events, &request)?;
     let question = question.get();
-    match streamed_zone(&found.basis, question.layout, &given.zone) {
+    match streamed_zone(&found.basis, question.layout, given.zone) {
         Some(zone) => {
             let form = form_of(question.command);
             let stream = Stream::new(form, found, request.name().copy()?, zone);

@@ -1,12 +1,11 @@
 //! The request about a station that a question or a certificate makes.
 
-ghost use Rattle.std.specs.Prelude.{◌≡◌, [], Ok, Err, IfErr, IfOk};
+ghost use Rattle.std.specs.Prelude.{◌≡◌, Ok, Err, IfErr, IfOk};
 ghost use Rattle.cert_text.specs.Certificates.{IsCertificate};
 ghost use Rattle.peak_text.specs.PeakTexts.{IsPeakCertificate};
 ghost use Rattle.tide_answer.specs.Answers.{named_by, refusal_of_incomplete};
 ghost use Rattle.tide_answer.specs.Asking.{asked_by_question, asked_by_certificate, asked_by_peak_certificate};
 ghost use Rattle.tide_answer.specs.Workings.Requests.{named_span};
-ghost use Rattle.tide_fault.specs.Faults.{IsPrintableRefusal};
 ghost use Rattle.station_span.specs.Workings.Spans.{AreMoments, IsInRange};
 
 use cert_text::Certificate;
@@ -32,7 +31,6 @@ pub fn refusal_of_incomplete() -> Refusal
 pub fn station_request<'a>(question: &ValidQuestion<'a>) -> Result<StationRequest<'a>, Refusal>
     ensures exact { result ≡ named_span question.now }
     ensures moments { IfOk result (λ request. AreMoments request.asked) }
-    ensures printable { IfErr result (IsPrintableRefusal []) }
 {
     let name = station_named(question)?;
     let asked = span_named(question)?;
@@ -46,7 +44,6 @@ pub fn station_request<'a>(question: &ValidQuestion<'a>) -> Result<StationReques
 pub fn station_named<'a>(question: &ValidQuestion<'a>) -> Result<&'a Text, Refusal>
     ensures found { IfOk result (λ name. named_by question.now.station ≡ Ok name.now) }
     ensures missing { IfErr result (λ refusal. named_by question.now.station ≡ Err refusal) }
-    ensures printable { IfErr result (IsPrintableRefusal []) }
 {
     match &question.get().station {
         Some(name) => Ok(name),
@@ -60,7 +57,6 @@ fn span_named(question: &ValidQuestion<'_>) -> Result<Asked, Refusal>
     ensures exact { result ≡ named_by (asked_by_question question.now) }
     ensures in_range { IfOk result IsInRange }
     ensures moments { IfOk result AreMoments }
-    ensures printable { IfErr result (IsPrintableRefusal []) }
 {
     let question = question.get();
     match (question.begin, question.end) {

@@ -1,10 +1,10 @@
 //! The answer of the command `trial`: a trial of the predictor with a file made from a seed.
 
-ghost use Rattle.std.specs.Prelude.{◌≡◌, ◌<◌, ◌≤◌, ◌^◌, [], length, take, IfErr, IfOk};
+ghost use Rattle.std.specs.Prelude.{◌≡◌, ◌<◌, ◌≤◌, ◌^◌, [], length, take, IfOk};
 ghost use Rattle.decimal_text.specs.Expected.{ReturnsUnless};
 ghost use Rattle.harmonics_book.specs.Books.{IsBook};
 ghost use Rattle.harmonics_text.specs.Reading.{book_of};
-ghost use Rattle.tide_fault.specs.Faults.{refusal_is_out_of_memory, IsPrintableRefusal};
+ghost use Rattle.tide_fault.specs.Faults.{refusal_is_out_of_memory};
 ghost use Rattle.tide_answer.specs.Trials.{book_from, nothing, station_count, station_tally, tally_on, trial_of};
 ghost use Rattle.tide_answer.specs.Workings.Tallies.{IsUpTo};
 ghost use Rattle.decimal_text.specs.declared.limits.TheConstants.{MOST_BYTES};
@@ -39,8 +39,7 @@ const SPAN: Asked = Asked {
 /// [`Refusal::BadSample`] if the file can't be read as a book, and the first [`Refusal`] of a station.
 #[tactic(auto, unfolding(crate::specs::Trials::trial_of))]
 pub fn try_sample(alloc: Global, seed: u64) -> Result<Bytes, Refusal>
-    ensures exact { ReturnsUnless refusal_is_out_of_memory (trial_of seed) result }
-    ensures printable { IfErr result (IsPrintableRefusal []) }
+    ensures { ReturnsUnless refusal_is_out_of_memory (trial_of seed) result }
 {
     let text = sample(alloc, seed)?;
     let book = book_in(alloc, text.as_slice())?;
@@ -55,7 +54,6 @@ fn book_in(alloc: Global, text: &[u8]) -> Result<Book, Refusal>
     requires { length text.now ≤ MOST_BYTES }
     ensures exact { ReturnsUnless refusal_is_out_of_memory (book_from (book_of text.now)) result }
     ensures valid { IfOk result IsBook }
-    ensures printable { IfErr result (IsPrintableRefusal []) }
 {
     match read_book(alloc, text) {
         Ok(book) => Ok(book),
@@ -87,7 +85,6 @@ fn tally_stations(
     requires table { stations.now.table ≡ [] }
     requires count_bound { length tried.now ≤ 40 }
     ensures exact { ReturnsUnless refusal_is_out_of_memory (tally_on stations.now.book nothing tried.now) result }
-    ensures printable { IfErr result (IsPrintableRefusal []) }
     ensures count_bound { IfOk result (IsUpTo (2 ^ 100)) }
 {
     let mut sum = Tally::nothing();
@@ -103,7 +100,6 @@ fn tally_stations(
 fn tally_station(alloc: Global, stations: &StationData<'_>, name: &Text) -> Result<Tally, Refusal>
     requires { stations.now.table ≡ [] }
     ensures exact { ReturnsUnless refusal_is_out_of_memory (station_tally stations.now.book name.now) result }
-    ensures printable { IfErr result (IsPrintableRefusal []) }
     ensures count_bound { IfOk result (IsUpTo (2 ^ 66)) }
 {
     let request = StationRequest::new(name, SPAN);

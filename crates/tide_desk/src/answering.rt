@@ -1,8 +1,8 @@
 //! The answer to a command line, or the first reason why there is none.
 
-ghost use Rattle.std.specs.Prelude.{◌≡◌, ℤ, Bool, false, IsTrue, None, Ok, IsOk, IfOk, IfErr, OnErr, if◌then◌else◌, map};
+ghost use Rattle.std.specs.Prelude.{◌≡◌, ℤ, false, IsTrue, None, Ok, IsOk, IfOk, IfErr, OnErr, if◌then◌else◌, map};
 ghost use Rattle.decimal_text.specs.Expected.{ReturnsUnless};
-ghost use Rattle.named_files.specs.NoAnswers.{IsPrintable, reading_failed, refused_over, source_of, faulty, is_out_of_memory};
+ghost use Rattle.named_files.specs.NoAnswers.{reading_failed, refused_over, source_of, faulty, is_out_of_memory};
 ghost use Rattle.named_files.specs.Opened.{IsResultOf, failing_file, folders_shown, names_to};
 ghost use Rattle.named_files.specs.Readings.{files_allowed, files_in};
 ghost use Rattle.named_files.specs.Workings.Materials.{AreMaterials};
@@ -29,7 +29,6 @@ ghost use Rattle.tide_desk.specs.Workings.Replies.{IsReply, answer_by as answer_
 ghost use Rattle.tide_desk.specs.Workings.Settled.{IsSettled, reading_of};
 ghost use Rattle.tide_edge.specs.Clocks.{IsClockMinute, clock_after, next_minute};
 ghost use Rattle.decimal_text.specs.Expected.{Meets};
-ghost use Rattle.tide_fault.specs.Faults.{IsPrintableRefusal};
 
 use crate::asking::read_words;
 use crate::body::Body;
@@ -68,7 +67,6 @@ pub fn answer_words<F: Files, K: Clock>(
         IsResultOf (names_wanted (question_of_words meanings words.now))
         (λ openings. answer_by meanings words.now openings (K.state clock.old) (K.state clock.new))
         (F.state files.old).openings (F.state files.new).openings result }
-    ensures printable { IfErr result IsPrintable }
     ensures reads { let asked = question_of_words (map meaning sheets.items) words.now in
         WentOn (reading_failed result) (ReadsClock asked) (allowed_by asked)
         (sources (F.state files.old) (K.state clock.old)) (sources (F.state files.new) (K.state clock.new)) }
@@ -100,7 +98,6 @@ pub fn answer_words<F: Files, K: Clock>(
 /// Returns the answer to a request that names no file.
 fn answer_without(alloc: Global, question: &ValidQuestion<'_>) -> Result<Reply, NoAnswer>
     ensures exact { ReturnsUnless is_out_of_memory (faulty (refused_from (answered_without_files question.now))) result }
-    ensures printable { IfErr result IsPrintable }
     ensures read { reading_failed result ≡ false }
 {
     match answer_alone(alloc, question) {
@@ -129,7 +126,6 @@ fn answer_over<F: Files, K: Clock>(
         (λ openings. shown_over (map meaning sheets.items) (folders_shown question.now openings)
         (given_between (K.state clock.old) (K.state clock.new)) question.now name.now)
         (F.state files.old).openings (F.state files.new).openings result }
-    ensures printable { IfErr result IsPrintable }
     ensures reads { WentOn (reading_failed result) (IsTrue (reads_clock question.now.command)) (files_allowed question.now)
         (sources (F.state files.old) (K.state clock.old)) (sources (F.state files.new) (K.state clock.new)) }
     ensures clock_unread { ¬ (IsTrue (reads_clock question.now.command)) → clock.new ≡ clock.old }
@@ -190,7 +186,6 @@ fn answer_with(
     requires now { IsClockMinute now }
     ensures exact { ReturnsUnless is_out_of_memory (refused_over read.table (answered_over_book (is_report question.now.command)
         (map meaning sheets.items) read.book read.table question.now (given_with read now))) result }
-    ensures printable { IfErr result IsPrintable }
     ensures read { reading_failed result ≡ false }
     ensures of_no_file { failing_file result ≡ None }
 {
@@ -215,9 +210,7 @@ fn answer_with(
 /// Returns the answer of `replied` to a command line; `table` is the table of offsets that was read.
 fn refused_over(replied: Result<Body, Refusal>, table: OffsetTable) -> Result<Reply, NoAnswer>
     requires valid { IfOk replied IsReply }
-    requires printable { IfErr replied (IsPrintableRefusal table) }
     ensures exact { result ≡ refused_over table (answer_from replied) }
-    ensures printable { IfErr result IsPrintable }
     ensures read { reading_failed result ≡ false }
     ensures of_no_file { failing_file result ≡ None }
 {

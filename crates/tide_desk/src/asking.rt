@@ -1,11 +1,11 @@
 //! The request of a command line.
 
-ghost use Rattle.std.specs.Prelude.{◌≡◌, ◌<◌, [], Some, length, map, unwrap_or, IfOk, IfErr};
+ghost use Rattle.std.specs.Prelude.{◌<◌, [], Some, length, map, unwrap_or, IfOk};
 ghost use Rattle.decimal_text.specs.Expected.{Excused, ReturnsUnless};
 ghost use Rattle.question.specs.Asked.{IsAsked};
 ghost use Rattle.question.specs.Questions.{is_out_of_memory as ask_is_out_of_memory};
 ghost use Rattle.report_sheets.specs.Pages.{missing_of};
-ghost use Rattle.tide_fault.specs.Faults.{is_out_of_memory, IsPrintable};
+ghost use Rattle.tide_fault.specs.Faults.{is_out_of_memory};
 ghost use Rattle.tide_desk.specs.Answers.{question_of_words, found_in, question_in};
 
 use decimal_text::Words;
@@ -27,7 +27,6 @@ pub fn read_words(
 ) -> Result<Question, Fault>
     ensures exact { ReturnsUnless is_out_of_memory (question_of_words (map meaning sheets.now.items) words.now) result }
     ensures asked { IfOk result IsAsked }
-    ensures printable { IfErr result (IsPrintable []) }
 {
     let question = question_in_words(alloc, words)?;
     check_found(&question.sheets, sheets).and(Ok(question))
@@ -47,9 +46,8 @@ fn question_in_words(alloc: Global, words: &Words) -> Result<Question, AskFault>
 
 /// Returns `Ok` if each word in `wanted` is the word of one of `sheets`.
 fn check_found(wanted: &Option<Words>, sheets: &Vec<Box<dyn Sheet>>) -> Result<(), Fault>
-    ensures exact { let wanted = unwrap_or wanted.now [] in
+    ensures { let wanted = unwrap_or wanted.now [] in
         ReturnsUnless is_out_of_memory (found_in wanted (missing_of (map meaning sheets.now.items) wanted)) result }
-    ensures printable { IfErr result (IsPrintable []) }
 {
     match wanted {
         Some(wanted) => match missing(sheets, wanted) {
@@ -63,8 +61,7 @@ fn check_found(wanted: &Option<Words>, sheets: &Vec<Box<dyn Sheet>>) -> Result<(
 /// Returns the fault of the word at index `place` of `wanted`; no sheet has this word.
 fn unknown(wanted: &Words, place: usize) -> Fault
     requires { place < length wanted.now }
-    ensures exact { Excused (is_out_of_memory result) (found_in wanted.now (Some place)) result }
-    ensures printable { IsPrintable [] result }
+    ensures { Excused (is_out_of_memory result) (found_in wanted.now (Some place)) result }
 {
     match wanted.as_slice()[place].copy() {
         Ok(word) => Fault::NoSheet { word },

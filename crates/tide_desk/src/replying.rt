@@ -1,9 +1,9 @@
 //! The source of the answer to a request with the files that were read.
 
-ghost use Rattle.std.specs.Prelude.{◌≡◌, ◌&&◌, IfOk, IfErr, map};
+ghost use Rattle.std.specs.Prelude.{◌≡◌, ◌&&◌, IfOk, map};
 ghost use Rattle.decimal_text.specs.Expected.{ReturnsUnless};
 ghost use Rattle.tide_answer.specs.Answers.{answered};
-ghost use Rattle.tide_fault.specs.Faults.{refusal_is_out_of_memory, IsPrintableRefusal};
+ghost use Rattle.tide_fault.specs.Faults.{refusal_is_out_of_memory};
 ghost use Rattle.tide_answer.specs.Givens.{IsGiven};
 ghost use Rattle.tide_answer.specs.Streams.{is_zone_file, prepared};
 ghost use Rattle.tide_desk.specs.Answers.{answered_over_book, is_report};
@@ -14,7 +14,7 @@ use crate::reporting::report;
 use question::{Command, Layout, Question, ValidQuestion};
 use report_sheets::Sheet;
 use std::alloc::Global;
-use tide_answer::{Given, StationData, answer, can_stream, prepare};
+use tide_answer::{Given, StationData, answer_valid, can_stream, prepare_valid};
 use tide_fault::Refusal;
 use zone_time::Zone;
 
@@ -39,7 +39,6 @@ pub fn body_with(
     ensures streams { IfOk result (λ body. is_stream body
         ≡ (may_stream question.now given.entry.now.zone
         && is_streaming (prepared stations.now.book stations.now.table question.now given.entry.now))) }
-    ensures printable { IfErr result (IsPrintableRefusal stations.now.table) }
 {
     if is_report(question.get().command) {
         let answer = report(alloc, stations, question, given, sheets)?;
@@ -69,19 +68,16 @@ fn body_for(
     ensures streams { IfOk result (λ body. is_stream body
         ≡ (may_stream question.now given.entry.now.zone
         && is_streaming (prepared stations.now.book stations.now.table question.now given.entry.now))) }
-    ensures printable { IfErr result (IsPrintableRefusal stations.now.table) }
 {
-    let book = stations.book().get();
-    let table = stations.table();
-    let question = question.get();
-    if may_stream(question, &given.zone) {
-        let ready = prepare(alloc, book, table, question, given)?;
+    let seen = given.view();
+    if may_stream(question.get(), &given.zone) {
+        let ready = prepare_valid(alloc, stations, question, seen)?;
         if ready.streams() {
             return Ok(Body::Stream(ready));
         }
         drop(ready);
     }
-    Ok(Body::Text(answer(alloc, book, table, question, given)?))
+    Ok(Body::Text(answer_valid(alloc, stations, question, seen)?))
 }
 
 /// Returns true if the command, the layout and the zone let the answer be streamed (written while it is

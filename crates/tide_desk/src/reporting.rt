@@ -1,13 +1,13 @@
 //! The report of a station's events.
 
-ghost use Rattle.std.specs.Prelude.{◌≡◌, ◌≢◌, ◌≤◌, [], All, IfErr, IfOk, map, unwrap_or};
+ghost use Rattle.std.specs.Prelude.{◌≡◌, ◌≢◌, ◌≤◌, [], All, IfOk, map, unwrap_or};
 ghost use Rattle.decimal_text.specs.Expected.{ReturnsUnless};
 ghost use Rattle.event_text.specs.Lines.{IsListed};
 ghost use Rattle.harmonics_book.specs.declared.book.Units.{Units};
 ghost use Rattle.report_sheets.specs.Pages.{pages_of};
 ghost use Rattle.tide_answer.specs.Givens.{IsGiven};
 ghost use Rattle.tide_desk.specs.Answers.{head_of, reported};
-ghost use Rattle.tide_fault.specs.Faults.{refusal_is_out_of_memory, IsPrintableRefusal};
+ghost use Rattle.tide_fault.specs.Faults.{refusal_is_out_of_memory};
 
 use decimal_text::{Bytes, Words};
 use question::ValidQuestion;
@@ -33,9 +33,8 @@ pub fn report(
     sheets: Vec<Box<dyn Sheet>>,
 ) -> Result<Answer, Refusal>
     requires given { IsGiven given.now }
-    ensures exact { ReturnsUnless refusal_is_out_of_memory
+    ensures { ReturnsUnless refusal_is_out_of_memory
         (reported (map meaning sheets.items) stations.now.book stations.now.table question.now given.entry.now.now) result }
-    ensures printable { IfErr result (IsPrintableRefusal stations.now.table) }
 {
     let book = stations.book().get();
     let question = question.get();

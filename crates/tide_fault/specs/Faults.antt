@@ -1,5 +1,5 @@
 -- The exit status and the line of each reason why there is no answer (this project).
-use Rattle.std.specs.Prelude.{ℕ, ℤ, ◌<◌, Bool, true, false, List, [], ◌++◌, length, codes, decimal, slice_get}
+use Rattle.std.specs.Prelude.{ℕ, ℤ, pos, negsuc, int_le, ◌&&◌, if◌then◌else◌, Bool, true, false, List, [], ◌++◌, codes, decimal, slice_get}
 use Rattle.std.specs.Option.{option_map_or}
 use Rattle.std.specs.Fmt.{signed_decimal}
 use Rattle.cert_text.specs.declared.fault.CertFault.{CertFault}
@@ -20,7 +20,7 @@ use Rattle.station_table.specs.declared.offsets.Offsets.{Offsets as TableRow}
 use Rattle.station_table.specs.Reasons.{number_of as number_of_row, text_of as text_of_row}
 use Rattle.station_curve.specs.declared.fault.CurveFault.{CurveFault}
 use Rattle.station_curve.specs.declared.fault.CurveFault.TheVariants as curve
-use Rattle.zone_time.specs.Moments.{IsMoment, moment_text}
+use Rattle.zone_time.specs.Moments.{moment_text}
 use Rattle.tide_fault.specs.declared.fault.Fault.{Fault}
 use Rattle.tide_fault.specs.declared.fault.Fault.TheVariants.{Ask, NoSheet, TooLong, Book, Offsets, BadZone, Refused}
 use Rattle.tide_fault.specs.declared.refusal.Refusal.{Refusal}
@@ -68,18 +68,11 @@ abbrev pub status_of_refusal : Refusal → Status
 status_of_refusal NoMemory = status.NoMemory
 status_of_refusal (NotACertificate line) = status.FileRefused
 status_of_refusal (BadSample line why) = status.FileRefused
-status_of_refusal NoStation = status.Refused
-status_of_refusal (NoReference row) = status.Refused
-status_of_refusal Hydraulic = status.Refused
-status_of_refusal BackwardSpan = status.Refused
-status_of_refusal EmptySpan = status.Refused
-status_of_refusal (OutOfYears first last) = status.Refused
 status_of_refusal (TooLarge year) = status.Limit
 status_of_refusal (TooSteep year) = status.Limit
 status_of_refusal (SpanTooLong minutes) = status.Limit
-status_of_refusal MarkNotHere = status.Refused
-status_of_refusal LevelNotHere = status.Refused
 status_of_refusal (TooManyRows rows) = status.Limit
+status_of_refusal _ = status.Refused
 
 -- the exit status for a fault
 abbrev pub status_of : Fault → Status
@@ -143,10 +136,18 @@ reference_at rows place = option_map_or (λ row. row.reference) (slice_get rows 
 abbrev pub naming_line : List ℕ → List ℕ → List ℕ
 naming_line what name = what ++ name ++ codes "\n"
 
+-- true for the minutes of the years 1 to 9999, since 1970-01-01T00:00Z
+abbrev pub is_moment : ℤ → Bool
+is_moment minute = int_le (negsuc 1035593279) minute && int_le minute (pos 4223371679)
+
+-- the text of a minute; no byte outside the years 1 to 9999
+abbrev pub minute_text : ℤ → List ℕ
+minute_text minute = if is_moment minute then moment_text minute else []
+
 -- the line for a span outside the file's years: their first minute, and the minute after their last
 abbrev pub years_line : ℤ → ℤ → List ℕ
 years_line first last =
-    codes "refused: out of years: file has " ++ moment_text first ++ codes " to " ++ moment_text last ++ codes "\n"
+    codes "refused: out of years: file has " ++ minute_text first ++ codes " to " ++ minute_text last ++ codes "\n"
 
 -- the line of a refusal; `rows` has the rows of the table that was read
 unfoldable pub refusal_line : List TableRow → Refusal → List ℕ
@@ -175,19 +176,6 @@ line_of rows (Book fault) = form_line fault
 line_of rows (Offsets fault) = table_line fault
 line_of rows BadZone = codes "zone: bad zone file\n"
 line_of rows (Refused refusal) = refusal_line rows refusal
-
--- a refusal with a line that can be printed: its moments are in the years 1 to 9999, and its row is an
--- index into the table
-abbrev pub IsPrintableRefusal : List TableRow → Refusal → Type 0
-IsPrintableRefusal rows (OutOfYears first last) = IsMoment first × IsMoment last
-IsPrintableRefusal rows (NoReference place) = place < length rows
-IsPrintableRefusal rows _ = Unit {0}
-
--- a fault with a line that can be printed: its moments are in the years 1 to 9999, and its row is an
--- index into the table
-abbrev pub IsPrintable : List TableRow → Fault → Type 0
-IsPrintable rows (Refused refusal) = IsPrintableRefusal rows refusal
-IsPrintable rows _ = Unit {0}
 
 -- ---- out of memory, and faults of the crates below
 

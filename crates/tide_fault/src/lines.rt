@@ -1,6 +1,6 @@
 //! The lines that report faults.
 
-ghost use Rattle.std.specs.Prelude.{◌≡◌, ◌++◌, ◌<◌, codes, length, IfOk, string_bytes};
+ghost use Rattle.std.specs.Prelude.{◌≡◌, ◌++◌, codes, IfOk, string_bytes};
 ghost use Rattle.tide_fault.specs.Faults.{
   line_of,
   slot_name,
@@ -13,10 +13,9 @@ ghost use Rattle.tide_fault.specs.Faults.{
   reference_at,
   refusal_line,
   years_line,
-  IsPrintable,
-  IsPrintableRefusal,
+  minute_text,
+  is_moment,
 };
-ghost use Rattle.zone_time.specs.Moments.{IsMoment};
 
 use crate::fault::Fault;
 use crate::refusal::Refusal;
@@ -30,10 +29,10 @@ use std::alloc::{AllocError, Global};
 use zone_time::write_moment;
 
 /// Returns the line that reports `fault`, with its LF. `table` is the table of subordinate stations that
-/// was read: the row of [`NoReference`](Refusal::NoReference) is an index into it. The moments of
-/// [`OutOfYears`](Refusal::OutOfYears) are in the years 1 to 9999.
+/// was read; it has the name of the reference in the row of [`NoReference`](Refusal::NoReference). If the
+/// table doesn't have this row, the line ends without a name. A minute of
+/// [`OutOfYears`](Refusal::OutOfYears) that isn't in the years 1 to 9999 has no text.
 pub fn fault_line(alloc: Global, fault: &Fault, table: &OffsetTable) -> Result<Bytes, AllocError>
-    requires { IsPrintable table.now fault.now }
     ensures { IfOk result (λ line. line ≡ line_of table.now fault.now) }
 {
     let text = fault_text(alloc, fault, table)?;
@@ -42,7 +41,6 @@ pub fn fault_line(alloc: Global, fault: &Fault, table: &OffsetTable) -> Result<B
 
 #[tactic(auto, unfolding(crate::specs::Faults::line_of))]
 fn fault_text(alloc: Global, fault: &Fault, table: &OffsetTable) -> Result<String, AllocError>
-    requires { IsPrintable table.now fault.now }
     ensures { IfOk result (λ text. string_bytes text ≡ line_of table.now fault.now) }
 {
     match fault {
@@ -141,7 +139,6 @@ fn row_text(alloc: Global, row: u32, why: OffsetWhy) -> Result<String, AllocErro
 
 #[tactic(auto, unfolding(crate::specs::Faults::refusal_line))]
 fn refusal_text(alloc: Global, refusal: Refusal, table: &OffsetTable) -> Result<String, AllocError>
-    requires { IsPrintableRefusal table.now refusal }
     ensures { IfOk result (λ text. string_bytes text ≡ refusal_line table.now refusal) }
 {
     match refusal {
@@ -167,12 +164,17 @@ fn refusal_text(alloc: Global, refusal: Refusal, table: &OffsetTable) -> Result<
     }
 }
 
-/// Returns the name of the reference station at index `row` of `table`.
+/// Returns the name of the reference station at index `row` of `table`, and no byte past its end.
+#[tactic(auto, using(crate::proofs::LineLemmas::no_reference))]
 fn reference_at(table: &OffsetTable, row: u32) -> &str
-    requires { row < length table.now }
     ensures { result.now ≡ reference_at table.now row }
 {
-    table.as_slice()[row as usize].reference.as_str()
+    let rows = table.as_slice();
+    if (row as usize) < rows.len() {
+        rows[row as usize].reference.as_str()
+    } else {
+        ""
+    }
 }
 
 /// Returns the line of a refusal that names `name`, after the words `what`.
@@ -188,18 +190,32 @@ fn named_text(alloc: Global, what: &str, name: &str) -> Result<String, AllocErro
 /// Returns the line for a span outside the file's years, which are the minutes from `first` up to but
 /// not including `last`, both since 1970-01-01T00:00Z.
 fn years_text(alloc: Global, first: i64, last: i64) -> Result<String, AllocError>
-    requires first { IsMoment first }
-    requires last { IsMoment last }
     ensures { IfOk result (λ text. string_bytes text ≡ years_line first last) }
 {
-    let mut from = ArrayString::<20>::new();
-    write_moment(first, &mut from);
-    let mut to = ArrayString::<20>::new();
-    write_moment(last, &mut to);
+    let from = minute_text(first);
+    let to = minute_text(last);
     let mut text = String::from_str(alloc, "refused: out of years: file has ")?;
     text.push_str(from.as_str())?;
     text.push_str(" to ")?;
     text.push_str(to.as_str())?;
     text.push_str("\n")?;
     Ok(text)
+}
+
+/// Returns the text of `minute`, and no byte outside the years 1 to 9999.
+fn minute_text(minute: i64) -> ArrayString<20>
+    ensures { result.bytes ≡ minute_text minute }
+{
+    let mut text = ArrayString::<20>::new();
+    if is_moment(minute) {
+        write_moment(minute, &mut text);
+    }
+    text
+}
+
+/// Returns true if `minute` is in the years 1 to 9999.
+fn is_moment(minute: i64) -> bool
+    ensures { result ≡ is_moment minute }
+{
+    -1_035_593_280 <= minute && minute <= 4_223_371_679
 }

@@ -5,7 +5,7 @@ ghost use Rattle.decimal_text.specs.Expected.{ReturnsUnless};
 ghost use Rattle.harmonics_book.specs.Books.{IsBook};
 ghost use Rattle.question.specs.Asked.{IsAsked, IsZoneWord};
 ghost use Rattle.tide_answer.specs.Answers.{answered};
-ghost use Rattle.tide_fault.specs.Faults.{IsPrintable, refusal_is_out_of_memory};
+ghost use Rattle.tide_fault.specs.Faults.{refusal_is_out_of_memory};
 ghost use Rattle.tide_answer.specs.Givens.{IsGiven, given_seen};
 ghost use Rattle.tide_edge.specs.Clocks.{IsClockMinute};
 ghost use Rattle.question.specs.Questions.{is_out_of_memory, question_of};
@@ -233,7 +233,6 @@ fn fault_reply(
     fault: Fault,
     bodiless: bool,
 ) -> Result<Response, AllocError>
-    requires { IsPrintable table.now fault }
     ensures { IfOk result (λ response. response ≡ fault_reply code table.now fault bodiless) }
 {
     let line = fault_line(alloc, &fault, table);

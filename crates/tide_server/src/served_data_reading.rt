@@ -1,12 +1,12 @@
 //! The data that a server serves, read from files.
 
-ghost use Rattle.std.specs.Prelude.{◌≡◌, false, [], IsOk, IsTrue, IfErr};
+ghost use Rattle.std.specs.Prelude.{◌≡◌, false, IsOk, IsTrue};
 ghost use Rattle.decimal_text.specs.Expected.{ReturnsUnless};
 ghost use Rattle.question.specs.Questions.{is_out_of_memory as ask_is_out_of_memory};
-ghost use Rattle.tide_fault.specs.Faults.{is_out_of_memory, IsPrintable as IsPrintableFault};
+ghost use Rattle.tide_fault.specs.Faults.{is_out_of_memory};
 ghost use Rattle.decimal_text.specs.Expected.{Meets};
 ghost use Rattle.tide_edge.specs.Whole.{ReadWithin, both, one_file};
-ghost use Rattle.named_files.specs.NoAnswers.{IsPrintable, reading_failed, source_of};
+ghost use Rattle.named_files.specs.NoAnswers.{reading_failed, source_of};
 ghost use Rattle.named_files.specs.Opened.{IsResultOf, folders_shown};
 ghost use Rattle.named_files.specs.Readings.{allowed_for, limit_of};
 ghost use Rattle.tide_fault.specs.declared.slot.Slot.{Slot};
@@ -37,7 +37,6 @@ pub(crate) fn read_served_data<F: Files>(
         (served_data_of (F.state files.old).store.folder words.now) result }
     ensures shown { IsResultOf (names_served (service_of words.now)) (served_data_by_openings words.now)
         (F.state files.old).openings (F.state files.new).openings result }
-    ensures printable { IfErr result IsPrintable }
     ensures read { ReadWithin (files_asked (service_of words.now)) (reading_failed result) (F.state files.old) (F.state files.new) }
     ensures unopened { ¬ (IsOk (service_of words.now)) → files.new ≡ files.old }
 {
@@ -68,7 +67,6 @@ fn read_named<F: Files>(
     ensures shown { IsResultOf (served_data_names name.now question.now)
         (λ openings. served_data_named (folders_shown question.now openings) question.now name.now)
         (F.state files.old).openings (F.state files.new).openings result }
-    ensures printable { IfErr result IsPrintable }
     ensures read { ReadWithin (both (one_file (limit_of Slot.File)) (allowed_for Slot.Offsets question.now.offsets))
         (reading_failed result) (F.state files.old) (F.state files.new) }
 {
@@ -90,8 +88,7 @@ fn read_named<F: Files>(
 #[tactic(auto, unfolding(crate::specs::Openings::service_of))]
 fn read_service(alloc: Global, words: &Words) -> Result<Question, Fault>
     requires { asks_another words.now ≡ false }
-    ensures exact { ReturnsUnless is_out_of_memory (service_of words.now) result }
-    ensures printable { IfErr result (IsPrintableFault []) }
+    ensures { ReturnsUnless is_out_of_memory (service_of words.now) result }
 {
     let question = service_in_words(alloc, words)?;
     Ok(question)

@@ -29,23 +29,23 @@ curve_over-requires-clause-forward c =
     c.asked-asked.ensures.in_range c.in_ok-span.ensures.found in
     rw c.in_ok-span.ensures.exact reached.in_range.forward
 
-pub returns-in_err-span-clause-exact : goal.returns-in_err-span-clause-exact
-returns-in_err-span-clause-exact c =
+pub returns-in_err-span : goal.returns-in_err-span
+returns-in_err-span c =
     let p = err_from_is_err_and c.from_residual-in_err-span.result c.from_residual-in_err-span.ensures.1 in
     let site : Site = record { basis = c.args.basis; station = c.args.station.now } in
     rw (p.1, p.2) (refused_span _ c.args.reach c.args.book.now site c.args.request.now.asked _ _
     (sym c.in_ok-level_units.ensures.exact) (excused_by _ _ _ c.in_err-span.ensures.refused))
 
-pub returns-in_err-curve-clause-exact : goal.returns-in_err-curve-clause-exact
-returns-in_err-curve-clause-exact c =
+pub returns-in_err-curve : goal.returns-in_err-curve
+returns-in_err-curve c =
     let p = err_from_is_err_and c.from_residual-in_err-curve.result c.from_residual-in_err-curve.ensures.1 in
     let site : Site = record { basis = c.args.basis; station = c.args.station.now } in
     rw (p.1, p.2) (refused_curve _ c.args.reach c.args.book.now site c.args.request.now.asked _ _
     (sym c.in_ok-level_units.ensures.exact) c.in_ok-span.ensures.found
     (curve_excused _ c.args.book.now c.args.station.now _ _ _ c.in_err-curve.ensures.exact))
 
-pub returns-in_err-check_length-clause-exact : goal.returns-in_err-check_length-clause-exact
-returns-in_err-check_length-clause-exact c =
+pub returns-in_err-check_length : goal.returns-in_err-check_length
+returns-in_err-check_length c =
     let p = err_from_is_err_and c.from_residual-in_err-check_length.result c.from_residual-in_err-check_length.ensures.1 in
     let site : Site = record { basis = c.args.basis; station = c.args.station.now } in
     let has : HasCurve c.args.reach c.args.book.now site c.args.request.now.asked _ (prediction_of c.args.book.now c.args.station.now) =
@@ -57,8 +57,8 @@ returns-in_err-check_length-clause-exact c =
     rw (p.1, p.2) (refused_length _ c.args.reach c.args.book.now site c.args.request.now.asked _
     (prediction_of c.args.book.now c.args.station.now) _ has (excused_by _ _ _ (sym c.in_err-check_length.ensures.exact)))
 
-pub returns-in_err-check_mark-clause-exact : goal.returns-in_err-check_mark-clause-exact
-returns-in_err-check_mark-clause-exact c =
+pub returns-in_err-check_mark : goal.returns-in_err-check_mark
+returns-in_err-check_mark c =
     let p = err_from_is_err_and c.from_residual-in_err-check_mark.result c.from_residual-in_err-check_mark.ensures.1 in
     let site : Site = record { basis = c.args.basis; station = c.args.station.now } in
     let has : HasCurve c.args.reach c.args.book.now site c.args.request.now.asked _ (prediction_of c.args.book.now c.args.station.now) =
@@ -96,8 +96,8 @@ invariant_of-result c =
           ∙ ap (λ s. prediction_over c.in_ok-curve.curve.book s c.in_ok-span.span.begin c.in_ok-span.span.end) (sym station);
     }
 
-pub returns-clause-exact : goal.returns-clause-exact
-returns-clause-exact c =
+pub returns : goal.returns
+returns c =
     let site : Site = record { basis = c.args.basis; station = c.args.station.now } in
     let has : HasCurve c.args.reach c.args.book.now site c.args.request.now.asked _ (prediction_of c.args.book.now c.args.station.now) =
     record {

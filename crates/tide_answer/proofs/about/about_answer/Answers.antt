@@ -5,9 +5,9 @@ use Rattle.slope_agreement.specs.Agreements.{agreement_of}
 use Rattle.tide_answer.proofs.AnswerLemmas.{reference_whole}
 use Rattle.tide_answer.proofs.about.about_answer.Goals as goal
 
-pub returns-clause-exact : goal.returns-clause-exact
-returns-clause-exact c =
-    let is = c.in_ok-found.ensures.exact in
+pub returns : goal.returns
+returns c =
+    let is = c.in_ok-found.ensures in
     let bound : FitsSigned w128 c.agreement-agreement.result = search rules in
     let text = simp to_z-of_z at c.in_ok-text.ensures in
     let agrees = ap agreement_of is.curve

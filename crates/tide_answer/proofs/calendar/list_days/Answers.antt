@@ -6,8 +6,8 @@ use Rattle.tide_answer.proofs.calendar.list_days.Goals as goal
 pub calendar_text-requires-clause-listed : goal.calendar_text-requires-clause-listed
 calendar_text-requires-clause-listed c = c.in_ok-listed.ensures.exact.2.lines
 
-pub returns-clause-exact : goal.returns-clause-exact
-returns-clause-exact c =
+pub returns : goal.returns
+returns c =
     let begin : FitsSigned w64 c.asked-asked.result.now.begin = search rules in
     let end : FitsSigned w64 c.asked-asked.result.now.end = search rules in
     let site = c.in_ok-listed.ensures.exact.0 in

@@ -16,8 +16,8 @@ write_certificate-requires c =
     c.in_ok-tracks.ensures in
     rw c.in_ok-cert.ensures (rw is.asked at valid)
 
-pub returns-clause-exact : goal.returns-clause-exact
-returns-clause-exact c =
+pub returns : goal.returns
+returns c =
     let is = c.in_ok-found.ensures.exact in
     let written = rw c.in_ok-cert.ensures at c.in_ok-text.ensures in
     let tracks = rw (is.book, is.asked) at c.in_ok-tracks.ensures in

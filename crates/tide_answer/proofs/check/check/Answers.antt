@@ -6,8 +6,8 @@ judge-requires-clause-count_bound c =
     few_read c.in_ok-cert.cert c.args.bytes.now
     (c.certificates_have_one_text.ensures.only_text c.in_ok-cert.cert c.args.bytes.now c.in_ok-cert.ensures.reads).1 c.requires.count_bound
 
-pub returns-clause-exact : goal.returns-clause-exact
-returns-clause-exact c =
+pub returns : goal.returns
+returns c =
     rw (checked_by c.args.stations.now.book c.args.stations.now.table c.args.bytes.now c.args.zone.now
     c.in_ok-cert.cert c.in_ok-cert.ensures.exact)
-    c.judge.ensures.exact
+    c.judge.ensures

@@ -5,14 +5,14 @@ use Rattle.tide_answer.specs.Answers.{judged}
 use Rattle.tide_answer.proofs.CheckLemmas.{judged_by, judged_refused}
 use Rattle.tide_answer.proofs.check.judge.Goals as goal
 
-pub returns-in_err-found-clause-exact : goal.returns-in_err-found-clause-exact
-returns-in_err-found-clause-exact c =
+pub returns-in_err-found : goal.returns-in_err-found
+returns-in_err-found c =
     let p = err_from_is_err_and c.from_residual.result c.from_residual.ensures.1 in
     rw (p.1, p.2) (judged_refused _ c.args.stations.now.book c.args.stations.now.table c.args.cert.now c.args.zone.now _
     (rw c.request_of_certificate-request.ensures at c.in_err-found.ensures.exact))
 
-pub returns-in-None-clause-exact : goal.returns-in-None-clause-exact
-returns-in-None-clause-exact c =
+pub returns-in-None : goal.returns-in-None
+returns-in-None c =
     let is = rw c.request_of_certificate-request.ensures at c.in_ok-found.ensures.exact in
     let rejection = rw is.book at c.find_rejection.ensures in
     judged_by c.args.stations.now.book c.args.stations.now.table c.args.cert.now c.args.zone.now (site_of c.in_ok-found.found) is.site
@@ -20,8 +20,8 @@ returns-in-None-clause-exact c =
     (sym rejection ∙ c.in-None.is)
     ∙ ap (λ a. Ok a) (sym (rw is.book at c.in_ok-accept-in-None.ensures))
 
-pub returns-clause-exact : goal.returns-clause-exact
-returns-clause-exact c =
+pub returns : goal.returns
+returns c =
     let is = rw c.request_of_certificate-request.ensures at c.in_ok-found.ensures.exact in
     let rejection = rw is.book at c.find_rejection.ensures in
     rw (c.rejected.ensures, c.in_ok-rejection_line-in-Some.ensures)

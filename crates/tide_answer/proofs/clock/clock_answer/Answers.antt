@@ -8,8 +8,8 @@ use Rattle.station_span.proofs.HeldLemmas.{looked_zone}
 use Rattle.tide_answer.proofs.LevelSteps.{refused_level, whole_clock}
 use Rattle.tide_answer.proofs.clock.clock_answer.Goals as goal
 
-pub returns-in_err-check_level-clause-exact : goal.returns-in_err-check_level-clause-exact
-returns-in_err-check_level-clause-exact c =
+pub returns-in_err-check_level : goal.returns-in_err-check_level
+returns-in_err-check_level c =
     let now : FitsSigned w64 c.args.now = search rules in
     let p = err_from_is_err_and c.from_residual-in_err-check_level.result c.from_residual-in_err-check_level.ensures.1 in
     let request = simp to_z-of_z at c.day_from-request.ensures in
@@ -43,8 +43,8 @@ clock_text-requires-clause-now c =
 pub clock_text-requires-clause-listed : goal.clock_text-requires-clause-listed
 clock_text-requires-clause-listed c = rw (c.in_ok-found.found.unit, ← c.in_ok-listed.ensures.units) c.in_ok-listed.ensures.lines
 
-pub returns-clause-exact : goal.returns-clause-exact
-returns-clause-exact c =
+pub returns : goal.returns
+returns c =
     let now : FitsSigned w64 c.args.now = search rules in
     let request = simp to_z-of_z at c.day_from-request.ensures in
     let is = rw request at c.in_ok-found.ensures.exact in

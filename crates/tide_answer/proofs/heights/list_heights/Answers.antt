@@ -6,8 +6,8 @@ use Rattle.station_span.proofs.FoundLemmas.{excused_by}
 use Rattle.tide_answer.proofs.LevelSteps.{refused_rows, whole_list}
 use Rattle.tide_answer.proofs.heights.list_heights.Goals as goal
 
-pub returns-in_err-check_rows-clause-exact : goal.returns-in_err-check_rows-clause-exact
-returns-in_err-check_rows-clause-exact c =
+pub returns-in_err-check_rows : goal.returns-in_err-check_rows
+returns-in_err-check_rows c =
     let step : FitsSigned w64 c.args.step = search rules in
     let p = err_from_is_err_and c.from_residual-in_err-check_rows.result c.from_residual-in_err-check_rows.ensures.1 in
     let is = c.in_ok-found.ensures.exact in
@@ -20,8 +20,8 @@ returns-in_err-check_rows-clause-exact c =
 pub rows_of-requires-clause-levels : goal.rows_of-requires-clause-levels
 rows_of-requires-clause-levels c = c.in_ok-check_level.ensures.all c.in_ok-found.ensures.exact.reach
 
-pub returns-clause-exact : goal.returns-clause-exact
-returns-clause-exact c =
+pub returns : goal.returns
+returns c =
     let step : FitsSigned w64 c.args.step = search rules in
     let is = c.in_ok-found.ensures.exact in
     let few = rw is.asked at (simp to_z-of_z at c.in_ok-check_rows.ensures.exact) in

@@ -11,9 +11,9 @@ write_peak-requires c =
     (rw is.asked c.requires) c.in_ok-found.ensures.peak c.in_ok-peak.ensures.exact in
     rw c.in_ok-cert.ensures (rw is.asked at valid)
 
-pub returns-clause-exact : goal.returns-clause-exact
+pub returns : goal.returns
 unfolding peak_certified
-returns-clause-exact c =
+returns c =
     let is = c.in_ok-found.ensures.exact in
     let peak = rw (is.book, is.asked) at c.in_ok-peak.ensures.exact in
     let text = rw (c.in_ok-cert.ensures, peak) at c.in_ok-text.ensures in

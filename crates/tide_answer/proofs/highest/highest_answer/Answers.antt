@@ -8,9 +8,9 @@ highest_text_at-requires-clause-inside c =
     let at : FitsSigned w64 c.highest_minute-at.result = search rules in
     simp to_z-of_z c.highest_minute-at.ensures.inside
 
-pub returns-clause-exact : goal.returns-clause-exact
+pub returns : goal.returns
 unfolding highest
-returns-clause-exact c =
+returns c =
     let at : FitsSigned w64 c.highest_minute-at.result = search rules in
     let is = c.in_ok-found.ensures.exact in
     let same = rw (is.book, is.asked) at c.highest_minute-at.ensures.exact in

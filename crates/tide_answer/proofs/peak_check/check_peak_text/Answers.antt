@@ -2,6 +2,6 @@ use Rattle.tide_answer.specs.Answers.{peak_checked}
 use Rattle.tide_answer.specs.Workings.Peaks.{peak_judged_in}
 use Rattle.tide_answer.proofs.peak_check.check_peak_text.Goals as goal
 
-pub returns-clause-exact : goal.returns-clause-exact
+pub returns : goal.returns
 unfolding peak_checked peak_judged_in
-returns-clause-exact c = rw c.in_ok-cert.ensures.exact c.judge_peak.ensures.exact
+returns c = rw c.in_ok-cert.ensures.exact c.judge_peak.ensures

@@ -4,8 +4,8 @@ use Rattle.tide_answer.specs.Answers.{peak_judged}
 use Rattle.tide_answer.proofs.PeakLemmas.{judged_by}
 use Rattle.tide_answer.proofs.peak_check.judge_peak.Goals as goal
 
-pub returns-in-Accepted-clause-exact : goal.returns-in-Accepted-clause-exact
-returns-in-Accepted-clause-exact c =
+pub returns-in-Accepted : goal.returns-in-Accepted
+returns-in-Accepted c =
     let is = rw c.request_of_peak_certificate.ensures at c.in_ok-found.ensures.exact in
     let verdict = rw (is.book, is.asked) at c.judge_highest.ensures.exact in
     let site = site_of c.in_ok-found.found in

@@ -6,6 +6,6 @@ use Rattle.tide_desk.proofs.asking.check_found.Goals as goal
 pub unknown-requires : goal.unknown-requires
 unknown-requires g c = missing_within _ c.in-Some.wanted c.in-Some-missing.place (sym c.in-Some-missing.ensures)
 
-pub returns-in-None-clause-exact : goal.returns-in-None-clause-exact
+pub returns-in-None : goal.returns-in-None
 unfolding missing_of
-returns-in-None-clause-exact g c = rw c.in-None.is
+returns-in-None g c = rw c.in-None.is

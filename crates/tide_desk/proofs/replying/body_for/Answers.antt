@@ -9,16 +9,15 @@ returns-in_err-ready-clause-exact c =
     let p = err_from_is_err_and c.from_residual.result c.from_residual.ensures.1 in
     let says = prepared_says c.args.stations.now.book c.args.stations.now.table c.args.question.now c.args.given.now
     (first_holds (can_stream c.args.question.now.command) _
-    (sym (rw c.get-question.ensures.exact at c.may_stream.ensures) ∙ c.if-may_stream.true)) in
-    let exact = rw (c.get-book.ensures.exact, c.book.ensures, c.table-table.ensures, c.get-question.ensures.exact) at c.in_err-ready.ensures.exact in
+    (sym (rw c.get.ensures.exact at c.may_stream.ensures) ∙ c.if-may_stream.true)) in
+    let exact = rw c.view-seen.ensures at c.in_err-ready.ensures in
     rw (p.1, p.2) (refused_alike _ _ _ _ says exact)
 
 pub returns-then-streams-clause-exact : goal.returns-then-streams-clause-exact
 returns-then-streams-clause-exact c =
     let says = prepared_says c.args.stations.now.book c.args.stations.now.table c.args.question.now c.args.given.now
     (first_holds (can_stream c.args.question.now.command) _
-    (sym (rw c.get-question.ensures.exact at c.may_stream.ensures) ∙ c.if-may_stream.true)) in
+    (sym (rw c.get.ensures.exact at c.may_stream.ensures) ∙ c.if-may_stream.true)) in
     let some = rw c.streams.ensures at c.if-streams.true in
     streams_answer _ c.in_ok-ready.ready.stream some
-    (rw (rw (c.get-book.ensures.exact, c.book.ensures, c.table-table.ensures, c.get-question.ensures.exact) at c.in_ok-ready.ensures.exact)
-    at says)
+    (rw (rw c.view-seen.ensures at c.in_ok-ready.ensures) at says)
