@@ -1,5 +1,5 @@
 -- The verdict on one cell, and on the cells after it.
-use Rattle.std.proofs.Common.{◌≡◌, ◌≢◌, ℕ, ◌+◌, ◌<◌, ◌≤◌, ◌==◌, ℤ, pos, ◌+ℤ◌, ◌≤ℤ◌, ◌<ℤ◌, ◌-ℤ◌, Fits, w32, ◌^◌, List, ◌∷◌, get_or, drop, length, true, false, refl, sym, add-one, drop-cons, arith}
+use Rattle.std.proofs.Common.{◌≡◌, ◌≢◌, ℕ, ◌+◌, ◌<◌, ◌≤◌, ◌==◌, ℤ, pos, ◌+ℤ◌, Fits, w32, ◌^◌, List, ◌∷◌, get_or, drop, length, true, false, refl, sym, add-one, drop-cons, arith}
 use Rattle.std.proofs.lemmas.Int.{ints}
 use Rattle.std.proofs.lemmas.List.{drop_all}
 use Rattle.std.proofs.lemmas.Bool.Decides.{Decides-eqb}

@@ -1,5 +1,5 @@
 -- The levels of a reference in millionths are in range.
-use Rattle.std.proofs.Common.{◌≡◌, ℕ, suc, ◌*◌, ◌^◌, ◌<◌, ◌≤◌, ℤ, pos, negsuc, unsigned_abs, arith, lit<}
+use Rattle.std.proofs.Common.{ℕ, suc, ◌*◌, ◌^◌, ◌<◌, ◌≤◌, ℤ, pos, negsuc, unsigned_abs, arith, lit<}
 use Rattle.std.proofs.lemmas.Int.{ints}
 use Rattle.decimal_text.specs.Rounding.{rounded_of}
 use Rattle.station_curve.proofs.Products.{half_up-le}

@@ -1,5 +1,5 @@
 -- The minutes of a span.
-use Rattle.std.proofs.Common.{◌≤ℤ◌, ◌≡◌, ℕ, ℤ, pos, ◌+ℤ◌, int_lt, Bool, true, false, ◌&&◌, refl, arith}
+use Rattle.std.proofs.Common.{◌≡◌, ℕ, ℤ, pos, ◌+ℤ◌, int_lt, Bool, true, false, ◌&&◌, refl, arith}
 use Rattle.std.proofs.lemmas.Int.{ints}
 use Rattle.event_list.specs.Shifts.{HasOffsets}
 use Rattle.harmonics_book.specs.declared.book.Book.{Book}

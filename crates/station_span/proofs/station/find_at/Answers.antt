@@ -1,4 +1,4 @@
-use Rattle.std.proofs.Common.{◌≡◌, refl, sym, ◌∙◌, ap, arith}
+use Rattle.std.proofs.Common.{◌≡◌, refl, sym, ◌∙◌, ap}
 use Rattle.std.proofs.lemmas.Result.{err_from_is_err_and}
 use Rattle.station_curve.specs.Curves.{Prediction, prediction_of, prediction_over}
 use Rattle.station_span.proofs.FoundLemmas.{HasCurve, curve_allowed, curve_excused, excused_by, refused_span, refused_curve, refused_length, refused_mark, found_whole}
