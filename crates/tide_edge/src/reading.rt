@@ -43,7 +43,7 @@ pub fn read_all<F: Files>(
 }
 
 /// Passes all bytes of the file `name` to `receiver`, which has received none before, if there are at
-/// most `limit`. Of a longer file, `receiver` gets at most `limit` bytes. The file is opened at most
+/// most `limit`. After an error, no clause says what `receiver` has received. The file is opened at most
 /// once, and at most 65,536 bytes past `limit` are read.
 ///
 /// # Errors
