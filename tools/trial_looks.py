@@ -110,14 +110,17 @@ class LooksTrial:
         about, file, question = page
         query = '' if question is None else f'?{urllib.parse.urlencode({"date": "2025-06-01", "year": "2025", **question})}'
         tab.open(f'{file}{query}', SHOWN if question else 'document.querySelectorAll("#finder a").length > 0')
-        seen = tab.value(FAULTS)
-        if not seen:
+        seen = [tab.value(FAULTS)]
+        self.keep(tab, f'{about}-{how}')
+        tab.value('document.querySelectorAll("#question details, #take").forEach(it => { it.open = true; })')
+        seen.append(tab.value(FAULTS))
+        if not all(seen):
             self.say(False, f'{about}, {how}: the checks did not run')
             return
-        self.say(not seen['faults'], f'{about}, {how}: contrast of {seen["least"]} or more, {len(seen["faults"])} faults')
-        for fault in seen['faults'][:8]:
+        faults = list(dict.fromkeys(fault for each in seen for fault in each['faults']))
+        self.say(not faults, f'{about}, {how}: contrast of {min(float(each["least"]) for each in seen):.2f} or more, {len(faults)} faults')
+        for fault in faults[:8]:
             print(f'     {fault}')
-        self.keep(tab, f'{about}-{how}')
 
     def keep(self, tab, name):
         if 'pictures' in self.words:
