@@ -13,7 +13,7 @@ from yearbook_clock import MINUTE, Point, clock_name, day_text, moment_of, offse
 SIZES = (64, 72, 80)  # the most lines of a column for each size of type in year.css, which is 9, 8.5 or 8 points
 COLUMNS_OF_MONTH = {6: (2, 3, 6, 12, 18), 4: (2, 4, 8, 16), 3: (3, 6, 12, 15)}  # those that a month may have, by those of a sheet
 # By year.css, in mm: the height of a sheet's paper, the greatest height of a line, that of a line of text, and the height of all else.
-PAPER_HIGH, MOST_HIGH, TEXT, AROUND = {'A4': 277, 'Letter': 259.4}, 4, 3.4, 30
+PAPER_HIGH, MOST_HIGH, TEXT, AROUND = {'A4': 277, 'Letter': 259.4}, 5, 3.4, 30
 LETTERS, NAME_LETTERS = 115, 88  # the letters that a line of text and one of the station's name have at least
 SHORT = {'feet': 'ft', 'meters': 'm', 'knots': 'kn'}
 SIGNS = {'High Tide': 'H', 'Low Tide': 'L', 'Max Flood': 'F', 'Max Ebb': 'E', 'Min Flood': 'f', 'Min Ebb': 'e',

@@ -12,7 +12,7 @@ const place = id => document.getElementById(id);
 const controls = place('question').elements;
 const PAPERS = ['A4', 'Letter'];
 /** By year.css, in mm: the greatest height of a line, that of a line of text, and the height of all else on a sheet. */
-const MOST_HIGH = 4, TEXT = 3.4, AROUND = 30;
+const MOST_HIGH = 5, TEXT = 3.4, AROUND = 30;
 /** The letters that a line of text and one of the station's name have at least. A line of a name is less high than two of text. */
 const LETTERS = 115, NAME_LETTERS = 88;
 
