@@ -42,7 +42,7 @@ const TABLE: &[u8] =
     Dock,Pier,0:30,-0:10,1.1,0.9,0.1,0,,\nOuter,Pier,0:30,0:30,2,2,0.5,0.5,,\n\
     Lost,Nowhere,0:00,0:00,1,1,0,0,,\nGate,Flow,0:30,-0:10,1.1,0.9,0.1,0,0:05,-0:05\n";
 
-/// Returns a pier and a current of half a day, from 1999 to 2001.
+/// Returns a pier and a current with a period of half a day, from 1999 to 2001.
 fn pier(alloc: Global) -> Result<Book, BookFault>
     ensures { IfOk result IsBook }
 {
@@ -69,7 +69,7 @@ fn pier_case(alloc: Global, line: &str, certificate: &str) -> Result<Case, Fail>
     )
 }
 
-// Returns the answer's text, or the line of its refusal.
+/// Returns the answer's text, or the line of its refusal.
 fn printed(alloc: Global, line: &str, certificate: &str) -> Result<Bytes, Fail> {
     pier_case(alloc, line, certificate)?.printed(alloc)
 }
@@ -99,7 +99,7 @@ fn questions_have_their_answers(rt: HostRuntime) -> Result<(), Fail> {
     Ok(())
 }
 
-// Returns the events of a request for a report.
+/// Returns the events of a request for a report.
 fn listed(alloc: Global, line: &str) -> Result<Listed, Fail> {
     let case = pier_case(alloc, line, "")?;
     match station_events(alloc, &case.book, &case.table, &case.question, &case.given) {
@@ -117,7 +117,7 @@ fn a_report_has_the_events_of_a_question(rt: HostRuntime) -> Result<(), Fail> {
     Ok(())
 }
 
-// Returns the sink of a streamed answer and, if a write failed, the number of bytes sent before it.
+/// Returns the sink of a streamed answer and, if a write failed, the number of bytes sent before it.
 fn streamed(
     alloc: Global,
     line: &str,
@@ -129,7 +129,8 @@ fn streamed(
     Ok(written(&ready, sink)?)
 }
 
-// Asserts which bytes of an answer were `taken`, whose write `failing` fails after `expected` bytes.
+/// Asserts which bytes of an answer were `taken` if the write with the number `failing` fails after
+/// `expected` bytes.
 fn assert_taken(
     rt: &impl Abort,
     taken: &[u8],
@@ -199,7 +200,7 @@ fn certificates_of_a_highest_water_are_judged(rt: HostRuntime) -> Result<(), Fai
     Ok(())
 }
 
-// Returns the text of an answer for which no file is read.
+/// Returns the text of an answer for which no file is read.
 fn printed_alone(alloc: Global, line: &str) -> Result<Bytes, Fail> {
     let question = asked(alloc, line)?;
     match answer_alone(alloc, &ValidQuestion::new(&question)) {

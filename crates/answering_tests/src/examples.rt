@@ -58,7 +58,7 @@ const CERTIFICATE: &str =
     "tide certificate 2\nstation Pier\nbegin 2000-01-10T00:00Z\nend 2000-01-10T00:08Z\n\
     mark none\ntrack turn\ns\ns\nq 2\nq 4\ndone\n";
 
-// A book, a table without a row, and a request for a day.
+/// A book, a table without a row, and a request for a day.
 #[derive(Drop)]
 struct Sources {
     book: Book,

@@ -27,14 +27,14 @@ abbrev pub book_from : Result TheBook At → Result TheBook LoadFault
 book_from (Ok book) = Ok book
 book_from (Err at) = Err (Book (form.At at.line at.why))
 
--- the expected result for the contents of a file, if there is one: its book, if it has at most `limit`
--- bytes
+-- the expected result of loading a file with these contents, if it exists: its book, if it has at most
+-- `limit` bytes
 unfoldable pub loaded : ℕ → Option (List ℕ) → Result TheBook LoadFault
 loaded limit file = do
   bytes ← bytes_from (whole limit file)
   book_from (book_of bytes)
 
--- the cause of each error
+-- the cause of each fault of loading
 abbrev pub source_of : LoadFault → Source
 source_of Failed = outside
 source_of TooLong = given

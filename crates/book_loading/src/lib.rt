@@ -1,6 +1,6 @@
 //! Books of harmonic constants, loaded from files.
 //!
-//! [`load_book`] reads a file in pieces, and parses each piece as it comes.
+//! [`load_book`] reads a file in pieces, and parses each piece when it has read it.
 #![tactic(auto)]
 
 mod loading;

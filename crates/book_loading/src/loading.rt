@@ -13,12 +13,12 @@ use harmonics_text::{BookFault, BookReader};
 use std::alloc::{AllocError, Global};
 use tide_edge::{Files, ReadAllFault, Receiver, pass_file};
 
-/// The reason why a file wasn't loaded.
+/// The reason why a book couldn't be loaded from a file.
 #[derive(Clone, Copy, Debug, PartialEq, Eq)]
 pub enum LoadFault {
     /// Opening or reading the file failed.
     Failed,
-    /// The file has more bytes than the limit.
+    /// The file has more bytes than the limit that the caller gave.
     TooLong,
     /// The file has a bad line, or memory ran out.
     Book(BookFault),
@@ -32,7 +32,7 @@ pub enum LoadFault {
 /// # Errors
 /// [`LoadFault::Failed`] exactly if the count of faults of `files` grows by one, and if the files are
 /// steady only if there is no file `name`; [`LoadFault::TooLong`] exactly if more than `limit` bytes
-/// came; otherwise [`LoadFault::Book`] with the file's first bad line, or if memory runs out.
+/// were read; otherwise [`LoadFault::Book`] with the file's first bad line, or if memory runs out.
 ///
 /// # Examples
 /// ```

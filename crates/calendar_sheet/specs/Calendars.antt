@@ -33,11 +33,11 @@ use Rattle.zone_time.specs.Dates.{clock_text, date_text}
 use Rattle.zone_time.specs.Moments.{day_of, minute_of_day}
 use Rattle.zone_time.specs.Zones.{local_in}
 
--- the local date of a minute, as its day number
+-- the local date of a minute in a zone, as its day number
 abbrev pub day_in : Zone → ℤ → ℤ
 day_in zone minute = day_of (local_in zone minute).minute
 
--- the local time, the level and the name of an event
+-- the local time, the level and the name of an event, as text
 abbrev pub entry_in : Zone → Units → Event → List ℕ
 entry_in zone units event =
     codes "  " ++ clock_text (minute_of_day (local_in zone event.minute).minute) ++ codes " " ++ level_text event.level
@@ -55,15 +55,15 @@ day_line zone units events day = date_text day ++ flat_map (entry_in zone units)
 abbrev pub event_days : Zone → List Event → List ℤ
 event_days zone events = map (λ event. day_in zone event.minute) events
 
--- the least local date of the span's first and last minute and of the events
+-- the earliest local date of the span's first and last minute and of the events
 abbrev pub first_day : Zone → List Event → ℤ → ℤ → ℤ
 first_day zone events begin end = fold int_min (day_in zone begin) (day_in zone (end -ℤ pos 1) ∷ event_days zone events)
 
--- the greatest local date of the span's first and last minute and of the events
+-- the latest local date of the span's first and last minute and of the events
 abbrev pub last_day : Zone → List Event → ℤ → ℤ → ℤ
 last_day zone events begin end = fold int_max (day_in zone begin) (day_in zone (end -ℤ pos 1) ∷ event_days zone events)
 
--- the days from the first one on, as many as the number
+-- consecutive days from the first one on, as many as the number
 unfoldable pub days_from : ℤ → ℕ → List ℤ
 days_from day zero = []
 days_from day (suc n) = day ∷ days_from (day +ℤ pos 1) n
@@ -77,7 +77,7 @@ abbrev pub days_shown : Zone → List Event → ℤ → ℤ → List ℤ
 days_shown zone events begin end =
     if int_lt begin end then days_through (first_day zone events begin end) (last_day zone events begin end) else []
 
--- the station's name, and a line for each date
+-- the text of a calendar: the station's name, and a line for each date
 unfoldable pub calendar_text_of : List ℕ → Units → List Event → Zone → ℤ → ℤ → List ℕ
 calendar_text_of name units events zone begin end =
     name ++ codes "\n" ++ flat_map (day_line zone units events) (days_shown zone events begin end)

@@ -18,10 +18,9 @@ use harmonics_book::Units;
 use std::alloc::{AllocError, Global};
 use zone_time::{MINUTES_OF_DAY, Zone, ZoneClock, write_clock, write_date};
 
-/// Returns the station's `name`, and a line such as
-/// `2000-01-10  06:00 -1.00 Low Tide  11:59 1.00 High Tide` for each date in the zone's local time,
-/// from the least to the greatest date of `begin`, `end - 1` and the events. An empty span has no
-/// date.
+/// Returns the station's `name`, and a line such as `2000-01-10  06:00 -1.00 Low Tide  11:59 1.00 High
+/// Tide` for each date in the zone's local time, from the earliest to the latest date of `begin`, `end -
+/// 1` and the events. An empty span has no dates.
 ///
 /// `begin` isn't after `end`. Each event has a [`word`] in `units`. Each minute is since
 /// 1970-01-01T00:00Z, in the years 2 to 9300 or on the day before them.

@@ -4,7 +4,7 @@ use curve_law::Event;
 use std::alloc::{AllocError, Global};
 use std::marker::Model;
 
-/// A date, by its day number, in which 1970-01-01 is 0, with the events on it in their order.
+/// A date with the events on it, in their order. The date is a day number, with 1970-01-01 as 0.
 #[derive(Drop)]
 pub struct CalendarPage {
     day: i64,
@@ -22,7 +22,7 @@ impl Model for CalendarPage {
 impl CalendarPage {
     ghost use Rattle.std.specs.Prelude.{◌≡◌, [], ◌∷◌, ◌++◌, OnOk};
 
-    /// Returns the date `day` without an event. Doesn't allocate.
+    /// Returns the date `day`, a day number with 1970-01-01 as 0, without events. It doesn't allocate.
     pub fn new(alloc: Global, day: i64) -> CalendarPage
         ensures { result ≡ record { day = day; events = [] } }
     {
@@ -32,7 +32,7 @@ impl CalendarPage {
         }
     }
 
-    /// Appends `event`.
+    /// Appends `event` to the events of the date.
     pub fn push(&mut self, event: Event) -> Result<(), AllocError>
         ensures { OnOk result (self.new ≡ record self.old { events = self.old.events ++ event ∷ [] }) }
     {
@@ -40,14 +40,14 @@ impl CalendarPage {
         Ok(())
     }
 
-    /// Returns the day number.
+    /// Returns the day number of the date, with 1970-01-01 as 0.
     pub fn day(&self) -> i64
         ensures { result ≡ self.now.day }
     {
         self.day
     }
 
-    /// Returns the events as a slice.
+    /// Borrows the events on the date as a slice.
     pub fn events(&self) -> &[Event]
         ensures { result.now ≡ self.now.events }
     {

@@ -10,7 +10,7 @@ ghost use Rattle.zone_time.specs.Zones.{InZoneYears};
 use curve_law::Event;
 use zone_time::{MINUTES_OF_DAY, ZoneClock};
 
-/// A range of days by their numbers, in which 1970-01-01 is 0. Both ends are included.
+/// A range of day numbers, with 1970-01-01 as 0. Both ends are included.
 #[derive(Clone, Copy)]
 pub struct Days {
     pub first: i64,
@@ -61,7 +61,7 @@ impl Days {
         days
     }
 
-    /// Returns the number of days, at most 3,652,425.
+    /// Returns the number of days in the range, at most 3,652,425.
     pub fn count(self) -> usize
         requires { AreDays self.first self.last }
         ensures value { result ≡ unsigned_abs (self.last -ℤ self.first) + 1 }
@@ -70,7 +70,7 @@ impl Days {
         self.place_of(self.last) + 1
     }
 
-    /// Returns the day at index `place`: the day `place` days after the first.
+    /// Returns the day number at index `place` of the range: `place` days after the first day.
     pub fn day_at(self, place: usize) -> i64
         requires days { AreDays self.first self.last }
         requires place { pos place ≤ℤ (self.last -ℤ self.first) }
@@ -79,7 +79,7 @@ impl Days {
         self.first + place as i64
     }
 
-    /// Returns the index of `day`, which is in the range: the number of days from the first to it.
+    /// Returns the index of `day`, which is in the range: the number of days from the first day to it.
     pub fn place_of(self, day: i64) -> usize
         requires days { AreDays self.first self.last }
         requires least { self.first ≤ℤ day }
@@ -91,7 +91,7 @@ impl Days {
     }
 }
 
-/// Returns the day number of the local date of `minute`.
+/// Returns the day number of the local date of `minute` in the zone of the clock.
 pub fn local_day(zone: &ZoneClock<'_>, minute: i64) -> i64
     requires minute { InZoneYears minute }
     ensures exact { result ≡ day_in zone.now minute }
@@ -100,8 +100,8 @@ pub fn local_day(zone: &ZoneClock<'_>, minute: i64) -> i64
     zone.local(minute).minute.div_euclid(MINUTES_OF_DAY)
 }
 
-/// Returns the days from the least to the greatest local date of `events` and of the minutes from
-/// `begin` up to `end`, which isn't one of them. There is at least one.
+/// Returns the days from the earliest to the latest local date of `events` and of the minutes from
+/// `begin` up to but not including `end`. There is at least one such minute.
 pub fn days_of(events: &[Event], zone: &ZoneClock<'_>, begin: i64, end: i64) -> Days
     requires begin { InZoneYears begin }
     requires end { InZoneYears end }

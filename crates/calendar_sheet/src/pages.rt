@@ -12,9 +12,9 @@ use curve_law::Event;
 use std::alloc::{AllocError, Global};
 use zone_time::ZoneClock;
 
-/// Returns the dates from the least to the greatest one of a span and of `events`, each with the
-/// events on it. The span is the minutes from `begin` up to `end`, which isn't one of them; an
-/// empty span has no date. Each event is visited twice.
+/// Returns the dates from the earliest to the latest date of a span and of `events`, each with the
+/// events on it. The span is the minutes from `begin` up to but not including `end`; an empty span has
+/// no dates. Each event is visited twice.
 pub fn pages_shown(
     alloc: Global,
     events: &[Event],

@@ -7,8 +7,8 @@ ghost use Rattle.event_text.specs.Worked.{high_tide, low_tide};
 ghost use Rattle.zone_time.specs.declared.zone.Zone.{Zone};
 
 /// Proves examples of calendars: two events in universal time, in a zone west of Greenwich, in which the
-/// span begins on the date before, and in a zone east of it; a span without an event; and a span without a
-/// minute.
+/// span begins on the date before, and in a zone east of it; a span without events; and a span without
+/// minutes.
 pub fn worked_calendars()
     ensures universal { calendar_text_of (codes "Pier") Units.Feet (low_tide ∷ high_tide ∷ []) Zone.Utc (pos 15791040) (pos 15792480)
         ≡ codes "Pier\n2000-01-10  06:00 -1.00 Low Tide  11:59 1.00 High Tide\n" }

@@ -12,12 +12,12 @@ use crate::covering::{covered_by, minutes_of};
 use crate::finding::finding_on;
 use curve_law::{Cell, Cells, Curve, Point, Verdict, approximate_point_at};
 
-/// Checks `cells`, which claim to be those of the minutes from `begin` on and before `end`, all of them
+/// Checks that `cells` are true of the minutes from `begin` up to but not including `end`, all of them
 /// minutes of `curve`: first their number of minutes, then each cell. Accepted cells have exactly the
 /// events of the span.
 ///
-/// There are fewer than 2^32 cells; cells and earlier evaluations of the curve together are at most 2^62.
-/// The curve is evaluated at most once a cell and once more.
+/// There are fewer than 2^32 cells, and the cells and the earlier evaluations of the curve together
+/// number at most 2^62. The call evaluates the curve at most once per cell, plus once.
 ///
 /// # Examples
 /// ```

@@ -15,7 +15,8 @@ pub fn minutes_of(cell: Cell) -> u32
     }
 }
 
-/// Returns the number of minutes of all `cells`, or the greatest `i64` if that is less.
+/// Returns the number of minutes of all `cells` together, or the greatest `i64` if the number exceeds
+/// it.
 #[tactic(auto, using(crate::proofs::CoveringLemmas::covering))]
 pub fn covered_by(cells: &[Cell]) -> i64
     ensures { result ≡ pos (min (all_minutes cells.now) (2 ^ 63 - 1)) }

@@ -12,8 +12,8 @@ use curve_law::{
     unit_cell_from_approximate,
 };
 
-/// Returns the verdict on `cell`, the one with this `number`, by the approximate values at its begin and its
-/// end.
+/// Returns the verdict on `cell`, the cell with this `number`, by the approximate values at its begin
+/// and its end.
 #[tactic(auto, using(crate::proofs::FindingLemmas::findings))]
 pub fn finding_on<C: Curve>(
     curve: &C,
@@ -60,7 +60,7 @@ fn quiet_finding(number: u32, is_quiet: bool) -> Verdict
     }
 }
 
-/// Returns the verdict on a cell of one minute; `right` is the right cell.
+/// Returns the verdict on `cell`, a cell of one minute; `right` is the correct cell.
 fn unit_finding(number: u32, cell: Cell, right: Cell) -> Verdict
     ensures { result ≡ unit_finding number cell right }
 {

@@ -1,4 +1,4 @@
-//! The check of a track's cells, whoever made them.
+//! The check of a track's cells, however they were made.
 //!
 //! [`check_track`] depends on a curve and cells only, not on tides or on how a search cuts a span. It
 //! evaluates the curve once at each cell's end, and doesn't allocate.

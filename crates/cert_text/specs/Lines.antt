@@ -25,7 +25,7 @@ station_line_of name = codes "station " ++ name
 unfoldable pub begin_line_of : ℤ → List ℕ
 begin_line_of m = codes "begin " ++ moment_text m
 
--- the line of the minute after the span's last one
+-- the line of the span's end, the minute after its last one
 unfoldable pub end_line_of : ℤ → List ℕ
 end_line_of m = codes "end " ++ moment_text m
 

@@ -11,7 +11,7 @@ pub use Rattle.cert_text.specs.ByLine.{is_out_of_memory}
 use Rattle.cert_text.specs.ByLine.{Part, ◌>>=◌, returned, line_of, is_word, items_of, part_if, part_after, end_of_text, read_by}
 use Rattle.cert_text.specs.Workings.LineReading.{version_of, station_of, moment_after, mark_of, cell_of}
 
--- a track: its heading, and a cell a line
+-- the part of a track: its heading, and a line for each cell
 abbrev pub track_part : TrackName → Part (List Cell)
 track_part track = do
   heading ← line_of (is_word (heading_of track))
@@ -23,7 +23,7 @@ last_part = do
   last ← line_of (is_word last_line)
   end_of_text
 
--- the tracks, of which that of the mark is there if there is a mark, and the end of the text
+-- the part of all tracks, with the mark's track exactly if there is a mark, and the last line
 abbrev pub tracks_part : Option ℤ → Part Tracks
 tracks_part mark = do
   turn ← track_part Turn
@@ -32,7 +32,7 @@ tracks_part mark = do
   last ← last_part
   returned (record { turn = turn; slack = slack; mark = crossings })
 
--- a certificate
+-- the part of a whole certificate
 abbrev pub certificate_part : Part Certificate
 certificate_part = do
   version ← line_of version_of
@@ -43,6 +43,6 @@ certificate_part = do
   tracks ← tracks_part mark
   returned (record { version = version; station = station; begin = begin; end = end; mark = mark; tracks = tracks })
 
--- the certificate whose text the bytes are, or the line of the fault
+-- the certificate that the bytes are the text of, or the line of the fault
 unfoldable pub certificate_of : List ℕ → Result Certificate CertFault
 certificate_of bytes = read_by certificate_part bytes

@@ -18,31 +18,31 @@ use Rattle.cert_text.specs.Texts.{IsTextBy, IsFaultBy, ReadsBy}
 
 -- ---- the lines of a certificate
 
--- the first line, with the version
+-- the first line of a certificate spells its version
 abbrev pub SpellsVersion : ℕ → List ℕ → Type 0
 SpellsVersion version line = ((version ≡ 1) × (line ≡ codes "tide certificate 1")) ⊎ ((version ≡ 2) × (line ≡ codes "tide certificate 2"))
 
--- the line of the station
+-- the line of the station spells its name
 abbrev pub SpellsStation : List ℕ → List ℕ → Type 0
 SpellsStation name line = IsStationName name × (line ≡ codes "station " ++ name)
 
--- the line of a moment after a word
+-- the line of a word and a moment spells the moment
 abbrev pub SpellsMoment : List ℕ → ℤ → List ℕ → Type 0
 SpellsMoment word m line = IsMoment m × (line ≡ word ++ moment_text m)
 
--- the line of the mark
+-- the line of the mark spells the mark, in millionths
 abbrev pub SpellsMark : Option ℤ → List ℕ → Type 0
 SpellsMark None line = line ≡ codes "mark none"
 SpellsMark (Some mark) line = IsMark mark × (line ≡ codes "mark " ++ signed_decimal mark)
 
--- the line of a cell in a track, which has no event of another track
+-- a line spells a cell of a track; an event of another track has no such line
 abbrev pub SpellsCell : TrackName → Cell → List ℕ → Type 0
 SpellsCell track (cells.Quiet n) line = (2 ≤ n) × (n ≤ MOST_MINUTES) × (line ≡ codes "q " ++ decimal n)
 SpellsCell track cells.Still line = line ≡ codes "s"
 SpellsCell track (cells.Turn kind level) line =
     (track_of kind ≡ track) × IsLevel level × (line ≡ codes "t " ++ kind_word kind ++ codes " " ++ signed_decimal level)
 
--- the lines of a track: its name, and then a line for each cell
+-- lines spell a track: its heading, and then a line for each cell
 abbrev pub SpellsTrack : TrackName → List Cell → List (List ℕ) → Type 0
 SpellsTrack track cells [] = ⊥
 SpellsTrack track cells (line ∷ lines) = (line ≡ codes "track " ++ track_word track) × AllZip (SpellsCell track) cells lines
@@ -87,7 +87,7 @@ Spells c [] = ⊥
 abbrev pub IsTextOf : Certificate → List ℕ → Type 0
 IsTextOf c bytes = IsTextBy Spells c bytes
 
--- the line of the first fault of bytes that are no certificate's text
+-- the bytes aren't the text of a certificate, and this is the line of their first fault
 abbrev pub IsFaultLine : List ℕ → ℕ → Type 0
 IsFaultLine bytes line = IsFaultBy Spells bytes line
 

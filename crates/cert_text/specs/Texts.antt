@@ -31,24 +31,24 @@ pub record BeginsBy {C : Type 0} (spells : C → List (List ℕ) → Type 0) (by
   pub rest : List ℕ
   pub prefix : bytes ≡ joined lines ++ rest
 
--- the first line with which, after those before it, no text begins; a last piece without LF is no line, and
--- if the bytes end too early it is the missing line
+-- the first line such that no text begins with the lines up to it; bytes after the last LF aren't a
+-- line, and if the bytes end too early it is the line after the last
 pub record IsFaultBy {C : Type 0} (spells : C → List (List ℕ) → Type 0) (bytes : List ℕ) (line : ℕ) : Type 0 where
   pub none : ¬ (BeginsBy spells bytes line)
   pub least : (count : ℕ) → count < line → BeginsBy spells bytes count
 
--- the bytes are no text, and `line` is the line of their first fault
+-- the bytes aren't a text, and `line` is the line of their first fault
 abbrev pub RefusedBy : {C : Type 0} → (C → List (List ℕ) → Type 0) → List ℕ → ℕ → Type 0
 RefusedBy {C} spells bytes line = ((said : C) → ¬ (IsTextBy spells said bytes)) × IsFaultBy spells bytes line
 
 -- ---- what reading says
 
--- a fault of reading is right; out of memory says nothing
+-- a fault of reading is right; nothing is said if memory ran out
 abbrev pub RefusesBy : {C : Type 0} → (C → List (List ℕ) → Type 0) → List ℕ → CertFault → Type 0
 RefusesBy spells bytes NoMemory = Unit {0}
 RefusesBy spells bytes (NotACertificate line) = RefusedBy spells bytes line
 
--- the result of reading is right: the value whose text the bytes are, or a right fault
+-- the result of reading is right: the value that the bytes are the text of, or a right fault
 abbrev pub ReadsBy : {C : Type 0} → (C → List (List ℕ) → Type 0) → List ℕ → Result C CertFault → Type 0
 ReadsBy spells bytes (Ok said) = IsTextBy spells said bytes
 ReadsBy spells bytes (Err fault) = RefusesBy spells bytes fault

@@ -20,7 +20,7 @@ kind_word EbbBegins = codes "ebb"
 kind_word MarkRising = codes "rise"
 kind_word MarkFalling = codes "fall"
 
--- the track that holds events of a kind
+-- the track that has events of a kind
 abbrev pub track_of : Kind → TrackName
 track_of High = Turn
 track_of Low = Turn

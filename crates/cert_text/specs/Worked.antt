@@ -16,7 +16,7 @@ pier = record {
   tracks = record { turn = Still ∷ Still ∷ Quiet 2 ∷ Quiet 4 ∷ []; slack = None; mark = None };
 }
 
--- the lines of its text
+-- the lines of the text of the certificate `pier`
 abbrev pub pier_lines : List (List ℕ)
 pier_lines =
     codes "tide certificate 1" ∷ codes "station Pier" ∷ codes "begin 2000-01-10T00:00Z" ∷ codes "end 2000-01-10T00:08Z" ∷ codes "mark none"
@@ -37,7 +37,7 @@ narrows = record {
   };
 }
 
--- the lines of its text
+-- the lines of the text of the certificate `narrows`
 abbrev pub narrows_lines : List (List ℕ)
 narrows_lines =
     codes "tide certificate 2" ∷ codes "station Narrows" ∷ codes "begin 2000-01-10T05:59Z"
@@ -46,13 +46,13 @@ narrows_lines =
     ∷ codes "track slack" ∷ codes "t flood 0" ∷ codes "t ebb 99999999999999" ∷ codes "q 1024"
     ∷ codes "track mark" ∷ codes "t rise -99999999999999" ∷ codes "t fall 7" ∷ codes "done" ∷ []
 
--- a text in place of one line of Pier's, and the line of the fault that follows
+-- a change of Pier's text: the index of a line, its new text, and the line of the resulting fault
 pub record Change : Type 0 where
   pub line : ℕ
   pub text : List ℕ
   pub at : ℕ
 
--- a text in place of one line of Pier's, and the line of the fault that follows, as one record
+-- a change as one record
 abbrev pub change : ℕ → List ℕ → ℕ → Change
 change line text at = record { line = line; text = text; at = at }
 

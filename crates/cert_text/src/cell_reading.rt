@@ -38,7 +38,7 @@ fn event_cell_of(kind: Kind, line: &[u8]) -> Option<Cell>
     Some(Cell::Turn(kind, level))
 }
 
-/// Reads the cell on `line`, or returns `None` if `line` is no cell of `track`.
+/// Reads the cell on `line`, or returns `None` if `line` isn't a cell of `track`.
 #[tactic(auto, unfolding(crate::specs::Workings::LineReading::cell_of))]
 pub fn cell_of(track: TrackName, line: &[u8]) -> Option<Cell>
     ensures { result ≡ cell_of track line.now }

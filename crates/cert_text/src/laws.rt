@@ -20,8 +20,8 @@ ghost use Rattle.cert_text.specs.Lines.{
 ghost use Rattle.cert_text.specs.Spelling.{Spells, IsTextOf, IsFaultLine, Reads};
 ghost use Rattle.cert_text.specs.Readings.{certificate_of};
 
-/// Each certificate whose parts are within their ranges has exactly one text, no other certificate
-/// has one, and each text has at most one certificate.
+/// Proves that each certificate with parts in their ranges has exactly one text, that no other
+/// certificate has a text, and that each text belongs to at most one certificate.
 pub fn certificates_have_one_text()
     ensures lines { (c : Certificate) → IsCertificate c → Spells c (lines_of c) }
     ensures only_lines { (c : Certificate) (lines : List (List ℕ)) →
@@ -33,8 +33,8 @@ pub fn certificates_have_one_text()
         IsTextOf c bytes → IsTextOf d bytes → c ≡ d }
 {}
 
-/// The text of a certificate is the texts of its parts, one after the other. A cell has at most 24
-/// bytes, and all the rest together at most 536.
+/// Proves that the text of a certificate is the texts of its parts, one after the other. A cell has at
+/// most 24 bytes, and the other parts together at most 536.
 pub fn texts_come_in_parts()
     ensures parts { (c : Certificate) → certificate_text c
         ≡ joined (head_lines_of c) ++ joined (track_lines_of TrackName.Turn c.tracks.turn)
@@ -45,9 +45,9 @@ pub fn texts_come_in_parts()
         length (certificate_text c) ≤ 536 + 24 * cell_count c }
 {}
 
-/// A certificate whose levels are at most 11,000 units in size has at most 21 bytes for a cell.
-/// Three tracks of 5,273,280 single minutes, more than the longest span has, have fewer than
-/// 333,000,000 bytes.
+/// Proves that the text of a certificate with levels of at most 11,000 units in size has at most 21
+/// bytes for a cell. Three tracks of 5,273,280 single minutes, more than the longest span has, have
+/// fewer than 333,000,000 bytes.
 pub fn certificates_are_short()
     ensures cell { (cell : Cell) → IsCell cell → HasUsualLevel cell → length (ended (cell_line_of cell)) ≤ 21 }
     ensures length_bound { (c : Certificate) → IsCertificate c → HasUsualLevels c →
@@ -56,9 +56,9 @@ pub fn certificates_are_short()
         length (certificate_text c) < 333000000 }
 {}
 
-/// Reading by lines follows the grammar for all bytes, memory apart: it yields the certificate
-/// whose text the bytes are, or the one line of the fault if they are no certificate's. The text of
-/// a certificate reads as this certificate.
+/// Proves that reading line by line follows the grammar for all bytes, unless memory runs out: it
+/// returns the certificate that the bytes are the text of, or the line of the fault if there is none.
+/// The text of a certificate reads as this certificate.
 pub fn readings_go_by_the_grammar()
     ensures reads { (bytes : List ℕ) → Reads bytes (certificate_of bytes) }
     ensures never_memory { (bytes : List ℕ) → certificate_of bytes ≢ Err CertFault.NoMemory }

@@ -1,8 +1,8 @@
 //! The text of a certificate, read and written.
 //!
 //! A [`Certificate`] names a station, a span and a mark, and divides the span into cells for each
-//! track that is followed. Its text is lines of words and whole numbers, which any program can
-//! write: [`write_certificate`] returns the one text of a certificate, and [`read_certificate`] the
+//! requested track. Its text is lines of words and whole numbers, which any program can write.
+//! [`write_certificate`] returns the only text of a certificate, and [`read_certificate`] returns the
 //! certificate of a text or the line of its first fault. `specs/Spelling.antt` is the grammar.
 #![tactic(auto)]
 

@@ -1,4 +1,4 @@
-//! A place in a text, which moves on line by line.
+//! A position in a text, which advances line by line.
 
 ghost use Rattle.std.specs.Prelude.{◌≡◌, ◌≤◌, ℕ, List, Option, length, IfNone, MatchOption, MatchResult};
 ghost use Rattle.decimal_text.specs.declared.limits.TheConstants.{MOST_BYTES};
@@ -8,20 +8,21 @@ use crate::fault::CertFault;
 use crate::lines::next_line;
 use std::marker::Model;
 
-/// What the lines of a list of items mean.
+/// The form of an item, in a list of items with one on each line.
 pub trait ItemForm {
     /// An item of the list.
     type Item: Drop;
 
-    // The item on a line, or `None` if the line is no item.
+    /// The item on a line, or `None` if the line isn't an item.
     ghost meaning: { Self → List ℕ → Option Self.Item };
 
-    /// Reads the item on `line`, or returns `None` if `line` is no item.
+    /// Reads the item on `line`, or returns `None` if `line` isn't an item.
     fn read_item(&self, line: &[u8]) -> Option<Self::Item>
         ensures { result ≡ meaning self.now line.now };
 }
 
-/// A place in a text. In contracts it is the number of lines taken, and the lines to come.
+/// A position in a text that is read line by line. In contracts its value is the number of lines read,
+/// and the unread lines.
 #[derive(Drop)]
 pub struct LineCursor<'a> {
     rest: &'a [u8],
@@ -41,7 +42,7 @@ impl<'a> Model for LineCursor<'a> {
 }
 
 impl<'a> LineCursor<'a> {
-    /// Returns the place before the first line of `bytes`, at most 400,000,000 bytes.
+    /// Returns the position before the first line of `bytes`, which have at most 400,000,000 bytes.
     pub fn new(bytes: &'a [u8]) -> LineCursor<'a>
         requires { length bytes.now ≤ MOST_BYTES }
         ensures { result ≡ place_at 0 bytes.now }
@@ -52,10 +53,10 @@ impl<'a> LineCursor<'a> {
         }
     }
 
-    /// Takes the next line and returns it without its LF.
+    /// Reads the next line and returns it without its LF.
     ///
     /// # Errors
-    /// [`CertFault::NotACertificate`] if no LF follows.
+    /// [`CertFault::NotACertificate`] if there is no further LF.
     pub fn next(&mut self) -> Result<&'a [u8], CertFault>
         ensures { MatchResult result (λ line. any_line self.old ≡ Ok (line.now, self.new)) (λ fault. any_line self.old ≡ Err fault) }
     {
@@ -69,7 +70,7 @@ impl<'a> LineCursor<'a> {
         Ok(line)
     }
 
-    /// Returns the fault of the line taken last.
+    /// Returns the fault of the line that was read last.
     pub fn fault(&self) -> CertFault
         ensures { result ≡ CertFault.NotACertificate self.now.taken }
     {
@@ -86,7 +87,8 @@ impl<'a> LineCursor<'a> {
         }
     }
 
-    /// Takes the next line if it is an item, and returns the item.
+    /// Reads the next line if it is an item of `form`, and returns the item; otherwise reads nothing and
+    /// returns `None`.
     pub fn take_item<F: ItemForm>(&mut self, form: &F) -> Option<F::Item>
         ensures item { MatchOption result (first_item (F.meaning form.now) self.old ≡ None) (λ item. first_item (F.meaning form.now) self.old ≡ Some (item, self.new)) }
         ensures none { IfNone result (self.new ≡ self.old) }
@@ -98,10 +100,10 @@ impl<'a> LineCursor<'a> {
         Some(item)
     }
 
-    /// Checks that nothing follows.
+    /// Checks that no byte is unread.
     ///
     /// # Errors
-    /// [`CertFault::NotACertificate`] with the number of the next line, if a byte follows.
+    /// [`CertFault::NotACertificate`] with the number of the next line, if there is another byte.
     pub fn finish(&self) -> Result<(), CertFault>
         ensures { Takes end_of_text self.now self.now result }
     {

@@ -8,7 +8,8 @@ use crate::numbers::level_after;
 use decimal_text::are_name_bytes;
 use zone_time::read_moment;
 
-/// Reads the version, 1 or 2, from the title line, or returns `None` if `line` is no title.
+/// Reads the version, 1 or 2, from the first line of a certificate, or returns `None` if `line` isn't
+/// one.
 #[tactic(auto, unfolding(crate::specs::Workings::LineReading::version_of))]
 pub fn version_of(line: &[u8]) -> Option<u32>
     ensures { result ≡ version_of line.now }
@@ -22,7 +23,7 @@ pub fn version_of(line: &[u8]) -> Option<u32>
     }
 }
 
-/// Returns `bytes` as text if they can be a station's name.
+/// Returns `bytes` as text, or `None` if they can't be a station's name.
 fn named(bytes: &[u8]) -> Option<&str>
     ensures { option_copied result ≡ named bytes.now }
 {
@@ -53,7 +54,7 @@ pub fn moment_after(word: &[u8], line: &[u8]) -> Option<i64>
     read_moment(after(word, line)?)
 }
 
-/// Returns `mark`, in millionths, if it is at most 10,000,000,000 in size.
+/// Returns `mark`, in millionths, or `None` if it exceeds 10,000,000,000 in size.
 fn mark_within(mark: i64) -> Option<Option<i64>>
     ensures { result ≡ mark_within mark }
 {

@@ -50,7 +50,8 @@ fn title_of(version: u32) -> &'static str
     }
 }
 
-/// Writes the first line, such as `tide certificate 2`. `version` is 1 or 2.
+/// Writes the first line of a certificate, such as `tide certificate 2`, to the empty `out`. `version`
+/// is 1 or 2.
 pub fn title_line(version: u32, out: &mut ArrayString<24>)
     requires version { (version ≡ 1) ⊎ (version ≡ 2) }
     requires empty { out.old.bytes ≡ [] }
@@ -60,7 +61,8 @@ pub fn title_line(version: u32, out: &mut ArrayString<24>)
     out.push('\n');
 }
 
-/// Writes the line of the span's first minute `m`, such as `begin 2000-01-10T00:00Z`.
+/// Writes the line of the span's first minute `m`, such as `begin 2000-01-10T00:00Z`, to the empty
+/// `out`.
 #[tactic(auto, unfolding(crate::specs::Lines::begin_line_of))]
 pub fn begin_line(m: i64, out: &mut ArrayString<24>)
     requires moment { IsMoment m }
@@ -72,7 +74,8 @@ pub fn begin_line(m: i64, out: &mut ArrayString<24>)
     out.push('\n');
 }
 
-/// Writes the line of the minute `m` after the span's last one, such as `end 2000-01-11T00:00Z`.
+/// Writes the line of the span's end, the minute `m` after its last one, such as `end
+/// 2000-01-11T00:00Z`.
 #[tactic(auto, unfolding(crate::specs::Lines::end_line_of))]
 pub fn end_line(m: i64, out: &mut ArrayString<24>)
     requires moment { IsMoment m }
@@ -101,7 +104,7 @@ fn push_mark(mark: Option<i64>, out: &mut ArrayString<24>)
     }
 }
 
-/// Writes the line of `mark`, in millionths, such as `mark none` or `mark 1500000`.
+/// Writes the line of `mark`, in millionths, such as `mark none` or `mark 1500000`, to the empty `out`.
 pub fn mark_line(mark: Option<i64>, out: &mut ArrayString<24>)
     requires mark { IfSome mark IsMark }
     requires empty { out.old.bytes ≡ [] }
@@ -111,7 +114,7 @@ pub fn mark_line(mark: Option<i64>, out: &mut ArrayString<24>)
     out.push('\n');
 }
 
-/// Writes the heading of `track`, such as `track turn`.
+/// Writes the line before a track's cells, such as `track turn`, to the empty `out`.
 #[tactic(auto, unfolding(crate::specs::Lines::heading_of))]
 pub fn heading_line(track: TrackName, out: &mut ArrayString<24>)
     requires { out.old.bytes ≡ [] }
@@ -155,7 +158,8 @@ pub fn push_cell_line<const N: usize>(cell: &Cell, out: &mut ArrayString<N>)
     out.push_str("\n");
 }
 
-/// Writes the line of `cell`, as [`push_cell_line`] does.
+/// Writes the line of `cell`, such as `q 1024`, `s` or `t low -1000000`, to the empty `out`. Quiet
+/// minutes are 2 to 1,024, and a level is at most 99,999,999,999,999 millionths in size.
 pub fn cell_line(cell: &Cell, out: &mut ArrayString<24>)
     requires cell { IsCell cell.now }
     requires empty { out.old.bytes ≡ [] }
@@ -164,7 +168,7 @@ pub fn cell_line(cell: &Cell, out: &mut ArrayString<24>)
     push_cell_line(cell, out);
 }
 
-/// Writes the last line, `done`.
+/// Writes the last line of a certificate, `done`, to the empty `out`.
 #[tactic(auto, unfolding(crate::specs::Lines::last_line))]
 pub fn last_line(out: &mut ArrayString<24>)
     requires { out.old.bytes ≡ [] }

@@ -4,7 +4,7 @@ ghost use Rattle.std.specs.Prelude.{◌≡◌, ◌<◌, ◌∷◌, [], length, M
 ghost use Rattle.cert_text.specs.ByLine.{is_lf, lines_in, last_in};
 ghost use Rattle.cert_text.specs.Workings.LineReading.{after};
 
-/// Returns the index of the first LF.
+/// Returns the index of the first LF, or `None` if there isn't one.
 fn lf_at(bytes: &[u8]) -> Option<usize>
     ensures { result ≡ position is_lf bytes.now }
 {
@@ -28,7 +28,7 @@ pub fn next_line(bytes: &[u8]) -> Option<(&[u8], &[u8])>
     }
 }
 
-/// Returns what follows the prefix `word` of `line`, or `None` if `line` doesn't begin with it.
+/// Returns the part of `line` after the prefix `word`, or `None` if `line` doesn't begin with `word`.
 #[tactic(auto, unfolding(crate::specs::Workings::LineReading::after))]
 pub fn after<'a>(word: &[u8], line: &'a [u8]) -> Option<&'a [u8]>
     ensures { option_copied result ≡ after word.now line.now }

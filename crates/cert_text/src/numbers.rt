@@ -6,7 +6,7 @@ ghost use Rattle.cert_text.specs.Workings.LineReading.{after, size_of, negative,
 use crate::lines::after;
 use decimal_text::wide_digits;
 
-/// The greatest number of digits of a level in millionths.
+/// The greatest number of digits of a level, in millionths, in a certificate.
 pub const LEVEL_DIGITS: usize = 14;
 
 /// Reads a number of 1 to `most` digits without leading zeros, or returns `None` if `text` isn't
@@ -49,8 +49,8 @@ pub fn number_of(text: &[u8], most: usize) -> Option<i128>
     }
 }
 
-/// Reads the level in millionths that follows `word` on `line`, or returns `None` unless `line` is `word`
-/// and such a number.
+/// Reads the level in millionths that follows `word` on `line`, a number of at most 14 digits, or
+/// returns `None` unless `line` is `word` and such a number.
 pub fn level_after(word: &[u8], line: &[u8]) -> Option<i64>
     ensures { result ≡ option_and_then (number_of LEVEL_DIGITS) (after word.now line.now) }
 {

@@ -9,7 +9,10 @@ use crate::line_cursor::{ItemForm, LineCursor};
 use crate::line_reading::{mark_of, moment_after, station_of, version_of};
 use std::alloc::{AllocError, Global};
 
-/// Takes a line that is `word`.
+/// Reads the next line of `lines`, which must be `word`.
+///
+/// # Errors
+/// [`CertFault::NotACertificate`] with the number of this line, if it is any other line.
 pub fn word(lines: &mut LineCursor<'_>, word: &str) -> Result<(), CertFault>
     ensures { Takes (line_of (is_word word.now)) lines.old lines.new result }
 {
@@ -20,14 +23,14 @@ pub fn word(lines: &mut LineCursor<'_>, word: &str) -> Result<(), CertFault>
     }
 }
 
-/// Takes the title of a certificate and returns its version, 1 or 2.
+/// Reads the title line of a certificate and returns its version, 1 or 2.
 pub fn version(lines: &mut LineCursor<'_>) -> Result<u32, CertFault>
     ensures { Takes (line_of version_of) lines.old lines.new result }
 {
     version_of(lines.next()?).ok_or(lines.fault())
 }
 
-/// Takes the line of the station and returns the station's name.
+/// Reads the line of the station and returns the station's name.
 pub fn station<'a>(lines: &mut LineCursor<'a>) -> Result<&'a str, CertFault>
     ensures { MatchResult result
         (λ name. line_of station_of lines.old ≡ Ok (name.now, lines.new))
@@ -36,22 +39,21 @@ pub fn station<'a>(lines: &mut LineCursor<'a>) -> Result<&'a str, CertFault>
     station_of(lines.next()?).ok_or(lines.fault())
 }
 
-/// Takes a line of `word` and a moment, and returns the moment in minutes since
-/// 1970-01-01T00:00Z.
+/// Reads a line of `word` and a moment, and returns the moment in minutes since 1970-01-01T00:00Z.
 pub fn moment(lines: &mut LineCursor<'_>, word: &str) -> Result<i64, CertFault>
     ensures { Takes (line_of (moment_after word.now)) lines.old lines.new result }
 {
     moment_after(word.as_bytes(), lines.next()?).ok_or(lines.fault())
 }
 
-/// Takes the line of the mark and returns the mark, in millionths.
+/// Reads the line of the mark and returns the mark, in millionths, or `None` for `mark none`.
 pub fn mark(lines: &mut LineCursor<'_>) -> Result<Option<i64>, CertFault>
     ensures { Takes (line_of mark_of) lines.old lines.new result }
 {
     mark_of(lines.next()?).ok_or(lines.fault())
 }
 
-/// Takes the lines of `form` up to the first that has another, and returns their items.
+/// Reads lines up to the first that isn't an item of `form`, and returns the items.
 pub fn items<F: ItemForm>(
     alloc: Global,
     lines: &mut LineCursor<'_>,

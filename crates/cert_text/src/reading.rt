@@ -43,7 +43,7 @@ fn read_track(
     Ok(Cells::from_vec(items(alloc, lines, &track)?))
 }
 
-/// Reads a track if `there`.
+/// Reads a track if `there`, and otherwise returns `None`.
 fn read_track_if(
     there: bool,
     alloc: Global,
@@ -58,7 +58,7 @@ fn read_track_if(
     Ok(Some(read_track(alloc, lines, track)?))
 }
 
-/// Reads the slack track if its heading comes next.
+/// Reads the slack track if its heading is the next line, and otherwise returns `None`.
 fn read_slack(alloc: Global, lines: &mut LineCursor<'_>) -> Result<Option<Cells>, CertFault>
     ensures { Takes (part_after (heading_of TrackName.Slack) (track_part TrackName.Slack)) lines.old lines.new result }
 {
@@ -77,7 +77,7 @@ fn read_crossings(
     read_track_if(mark.is_some(), alloc, lines, TrackName::Mark)
 }
 
-/// Reads the last line, after which nothing may follow.
+/// Reads the last line of a certificate, `done`, and checks that no byte is unread.
 pub fn read_last(lines: &mut LineCursor<'_>) -> Result<(), CertFault>
     ensures { Takes last_part lines.old lines.new result }
 {
@@ -85,7 +85,7 @@ pub fn read_last(lines: &mut LineCursor<'_>) -> Result<(), CertFault>
     lines.finish()
 }
 
-/// Reads the tracks and the end of the text.
+/// Reads the tracks and the last line.
 fn read_tracks(
     alloc: Global,
     lines: &mut LineCursor<'_>,
@@ -104,7 +104,7 @@ fn read_tracks(
     })
 }
 
-/// Reads a certificate.
+/// Reads a whole certificate.
 fn read_lines(alloc: Global, lines: &mut LineCursor<'_>) -> Result<Certificate, CertFault>
     ensures { Takes certificate_part lines.old lines.new result }
 {
@@ -124,13 +124,13 @@ fn read_lines(alloc: Global, lines: &mut LineCursor<'_>) -> Result<Certificate, 
     })
 }
 
-/// Reads the certificate whose text `bytes` is, at most 400,000,000 bytes, in linear time.
+/// Returns the certificate of the text `bytes`, at most 400,000,000 bytes. It takes linear time.
 ///
 /// # Errors
-/// [`CertFault::NotACertificate`] exactly if `bytes` is no certificate's text. Its line is the
-/// first, counted from 1, such that no certificate begins with the lines up to it, each with its
-/// LF: a last piece without LF is no line, and if the bytes end too early the line is one past the
-/// last. [`CertFault::NoMemory`] may be returned in place of any result.
+/// [`CertFault::NotACertificate`] exactly if `bytes` isn't the text of a certificate. Its line is the
+/// first, counted from 1, such that no certificate begins with the lines up to it, each with its LF:
+/// bytes after the last LF aren't a line, and if the bytes end too early the line is one past the last.
+/// If memory runs out, [`CertFault::NoMemory`] is returned in place of any other result.
 ///
 /// # Examples
 /// ```

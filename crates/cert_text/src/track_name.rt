@@ -1,13 +1,13 @@
 //! The tracks of a certificate.
 
-/// A track of a certificate.
+/// A track of a certificate: a kind of events that it lists.
 #[derive(Clone, Copy, PartialEq, Eq)]
 pub enum TrackName {
-    /// High and low waters, or maximum floods and ebbs.
+    /// The track of high and low waters, or of a current's maximum floods and ebbs.
     Turn,
-    /// A current's slacks, before flood and before ebb.
+    /// The track of a current's slacks, before flood and before ebb.
     Slack,
-    /// The minutes at which the level crosses the mark.
+    /// The track of the minutes at which the level crosses the mark.
     Mark,
 }
 

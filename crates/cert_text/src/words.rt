@@ -8,7 +8,7 @@ ghost use Rattle.cert_text.specs.Workings.LineReading.{first_kind, second_kind};
 use crate::track_name::TrackName;
 use curve_law::Kind;
 
-/// Returns the track that holds events of `kind`.
+/// Returns the track that has events of `kind`.
 ///
 /// The program doesn't call it.
 pub fn track_of(kind: Kind) -> TrackName
@@ -37,7 +37,7 @@ pub(crate) fn prefix_of(kind: Kind) -> &'static str
     }
 }
 
-/// Returns the first kind of the events of `track`: a high water, the begin of flood or a rise
+/// Returns the first kind of the events of `track`: a high water, the beginning of flood or a rise
 /// through the mark.
 pub(crate) fn first_kind(track: TrackName) -> Kind
     ensures { result ≡ first_kind track }
@@ -49,8 +49,8 @@ pub(crate) fn first_kind(track: TrackName) -> Kind
     }
 }
 
-/// Returns the second kind of the events of `track`: a low water, the begin of ebb or a fall
-/// through the mark.
+/// Returns the second kind of the events of `track`: a low water, the beginning of ebb or a fall through
+/// the mark.
 pub(crate) fn second_kind(track: TrackName) -> Kind
     ensures { result ≡ second_kind track }
 {

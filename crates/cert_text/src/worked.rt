@@ -6,14 +6,14 @@ ghost use Rattle.cert_text.specs.Lines.{certificate_text, joined};
 ghost use Rattle.cert_text.specs.Readings.{certificate_of};
 ghost use Rattle.cert_text.specs.Worked.{pier, pier_lines, narrows, narrows_lines, pier_with, changes};
 
-/// The texts of two certificates.
+/// Proves which texts two example certificates have.
 pub fn worked_texts()
     ensures pier { certificate_text pier ≡ joined pier_lines }
     ensures narrows { certificate_text narrows ≡ joined narrows_lines }
 {}
 
-/// The results of reading a whole text, and texts in which a line is changed, the last lines are
-/// missing or more follows: the certificate, or the line of the fault.
+/// Proves the results of reading a whole text, and texts in which a line is changed, the last lines are
+/// missing or further lines are added: the certificate, or the line of the fault.
 pub fn worked_readings()
     ensures pier { certificate_of (joined pier_lines) ≡ Ok pier }
     ensures changed { map (λ c. certificate_of (pier_with c)) changes ≡ map (λ c. Err (CertFault.NotACertificate c.at)) changes }

@@ -41,9 +41,8 @@ fn push_station(out: &mut Vec<u8>, name: &Text) -> Result<(), AllocError>
     push_text(out, "\n")
 }
 
-/// Appends the line of the station `name` and the lines of its span, from minute `begin` up to
-/// minute `end`, which isn't part of the span; both since 1970-01-01T00:00Z, in the years 1 to
-/// 9999.
+/// Appends the line of the station `name` and the lines of its span, the minutes from `begin` up to but
+/// not including `end`; both are since 1970-01-01T00:00Z, in the years 1 to 9999.
 pub fn push_station_lines(
     out: &mut Vec<u8>,
     name: &Text,
@@ -108,7 +107,7 @@ fn push_track_if_there(
     }
 }
 
-/// Returns the text of `cert`, whose parts are within their ranges.
+/// Returns the text of `cert`; the parts of `cert` are in their ranges.
 ///
 /// # Examples
 /// ```

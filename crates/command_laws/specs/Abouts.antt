@@ -29,7 +29,7 @@ use Rattle.tide_edge.specs.FileStates.{Folder}
 use Rattle.year_blend.specs.Weights.{total_weight}
 use Rattle.zone_time.specs.declared.zone.Zone.{Zone}
 
--- the number of a bound that is the unit of the station's levels,
+-- the number that a bound has if it is one unit of the station's levels,
 -- 142,570,234,078,617,600,000,000,000,000,000,000
 abbrev pub unit_of_bound : ℕ
 unit_of_bound = radian * (total_weight * 10 ^ 15)
@@ -51,33 +51,33 @@ RisesAtMost book station bound m = IsOutsideBlends book m → rise_in book stati
 abbrev pub FallsAtMost : Book → Station → ℤ → ℤ → Type 0
 FallsAtMost book station bound m = IsOutsideBlends book m → neg_ℤ bound ≤ℤ rise_in book station m
 
--- A high water is between the listed minute and the next one. The level rises by at most the bound in this
--- minute and in the one after it; and it falls by at most the bound in this minute.
+-- A high water is between the listed minute and the next one. The level rises by at most the bound in
+-- this minute and in the next one, and falls by at most the bound in this minute.
 pub record IsBoundedHigh (book : Book) (station : Station) (bound m : ℤ) : Type 0 where
   pub rises : RisesAtMost book station bound m
   pub rises_later : RisesAtMost book station bound (m +ℤ pos 1)
   pub falls : FallsAtMost book station bound m
 
--- A low water is between the listed minute and the next one: the level keeps to the bound as at a high
--- water, with rises and falls exchanged.
+-- A low water is between the listed minute and the next one. The level falls by at most the bound in
+-- this minute and in the next one, and rises by at most the bound in this minute.
 pub record IsBoundedLow (book : Book) (station : Station) (bound m : ℤ) : Type 0 where
   pub falls : FallsAtMost book station bound m
   pub falls_later : FallsAtMost book station bound (m +ℤ pos 1)
   pub rises : RisesAtMost book station bound m
 
--- the bound at an event of a kind; slacks and crossings of a mark are no turns of the level
+-- the bound at an event of a kind; slacks and crossings of a mark aren't turns of the level
 abbrev pub IsBoundedTurn : Book → Station → ℤ → Kind → ℤ → Type 0
 IsBoundedTurn book station bound High m = IsBoundedHigh book station bound m
 IsBoundedTurn book station bound Low m = IsBoundedLow book station bound m
 IsBoundedTurn book station bound _ m = Unit {0}
 
--- the bound at an event, at the minute of the reference that it comes from; that of a reference station is
--- its own
+-- the bound at an event, at the minute of the corresponding event of the reference; for a reference
+-- station this is the event's minute
 abbrev pub IsBounded : Book → Site → ℤ → Event → Type 0
 IsBounded book site bound event =
     IsBoundedTurn book site.station bound event.kind (event.minute -ℤ (offset_of site.basis event.kind).add)
 
--- `about` and `predict` print of one station: the one a bound, and the other turns that each keep to it
+-- for one station `about` prints a bound, and `predict` prints turns that all meet it
 pub record BoundsTurns (folder : Folder) (predict : Question) (facts listing : Answer) : Type 0 where
   pub book : Book
   pub table : List Offsets
@@ -97,7 +97,7 @@ pub record BoundsTurns (folder : Folder) (predict : Question) (facts listing : A
   pub listed : listing.text ≡ events_text predict.layout name site.station.units events zone
   pub each : All (IsBounded book site bound) events
 
--- the law for runs that request both of one station, over the same files
+-- the law for runs of `about` and `predict` that request one station, with the same files
 abbrev pub AboutBoundsTurns : Type 0
 AboutBoundsTurns = (sheets : List SheetMeaning) (folder : Folder) (minute later : ℤ) (words more : List (List ℕ))
     (about predict : Question) (facts listing : Answer) →

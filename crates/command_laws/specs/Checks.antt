@@ -18,9 +18,9 @@ use Rattle.zone_time.specs.declared.zone.Zone.{Zone}
 abbrev pub PrintsAccepted : Result Answer NoAnswer → Result Answer NoAnswer → Type 0
 PrintsAccepted predicted checked = (listing : Answer) × (predicted ≡ Ok listing) × (checked ≡ Ok (text_accepted listing.text))
 
--- For the text that `certify` returned `check` prints `Accepted`, and then what `predict` prints for the
--- station, the span and the mark of the certificate, over the files of the check and in its zone. The
--- certificate may be checked in another folder.
+-- For the text that `certify` returned, `check` prints `Accepted`, and then what `predict` prints for
+-- the certificate's station, span and mark, with the files of the check and in its zone. The certificate
+-- may be checked in another folder.
 abbrev pub CheckShowsPredict : Type 0
 CheckShowsPredict = (sheets : List SheetMeaning) (before after : Folder) (minute later last : ℤ) (words more others : List (List ℕ))
     (certify check predict : Question) (certificate : Answer) (zone : Zone) →
@@ -30,15 +30,15 @@ CheckShowsPredict = (sheets : List SheetMeaning) (before after : Folder) (minute
     Asks sheets others Predict predict → AsksListing check (subject_of certify) predict →
     PrintsAccepted (answer_of sheets after last others) (answer_of sheets after later more)
 
--- the arguments of a `certify` are a request to `predict` for its station, span, mark and files, in
--- universal time and as text
+-- with the command `predict`, the arguments of a `certify` are a request for the same station, span,
+-- mark and files, in universal time and as text
 abbrev pub TakesItsArguments : Type 0
 TakesItsArguments = (sheets : List SheetMeaning) (arguments : List (List ℕ)) (certify : Question) →
     question_of_words sheets (codes "certify" ∷ arguments) ≡ Ok certify →
     question_of_words sheets (codes "predict" ∷ arguments) ≡ Ok (record certify { command = Predict; zone = Utc; layout = Plain })
 
--- For the text that `certify` returned `check` prints `Accepted`, and then what `predict` prints with the
--- same arguments, if the check names the same files and no other zone.
+-- For the text that `certify` returned, `check` prints `Accepted`, and then what `predict` prints with
+-- the arguments of `certify`, if the check names the same files and universal time.
 abbrev pub CheckShowsSameArguments : Type 0
 CheckShowsSameArguments = (sheets : List SheetMeaning) (before after : Folder) (minute later last : ℤ) (arguments more : List (List ℕ))
     (certify check : Question) (certificate : Answer) →

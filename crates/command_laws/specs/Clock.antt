@@ -47,7 +47,7 @@ pub record AsksDay (clock : Question) (now : ℤ) (predict : Question) : Type 0 
   pub no_mark : predict.mark ≡ None
   pub layout : predict.layout ≡ Plain
 
--- a request for `heights` of this station at the minute alone; no step is shorter than a minute
+-- a request to `heights` for this station at only this minute; the step may be any
 pub record AsksLevel (clock : Question) (now : ℤ) (heights : Question) : Type 0 where
   pub command : heights.command ≡ Heights
   pub station : heights.station ≡ clock.station
@@ -73,8 +73,8 @@ turns_in events = filter (λ event. is_turn event.kind) events
 abbrev pub next_turn : Bool → Kind
 next_turn rising = if rising then High else Low
 
--- the answer of `clock`: `line` is the line that `heights` has of the level, and `lines` are those that
--- `predict` has of the events
+-- the answer of `clock`: `line` is the line that `heights` prints for the level, and `lines` are the
+-- lines that `predict` prints for the events
 pub record IsClock (book : Book) (table : List Offsets) (clock : Question) (given : Given) (answer : Answer) : Type 0 where
   pub name : List ℕ
   pub line : List ℕ

@@ -21,8 +21,8 @@ use Rattle.tide_desk.specs.Laws.{Asks}
 use Rattle.tide_edge.specs.FileStates.{Folder}
 use Rattle.zone_time.specs.declared.zone.Zone.{Zone}
 
--- the rows of a station: at each index its level that many steps after the begin, up to the end and
--- including it, and no other row
+-- the rows of a station: at each index the level that many steps after the beginning, up to and
+-- including the end, and no other row
 abbrev pub AreLevels : Book → Site → ℤ → ℤ → ℤ → List Row → Type 0
 AreLevels book site begin end step rows =
     (index : ℕ) → slice_get rows index ≡ row_until (level_at book site) begin end step index

@@ -30,32 +30,32 @@ pub record AskOneSpan (question other : Question) : Type 0 where
   pub begin : other.begin ≡ question.begin
   pub end : other.end ≡ question.end
 
--- a slack with an offset of its own: it has the level of the reference, not of the station
+-- a slack with a separate offset: it has the level of the reference, not of the station
 abbrev pub has_own_time : Basis → Kind → Bool
 has_own_time basis kind = is_slack kind && is_some basis.slack
 
--- an event whose level is at most `level`; slacks with offsets of their own are excluded
+-- an event with a level of at most `level`; slacks with separate offsets are excluded
 abbrev pub IsEventBelow : Basis → ℤ → Event → Type 0
 IsEventBelow basis level event = has_own_time basis event.kind ≡ false → event.level ≤ℤ level
 
--- a row whose level is at most `level`, if it is before the end
+-- a row with a level of at most `level`, if it is before the end
 abbrev pub IsRowBelow : ℤ → ℤ → Row → Type 0
 IsRowBelow end level row = row.minute <ℤ end → row.level ≤ℤ level
 
--- a listing of `predict` has these events, and none of them is above a level
+-- a listing of `predict` has these events, and none of them is above the level
 pub record ListsEventsBelow (predict : Question) (there : Given) (name : List ℕ) (site : Site) (level : ℤ)
     (events : List Event) (listing : Answer) : Type 0 where
   pub text : listing.text ≡ events_text predict.layout name site.station.units events there.zone
   pub below : All (IsEventBelow site.basis level) events
 
--- a listing of `heights` has these rows, and none of them before the end is above a level
+-- a listing of `heights` has these rows, and none of them before the end is above the level
 pub record ListsRowsBelow (heights : Question) (there : Given) (name : List ℕ) (site : Site) (end level : ℤ)
     (rows : List Row) (listing : Answer) : Type 0 where
   pub text : listing.text ≡ heights_text heights.layout name site.station.units rows there.zone
   pub below : All (IsRowBelow end level) rows
 
--- the answer of `highest`, by its minute and the level there, and the answers of `predict` and `heights`
--- about the same station and span
+-- the answer of `highest`, with its minute and the level there, and the answers of `predict` and
+-- `heights` about the same station and span
 pub record IsAboveAll (book : Book) (table : List Offsets) (highest : Question) (given : Given) (answer : Answer) : Type 0 where
   pub name : List ℕ
   pub begin : ℤ
@@ -83,8 +83,8 @@ NothingIsHigher = (book : Book) (table : List Offsets) (highest : Question) (giv
 
 -- ---- a small station
 
--- a current whose levels are 10 below its reference's, and whose slacks have offsets of their own, which
--- leave them the reference's
+-- a current with levels 10 below its reference's, and with separate offsets for slacks, which leave them
+-- at the reference's minutes
 abbrev pub sill : Site
 sill =
     let lower : Offset = record { add = pos 0; times = pos 1000000; plus = negsuc 9999999 } in

@@ -1,4 +1,4 @@
--- The events on the sheets of a report, and those that `predict` lists (this project).
+-- The events on the sheets of a report, and the events that `predict` lists (this project).
 use Rattle.std.specs.Prelude.{◌≡◌, ◌<◌, ◌≤◌, ℕ, ℤ, List, ◌++◌, All, length, map, filter, Ok}
 use Rattle.std.specs.List.{flat_map, Contains}
 use Rattle.curve_law.specs.declared.event.Event.{Event}
@@ -25,8 +25,8 @@ pub record ReportPage : Type 0 where
 abbrev pub text_of : Head → ReportPage → List ℕ
 text_of head page = page.sheet.layout head page.events
 
--- a page shows the first events of a list, at most as many as its sheet takes; unless it is full, it shows
--- all of them
+-- a page shows the first events of a list, at most as many as its sheet's limit; unless it is full, it
+-- shows all of them
 pub record IsPage (events : List Event) (page : ReportPage) : Type 0 where
   pub first : (rest : List Event) × (events ≡ page.events ++ rest)
   pub within : length page.events ≤ page.sheet.limit
@@ -40,16 +40,16 @@ pub record IsReport (sheets : List SheetMeaning) (wanted : List (List ℕ)) (hea
   pub none_missing : All (Contains (map (λ page. page.sheet.word) pages)) wanted
   pub each : All (IsPage events) pages
 
--- a report and a listing of one list of events: the listing prints all of them, and the pages of the report
--- show them
+-- a report and a listing show one list of events: the listing prints all of them, and the pages of the
+-- report show them
 pub record ShowOneList (sheets : List SheetMeaning) (report predict : Question) (now : ℤ) (zone : Zone)
     (pages listing : Answer) : Type 0 where
   pub listed : Listed
   pub all : listing.text ≡ events_text predict.layout listed.name listed.units listed.events zone
   pub shown : IsReport sheets (wanted_by report) (head_of listed now) listed.events pages.text
 
--- If `report` has an answer at a minute, `predict` has one for the same station, span, mark and files at
--- any minute, in any zone that can be read and in any layout; and both show one list.
+-- If `report` has an answer at a minute, `predict` has an answer for the same station, span, mark and
+-- files at any minute, in any zone that can be read and in any layout; and both show one list of events.
 abbrev pub ReportsAreComplete : Type 0
 ReportsAreComplete = (sheets : List SheetMeaning) (folder : Folder) (now later : ℤ) (words more : List (List ℕ))
     (report predict : Question) (pages : Answer) (zone : Zone) →

@@ -1,5 +1,5 @@
--- The events of a subordinate station in two steps: those of its reference, and then its offsets (this
--- project).
+-- The events of a subordinate station in two steps: the events of its reference, and then its offsets
+-- (this project).
 use Rattle.std.specs.Prelude.{
   ◌≡◌,
   ℕ,
@@ -48,7 +48,8 @@ use Rattle.command_laws.specs.Clock.{turns_in}
 
 -- ---- the two requests
 
--- a request to `predict` about a station whose name finds this row of the table, from one minute to another
+-- a request to `predict`, from one minute to another, about a station found by its name as this row of
+-- the table
 pub record AsksSubordinate (book : Book) (table : List Offsets) (row : Offsets) (basis : Basis) (begin end : ℤ)
     (question : Question) : Type 0 where
   pub name : List ℕ
@@ -68,8 +69,8 @@ pub record AsksReference (row : Offsets) (basis : Basis) (begin end : ℤ) (ques
   pub begins : question.begin ≡ Some (widened_of basis begin end).begin
   pub ends : question.end ≡ Some (widened_of basis begin end).end
 
--- the station's level, which is the reference's times the factor plus the addend, crosses its mark together
--- with the reference's
+-- the station's level, which is the reference's times the factor plus the added level, crosses its mark
+-- at the same minutes as the reference's level crosses the reference's mark
 abbrev pub MeansOneMark : Basis → Option ℤ → Option ℤ → Type 0
 MeansOneMark basis None None = Unit {0}
 MeansOneMark basis None (Some there) = ⊥
@@ -78,20 +79,21 @@ MeansOneMark basis (Some mark) (Some there) = there *ℤ basis.high.times ≡ (m
 
 -- ---- the two lists
 
--- an event of the reference that the station has too: any, but a slack only if the station lists slacks
+-- an event of the reference that the station also has: any, but a slack only if the station lists slacks
 abbrev pub has_too : Units → Basis → Event → Bool
 has_too units basis event = asks_slack units basis || not (is_slack event.kind)
 
--- the station's slacks are where its own level crosses 0, which isn't where the reference's does
+-- the station's slacks are at minutes where its level crosses 0, and the reference's level crosses 0 at
+-- other minutes
 abbrev pub has_own_slack : Units → Basis → Bool
 has_own_slack units basis = asks_slack units basis && is_none basis.slack && not (int_eq basis.high.plus (pos 0))
 
--- the events of the reference, each moved and scaled by the offset of its kind, those within the span kept,
--- in order
+-- the second step: the events of the reference, each moved and scaled by the offset of its kind; the
+-- events within the span are kept, in order
 abbrev pub second_step : Units → Basis → ℤ → ℤ → List Event → List Event
 second_step units basis begin end events = ordered (moved_within basis begin end (filter (has_too units basis) events))
 
--- both answers, by the events of the requests
+-- both answers, from the events of the requests
 pub record AreTwoSteps (book : Book) (table : List Offsets) (question reference : Question) (given there : Given)
     (row : Offsets) (basis : Basis) (begin end : ℤ) (answer first : Answer) : Type 0 where
   pub name : List ℕ
@@ -107,7 +109,7 @@ pub record AreTwoSteps (book : Book) (table : List Offsets) (question reference 
   pub all : has_own_slack units basis ≡ false → MeansOneMark basis question.mark reference.mark →
       events ≡ second_step units basis begin end of_reference
 
--- the list of a subordinate station is that of its reference, moved
+-- the list of a subordinate station is the list of its reference, moved and scaled
 abbrev pub ListsInTwoSteps : Type 0
 ListsInTwoSteps = (book : Book) (table : List Offsets) (question reference : Question) (given there : Given) →
     (row : Offsets) (basis : Basis) (begin end : ℤ) (answer first : Answer) →
@@ -127,7 +129,7 @@ ReferenceIsAnswered = (book : Book) (table : List Offsets) (question reference :
 
 -- ---- a small station
 
--- a current whose levels are 0.5 above its reference's, and whose slacks have no offsets of their own
+-- a current with levels 0.5 above its reference's, and without separate offsets for slacks
 abbrev pub stream : Site
 stream =
     let higher : Offset = record { add = pos 0; times = pos 1000000; plus = pos 500000 } in

@@ -1,4 +1,4 @@
--- Runs over a small file, for the worked rows (this project).
+-- Runs with a small file, for examples (this project).
 use Rattle.std.specs.Prelude.{ℕ, pos, if◌then◌else◌, List, codes, Some, Result}
 use Rattle.std.specs.List.{slice_split}
 use Rattle.std.specs.Str.{bytes_eq}
@@ -10,16 +10,16 @@ use Rattle.tide_answer.specs.declared.text.Answer.{Answer}
 use Rattle.tide_desk.specs.Answers.{answer_of}
 use Rattle.tide_edge.specs.FileStates.{Folder}
 
--- the answer to arguments separated by spaces, over a folder that has the pier's constants under each name,
--- at minute 0
+-- the answer to arguments separated by spaces, with a folder that has the pier's constants under each
+-- name, at minute 0
 abbrev pub pier_answer : List SheetMeaning → List ℕ → Result Answer NoAnswer
 pier_answer sheets words = answer_of sheets (λ name. Some (file_of pier_lines)) (pos 0) (slice_split is_space words)
 
--- a certificate of three minutes there
+-- a certificate of three minutes at the pier
 abbrev pub pier_certificate : List ℕ
 pier_certificate =
     codes "tide certificate 2\nstation Pier\nbegin 2000-01-10T11:58Z\nend 2000-01-10T12:01Z\nmark none\ntrack turn\ns\nt high 999962\ns\ndone\n"
 
--- this folder with the certificate under the name `c`
+-- the pier's folder with the certificate under the name `c`
 abbrev pub pier_with_certificate : Folder
 pier_with_certificate name = Some (if bytes_eq name (codes "c") then pier_certificate else file_of pier_lines)

@@ -9,18 +9,18 @@ ghost use Rattle.command_laws.specs.Worked.{pier_answer};
 
 use slope_agreement::predicted_agreements;
 
-/// The level rises by at most the bound that `about` prints in the minute after that of a high
-/// water that `predict` lists, and in the next one. After a low water it falls by at most the
-/// bound. This holds outside the hours around a new year.
+/// Proves that in the minute after the minute of a high water that `predict` lists, and in the next one,
+/// the level rises by at most the bound that `about` prints, and that after a low water it falls by at
+/// most the bound. This holds outside the hours around a new year.
 pub fn about_bounds_the_printed_turns()
     ensures { AboutBoundsTurns }
 {
     predicted_agreements();
 }
 
-/// The minutes around a high water of a half-daily tide, and what `about` prints of it. The level
-/// rises in the minute before the high water and falls in the minute after it, each time by half of
-/// the bound.
+/// Proves an example of a half-daily tide: the minutes around a high water, and what `about` prints. The
+/// level rises in the minute before the high water and falls in the minute after it, each time by half
+/// of the bound.
 pub fn worked_turns()
     ensures unit { unit_of_bound ≡ 142570234078617600000000000000000000 }
     ensures bound { predicted_agreement pier_book pier ≡ pos 10982486704628157235200000000000 }

@@ -8,9 +8,8 @@ ghost use Rattle.command_laws.specs.Worked.{pier_answer, pier_with_certificate};
 
 use tide_desk::what_certify_answers_is_accepted;
 
-/// `check` prints for the text that `certify` returned, after `Accepted`, what `predict` prints for
-/// the same station, span and mark. These are what the arguments of that `certify` request of
-/// `predict`.
+/// Proves that `check` prints, for the text that `certify` returned, `Accepted` and then what `predict`
+/// prints for the same station, span and mark: with the same arguments as `certify` had.
 pub fn check_shows_predict()
     ensures any_words { CheckShowsPredict }
     ensures arguments { TakesItsArguments }
@@ -19,8 +18,8 @@ pub fn check_shows_predict()
     what_certify_answers_is_accepted();
 }
 
-/// A certificate of three minutes around a high water, what `predict` prints with its arguments,
-/// and what `check` prints for it.
+/// Proves an example of a certificate of three minutes around a high water, with what `predict` prints
+/// for its arguments and what `check` prints for it.
 pub fn worked_checks()
     ensures certified { pier_answer [] (codes "certify file=p station=Pier begin=2000-01-10T11:58Z end=2000-01-10T12:01Z")
         ≡ Ok (record {

@@ -14,16 +14,16 @@ ghost use Rattle.tide_answer.specs.Answers.{answered};
 ghost use Rattle.zone_time.specs.declared.zone.Zone.{Zone};
 ghost use Rattle.command_laws.specs.Clock.{ShowsThePresentAndTheNextDay};
 
-/// `clock` prints the line that `heights` has for the present minute, and then the lines that
-/// `predict` has for the 1,440 minutes from there on. Both requests have an answer if `clock` has
+/// Proves that `clock` prints the line that `heights` has for the present minute, and then the lines
+/// that `predict` has for the 1,440 minutes from there on. Both requests have an answer if `clock` has
 /// one. If there is a high or low water among the events, the first is a high water exactly if the
 /// printed direction is rising.
 pub fn clock_shows_the_present_and_the_next_day()
     ensures { ShowsThePresentAndTheNextDay }
 {}
 
-/// A request that has an answer, and the minute before a high water, at which the level rises and
-/// the next turn is the high water.
+/// Proves an example of a request that has an answer, at the minute before a high water: the level
+/// rises, and the next turn is the high water.
 pub fn worked_clock()
     ensures met { IsOk (answered pier_file [] (record (bare Command.Clock) { station = Some (codes "Pier") })
         (record { zone = Zone.Utc; certificate = []; now = pos 15791759 })) }

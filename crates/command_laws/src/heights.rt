@@ -11,8 +11,8 @@ ghost use Rattle.command_laws.specs.Worked.{pier_answer};
 
 use text_laws::heights_are_levels;
 
-/// `heights` prints the station's levels: the row at each index is the level that many steps after
-/// the begin, up to the end and including it. There is no other row.
+/// Proves that `heights` prints the station's levels: the row at each index is the level that many steps
+/// after the beginning of the span, up to and including its end. There is no other row.
 pub fn heights_has_a_row_each_step()
     ensures rows { (book : Book) (site : Site) (begin end step : ℤ)
         → rows_of book site begin end step ≡ rows_over (level_at book site) begin end step }
@@ -21,7 +21,7 @@ pub fn heights_has_a_row_each_step()
     heights_are_levels();
 }
 
-/// The rows of a span that ends between two rows, and of one that ends at a row.
+/// Proves the rows of a span that ends between two rows, and of one that ends at a row.
 pub fn worked_rows()
     ensures passed { pier_answer [] (codes "heights file=p station=Pier begin=2000-01-10T12:00Z end=2000-01-10T15:59Z step=120")
         ≡ Ok (text_alone (codes "Pier\n2000-01-10 12:00 UTC       1.00 feet\n2000-01-10 14:00 UTC       0.50 feet\n")) }

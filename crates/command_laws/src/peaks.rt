@@ -14,18 +14,17 @@ ghost use Rattle.command_laws.specs.Peaks.{sill, NothingIsHigher};
 
 use tide_answer::highest_is_reported;
 
-/// No event that `predict` lists over the same span, and no row of `heights` before its end, has a
-/// greater level than the one that `highest` prints. The law excludes slacks with offsets of their
-/// own: such a slack has its reference's level, which can be above all levels of the station.
+/// Proves that no event that `predict` lists over the same span, and no row of `heights` before its end,
+/// has a greater level than the one that `highest` prints. The law excludes slacks with separate
+/// offsets: such a slack has its reference's level, which can be above all levels of the station.
 pub fn no_event_is_above_the_highest_water()
     ensures { NothingIsHigher }
 {
     highest_is_reported();
 }
 
-/// A request about two minutes that has a highest water; and over the minute before it, the slack
-/// of a station whose slacks have offsets of their own, with a level above the only level of the
-/// span.
+/// Proves examples: a request about two minutes that has a highest water; and over the minute before it,
+/// the slack of a station with separate offsets for slacks, at a level above the only level of the span.
 pub fn worked_highest()
     ensures met { IsOk (answered pier_file []
         (record (bare Command.Highest) { station = Some (codes "Pier"); begin = Some (pos 15791759); end = Some (pos 15791761) })

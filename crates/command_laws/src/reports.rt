@@ -6,14 +6,15 @@ ghost use Rattle.tide_answer.specs.Answers.{text_alone};
 ghost use Rattle.command_laws.specs.Reports.{ReportsAreComplete};
 ghost use Rattle.command_laws.specs.Worked.{pier_answer};
 
-/// A page of a report that isn't full shows every event that `predict` lists for the same station,
-/// span, mark and files. A full one shows the first of them, as many as its sheet takes. Each
-/// requested sheet has its page.
+/// Proves that a page of a report that isn't full shows every event that `predict` lists for the same
+/// station, span, mark and files, and that a full page shows the first of them, as many as its sheet's
+/// limit. Each requested sheet has its page.
 pub fn reports_are_complete()
     ensures { ReportsAreComplete }
 {}
 
-/// The events of two minutes on a sheet of ten events, on a full one, and as `predict` lists them.
+/// Proves an example: the events of two minutes on a sheet of ten events, on a full sheet, and as
+/// `predict` lists them.
 pub fn worked_reports()
     ensures all { pier_answer (first_sheet 10 ∷ [])
         (codes "report file=p station=Pier begin=2000-01-10T11:59Z end=2000-01-10T12:01Z mark=0.99998 sheets=first")

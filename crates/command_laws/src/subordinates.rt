@@ -16,19 +16,19 @@ ghost use Rattle.tide_answer.specs.Answers.{answered};
 ghost use Rattle.zone_time.specs.declared.zone.Zone.{Zone};
 ghost use Rattle.command_laws.specs.Subordinates.{second_step, stream, ListsInTwoSteps, ReferenceIsAnswered};
 
-/// The list of a subordinate station is made in two steps: the list of its reference over the
-/// widened span, and then each event of it moved and scaled by the offset of its kind; those within
-/// the span are kept and sorted. This holds for high and low waters always. It holds for all
-/// events, except for a mark, which isn't one of the reference's, and for slacks of a current whose
-/// level has an addend and whose slacks have no offsets of their own: there the station's own level
-/// crosses 0 elsewhere.
+/// Proves that the list of a subordinate station is made in two steps: the list of its reference over
+/// the widened span is made; then each event is moved and scaled by the offset of its kind, and the
+/// events within the span are kept and sorted. This holds for high and low waters always. It holds for
+/// all events except crossings of a mark, which aren't the reference's events, and slacks of a current
+/// whose offset adds to the level and that has no separate offsets for slacks: there the station's level
+/// crosses 0 at other minutes.
 pub fn subordinates_list_in_two_steps()
     ensures steps { ListsInTwoSteps }
     ensures answered { ReferenceIsAnswered }
 {}
 
-/// The high water of a pier, and that of a harbour 30 minutes later at twice the level and 0.5
-/// more; and two requests about them that have an answer.
+/// Proves an example: the high water of a pier, and the one of a harbour 30 minutes later at twice the
+/// level and 0.5 more; and that two requests about them have an answer.
 pub fn worked_steps()
     ensures widened { widened_of harbour (pos 15791789) (pos 15791790) ≡ record { begin = pos 15791759; end = pos 15791760 } }
     ensures first { events_of pier_book (record { basis = reference_basis 0; station = pier })
@@ -49,8 +49,8 @@ pub fn worked_steps()
         (record { zone = Zone.Utc; certificate = []; now = pos 0 })) }
 {}
 
-/// A current 0.5 above its reference: it has a slack where its own level crosses 0, and its
-/// reference has none there.
+/// Proves an example: a current whose level is its reference's plus 0.5 has a slack at a minute where
+/// its level crosses 0, and its reference has none there.
 pub fn worked_own_slack()
     ensures own { events_of pier_book stream (record { begin = pos 15791999; end = pos 15792000; mark = None })
         ≡ record { minute = pos 15791999; kind = Kind.EbbBegins; level = pos 7576 } ∷ [] }

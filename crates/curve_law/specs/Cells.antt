@@ -1,4 +1,4 @@
--- Cells one after the other, and their events (this project).
+-- Consecutive cells, and their events (this project).
 use Rattle.std.specs.Prelude.{ℕ, ◌+◌, ℤ, pos, ◌+ℤ◌, List, [], ◌∷◌, ◌++◌}
 use Rattle.curve_law.specs.declared.cell.Cell.{Cell}
 use Rattle.curve_law.specs.declared.cell.Cell.TheVariants.{Quiet, Still, Turn}

@@ -1,5 +1,5 @@
--- The cells of a span: quiet ones if the rate excludes any event, else halves, down to single minutes
--- (this project).
+-- The cells of a span: a piece is a quiet cell if the rate excludes any event in it; otherwise it is
+-- halved, down to single minutes (this project).
 use Rattle.std.specs.Prelude.{
   ℕ,
   zero,
@@ -34,20 +34,20 @@ use Rattle.curve_law.specs.declared.quiet.TheConstants.{MOST_MINUTES}
 use Rattle.curve_law.specs.Track.{Track, has_event, event_at}
 use Rattle.curve_law.specs.Meaning.{Meaning}
 
--- v and w, n minutes apart, are so far on one side of 0 that a value can't cross 0 between them at this
--- rate
+-- v and w, n minutes apart, are on one side of 0, so far from it that a value between them can't cross 0
+-- at this rate (no rate: false)
 unfoldable pub keeps_side : Option ℤ → ℕ → ℤ → ℤ → Bool
 keeps_side None n v w = false
 keeps_side (Some rate) n v w =
     (int_lt (pos 0) v && int_lt (pos 0) w && int_lt (rate *ℤ pos n) (v +ℤ w))
     || (int_le v (pos 0) && int_le w (pos 0) && int_le (rate *ℤ pos n) (neg_ℤ (v +ℤ w)))
 
--- the cell of n minutes from minute `a` on is quiet
+-- the n minutes from minute `a` on are a quiet cell: by the rate no event can be in it
 unfoldable pub is_quiet : Meaning → ℤ → ℕ → Bool
 is_quiet c a n =
     nat_le 2 n && nat_le n MOST_MINUTES && keeps_side (c.rate a n) n (c.track.value a) (c.track.value (a +ℤ pos n))
 
--- the cell of the single minute `a`
+-- the cell of the single minute `a`: with the event after it, or without one
 unfoldable pub unit_cell : Track → ℤ → Cell
 unit_cell t a = if has_event t a then Turn (event_at t a).kind (t.note a) else Still
 
@@ -63,8 +63,8 @@ split_within (suc halvings) c a n =
       ]
     ]
 
--- the cells of n minutes from `a` on: a quiet one, one of a single minute, or those of the two halves,
--- the shorter first
+-- the cells of n minutes from minute `a` on: a quiet cell, or a cell of a single minute, or the cells of
+-- the two halves, the shorter half first
 unfoldable pub split : Meaning → ℤ → ℕ → List Cell
 split c a n = split_within n c a n
 
@@ -77,7 +77,7 @@ cover_within (suc blocks) c a n =
       | false ↦ split c a MOST_MINUTES ++ cover_within blocks c (a +ℤ pos MOST_MINUTES) (n - MOST_MINUTES)
     ]
 
--- the cells of the span of n minutes from `a` on, in blocks of 1,024 minutes from its begin on; the last
--- may be shorter
+-- the cells of the span of n minutes from minute `a` on, cut into blocks of 1,024 minutes from its
+-- beginning on; the last block may be shorter
 unfoldable pub cover : Meaning → ℤ → ℕ → List Cell
 cover c a n = cover_within n c a n

@@ -3,16 +3,16 @@ use Rattle.std.specs.Prelude.{◌≡◌, ℕ, ◌+◌, ◌*◌, ◌^◌, ◌<◌
 use Rattle.curve_law.specs.declared.quiet.TheConstants.{MOST_MINUTES}
 use Rattle.curve_law.specs.Track.{Track}
 
--- the first and last minute, the track between them, and a bound on the change of its value in each
--- minute of a cell, which is named by its first minute and its number of minutes; a cell may have no
--- bound
+-- a curve: its first and last minute; the track between them; and its rate, a bound on the change of its
+-- value in each minute of a cell, which is given by its first minute and its number of minutes (None: no
+-- bound)
 pub record Meaning : Type 0 where
   pub first : ℤ
   pub last : ℤ
   pub track : Track
   pub rate : ℤ → ℕ → Option ℤ
 
--- minute m has a value
+-- minute m is one of the curve's minutes
 pub record IsMinute (c : Meaning) (m : ℤ) : Type 0 where
   pub first : c.first ≤ℤ m
   pub last : m ≤ℤ c.last
@@ -21,19 +21,19 @@ pub record IsMinute (c : Meaning) (m : ℤ) : Type 0 where
 abbrev pub IsApproximateValue : Meaning → ℕ → ℤ → ℤ → Type 0
 IsApproximateValue c error m approximate = unsigned_abs (approximate -ℤ c.track.value m) ≤ error
 
--- a span of n minutes from minute `a` on, with a value at both ends, and so at each of its minutes
+-- a span of n minutes from minute `a` on; both ends, and so all its minutes, are minutes of the curve
 pub record IsSpan (c : Meaning) (a : ℤ) (n : ℕ) : Type 0 where
   pub first : c.first ≤ℤ a
   pub last : (a +ℤ pos n) ≤ℤ c.last
 
--- a cell of 1 to 1,024 minutes with a value at both ends
+-- a cell of 1 to 1,024 minutes whose two ends are minutes of the curve
 pub record IsCell (c : Meaning) (a : ℤ) (n : ℕ) : Type 0 where
   pub first : c.first ≤ℤ a
   pub last : (a +ℤ pos n) ≤ℤ c.last
   pub some : 1 ≤ n
   pub few : n ≤ MOST_MINUTES
 
--- each step of one minute within the cell changes the value by at most the rate
+-- in each minute of the cell of n minutes from minute `a` on, the value changes by at most the rate
 pub record IsRate (c : Meaning) (a : ℤ) (n : ℕ) (rate : ℤ) : Type 0 where
   pub small : (rate *ℤ pos MOST_MINUTES) <ℤ pos (5 * 10 ^ 37)
   pub steps : (k : ℕ) → k < n →
@@ -47,7 +47,8 @@ pub record IsLawful (c : Meaning) : Type 0 where
   pub values : (m : ℤ) → IsMinute c m → unsigned_abs (c.track.value m) < 10 ^ 37
   pub rates : (a : ℤ) (n : ℕ) (rate : ℤ) → IsCell c a n → c.rate a n ≡ Some rate → IsRate c a n rate
 
--- two curves agree over the n minutes from `a` on: in kinds, values, levels, and the rate of each cell
+-- two curves agree over the n minutes from minute `a` on: in kinds, values, levels, and the rate of each
+-- cell
 pub record AgreeOver (c d : Meaning) (a : ℤ) (n : ℕ) : Type 0 where
   pub rising : c.track.rising ≡ d.track.rising
   pub falling : c.track.falling ≡ d.track.falling

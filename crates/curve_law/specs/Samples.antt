@@ -6,7 +6,8 @@ use Rattle.curve_law.specs.declared.kind.Kind.TheVariants.{High, Low, MarkRising
 use Rattle.curve_law.specs.Meaning.{Meaning}
 use Rattle.curve_law.specs.CurveStates.{CurveFacts}
 
--- a value that rises or falls by 1 each minute, with the minute as its level
+-- a curve for tests: a value that rises, or falls if the Bool is true, by 1 each minute, with the minute
+-- as its level
 abbrev pub line : ℤ → Bool → ℤ → Meaning
 line start falls rate = record {
   first = negsuc 999999;
@@ -15,7 +16,7 @@ line start falls rate = record {
   rate = λ a n. Some rate;
 }
 
--- each approximate value is 1 too high
+-- the facts about that line: each approximate value is 1 too high
 abbrev pub line_facts : ℤ → Bool → ℤ → CurveFacts
 line_facts start falls rate = record {
   meaning = line start falls rate;
@@ -23,7 +24,7 @@ line_facts start falls rate = record {
   error = 1;
 }
 
--- 1 at even minutes and -1 at odd ones, with no rate
+-- a curve for tests: 1 at even minutes and -1 at odd ones, with no rate
 abbrev pub ripple : Meaning
 ripple = record {
   first = negsuc 999999;
@@ -37,6 +38,6 @@ ripple = record {
   rate = λ a n. None;
 }
 
--- each approximate value is 0, and decides nothing
+-- the facts about that ripple: each approximate value is 0, and decides nothing
 abbrev pub ripple_facts : CurveFacts
 ripple_facts = record { meaning = ripple; approximate = λ m. pos 0; error = 1 }

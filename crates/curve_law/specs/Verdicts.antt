@@ -1,5 +1,5 @@
--- The result of checking cells, whoever made them: first the length, then the first cell whose claim is
--- false (this project).
+-- The result of checking cells, however they were made: first their length, then the first cell with a
+-- false claim (this project).
 use Rattle.std.specs.Prelude.{ℕ, suc, ◌-◌, ◌^◌, min, ℤ, pos, ◌+ℤ◌, Bool, ◌==◌, if◌then◌else◌, List, [], ◌∷◌}
 use Rattle.std.specs.Ordering.{int_eq}
 use Rattle.curve_law.specs.declared.cell.Cell.{Cell}
@@ -22,11 +22,12 @@ place_of EbbBegins = 3
 place_of MarkRising = 4
 place_of MarkFalling = 5
 
--- two kinds are the same
+-- two kinds of events are the same
 abbrev pub same_kind : Kind → Kind → Bool
 same_kind kind other = place_of kind == place_of other
 
--- the verdict on an event: the kind and the level are those of the event after minute `a`
+-- the verdict on an event claimed after minute `a`: it must have the kind and the level of the event
+-- there
 abbrev pub step_verdict : Meaning → ℤ → ℕ → Kind → ℤ → Verdict
 step_verdict c a number kind level =
     if same_kind kind (event_at c.track a).kind

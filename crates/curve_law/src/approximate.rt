@@ -11,8 +11,10 @@ use crate::cell::Cell;
 use crate::curve::Curve;
 use crate::quiet::{MOST_MINUTES, cell_of_sides, is_quiet, most_change};
 
-/// Returns true if the `n` minutes from `a` on are a quiet cell. `approximate` and `approximate_end` are the
-/// approximate values at its ends.
+/// Returns true if the `n` minutes from `a` on are a quiet cell: the values at both ends are on one side
+/// of 0, so far from it that no value between them can cross 0 at the curve's rate. `approximate` and
+/// `approximate_end` are the approximate values at the ends; the exact values are used only if these
+/// leave it open.
 #[inline(always)]
 pub fn is_quiet_from_approximate<C: Curve>(
     curve: &C,
@@ -33,8 +35,9 @@ pub fn is_quiet_from_approximate<C: Curve>(
     }
 }
 
-/// Returns the cell of the single minute `a`. `approximate` and `approximate_next` are the approximate values at `a`
-/// and at the next minute.
+/// Returns the cell of the single minute `a`: with an event if the value changes its side of 0 by the
+/// next minute. `approximate` and `approximate_next` are the approximate values at `a` and at the next
+/// minute; the exact values are used only if these leave a side open.
 pub fn unit_cell_from_approximate<C: Curve>(
     curve: &C,
     a: i64,
@@ -52,8 +55,8 @@ pub fn unit_cell_from_approximate<C: Curve>(
 }
 
 /// Returns whether the `n` minutes from `a` on are a quiet cell, or `None` if the approximate values at
-/// its ends leave it open. Values whose sum exceeds the most that they may differ are on one side of 0, so
-/// the sum decides.
+/// its ends leave it open. If the sum of the values exceeds the most that they can differ by, both are
+/// on one side of 0, so the sum decides.
 #[inline(always)]
 fn quiet_if_decided<C: Curve>(
     curve: &C,

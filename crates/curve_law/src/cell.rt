@@ -6,9 +6,9 @@ use crate::kind::Kind;
 /// cell before it ends.
 #[derive(Clone, Copy, Debug, PartialEq, Eq)]
 pub enum Cell {
-    /// This number of minutes, from 2 to 1,024, with no event after any of them.
+    /// A quiet cell: this number of minutes, from 2 to 1,024, with no event after any of them.
     Quiet(u32),
-    /// One minute with no event after it.
+    /// A cell of one minute with no event after it.
     Still,
     /// One minute with an event of this kind after it, and the level at the minute, in millionths of the
     /// station's unit.

@@ -10,8 +10,8 @@ ghost use Rattle.curve_law.specs.Cells.{all_minutes, cell_events};
 ghost use Rattle.curve_law.specs.Cover.{is_quiet, unit_cell, split, cover};
 ghost use Rattle.curve_law.specs.Verdicts.{verdict};
 
-/// Proves that the cells of a block are one of a single minute, one that is quiet, or those of its first
-/// half, rounded down, and of the rest.
+/// Proves how a block of minutes is cut: into one cell if it is a single minute or quiet, and otherwise
+/// into the cells of its first half, rounded down, followed by the cells of the rest.
 pub fn cells_are_halved()
     ensures one_minute { (c : Meaning) (a : ℤ) → split c a 1 ≡ unit_cell c.track a ∷ [] }
     ensures quiet { (c : Meaning) (a : ℤ) (n : ℕ) → is_quiet c a n ≡ true → split c a n ≡ Cell.Quiet n ∷ [] }
@@ -19,8 +19,8 @@ pub fn cells_are_halved()
         split c a n ≡ split c a (n / 2) ++ split c (a +ℤ pos (n / 2)) (n - n / 2) }
 {}
 
-/// Proves that the cells of a span are none, those of its last block of at most 1,024 minutes, or those
-/// of a block of 1,024 minutes and of the rest.
+/// Proves how a span is cut: an empty span has no cells; from a longer one blocks of 1,024 minutes are
+/// cut off until at most 1,024 minutes remain, which are the last block.
 pub fn spans_are_cut_into_blocks()
     ensures no_minute { (c : Meaning) (a : ℤ) → cover c a 0 ≡ [] }
     ensures last_block { (c : Meaning) (a : ℤ) (n : ℕ) → n ≤ MOST_MINUTES → cover c a n ≡ split c a n }
@@ -28,8 +28,8 @@ pub fn spans_are_cut_into_blocks()
         cover c a n ≡ split c a MOST_MINUTES ++ cover c (a +ℤ pos MOST_MINUTES) (n - MOST_MINUTES) }
 {}
 
-/// Proves that each value in a quiet cell is on the same side of zero as the values at its ends, and that
-/// no event comes after any of its minutes.
+/// Proves that each value in a quiet cell is on the same side of zero as the values at its ends, and
+/// that there is no event after any of its minutes.
 pub fn quiet_cells_have_no_event()
     ensures sides { (c : Meaning) (a : ℤ) (n : ℕ) → IsLawful c → IsSpan c a n → is_quiet c a n ≡ true →
         (k : ℕ) → k ≤ n → side_at c.track (a +ℤ pos k) ≡ side_at c.track a }
@@ -37,14 +37,15 @@ pub fn quiet_cells_have_no_event()
         (k : ℕ) → k < n → has_event c.track (a +ℤ pos k) ≡ false }
 {}
 
-/// Proves that the events of accepted cells are exactly those of the span, whoever made the cells.
+/// Proves that the events of cells that the check accepts are exactly the events of the span, however
+/// the cells were made.
 pub fn accepted_cells_are_exact()
     ensures { (c : Meaning) (a : ℤ) (n : ℕ) (cells : List Cell) → IsLawful c → IsSpan c a n →
         verdict c a n cells ≡ Verdict.Accepted → cell_events a cells ≡ plain_list c.track a n }
 {}
 
-/// Proves that the cells of a span by the halving rule have all its minutes, number at most one a minute,
-/// and are accepted, so that their events are exactly those of the span.
+/// Proves that the cells that the halving rule makes for a span have all its minutes, number at most one
+/// a minute, and are accepted, so that they have exactly the events of the span.
 pub fn covers_are_accepted()
     ensures minutes { (c : Meaning) (a : ℤ) (n : ℕ) → all_minutes (cover c a n) ≡ n }
     ensures count_bound { (c : Meaning) (a : ℤ) (n : ℕ) → length (cover c a n) ≤ n }
@@ -53,8 +54,8 @@ pub fn covers_are_accepted()
         cell_events a (cover c a n) ≡ plain_list c.track a n }
 {}
 
-/// Proves that two curves that agree over a span have the same events, cells and verdicts there, whatever
-/// they are elsewhere.
+/// Proves that two curves that agree over a span have the same events, cells and verdicts there, even if
+/// they differ elsewhere.
 pub fn agreeing_curves_have_one_answer()
     ensures events { (c d : Meaning) (a : ℤ) (n : ℕ) → AgreeOver c d a n →
         plain_list c.track a n ≡ plain_list d.track a n }

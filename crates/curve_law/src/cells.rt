@@ -5,7 +5,7 @@ ghost use Rattle.std.specs.Prelude.{◌≡◌};
 use crate::cell::Cell;
 use std::marker::Model;
 
-/// Cells one after the other. In contracts its value is the list of them.
+/// Consecutive cells. In contracts its value is the list of the cells.
 #[derive(Drop)]
 pub struct Cells {
     items: Vec<Cell>,

@@ -13,7 +13,7 @@ use crate::kind::Kind;
 /// and the number of calls of `value` and `approximate_value`. `exact_value` isn't counted, since its
 /// approximate value was, nor are `note` and `rate`.
 pub trait Curve {
-    /// The facts of the curve, and the number of evaluations so far.
+    /// The facts of the curve, and the number of evaluations until now.
     ghost state: { Self → CurveState };
 
     /// Returns the first minute that has a value.
@@ -39,13 +39,15 @@ pub trait Curve {
         ensures value { result ≡ (state self.old).facts.approximate m }
         ensures after { state self.new ≡ evaluated_once (state self.old) };
 
-    /// Returns the value at minute `m`, whose approximation is `approximate_value`. The call isn't counted.
+    /// Returns the value at minute `m`; `approximate_value` is its approximation. The call isn't
+    /// counted.
     fn exact_value(&self, m: i64, approximate_value: i128) -> i128
         requires minute { IsMinute (state self.now).facts.meaning m }
         requires approximate { approximate_value ≡ (state self.now).facts.approximate m }
         ensures { result ≡ (state self.now).facts.meaning.track.value m };
 
-    /// Returns the most that an approximate value differs from the value, at most 10^36.
+    /// Returns the error of [`Curve::approximate_value`]: the most by which it differs from the value,
+    /// at most 10^36.
     fn error(&self) -> i128
         ensures { result ≡ pos (state self.now).facts.error };
 
@@ -68,7 +70,7 @@ pub trait Curve {
     fn falling(&self) -> Kind
         ensures { result ≡ (state self.now).facts.meaning.track.falling };
 
-    /// Returns the number of evaluations so far, exact and approximate ones.
+    /// Returns the number of evaluations until now, both exact and approximate.
     fn evaluations(&self) -> u64
         ensures { result ≡ (state self.now).count };
 

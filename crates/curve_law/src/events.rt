@@ -5,7 +5,7 @@ ghost use Rattle.std.specs.Prelude.{◌≡◌};
 use crate::event::Event;
 use std::marker::Model;
 
-/// Events in order of time. In contracts its value is the list of them.
+/// Events in order of time. In contracts its value is the list of the events.
 #[derive(Drop)]
 pub struct Events {
     items: Vec<Event>,

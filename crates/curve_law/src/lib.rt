@@ -1,8 +1,9 @@
 //! Tracks and their events: the definitions of curves that cross zero.
 //!
 //! A track has a whole number at each minute, and an [`Event`] after each minute at which it changes its
-//! side of zero. The plain list of a span, in `specs/Track.antt`, looks at each minute: it is the result
-//! that each faster search has to return. A [`Curve`] is a track with bounds on its rate of change.
+//! side of zero. The plain list of a span's events, in `specs/Track.antt`, is made by looking at each
+//! minute: each faster search must return the same list. A [`Curve`] is a track with bounds on its rate
+//! of change.
 #![tactic(auto)]
 
 mod approximate;

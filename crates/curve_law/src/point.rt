@@ -13,7 +13,7 @@ pub struct Point {
     pub value: i128,
 }
 
-/// Evaluates `curve` at `minute`, and returns the point.
+/// Evaluates `curve` at `minute`, and returns the minute with the value.
 pub fn point_at<C: Curve>(curve: &mut C, minute: i64) -> Point
     requires minute { IsMinute (C.state curve.old).facts.meaning minute }
     requires count_bound { (C.state curve.old).count < 2 ^ 63 }
@@ -26,7 +26,7 @@ pub fn point_at<C: Curve>(curve: &mut C, minute: i64) -> Point
     }
 }
 
-/// Evaluates `curve` approximately at `minute`, and returns the point.
+/// Evaluates `curve` approximately at `minute`, and returns the minute with the approximate value.
 #[inline(always)]
 pub fn approximate_point_at<C: Curve>(curve: &mut C, minute: i64) -> Point
     requires minute { IsMinute (C.state curve.old).facts.meaning minute }

@@ -9,11 +9,13 @@ use crate::cell::Cell;
 use crate::curve::Curve;
 use crate::passing::kind_after;
 
-/// The most minutes of a quiet cell, and the number of minutes of a block.
+/// The most minutes of a quiet cell, which is also the number of minutes of the blocks that a span is
+/// cut into.
 pub const MOST_MINUTES: u32 = 1024;
 
-/// Returns true if the `n` minutes from `a` on are a quiet cell; `value` and `end_value` are the values
-/// at its ends. The rate is evaluated only if both are on one side of 0.
+/// Returns true if the `n` minutes from `a` on are a quiet cell: the values at both ends are on one side
+/// of 0, so far from it that no value between them can cross 0 at the curve's rate. `value` and
+/// `end_value` are the values at the ends. The rate is evaluated only if both are on one side of 0.
 pub fn is_quiet<C: Curve>(curve: &C, a: i64, n: u32, value: i128, end_value: i128) -> bool
     requires span { IsSpan (C.state curve.now).facts.meaning a n }
     requires value { value ≡ (C.state curve.now).facts.meaning.track.value a }
@@ -58,8 +60,8 @@ pub fn cell_of_sides<C: Curve>(curve: &C, a: i64, is_above: bool, is_above_next:
     )
 }
 
-/// Returns true if `value` and `end_value`, `n` minutes apart, are both so far on one side of 0 that a
-/// value that changes by at most `rate` a minute can't cross 0 between them.
+/// Returns true if `value` and `end_value`, `n` minutes apart, are on one side of 0, so far from it that
+/// a value that changes by at most `rate` a minute can't cross 0 between them.
 fn keeps_side(rate: i128, n: u32, value: i128, end_value: i128) -> bool
     requires positive { pos 0 ≤ℤ rate }
     requires rate { (rate *ℤ pos MOST_MINUTES) <ℤ pos (5 * 10 ^ 37) }

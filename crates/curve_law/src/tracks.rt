@@ -2,13 +2,14 @@
 
 use crate::cells::Cells;
 
-/// The cells of each requested track of a station, over one span.
+/// The cells of a station's tracks over one span: its turns, and its slacks and crossings of the mark if
+/// they are requested.
 #[derive(Drop)]
 pub struct Tracks {
-    /// High and low waters, or greatest and least streams.
+    /// The cells of high and low waters, or of greatest and least streams.
     pub turn: Cells,
-    /// Slacks: a current's turns to flood and to ebb.
+    /// The cells of slacks, a current's turns to flood and to ebb, or `None` if they aren't requested.
     pub slack: Option<Cells>,
-    /// Crossings of the mark.
+    /// The cells of crossings of the mark, or `None` if there is no mark.
     pub mark: Option<Cells>,
 }

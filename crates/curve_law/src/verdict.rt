@@ -1,17 +1,18 @@
 //! The result of checking a track's cells.
 
-/// The result of checking a track's cells: the first fault, or none. Cells are counted from 1.
+/// The result of checking the cells of one track over a span: accepted, or the first fault. Cells are
+/// counted from 1.
 #[derive(Clone, Copy, Debug, PartialEq, Eq)]
 pub enum Verdict {
-    /// The cells cover the span, and each one's claim is true.
+    /// The cells cover the span, and the claim of each cell is true.
     Accepted,
-    /// The cells have another number of minutes than the span. If that number exceeds an `i64`, `covered`
-    /// is the greatest `i64`.
+    /// The cells have a different number of minutes than the span. If that number exceeds an `i64`,
+    /// `covered` is the greatest `i64`.
     WrongLength {
         covered: i64,
         wanted: i64,
     },
-    /// A quiet cell that isn't quiet, or whose length isn't from 2 to 1,024.
+    /// A cell marked quiet isn't quiet, or its length isn't from 2 to 1,024.
     NotQuiet {
         cell: u32,
     },
@@ -20,7 +21,7 @@ pub enum Verdict {
     WrongStep {
         cell: u32,
     },
-    /// An event whose level isn't the track's.
+    /// An event doesn't have the track's level.
     WrongLevel {
         cell: u32,
         written: i64,

@@ -10,8 +10,8 @@ ghost use Rattle.curve_law.specs.Cover.{is_quiet, cover};
 ghost use Rattle.curve_law.specs.Samples.{line, ripple};
 ghost use Rattle.curve_law.specs.Verdicts.{verdict};
 
-/// Proves examples of quiet cells. End values whose sum is exactly the rate times the minutes suffice
-/// below 0 but not above it. Values of 0 are quiet if they never change.
+/// Proves examples of quiet cells. Below 0, end values whose sum is exactly the rate times the minutes
+/// are quiet; above 0 they aren't. Values of 0 are quiet if they never change.
 #[tactic(auto, unfolding(crate::specs::Cover::keeps_side, crate::specs::Cover::is_quiet))]
 pub fn worked_quiet_cells()
     ensures exactly_above { is_quiet (line (pos 1) false (pos 3)) (pos 1) 2 ≡ false }

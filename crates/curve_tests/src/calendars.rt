@@ -10,13 +10,12 @@ use std::alloc::{AllocError, Global};
 use std::process::Abort;
 use zone_time::{Zone, read_zone};
 
-// A file of two offsets: six hours ahead of universal time, and one hour behind it from
-// 2000-01-10T20:00Z on.
+/// A file of two offsets: six hours ahead of universal time, and one hour behind it from
+/// 2000-01-10T20:00Z on.
 const SET_BACK: &[u8] = b"TZif\0\0\0\0\0\0\0\0\0\0\0\0\0\0\0\0\0\0\0\0\0\0\0\0\0\0\0\0\
     \0\0\0\x01\0\0\0\x02\0\0\0\x08\x38\x7a\x3a\x40\x01\0\0\x54\x60\0\0\xff\xff\xf1\xf0\0\x04AAA\0BBB\0";
 
-// Returns the zone `ahead` minutes ahead of universal time, or that of the file if there is no
-// number.
+/// Returns the zone `ahead` minutes ahead of universal time, or the file's zone if there is no number.
 fn zone_of(alloc: Global, ahead: Option<i32>) -> Zone
     ensures { IsZone result }
 {
@@ -30,7 +29,7 @@ fn zone_of(alloc: Global, ahead: Option<i32>) -> Zone
     }
 }
 
-// The minutes by which a clock is ahead, the span's ends, events, and the calendar.
+/// The minutes by which a clock is ahead, the span's ends, events, and the calendar.
 type Calendar = (
     Option<i32>,
     i64,
@@ -82,7 +81,7 @@ const CALENDARS: &[Calendar] = &[
     ),
 ];
 
-// Returns true if a calendar of the events has this text.
+/// Returns true if a calendar of the events has this text.
 fn is_calendar(alloc: Global, name: &Text, calendar: &Calendar) -> bool {
     let &(ahead, begin, end, items, expected) = calendar;
     if !is_in_years(begin) || !is_in_years(end) || end < begin {

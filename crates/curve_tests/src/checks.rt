@@ -10,7 +10,7 @@ use curve_law::{Cell, Cells, Curve, Kind, Verdict};
 use std::alloc::Global;
 use std::process::Abort;
 
-// Returns true if cells may be checked on `curve`, not yet evaluated.
+/// Returns true if cells may be checked on `curve`, not yet evaluated.
 fn can_check<C: Curve>(curve: &C, begin: i64, end: i64) -> bool
     ensures { IsTrue result → (begin ≤ℤ end) × ((C.state curve.now).facts.meaning.first ≤ℤ begin)
         × (end ≤ℤ (C.state curve.now).facts.meaning.last) × ((C.state curve.now).count ≡ 0) }
@@ -18,7 +18,7 @@ fn can_check<C: Curve>(curve: &C, begin: i64, end: i64) -> bool
     begin <= end && curve.first() <= begin && end <= curve.last() && curve.evaluations() == 0
 }
 
-// Returns the verdict on `cells` if they may be checked.
+/// Returns the verdict on `cells` if they may be checked.
 fn verdict<C: Curve>(curve: &mut C, begin: i64, end: i64, cells: &Cells) -> Option<Verdict> {
     if can_check(curve, begin, end) && cells.as_slice().len() <= 1000 {
         Some(check_track(curve, cells, begin, end))
@@ -27,7 +27,7 @@ fn verdict<C: Curve>(curve: &mut C, begin: i64, end: i64, cells: &Cells) -> Opti
     }
 }
 
-// Returns true if the verdict on `cells` is `wanted`, after at most one evaluation a cell and one more.
+/// Returns true if the verdict on `cells` is `wanted`, after at most one evaluation a cell and one more.
 fn finds<C: Curve + Drop>(
     alloc: Global,
     curve: C,
@@ -44,7 +44,7 @@ fn finds<C: Curve + Drop>(
     found == Some(wanted) && is_few(curve.evaluations(), cells.len())
 }
 
-// Returns a line that rises past 0 after minute 2, where its level is 2.
+/// Returns a line that rises past 0 after minute 2, where its level is 2.
 fn rising() -> Line {
     Line::new(-2, false, 1)
 }
@@ -63,7 +63,7 @@ const LONGEST: Cell = Cell::Quiet(u32::MAX);
 
 const ACCEPTED: Verdict = Verdict::Accepted;
 
-// The end of the minutes from 0 on, cells of the rising line, and the verdict on them.
+/// The end of the minutes from 0 on, cells of the rising line, and the verdict on them.
 type Case = (i64, &'static [Cell], Verdict);
 
 const RIGHT: &[Case] = &[
@@ -78,7 +78,7 @@ const RIGHT: &[Case] = &[
     (0, &[], ACCEPTED),
 ];
 
-// Lengths are tested first.
+/// Lengths are tested first.
 const WRONG_LENGTHS: &[Case] = &[
     (
         8,

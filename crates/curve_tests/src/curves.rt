@@ -30,8 +30,8 @@ fn kinds_go_by_the_side(rt: HostRuntime) {
     assert!(rt; kind_after(false, Kind::Low, Kind::High) == Kind::Low);
 }
 
-// Returns the sum of all values from `begin` to `end`, or `None` if the curve was evaluated too often
-// before.
+/// Returns the sum of all values from `begin` to `end`, or `None` if the curve was evaluated too often
+/// before.
 fn sum<C: Curve>(curve: &mut C, begin: i64, end: i64) -> Option<i128> {
     let mut sum: i128 = 0;
     for m in begin..end {
@@ -40,7 +40,7 @@ fn sum<C: Curve>(curve: &mut C, begin: i64, end: i64) -> Option<i128> {
     Some(sum)
 }
 
-// Returns true if the sum is the expected one.
+/// Returns true if the sum is the expected one.
 fn has_sum<C: Curve>(curve: &mut C, begin: i64, end: i64, wanted: i128) -> bool {
     sum(curve, begin, end) == Some(wanted)
 }
@@ -69,8 +69,8 @@ fn ripples_return_their_values(rt: HostRuntime) {
     assert_holds(&rt, has_kinds, "kinds");
 }
 
-// Returns whether the eight minutes from 0 on are quiet, and the cell of the first one, by approximate
-// values.
+/// Returns whether the eight minutes from 0 on are quiet, and the cell of the first one, by approximate
+/// values.
 fn decided<C: Curve>(curve: &mut C) -> Option<(bool, Cell)> {
     if 0 < curve.first() || curve.last() < 8 || curve.evaluations() > 1000 {
         return None;
@@ -84,7 +84,7 @@ fn decided<C: Curve>(curve: &mut C) -> Option<(bool, Cell)> {
     ))
 }
 
-// Returns the value at minute 0 by way of an approximate one.
+/// Returns the value at minute 0 by way of an approximate one.
 fn exact<C: Curve>(curve: &mut C) -> Option<i128> {
     if 0 < curve.first() || curve.last() < 0 || curve.evaluations() > 1000 {
         return None;
@@ -93,8 +93,8 @@ fn exact<C: Curve>(curve: &mut C) -> Option<i128> {
     Some(curve.exact_value(0, approximate))
 }
 
-// The value of a line at minute 0, true if it falls, its rate, whether the eight minutes from 0 on are quiet,
-// and the cell of the first one.
+/// The value of a line at minute 0, true if it falls, its rate, whether the eight minutes from 0 on are quiet,
+/// and the cell of the first one.
 const DECIDED: &[(i64, bool, i64, bool, Cell)] = &[
     (1, false, 1, true, Cell::Still),
     (-8, false, 1, true, Cell::Still),
@@ -113,7 +113,7 @@ fn is_decided<C: Curve + Drop>(curve: C, is_quiet: bool, cell: Cell) -> bool {
     }
 }
 
-// Returns true if the eight minutes from 0 on of a line are as expected.
+/// Returns true if the eight minutes from 0 on of a line are as expected.
 fn is_line_decided(start: i64, falls: bool, rate: i64, is_quiet: bool, cell: Cell) -> bool {
     if start.unsigned_abs() > 1000 || !(1..=1000).contains(&rate) {
         return false;

@@ -5,14 +5,14 @@ ghost use Rattle.curve_law.specs.Meaning.{IsMinute};
 
 use curve_law::Curve;
 
-// Returns true if the curve has a value at minute `m`.
+/// Returns true if the curve has a value at minute `m`.
 fn has_minute<C: Curve>(curve: &C, m: i64) -> bool
     ensures { IsTrue result → IsMinute (C.state curve.now).facts.meaning m }
 {
     curve.first() <= m && m <= curve.last()
 }
 
-// Returns true if the curve was evaluated at most a million times.
+/// Returns true if the curve was evaluated at most a million times.
 fn is_evaluated_seldom<C: Curve>(curve: &C) -> bool
     ensures { IsTrue result → (C.state curve.now).count < 2 ^ 63 }
 {

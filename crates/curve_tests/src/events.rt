@@ -14,7 +14,7 @@ use interval_search::Search;
 use station_table::{Basis, Offset, Slack};
 use std::alloc::{AllocError, Global};
 
-// A unit, an event's kind and level, and its name.
+/// A unit, an event's kind and level, and its name.
 const NAMES: &[(Units, Kind, i64, &str)] = &[
     (Units::Feet, Kind::High, 999962, "High Tide"),
     (Units::Meters, Kind::Low, -1000000, "Low Tide"),
@@ -35,7 +35,7 @@ fn names_go_by_the_unit(rt: HostRuntime) {
     }
 }
 
-// Returns the name of an event, or `None` if it has none.
+/// Returns the name of an event, or `None` if it has none.
 fn named(units: Units, kind: Kind, level: i64) -> Option<&'static str> {
     let is_slack = matches!(kind, Kind::FloodBegins | Kind::EbbBegins);
     match units {
@@ -66,8 +66,8 @@ pub fn event(minute: i64, kind: Kind, level: i64) -> Event {
     }
 }
 
-// Returns offsets: highs 30 minutes later at 1.1 times the level and 0.1 more, lows 10 minutes
-// earlier at 0.9 times.
+/// Returns offsets: highs 30 minutes later at 1.1 times the level and 0.1 more, lows 10 minutes
+/// earlier at 0.9 times.
 pub fn dock(slack: Option<Slack>) -> Basis
     requires { ForSome slack IsSlack }
     ensures { HasOffsets result }
@@ -89,7 +89,7 @@ pub fn dock(slack: Option<Slack>) -> Basis
     }
 }
 
-// Returns true if the events can be moved.
+/// Returns true if the events can be moved.
 pub fn are_movable(events: &[Event]) -> bool
     ensures { IsTrue result → All IsMovable events.now }
 {
@@ -103,7 +103,7 @@ fn is_movable(event: &Event) -> bool
     in_range && -11_000_000_000 <= event.level && event.level <= 11_000_000_000
 }
 
-// A current's turns and slacks from half an hour before a midnight to ten minutes after the next.
+/// A current's turns and slacks from half an hour before a midnight to ten minutes after the next.
 #[tactic(auto, unfolding(curve_law::specs::Cells::all_minutes))]
 fn current(alloc: Global) -> Result<Tracks, AllocError>
     ensures { IfOk result (λ tracks. AreShort tracks) }
@@ -135,7 +135,7 @@ fn current(alloc: Global) -> Result<Tracks, AllocError>
     })
 }
 
-// Returns true if the events have these minutes, kinds and levels.
+/// Returns true if the events have these minutes, kinds and levels.
 fn are_events(events: &[Event], wanted: &[(i64, Kind, i64)]) -> bool {
     for (place, &(minute, kind, level)) in wanted.iter().enumerate() {
         if place >= events.len() || events[place] != event(minute, kind, level) {
@@ -145,7 +145,7 @@ fn are_events(events: &[Event], wanted: &[(i64, Kind, i64)]) -> bool {
     events.len() == wanted.len()
 }
 
-// The events of the current at the gate.
+/// The events of the current at the gate.
 const SHIFTED: &[(i64, Kind, i64)] = &[
     (29, Kind::High, 1199958),
     (174, Kind::EbbBegins, 8727),
@@ -193,7 +193,7 @@ fn spans_are_widened(rt: HostRuntime) {
     assert!(rt; span.begin == -30 && span.end == 1450);
 }
 
-// Returns the merged events of a line and of a ripple from minute 0 to 3.
+/// Returns the merged events of a line and of a ripple from minute 0 to 3.
 fn line_and_ripple() -> Merge<Line, Ripple> {
     let turn = Line::new(-2, false, 1);
     let merge = Merge::new(
@@ -221,7 +221,7 @@ fn events_come_one_at_a_time(rt: HostRuntime) -> Result<(), AllocError> {
     Ok(())
 }
 
-// The minute of each event, and the number of cells that the searches have found after it.
+/// The minute of each event, and the number of cells that the searches have found after it.
 const FOUND: &[(i64, u64)] = &[(0, 4), (1, 5), (2, 6), (2, 6)];
 
 fn is_next<A: Curve, B: Curve>(merge: &mut Merge<A, B>, minute: i64, cells: u64) -> bool {
@@ -240,7 +240,7 @@ fn cells_are_counted_as_they_are_given(rt: HostRuntime) {
     }
 }
 
-// Returns the events that are left.
+/// Returns the remaining events of `merge`.
 pub fn taken<A: Curve, B: Curve>(
     alloc: Global,
     merge: &mut Merge<A, B>,

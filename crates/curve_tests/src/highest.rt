@@ -18,7 +18,7 @@ use highest_water::{
 use std::alloc::Global;
 use std::process::Abort;
 
-// Returns true if the curve is valid over a span that has a minute.
+/// Returns true if the curve is valid over a span that has a minute.
 fn covers_span<C: Curve>(curve: &C, begin: i64, end: i64) -> bool
     ensures { IsTrue result → (begin <ℤ end) × ((C.state curve.now).facts.meaning.first ≤ℤ begin)
         × (end ≤ℤ (C.state curve.now).facts.meaning.last) }
@@ -38,7 +38,7 @@ fn is_asked_little<C: Curve>(curve: &C) -> bool
     curve.evaluations() <= 1_000_000
 }
 
-// Returns true if the highest water of a span may be searched.
+/// Returns true if the highest water of a span may be searched.
 fn can_find<C: Curve>(curve: &C, begin: i64, end: i64) -> bool
     ensures { IsTrue result → (begin <ℤ end) × ((C.state curve.now).facts.meaning.first ≤ℤ begin)
         × (end ≤ℤ (C.state curve.now).facts.meaning.last) × ((end -ℤ begin) ≤ℤ pos 5270400)
@@ -47,7 +47,7 @@ fn can_find<C: Curve>(curve: &C, begin: i64, end: i64) -> bool
     covers_span(curve, begin, end) && is_short(begin, end) && is_asked_little(curve)
 }
 
-// Returns the highest water that a search finds, or `None` if there is none.
+/// Returns the highest water that a search finds, or `None` if there is none.
 fn found<C: Curve>(alloc: Global, curve: &mut C, begin: i64, end: i64) -> Option<Peak> {
     if can_find(curve, begin, end) {
         find_peak(alloc, curve, begin, end).ok()
@@ -56,14 +56,14 @@ fn found<C: Curve>(alloc: Global, curve: &mut C, begin: i64, end: i64) -> Option
     }
 }
 
-// Returns true if the written highest water may be checked.
+/// Returns true if the written highest water may be checked.
 fn is_small(peak: &Peak) -> bool
     ensures { IsTrue result → (unsigned_abs peak.now.value < 10 ^ 37) × (length peak.now.cells ≤ 10 ^ 6) }
 {
     peak.value.unsigned_abs() < 1_000_000 && peak.cells.as_slice().len() <= 1_000_000
 }
 
-// Returns the highest water by an evaluation of every minute.
+/// Returns the highest water by an evaluation of every minute.
 fn looked_at<C: Curve>(curve: &mut C, begin: i64, end: i64) -> Option<(i64, i128)> {
     let mut highest = None;
     for m in begin..end {
@@ -76,7 +76,7 @@ fn looked_at<C: Curve>(curve: &mut C, begin: i64, end: i64) -> Option<(i64, i128
     highest
 }
 
-// Returns the verdict on a highest water, or `None` if it may not be checked.
+/// Returns the verdict on a highest water, or `None` if it may not be checked.
 fn verdict_on<C: Curve>(curve: &mut C, peak: &Peak, begin: i64, end: i64) -> Option<PeakVerdict> {
     if can_find(curve, begin, end) && is_small(peak) {
         Some(check_peak(curve, peak, begin, end))
@@ -85,7 +85,7 @@ fn verdict_on<C: Curve>(curve: &mut C, peak: &Peak, begin: i64, end: i64) -> Opt
     }
 }
 
-// Returns the verdict of a check, if it evaluates the curve at most once a cell and once more.
+/// Returns the verdict of a check, if it evaluates the curve at most once per cell, plus once.
 fn checked<C: Curve>(curve: &mut C, peak: &Peak, begin: i64, end: i64) -> Option<PeakVerdict> {
     let before = curve.evaluations();
     let verdict = verdict_on(curve, peak, begin, end)?;
@@ -93,8 +93,7 @@ fn checked<C: Curve>(curve: &mut C, peak: &Peak, begin: i64, end: i64) -> Option
     is_few(asked, peak.cells.as_slice().len()).then_some(verdict)
 }
 
-// Returns true if the search finds what an evaluation of every minute does, and the check accepts
-// it.
+/// Returns true if the search finds the same as an evaluation of every minute, and the check accepts it.
 fn finds<C: Curve + Drop>(alloc: Global, curve: C, looked: C, begin: i64, end: i64) -> bool {
     let mut curve = curve;
     let mut looked = looked;
@@ -111,7 +110,7 @@ fn hills() -> Hills {
     Hills::new(Top { at: 100, value: 50 }, Top { at: 700, value: 90 }, 1)
 }
 
-// Returns two equal tops, with a greater rate than need be.
+/// Returns two equal maxima, with a greater rate than necessary.
 fn equal_hills() -> Hills {
     Hills::new(Top { at: 100, value: 50 }, Top { at: 600, value: 50 }, 3)
 }
@@ -171,13 +170,13 @@ fn check_span(rt: &impl Abort, alloc: Global, begin: i64, end: i64) {
     assert_holds(rt, are_found, "ripple");
 }
 
-// Returns true if a search evaluates the curve less than 7,000 times.
+/// Returns true if a search evaluates the curve less than 7,000 times.
 fn asks_little<C: Curve + Drop>(alloc: Global, curve: C, begin: i64, end: i64) -> bool {
     let mut curve = curve;
     found(alloc, &mut curve, begin, end).is_some() && curve.evaluations() < 7000
 }
 
-// A search over some 2,000,000 minutes, which are 1,952 blocks.
+/// A search over some 2,000,000 minutes, which are 1,952 blocks.
 #[test]
 fn few_values_are_asked_for(rt: HostRuntime) {
     let alloc = rt.alloc();
@@ -186,8 +185,8 @@ fn few_values_are_asked_for(rt: HostRuntime) {
     assert!(rt; asks_little(alloc, rising, -999_000, 999_000));
 }
 
-// Returns true if the cells of a highest water are these, and their making evaluates the curve at
-// most once a cell and once more.
+/// Returns true if the cells of a highest water are these, and making them evaluates the curve at most
+/// once per cell, plus once.
 fn covers<C: Curve + Drop>(
     alloc: Global,
     curve: C,
@@ -251,8 +250,7 @@ fn covers_are_those_of_the_rule(rt: HostRuntime) {
     assert_holds(&rt, ripple, "ripple");
 }
 
-// Returns the verdict on a highest water of two equal tops, at minutes 2 and 6, over minutes 0 to
-// 8.
+/// Returns the verdict on a highest water of two equal maxima, at minutes 2 and 6, over minutes 0 to 8.
 fn verdict(alloc: Global, at: i64, value: i128, cells: &[PeakCell]) -> Option<PeakVerdict> {
     let cells = PeakCells::from_vec(Vec::from_slice(alloc, cells).ok()?);
     let first = Top { at: 2, value: 5 };
@@ -284,7 +282,7 @@ const WRONG_VALUE: PeakVerdict = PeakVerdict::WrongValue {
     computed: 5,
 };
 
-// A minute, its value, cells, and the verdict on them.
+/// A minute, its value, cells, and the verdict on them.
 const VERDICTS: &[(i64, i128, &[PeakCell], PeakVerdict)] = &[
     (2, 5, BY_RULE, PeakVerdict::Accepted),
     (2, 5, SINGLES, PeakVerdict::Accepted),

@@ -1,18 +1,18 @@
-//! A curve with two tops.
+//! A curve with two maxima.
 
 ghost use Rattle.std.specs.Prelude.{◌≡◌, ◌^◌, ◌≤◌, unsigned_abs, pos, ◌≤ℤ◌};
 
 use curve_law::{Curve, Kind};
 
-/// A top at a minute, from which the value falls by 1 each minute to both sides.
+/// A maximum at a minute, from which the value falls by 1 each minute to both sides.
 #[derive(Clone, Copy)]
 pub struct Top {
     pub at: i64,
     pub value: i64,
 }
 
-/// A curve of two tops over minutes -1,000,000 to 1,000,000, whose value at each minute is the
-/// greater one. The rate may be greater than it need be.
+/// A curve with two maxima over minutes -1,000,000 to 1,000,000: its value at each minute is the greater
+/// of the two. The rate may be greater than necessary.
 #[derive(Drop)]
 pub struct Hills {
     first: Top,
@@ -30,7 +30,7 @@ pub struct Hills {
 impl Hills {
     ghost use Rattle.curve_tests.specs.Workings.SampleLaws.{hills_facts};
 
-    /// Returns the curve of two tops, which wasn't evaluated yet.
+    /// Returns the curve with two maxima, not yet evaluated.
     pub fn new(first: Top, second: Top, rate: i64) -> Hills
         requires in_range { unsigned_abs first.at ≤ 10 ^ 12 }
         requires low { unsigned_abs first.value ≤ 10 ^ 12 }

@@ -30,7 +30,7 @@ const TIDE: &[Item] = &[
 
 const NOW: i64 = 15_791_220;
 
-// Returns a sheet that is opened for a station's name at a minute, with a limit.
+/// Returns a sheet that is opened for a station's name at a minute, with a limit.
 fn opened(alloc: Global, name: &str, now: i64, limit: u32) -> Result<IcalSheet, AllocError>
     ensures { IfOk result (λ sheet. (⟦<IcalSheet as Sheet>⟧.heading sheet).units ≡ Units.Feet) }
 {
@@ -47,7 +47,7 @@ fn opened(alloc: Global, name: &str, now: i64, limit: u32) -> Result<IcalSheet, 
     Ok(sheet)
 }
 
-// Offers events to `sheet`, and returns the number of those that it took.
+/// Passes events to `sheet`, and returns the number of events that it accepted.
 fn give(sheet: &mut IcalSheet, items: &[Item]) -> Result<u32, AllocError>
     requires { (⟦<IcalSheet as Sheet>⟧.heading sheet.old).units ≡ Units.Feet }
 {
@@ -94,7 +94,7 @@ fn holds(text: &[u8], part: &str) -> bool {
         .any(|bytes| bytes == part.as_bytes())
 }
 
-// Returns true if `text` is text whose lines have these lengths.
+/// Returns true if `text` is text with lines of these lengths.
 fn has_lengths(text: &[u8], lengths: &[usize]) -> bool {
     let Ok(text) = std::str::from_utf8(text) else {
         return false;
@@ -109,7 +109,7 @@ fn has_lengths(text: &[u8], lengths: &[usize]) -> bool {
     place == lengths.len()
 }
 
-// Returns true if `text` is text whose lines have at most 75 bytes.
+/// Returns true if `text` is text with lines of at most 75 bytes.
 fn has_short_lines(text: &[u8]) -> bool {
     match std::str::from_utf8(text) {
         Ok(text) => text.lines().all(|line| line.len() <= 75),
@@ -143,7 +143,7 @@ fn the_day_of_a_small_file_is_a_calendar(rt: HostRuntime) {
     assert!(rt; is_text(calendar(alloc, "Pier", NOW, &[]), ""));
 }
 
-// A number of letters, and the lengths of their folded lines.
+/// A number of letters, and the lengths of their folded lines.
 const FOLDED: &[(usize, &[usize])] = &[
     (0, &[0]),
     (74, &[74]),
@@ -174,7 +174,7 @@ fn lines_are_folded(rt: HostRuntime) {
     }
 }
 
-// Returns true if `text` is unfolded to `line` and its end.
+/// Returns true if `text` is unfolded to `line` and its end.
 fn unfolds_to(alloc: Global, text: &[u8], line: &[u8]) -> bool {
     match unfold(alloc, text) {
         Ok(unfolded) => unfolded.as_slice().strip_suffix(b"\r\n") == Some(line),
@@ -182,7 +182,7 @@ fn unfolds_to(alloc: Global, text: &[u8], line: &[u8]) -> bool {
     }
 }
 
-// Returns true if a line is unfolded to what it was before it was folded.
+/// Returns true if a line is unfolded to what it was before it was folded.
 fn is_unfolded(alloc: Global, line: &[u8]) -> bool {
     match folded(alloc, line) {
         Ok(text) => unfolds_to(alloc, text.as_slice(), line),
@@ -208,14 +208,14 @@ fn lines_are_unfolded(rt: HostRuntime) {
     assert!(rt; is_text(unfold(rt.alloc(), b"a\r\n b\r\n\tc\r\nd"), "abc\r\nd"));
 }
 
-// A name, and how it stands in a calendar.
+/// A name, and how it is written in a calendar.
 const NAMES: &[(&str, &str)] = &[
     ("Pier, North; A\\B", "Pier\\, North\\; A\\\\B"),
     ("C\u{e1}diz: \"old\"", "C\u{e1}diz: \"old\""),
     ("\\n;,", "\\\\n\\;\\,"),
 ];
 
-// Returns true if the calendar of a tide has a part.
+/// Returns true if the calendar of a tide has a part.
 fn has_part(alloc: Global, name: &str, now: i64, part: &str) -> bool {
     match calendar(alloc, name, now, TIDE) {
         Ok(text) => holds(text.as_slice(), part),
@@ -223,7 +223,7 @@ fn has_part(alloc: Global, name: &str, now: i64, part: &str) -> bool {
     }
 }
 
-// Returns true if the calendar of a tide has a summary of this name.
+/// Returns true if the calendar of a tide has a summary of this name.
 fn has_summary(alloc: Global, name: &str, expected: &str) -> bool {
     match format!(in alloc; "\r\nSUMMARY:{expected} Low Tide -1.00 feet\r\n") {
         Ok(summary) => has_part(alloc, name, NOW, summary.as_str()),
@@ -240,7 +240,7 @@ fn names_are_escaped(rt: HostRuntime) {
     }
 }
 
-// Returns true if the lines of a text, unfolded, have `letters` between `before` and `after`.
+/// Returns true if the lines of a text, unfolded, have `letters` between `before` and `after`.
 fn has_unfolded(alloc: Global, text: &[u8], before: &str, letters: &str, after: &str) -> bool {
     let Ok(part) = format!(in alloc; "{before}{letters}{after}") else {
         return false;
@@ -273,7 +273,7 @@ fn a_long_name_is_folded_between_its_letters(rt: HostRuntime) -> Result<(), Allo
     Ok(())
 }
 
-// Returns the text of a sheet with a limit of 2, if it took two events.
+/// Returns the text of a sheet with a limit of 2, if it accepted two events.
 fn full_sheet(alloc: Global) -> Result<Bytes, AllocError> {
     let mut sheet = opened(alloc, "Pier", NOW, 2)?;
     if give(&mut sheet, TIDE)? != 2 {
@@ -282,7 +282,7 @@ fn full_sheet(alloc: Global) -> Result<Bytes, AllocError> {
     sheet.text()
 }
 
-// Returns true if a sheet has this word, or `None` if memory runs out.
+/// Returns true if a sheet has this word, or `None` if memory runs out.
 fn is_named(alloc: Global, word: &str) -> Option<bool> {
     let word = Text::from_str(alloc, word).ok()?;
     Some(IcalSheet::new(alloc, 2).named(&word))
@@ -302,7 +302,7 @@ fn sheets_have_their_word(rt: HostRuntime) {
     assert!(rt; is_named(rt.alloc(), "first") == Some(false));
 }
 
-// A minute, and the stamp of a calendar that is made then.
+/// A minute, and the stamp of a calendar that is made then.
 const STAMPS: &[(i64, &str)] = &[
     (i64::MIN, "DTSTAMP:00010101T000000Z\r\n"),
     (-1_035_593_281, "DTSTAMP:00010101T000000Z\r\n"),

@@ -1,8 +1,8 @@
 //! Tests of the crates of curves: of levels and rates, of cells and verdicts, of events and highest
 //! waters, and of listings and sheets.
 //!
-//! They use only the public items of those crates. They are in a crate of their own because a crate
-//! with tests is proved twice: with and without them.
+//! They use only the public items of these crates. They are in a separate crate because a crate with
+//! tests is proved twice: with and without them.
 #![tactic(auto)]
 
 #[cfg(test)]

@@ -44,7 +44,7 @@ fn are_listed(units: Units, events: &[Event]) -> bool
     events.iter().all(|event| is_listed(units, event))
 }
 
-// Returns minutes, kinds and levels as events, or an error if one can't be listed.
+/// Returns minutes, kinds and levels as events, or an error if one can't be listed.
 pub fn events_of(
     alloc: Global,
     units: Units,
@@ -73,7 +73,7 @@ fn are_rows(rows: &[Row]) -> bool
     rows.iter().all(|row| is_row(row))
 }
 
-// Returns minutes and levels as rows, or an error if one is out of range.
+/// Returns minutes and levels as rows, or an error if one is out of range.
 pub fn rows_of(alloc: Global, items: &[(i64, i64)]) -> Result<Rows, AllocError>
     ensures { IfOk result (All (λ row. InZoneYears row.minute)) }
 {
@@ -88,7 +88,7 @@ pub fn rows_of(alloc: Global, items: &[(i64, i64)]) -> Result<Rows, AllocError>
     }
 }
 
-// Returns the zone `ahead` minutes ahead of universal time, or universal time if `ahead` is 0.
+/// Returns the zone `ahead` minutes ahead of universal time, or universal time if `ahead` is 0.
 pub fn zone_of(ahead: i32) -> Zone
     ensures { IsZone result }
 {
@@ -113,7 +113,7 @@ const CURRENT: &[(i64, Kind, i64)] = &[
     (15791580, Kind::FloodBegins, 0),
 ];
 
-// Returns true if a text was made, and is the expected one.
+/// Returns true if a text was made, and is the expected one.
 pub fn is_text(made: Result<Bytes, AllocError>, expected: &str) -> bool {
     match made {
         Ok(text) => text.as_slice() == expected.as_bytes(),
@@ -121,7 +121,7 @@ pub fn is_text(made: Result<Bytes, AllocError>, expected: &str) -> bool {
     }
 }
 
-// A station, its unit, the minutes by which a clock is ahead, events, and both listings of them.
+/// A station, its unit, the minutes by which a clock is ahead, events, and both listings of them.
 type EventLists = (
     &'static str,
     Units,
@@ -209,7 +209,7 @@ fn events_are_listed(rt: HostRuntime) {
     }
 }
 
-// The minutes by which a clock is ahead, levels, and both listings of them.
+/// The minutes by which a clock is ahead, levels, and both listings of them.
 type HeightLists = (i32, &'static [(i64, i64)], &'static str, &'static str);
 
 const HEIGHTS: &[HeightLists] = &[
@@ -257,7 +257,7 @@ fn heights_are_listed(rt: HostRuntime) -> Result<(), AllocError> {
     Ok(())
 }
 
-// A direction, the minutes by which a clock is ahead, events, and the listing of the level now.
+/// A direction, the minutes by which a clock is ahead, events, and the listing of the level now.
 type Clock = (bool, i32, &'static [(i64, Kind, i64)], &'static str);
 
 const CLOCKS: &[Clock] = &[
@@ -306,7 +306,7 @@ fn clocks_are_printed(rt: HostRuntime) -> Result<(), AllocError> {
     Ok(())
 }
 
-// A level, its unit, and the line of it.
+/// A level, its unit, and the line of it.
 const LEVELS: &[(i64, Units, &str)] = &[
     (
         -15000,

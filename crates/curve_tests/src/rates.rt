@@ -9,10 +9,10 @@ use station_curve::{CurveFault, StationCurve};
 use std::process::Abort;
 use year_blend::LONGEST_SPAN;
 
-/// The rate of a cell, the values at both ends and the level at its begin.
+/// The rate of a cell, the values at both ends and the level at its beginning.
 type Stated = (Option<i128>, i128, i128, i64);
 
-// Returns the rate of a cell, or `None` if the curve has no such cell.
+/// Returns the rate of a cell, or `None` if the curve has no such cell.
 fn cell_rate<C: Curve>(curve: &C, a: i64, n: u32) -> Option<Option<i128>> {
     let end = a.checked_add(i64::from(n))?;
     if n == 0 || n > LONGEST_SPAN || a < curve.first() || curve.last() < end {
@@ -21,7 +21,7 @@ fn cell_rate<C: Curve>(curve: &C, a: i64, n: u32) -> Option<Option<i128>> {
     Some(curve.rate(a, n))
 }
 
-/// Returns the rate of a cell, the values at both ends and the level at its begin.
+/// Returns the rate of a cell, the values at both ends and the level at its beginning.
 fn stated<C: Curve>(curve: &mut C, a: i64, n: u32) -> Option<Stated> {
     let rate = cell_rate(curve, a, n)?;
     let begin = value_at(curve, a)?;
@@ -29,7 +29,7 @@ fn stated<C: Curve>(curve: &mut C, a: i64, n: u32) -> Option<Stated> {
     Some((rate, begin, end, note_at(curve, a)?))
 }
 
-// Returns true if a cell has a rate, values and a level, and they are as expected.
+/// Returns true if a cell has a rate, values and a level, and they are as expected.
 fn states<C: Curve>(curve: &mut C, a: i64, n: u32, want: Stated) -> bool {
     match stated(curve, a, n) {
         Some(found) => found == want,
@@ -37,7 +37,7 @@ fn states<C: Curve>(curve: &mut C, a: i64, n: u32, want: Stated) -> bool {
     }
 }
 
-// Returns the rate of a cell that has values and a level.
+/// Returns the rate of a cell that has values and a level.
 fn rate_of<C: Curve>(curve: &mut C, a: i64, n: u32) -> Option<i128> {
     stated(curve, a, n)?.0
 }
@@ -56,8 +56,8 @@ const LATER: i128 = 584_097_739_822_080_000_000_000_000_000_000;
 
 const DAY: i128 = -86_788_214_691_840_000_000_000_000_000_000;
 
-// A cell: its first minute, its minutes, its rate outside new years and everywhere, its values and its
-// level.
+/// A cell: its first minute, its minutes, its rate outside new years and everywhere, its values and its
+/// level.
 const SLOPES: &[(i64, u32, Option<i128>, Option<i128>, i128, i128, i64)] = &[
     (15_791_040, 8, SLOPE_RATE, SLOPE_RATE, 0, DAY, 1_000_000),
     (

@@ -22,8 +22,8 @@ pub fn is_printable(name: &str) -> bool
     name.as_bytes().iter().all(|b| *b >= 32 && *b != 127)
 }
 
-// Returns the text of the sheets whose words are in `wanted`, separated by '|', if the name and the
-// events are in range.
+/// Returns the text of the sheets whose words are in `wanted`, separated by '|', if the name and the
+/// events are in range.
 fn report(
     alloc: Global,
     sheets: Vec<Box<dyn Sheet>>,
@@ -45,7 +45,8 @@ fn report(
     fill(alloc, sheets, &words, &head, &events)
 }
 
-// Returns the text of the three sheets of the program, of which `first` has a limit of its own.
+/// Returns the text of the three sheets of the program; the first limit is the one of `first`, the second
+/// the one of the other two.
 fn report_of_three(
     alloc: Global,
     limits: (u32, u32),
@@ -64,7 +65,7 @@ fn report_of_three(
     report(alloc, sheets, wanted, name, items)
 }
 
-// Returns true if a text consists of these parts.
+/// Returns true if a text consists of these parts.
 fn consists_of(text: &[u8], parts: &[&str]) -> bool {
     let mut left = text;
     for part in parts {
@@ -89,7 +90,7 @@ const FIRST_TWO: &str = "Pier\n\
 const LAST_TWO: &str = "2000-01-10 18:00 UTC      -1.00 feet  Low Tide\n\
     2000-01-10 23:59 UTC       1.00 feet  High Tide\n";
 
-// The requested words, the limit of the sheet `first`, and the parts of the text.
+/// The requested words, the limit of the sheet `first`, and the parts of the text.
 const REPORTS: &[(&str, u32, &[&str])] = &[
     (
         "first|tally|range",
@@ -102,7 +103,7 @@ const REPORTS: &[(&str, u32, &[&str])] = &[
     ("graph", 10, &[]),
 ];
 
-// Returns true if a text was made, and consists of these parts.
+/// Returns true if a text was made, and consists of these parts.
 fn has_parts(made: Result<Bytes, AllocError>, parts: &[&str]) -> bool {
     match made {
         Ok(text) => consists_of(text.as_slice(), parts),
@@ -144,7 +145,7 @@ fn sheets_of_any_kind_are_filled(rt: HostRuntime) -> Result<(), AllocError> {
     Ok(())
 }
 
-// Returns the text of a sheet whose call `at` runs out of memory, and of one before it.
+/// Returns the text of a sheet whose call `at` runs out of memory, and of one before it.
 fn refused(alloc: Global, at: Option<Refusal>) -> Result<Bytes, AllocError> {
     let mut sheets: Vec<Box<dyn Sheet>> = Vec::new(alloc);
     sheets.push(Box::new(alloc, Tally::new(alloc, 4))?)?;
@@ -158,7 +159,7 @@ const CALLS: &[(Refusal, &str)] = &[
     (Refusal::Text, "text"),
 ];
 
-// The same report has its text where no call fails, so that the error is the sheet's own.
+/// The same report has its text if no call fails, so the error is due to the sheet.
 #[test]
 fn refusals_leave_no_text(rt: HostRuntime) {
     let kept = refused(rt.alloc(), None);
@@ -168,7 +169,7 @@ fn refusals_leave_no_text(rt: HostRuntime) {
     }
 }
 
-// Requested words, and the place of the first one that no sheet has.
+/// Requested words, and the place of the first one that no sheet has.
 const MISSING: &[(&str, Option<u64>)] = &[
     ("tally|few", None),
     ("few|tally", None),

@@ -9,7 +9,7 @@ use curve_law::{Cell, Curve, Kind};
 use interval_search::{Found, Search, search};
 use std::alloc::Global;
 
-// Returns true if a search may begin on `curve`, not yet evaluated.
+/// Returns true if a search may begin on `curve`, not yet evaluated.
 fn can_search<C: Curve>(curve: &C, begin: i64, end: i64) -> bool
     ensures { IsTrue result → (begin ≤ℤ end) × ((C.state curve.now).facts.meaning.first ≤ℤ begin)
         × (end ≤ℤ (C.state curve.now).facts.meaning.last) × ((C.state curve.now).count ≡ 0) }
@@ -17,7 +17,8 @@ fn can_search<C: Curve>(curve: &C, begin: i64, end: i64) -> bool
     begin <= end && curve.first() <= begin && end <= curve.last() && curve.evaluations() == 0
 }
 
-// Returns true if the search returns the cells `wanted`, and evaluates at most once a cell and once more.
+/// Returns true if the search returns the cells `wanted`, and evaluates at most once per cell, plus
+/// once.
 fn has_cells<C: Curve + Drop>(
     alloc: Global,
     curve: C,
@@ -35,7 +36,7 @@ fn has_cells<C: Curve + Drop>(
     }
 }
 
-// Returns true if a search in steps returns `wanted`, and nothing after that.
+/// Returns true if a search in steps returns `wanted`, and nothing after that.
 fn has_steps<C: Curve + Drop>(curve: C, begin: i64, end: i64, wanted: &[Found]) -> bool {
     if !can_search(&curve, begin, end) {
         return false;

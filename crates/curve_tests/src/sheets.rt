@@ -1,4 +1,4 @@
-//! Sheets of the tests' own.
+//! Sheets that only the tests use.
 
 ghost use Rattle.std.specs.Prelude.{◌++◌, codes, decimal, length};
 ghost use Rattle.report_sheets.specs.Sheets.{IsLimit};
@@ -9,8 +9,7 @@ use itoa::Buffer;
 use report_sheets::{Collected, Head, Sheet, Taken};
 use std::alloc::{AllocError, Global};
 
-/// A sheet with a word of its own, whose text is this word and the number of events that it has
-/// taken.
+/// A sheet with the given word; its text is this word and the number of events that it has accepted.
 #[derive(Drop)]
 pub struct Counter {
     word: Text,

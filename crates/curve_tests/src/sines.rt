@@ -7,7 +7,7 @@ ghost use Rattle.fixed_sine.specs.Rate.{IsSpeed};
 use crate::asserts::assert_holds;
 use fixed_sine::*;
 
-// A place on the circle, its sine and its cosine.
+/// A place on the circle, its sine and its cosine.
 type Sines = (i64, i64, i64);
 
 const SINES: &[Sines] = &[
@@ -34,7 +34,7 @@ fn is_on_circle(place: i64) -> bool
     (0..CIRCLE).contains(&place)
 }
 
-// Returns true if a place is on the circle, and has this sine and this cosine.
+/// Returns true if a place is on the circle, and has this sine and this cosine.
 fn has_sines(place: i64, sine: i64, cosine: i64) -> bool {
     is_on_circle(place) && isin(place) == sine && icos(place) == cosine
 }
@@ -46,7 +46,7 @@ fn sines_and_cosines(rt: HostRuntime) {
     }
 }
 
-// A speed and its step.
+/// A speed and its step.
 const STEPS: &[(i64, i64)] = &[
     (0, 1),
     (300_000_000, 8_727_001),
@@ -66,7 +66,7 @@ fn steps_of_speeds(rt: HostRuntime) {
     }
 }
 
-// An angle and its place on the circle.
+/// An angle and its place on the circle.
 const PLACES: &[(i128, i64)] = &[
     (-1, 215_999_999_999),
     (0, 0),
@@ -99,7 +99,7 @@ const BINARY_SINES: &[Sines] = &[
     (215_999_999_999, 0, 999_999_999),
 ];
 
-// Returns the binary angle of a place on the circle, and that a quarter of the circle ahead.
+/// Returns the binary angle of a place on the circle, and the binary angle a quarter of the circle ahead.
 fn binary_angles(place: i64) -> (u64, u64) {
     if !is_on_circle(place) {
         return (0, 0);
@@ -120,7 +120,7 @@ fn sines_and_cosines_of_binary_angles(rt: HostRuntime) {
     }
 }
 
-// The approximate sines are the sines in the middle of each of 8,192 parts of the circle, in 2^15 billionths.
+/// The approximate sines are the sines in the middle of each of 8,192 parts of the circle, in 2^15 billionths.
 const APPROXIMATE_SINES: &[Sines] = &[
     (0, 12, 30_518),
     (300_000_000, 269, 30_516),

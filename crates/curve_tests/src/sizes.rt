@@ -27,7 +27,7 @@ const BEGIN: i64 = 15_778_080;
 /// The first minute of 2001.
 const END: i64 = 16_305_120;
 
-// Returns true if a curve that wasn't evaluated yet is valid over the year.
+/// Returns true if a curve that wasn't evaluated yet is valid over the year.
 fn has_year<C: Curve>(curve: &C) -> bool
     ensures { IsTrue result → ((C.state curve.now).facts.meaning.first ≤ℤ pos 15778080)
         × (pos 16305120 ≤ℤ (C.state curve.now).facts.meaning.last) × ((C.state curve.now).count ≡ 0) }
@@ -46,7 +46,7 @@ fn year_cells<C: Curve>(alloc: Global, curve: &mut C) -> Result<Cells, AllocErro
     Ok(cells)
 }
 
-// Returns the cells of a pier's turns over the year, and the number of evaluations.
+/// Returns the cells of a pier's turns over the year, and the number of evaluations.
 fn pier_cells(alloc: Global) -> Result<(Cells, u64), AllocError>
     ensures { IfOk result (λ found. all_minutes found.0 ≤ 6000000) }
 {
@@ -69,15 +69,15 @@ fn merged_turns(alloc: Global, turn: Cells) -> Result<Events, AllocError>
     merged(alloc, &tracks, BEGIN)
 }
 
-// Returns true if a half-daily tide has a low at 6 and 18 o'clock and a high before noon and
-// midnight on each day.
+/// Returns true if a half-daily tide has a low at 6 and 18 o'clock and a high before noon and
+/// midnight on each day.
 fn is_a_year(events: &[Event]) -> bool {
     events.len() == 1_464
         && events.first() == Some(&event(BEGIN + 360, Kind::Low, -1_000_000))
         && events.last() == Some(&event(END - 1, Kind::High, 999_962))
 }
 
-// Returns true if the events of the year are moved to the dock.
+/// Returns true if the events of the year are moved to the dock.
 fn are_moved(alloc: Global, events: &Events) -> bool {
     if !are_movable(events.as_slice()) {
         return false;
@@ -150,7 +150,7 @@ fn a_year_comes_one_event_at_a_time(rt: HostRuntime) -> Result<(), CurveFault> {
     Ok(())
 }
 
-/// A text's length, its begin and its end.
+/// A text's length, its beginning and its end.
 type Form = (usize, &'static str, &'static str);
 
 /// Returns true if a text was made, and has this form.
@@ -185,7 +185,7 @@ const STATIONS: Form = (
     "Sub knots^2 Dock (Gate)\nSub knots^2 Dock (Gate)\n",
 );
 
-// Returns 100,000 rows of one foot, one a minute.
+/// Returns 100,000 rows of one foot, one a minute.
 fn many_rows(alloc: Global) -> Result<Rows, AllocError>
     ensures { IfOk result (All (λ row. InZoneYears row.minute)) }
 {
@@ -213,7 +213,7 @@ fn many_heights_are_listed(rt: HostRuntime) -> Result<(), AllocError> {
     Ok(())
 }
 
-// Returns a text with 2,000 more parts.
+/// Returns a text with 2,000 more parts.
 fn with_more(alloc: Global, text: &[u8], more: &[u8]) -> Result<Vec<u8>, AllocError> {
     let mut longer = Vec::from_slice(alloc, text)?;
     for _ in 0..2_000u32 {

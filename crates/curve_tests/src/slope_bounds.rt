@@ -6,7 +6,7 @@ use crate::stations::curve_of;
 use slope_agreement::*;
 use std::alloc::Global;
 
-/// A file with one constituent whose node factor is greater in the second of two years.
+/// A file with one constituent that has a greater node factor in the second of two years.
 const GROWING: &[u8] = b"1\nS2 30\n1999\n2\nS2\n0 0\n*END*\n2\nS2\n1 1.2\n*END*\n\
     Pier\n0:00 :UTC\n0 feet\nS2 1 0\n";
 
@@ -14,7 +14,7 @@ const GROWING: &[u8] = b"1\nS2 30\n1999\n2\nS2\n0 0\n*END*\n2\nS2\n1 1.2\n*END*\
 const FLAT: &[u8] = b"1\nS2 30\n1999\n2\nS2\n0 0\n*END*\n2\nS2\n1 1.2\n*END*\n\
     Pier\n0:00 :UTC\n5 feet\nS2 0 0\n";
 
-// A speed and its gap.
+/// A speed and its gap.
 const GAPS: &[(i64, i128)] = &[
     (0, 68_754_935_416),
     (300_000_000, 2_648_169_054_935_416),

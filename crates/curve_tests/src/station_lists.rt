@@ -24,7 +24,7 @@ pub const TABLE: &[u8] =
     Lost,Nowhere,,,,,,\n\
     Pier,Dock,,,,,,\n";
 
-// The minutes by which a clock is ahead, and the listing of a highest water.
+/// The minutes by which a clock is ahead, and the listing of a highest water.
 const HIGHEST: &[(i32, &str)] = &[
     (
         0,
@@ -67,7 +67,7 @@ fn check_boston(rt: &impl Abort, alloc: Global, name: &Text) {
     assert_holds(rt, is_about(alloc, name, ABOUT), ABOUT);
 }
 
-// A station whose name has commas.
+/// A station with a name that has commas.
 #[test]
 fn stations_are_described(rt: HostRuntime) -> Result<(), AllocError> {
     let name = Text::from_str(rt.alloc(), "Boston, Boston Harbor")?;
@@ -84,8 +84,8 @@ fn listed_with(alloc: Global, book: &Book, rows: &[u8]) -> Result<Bytes, AllocEr
     stations_text(alloc, book, &table)
 }
 
-// Returns the list of the stations of a file and of a table of offsets, or an error if one of them can't
-// be read.
+/// Returns the list of the stations of a file and of a table of offsets, or an error if one of them can't
+/// be read.
 pub fn listed_stations(alloc: Global, file: &[u8], rows: &[u8]) -> Result<Bytes, AllocError> {
     if file.len() >= 1_000_000 || rows.len() >= 1_000_000 {
         return Err(AllocError);

@@ -13,7 +13,7 @@ use std::alloc::{AllocError, Global};
 use std::process::Abort;
 use year_blend::{LONGEST_SPAN, Stretch, year_start};
 
-// Returns a file with one constituent, three years from 1999 and one station.
+/// Returns a file with one constituent, three years from 1999 and one station.
 fn pier_file(
     alloc: Global,
     speed: &str,
@@ -26,7 +26,7 @@ fn pier_file(
     )
 }
 
-// Returns the book of a small file with one station.
+/// Returns the book of a small file with one station.
 fn small_book(alloc: Global, file: &[u8]) -> Option<Book>
     ensures book { IfSome result IsBook }
     ensures one { IfSome result (λ book. length book.stations ≡ 1) }
@@ -52,14 +52,14 @@ pub fn curve_of(alloc: Global, file: &[u8]) -> Result<StationCurve, CurveFault> 
     }
 }
 
-// Returns true if the minute is of the years 1999 to 2001, or the first one after them.
+/// Returns true if the minute is in the years 1999 to 2001, or is the first minute after them.
 fn is_in_file(m: i64) -> bool
     ensures { IsTrue result → InDomain (pos 1999) 3 m }
 {
     year_start(1999) <= m && m <= year_start(2002)
 }
 
-// Returns the curve of the one station of a book of the years 1999 to 2001.
+/// Returns the curve of the one station of a book of the years 1999 to 2001.
 fn minutes_of(alloc: Global, book: &Book, first: i64, last: i64) -> Result<StationCurve, CurveFault>
     requires book { IsBook book.now }
     requires one { length book.now.stations ≡ 1 }
@@ -76,7 +76,7 @@ fn minutes_of(alloc: Global, book: &Book, first: i64, last: i64) -> Result<Stati
     StationCurve::over(alloc, book, 0, first, last)
 }
 
-// Returns the same curve for the minutes from `first` to `last`.
+/// Returns the same curve for the minutes from `first` to `last`.
 fn curve_over(
     alloc: Global,
     file: &[u8],
@@ -103,12 +103,12 @@ fn is_in_years(curve: &StationCurve, m: i64) -> bool
     curve.first() <= m && m <= curve.last()
 }
 
-// Returns true if this is the level at minute `m`, and if it rises there as is expected.
+/// Returns true if this is the level at minute `m`, and if it rises there as is expected.
 fn has_level(curve: &StationCurve, m: i64, level: i64, rises: bool) -> bool {
     is_in_years(curve, m) && curve.millionths(m) == level && (curve.slope(m) > 0) == rises
 }
 
-// A minute, its level, and true if it rises there.
+/// A minute, its level, and true if it rises there.
 const LEVELS: &[(i64, i64, bool)] = &[
     (15_777_960, 500_000, true),
     (15_778_020, 866_025, true),
@@ -148,7 +148,7 @@ fn is_slope_near(curve: &StationCurve, m: i64, slope: i128) -> bool {
     is_in_years(curve, m) && curve.approximate_slope(m) == slope
 }
 
-// A minute, its approximate level and its approximate slope: at 90.5 and at 150 degrees.
+/// A minute, its approximate level and its approximate slope: at 90.5 and at 150 degrees.
 const NEAR: &[(i64, i128, i128)] = &[
     (
         15_850_141,
@@ -167,7 +167,7 @@ fn has_errors(curve: &StationCurve) -> bool {
         && curve.slope_error() == 499_787_366_400_000_000_000_000_000_000
 }
 
-// The level at a new year is exact.
+/// The level at a new year is exact.
 fn check_approximate_levels(rt: &impl Abort, curve: &StationCurve) {
     for &(m, level, slope) in NEAR {
         assert_holds(rt, is_level_near(curve, m, level), m);
@@ -185,7 +185,7 @@ fn approximate_levels(rt: HostRuntime) -> Result<(), CurveFault> {
     Ok(())
 }
 
-// Returns true if the `n` minutes from `m` on are in this part of the years.
+/// Returns true if the `n` minutes from `m` on are in this part of the years.
 fn is_stretch(curve: &StationCurve, m: i64, n: u32, want: Stretch) -> bool {
     let Some(end) = m.checked_add(i64::from(n)) else {
         return false;
@@ -196,7 +196,7 @@ fn is_stretch(curve: &StationCurve, m: i64, n: u32, want: Stretch) -> bool {
     curve.stretch(m, n) == want
 }
 
-// A first minute, a number of minutes, and the part of the years in which they are.
+/// A first minute, a number of minutes, and the part of the years in which they are.
 const STRETCHES: &[(i64, u32, Stretch)] = &[
     (15_252_480, 1_024, Stretch::Within { year: 0 }),
     (15_776_996, 1_024, Stretch::Within { year: 0 }),
@@ -254,12 +254,12 @@ fn laws_and_rows_stand(_rt: HostRuntime) {
     approximate_values();
 }
 
-// Returns true if a curve has waves in a year.
+/// Returns true if a curve has waves in a year.
 fn has_waves(curve: &StationCurve, year: u32) -> bool {
     year < curve.years() && curve.sums(year).amount > 0
 }
 
-// The first and the last minute of a curve, and for each year whether it has waves.
+/// The first and the last minute of a curve, and for each year whether it has waves.
 const WAVES: &[(i64, i64, bool, bool, bool)] = &[
     (15_778_140, 16_305_060, true, true, true),
     (15_778_141, 16_305_060, false, true, true),
@@ -268,7 +268,7 @@ const WAVES: &[(i64, i64, bool, bool, bool)] = &[
     (16_830_720, 16_830_720, false, false, true),
 ];
 
-// Returns for each year whether the curve of a file from `first` to `last` has waves.
+/// Returns for each year whether the curve of a file from `first` to `last` has waves.
 fn waves_over(alloc: Global, file: &[u8], first: i64, last: i64) -> Option<(bool, bool, bool)> {
     match curve_over(alloc, file, first, last) {
         Ok(curve) => Some((
@@ -306,7 +306,7 @@ const STEEP: Option<CurveFault> = Some(CurveFault::TooSteep { year: 1999 });
 
 const LARGE: Option<CurveFault> = Some(CurveFault::TooLarge { year: 1999 });
 
-// A speed, an amplitude, its unit, and the fault of the curve.
+/// A speed, an amplitude, its unit, and the fault of the curve.
 const LIMITS: &[(&str, &str, &str, Option<CurveFault>)] = &[
     ("30", "333.333333", "feet", None),
     ("30", "333.333334", "feet", STEEP),
@@ -315,7 +315,8 @@ const LIMITS: &[(&str, &str, &str, Option<CurveFault>)] = &[
     ("10", "1000.000001", "knots^2", Some(CurveFault::Hydraulic)),
 ];
 
-// Returns true if both the curve of a file and that for the first minute of its years have this fault.
+/// Returns true if both the curve of a file for all minutes and the curve for the first minute of its
+/// years have this fault.
 fn has_fault(alloc: Global, file: &[u8], want: Option<CurveFault>) -> bool {
     curve_of(alloc, file).err() == want
         && curve_over(alloc, file, 15_252_480, 15_252_480).err() == want

@@ -15,12 +15,12 @@ use std::alloc::{AllocError, Global};
 use std::process::Abort;
 use zone_time::Zone;
 
-// The year from 2000-01-01T00:00Z up to 2001-01-01T00:00Z.
+/// The year from 2000-01-01T00:00Z up to 2001-01-01T00:00Z.
 const BEGIN: i64 = 15_778_080;
 
 const END: i64 = 16_305_120;
 
-// A name of 400 bytes.
+/// A name of 400 bytes.
 const NAME: &str =
     "0123456789abcdefghijklmnopqrstuvwxyz0123456789abcdefghijklmnopqrstuvwxyz01234567\
     0123456789abcdefghijklmnopqrstuvwxyz0123456789abcdefghijklmnopqrstuvwxyz01234567\
@@ -28,7 +28,7 @@ const NAME: &str =
     0123456789abcdefghijklmnopqrstuvwxyz0123456789abcdefghijklmnopqrstuvwxyz01234567\
     0123456789abcdefghijklmnopqrstuvwxyz0123456789abcdefghijklmnopqrstuvwxyz01234567";
 
-// Returns 1,412 low and high waters by turns, one foot below and above 0.
+/// Returns 1,412 low and high waters by turns, one foot below and above 0.
 fn events_of_year(alloc: Global) -> Result<Events, AllocError>
     ensures { IfOk result (All (IsListed Units.Feet)) }
 {
@@ -44,7 +44,7 @@ fn events_of_year(alloc: Global) -> Result<Events, AllocError>
     events_of(alloc, Units::Feet, items.as_slice())
 }
 
-// Returns the same levels from hour to hour, 8,784 of them.
+/// Returns the same levels from hour to hour, 8,784 of them.
 fn rows_of_year(alloc: Global) -> Result<Rows, AllocError>
     ensures { IfOk result (All (λ row. InZoneYears row.minute)) }
 {
@@ -60,7 +60,7 @@ fn rows_of_year(alloc: Global) -> Result<Rows, AllocError>
     rows_of(alloc, items.as_slice())
 }
 
-// Returns true if a text was made, and has this length.
+/// Returns true if a text was made, and has this length.
 fn has_length(made: Result<Bytes, AllocError>, length: usize) -> bool {
     match made {
         Ok(text) => text.as_slice().len() == length,

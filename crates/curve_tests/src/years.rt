@@ -8,7 +8,7 @@ ghost use Rattle.year_blend.specs.Weights.{IsWithinHourOfNewYear};
 use crate::asserts::assert_holds;
 use year_blend::*;
 
-// A year and its first minute.
+/// A year and its first minute.
 const STARTS: &[(i32, i64)] = &[
     (2, -1_035_067_680),
     (1900, -36_816_480),
@@ -32,7 +32,7 @@ fn starts_of_years(rt: HostRuntime) {
     }
 }
 
-// A minute and its place in the three years from 1999.
+/// A minute and its place in the three years from 1999.
 const PLACES: &[(i64, Place)] = &[
     (15_252_480, Place::Plain { year: 0 }),
     (15_252_539, Place::Plain { year: 0 }),
@@ -46,7 +46,7 @@ const PLACES: &[(i64, Place)] = &[
     (16_830_720, Place::Plain { year: 2 }),
 ];
 
-// Returns true if a minute is in the three years from 1999.
+/// Returns true if a minute is in the three years from 1999.
 fn is_in_years(minute: i64) -> bool
     ensures { IsTrue result → InDomain (pos 1999) 3 minute }
 {
@@ -61,7 +61,7 @@ fn places_of_minutes(rt: HostRuntime) {
     }
 }
 
-// A first minute, a number of minutes, and the part of the years in which they are.
+/// A first minute, a number of minutes, and the part of the years in which they are.
 const STRETCHES: &[(i64, u32, Stretch)] = &[
     (15_776_996, 1024, Stretch::Within { year: 0 }),
     (15_776_997, 1024, Stretch::Across { year: 1 }),
@@ -91,7 +91,7 @@ fn stretches_of_minutes(rt: HostRuntime) {
     }
 }
 
-// A year and the end of its part that isn't blended.
+/// A year and the end of its part that isn't blended.
 const ENDS: &[(u32, i64)] = &[(0, 15_778_020), (1, 16_305_060), (2, 16_830_720)];
 
 #[test]
@@ -102,7 +102,7 @@ fn ends_of_plain_parts(rt: HostRuntime) {
     }
 }
 
-// A minute from the new year, its weight and its slope.
+/// A minute from the new year, its weight and its slope.
 const WEIGHTS: &[(i64, i64, i64)] = &[
     (-60, 0, 0),
     (-59, 23_701, 70_805),

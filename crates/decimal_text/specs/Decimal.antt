@@ -44,19 +44,20 @@ pub record Decimal : Type 0 where
   pub whole : List ℕ
   pub fraction : List ℕ
 
--- the fraction's digits of what follows the whole digits: nothing, or a point (46) and digits
+-- the digits of the fraction in the bytes after the whole digits: none if there are no bytes, or the
+-- bytes after a point (46)
 unfoldable pub after_point : List ℕ → Option (List ℕ)
 after_point [] = Some []
 after_point (c ∷ rest) = if c == 46 then Some rest else None
 
--- the decimal of a sign and digits, if only digits follow the point and there is one digit at least
+-- the decimal with this sign, if only digits follow the point and there is at least one digit
 unfoldable pub made_of : Bool → List ℕ → List ℕ → Option Decimal
 made_of negative whole fraction =
     if list_all is_ascii_digit fraction && nat_lt 0 (length whole + length fraction)
     then Some (record { negative = negative; whole = whole; fraction = fraction })
     else None
 
--- the decimal that a text writes, or none
+-- the decimal that a text writes, or None if it isn't one
 unfoldable pub decimal_of : List ℕ → Option Decimal
 decimal_of text =
     let body = without_leading_sign text in
@@ -67,15 +68,16 @@ decimal_of text =
 abbrev pub numerator_of : Decimal → ℕ
 numerator_of d = digits_value 10 (d.whole ++ d.fraction)
 
--- n with a sign: -n if `negative`
+-- the number n with a sign: -n if `negative`
 abbrev pub signed : Bool → ℕ → ℤ
 signed negative n = if negative then neg_ℤ (pos n) else pos n
 
--- n / 10 ^ places is the value of the decimal
+-- the integer is the decimal's value times 10 ^ places
 abbrev pub IsScaled : Decimal → ℕ → ℤ → Type 0
 IsScaled d places n = n *ℤ pos (10 ^ length d.fraction) ≡ signed d.negative (numerator_of d) *ℤ pos (10 ^ places)
 
--- the decimal in steps of 1 / 10 ^ places; TooLong with more than 18 digits before the point
+-- the decimal as a whole number of steps of 1 / 10 ^ places; TooLong if it has more than 18 digits
+-- before the point, TooFine if it isn't a whole number of steps
 unfoldable pub scaled : ℕ → Decimal → Result ℤ DecimalFault
 scaled places d =
     let steps = numerator_of d * 10 ^ places in let unit = 10 ^ length d.fraction in
@@ -83,21 +85,21 @@ scaled places d =
     else if steps % unit == 0 then Ok (signed d.negative (steps / unit))
     else Err TooFine
 
--- the steps of a decimal that was found, or BadForm
+-- the steps of 1 / 10 ^ places of a decimal, or BadForm if there is none
 unfoldable pub scaled_or_bad : ℕ → Option Decimal → Result ℤ DecimalFault
 scaled_or_bad places None = Err BadForm
 scaled_or_bad places (Some d) = scaled places d
 
--- the value of a text in steps of 1 / 10 ^ places, or its error
+-- the value of a text as a whole number of steps of 1 / 10 ^ places, or its fault
 unfoldable pub read_of : List ℕ → ℕ → Result ℤ DecimalFault
 read_of text places = scaled_or_bad places (decimal_of text)
 
--- a number read from a text is the fraction that the text's digits write
+-- each number that is read from a text, over 10 ^ places, is the fraction that the text's digits write
 abbrev pub ReadsItsFraction : Type 0
 ReadsItsFraction = (text : List ℕ) (places : ℕ) (n : ℤ) → read_of text places ≡ Ok n
     → IsSomeAnd (decimal_of text) (λ d. IsScaled d places n)
 
--- a text that is TooFine is no whole number of steps
+-- the fraction of a text that is refused as TooFine isn't a whole number of steps
 abbrev pub TooFineIsNoFraction : Type 0
 TooFineIsNoFraction = (text : List ℕ) (places : ℕ) (n : ℤ) → read_of text places ≡ Err TooFine
     → IsSomeAnd (decimal_of text) (λ d. ¬ (IsScaled d places n))

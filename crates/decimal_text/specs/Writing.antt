@@ -7,12 +7,12 @@ unfoldable pub last_digits : ℕ → ℕ → List ℕ
 last_digits zero n = []
 last_digits (suc places) n = (48 + n / 10 ^ places % 10) ∷ last_digits places n
 
--- `-` (45) for a negative number, else nothing
+-- the byte `-` (45) for a negative number, else no byte
 abbrev pub minus_of : ℤ → List ℕ
 minus_of (pos n) = []
 minus_of (negsuc n) = 45 ∷ []
 
--- the point (46) and the decimals; nothing if there are no decimals
+-- the point (46) and the last `places` digits; no byte if `places` is 0
 abbrev pub fraction_of : ℕ → ℕ → List ℕ
 fraction_of zero n = []
 fraction_of (suc places) n = 46 ∷ last_digits (suc places) n
@@ -21,6 +21,6 @@ fraction_of (suc places) n = 46 ∷ last_digits (suc places) n
 abbrev pub whole_of : ℤ → ℕ → List ℕ
 whole_of value places = decimal (unsigned_abs value / 10 ^ places)
 
--- value / 10 ^ places as a decimal: sign, whole digits, and the point with `places` digits
+-- value / 10 ^ places as the text of a decimal: sign, whole digits, and the point with `places` digits
 unfoldable pub write_of : ℤ → ℕ → List ℕ
 write_of value places = minus_of value ++ whole_of value places ++ fraction_of places (unsigned_abs value)

@@ -8,8 +8,9 @@ ghost use Rattle.decimal_text.specs.Writing.{write_of};
 ghost use Rattle.decimal_text.specs.declared.fault.DecimalFault.TheVariants.{BadForm, TooLong, TooFine};
 ghost use Rattle.decimal_text.specs.declared.limits.TheConstants.{MOST_BYTES};
 
-/// Proves that a number read by [`crate::read`], over `10^places`, is the fraction that the text's digits
-/// write, and that a text that is too fine is no whole number of steps.
+/// Proves that if [`crate::read`] returns a number `n` for a text, `n / 10^places` is the fraction that
+/// the text writes, and that if it refuses a text as too fine, no whole number of steps is that
+/// fraction.
 pub fn reads_its_fraction()
     ensures read { ReadsItsFraction }
     ensures too_fine { TooFineIsNoFraction }
@@ -65,7 +66,7 @@ pub fn worked_roundings()
     ensures odd_unit { rounded_of (pos 4) 3 ≡ pos 1 }
 {}
 
-/// Proves the limit on the length of a text.
+/// Proves that the greatest length of a text that is read is 400,000,000 bytes.
 pub fn worked_limits()
     ensures text { MOST_BYTES ≡ 400000000 }
 {}

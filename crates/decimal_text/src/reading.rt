@@ -32,8 +32,8 @@ const MOST_WHOLE_DIGITS: usize = 18;
 
 /// Returns the decimal `text` as a whole number of steps of `1 / 10^places`; `places` is at most 9.
 ///
-/// A decimal is an optional `+` or `-`, digits, and an optional point with digits, with one digit
-/// at least in all. The text is read once from left to right, whatever its length. It doesn't allocate.
+/// A decimal is an optional `+` or `-`, digits, and an optional point with digits, with at least one
+/// digit in all. The text is read once from left to right, whatever its length. It doesn't allocate.
 ///
 /// # Errors
 /// The first of these that applies: [`DecimalFault::BadForm`] if `text` isn't a decimal;

@@ -25,7 +25,8 @@ fn rounded_size(size: u128, unit: u64) -> u128
     (2 * size + unit) / (2 * unit)
 }
 
-/// Returns `value / unit` rounded as by [`rounded`], in arithmetic of 64 bits.
+/// Returns `value / unit` rounded to the nearest whole number, a half away from 0, in arithmetic of 64
+/// bits.
 pub fn rounded_short(value: i64, unit: u32) -> i64
     requires some { 0 < unit }
     requires room { unsigned_abs value < 2 ^ 61 }

@@ -3,7 +3,7 @@
 ghost use Rattle.std.specs.Prelude.{◌≡◌};
 ghost use Rattle.std.specs.Str.Parse.{starts_with_minus, without_leading_sign};
 
-/// Returns true if `text` begins with `-`, and `text` without the one `+` or `-` that it may begin with.
+/// Returns whether `text` begins with `-`, and the rest of `text` after an optional `+` or `-`.
 pub fn split_sign(text: &[u8]) -> (bool, &[u8])
     ensures minus { result.0 ≡ starts_with_minus text.now }
     ensures rest { result.1.now ≡ without_leading_sign text.now }

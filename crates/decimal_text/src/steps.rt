@@ -5,7 +5,8 @@ ghost use Rattle.std.specs.List.{list_all};
 ghost use Rattle.std.specs.Char.{is_ascii_digit};
 ghost use Rattle.std.specs.Str.Parse.{digits_value};
 
-/// Returns 10 to the power of `exponent`, from a table: `pow` multiplies in a loop.
+/// Returns 10 to the power of `exponent`, which is from 0 to 9. It uses a table, since `pow` multiplies
+/// in a loop.
 pub fn power_of_ten(exponent: u32) -> u64
     requires { exponent ≤ 9 }
     ensures { result ≡ 10 ^ exponent }
@@ -23,13 +24,14 @@ pub fn power_of_ten(exponent: u32) -> u64
     }
 }
 
-/// The digits of a fraction read so far, as one number.
+/// The digits of a fraction read until now, as a whole number of steps of `1 / 10^places`.
 #[derive(Clone, Copy)]
 pub struct Steps {
+    /// The number that the digits read until now write, up to the last decimal place.
     pub value: u64,
-    /// The number of decimal places still to be read.
+    /// The number of decimal places of the fraction that are still to be read.
     pub left: u32,
-    /// True if no digit other than 0 followed the last place.
+    /// True if every digit read after the last decimal place is 0.
     pub exact: bool,
 }
 
@@ -55,7 +57,7 @@ impl Steps {
         }
     }
 
-    /// Returns the number of steps, if the fraction ends here: places not read count as 0.
+    /// Returns the number of steps if the fraction ends here: each decimal place not read counts as 0.
     pub fn total(self) -> u64
         requires { (self.value + 1) * 10 ^ self.left ≤ 10 ^ 9 }
         ensures value { result ≡ self.value * 10 ^ self.left }
@@ -64,7 +66,8 @@ impl Steps {
         self.value * power_of_ten(self.left)
     }
 
-    /// Returns the steps of all digits of `fraction`, or `None` if it has a byte that isn't a digit.
+    /// Returns the digits of `fraction` read to `places` decimal places, at most 9, or `None` if
+    /// `fraction` has a byte that isn't a digit.
     pub fn over(fraction: &[u8], places: u32) -> Option<Steps>
         requires { places ≤ 9 }
         ensures { MatchOption result

@@ -39,7 +39,7 @@ impl Text {
         })
     }
 
-    /// Borrows the text.
+    /// Borrows the text as a `str`.
     pub fn as_str(&self) -> &str
         ensures { result.now ≡ self.now }
     {

@@ -21,8 +21,8 @@ use tide_answer::Status;
 use tide_desk::run;
 use tide_edge::{FixedClock, MemoryFiles, MemorySink, NamedFile};
 
-// A file: a text with another line in place of one of its lines, which are counted from 1 (line 0
-// changes nothing), a text behind so many bytes `#` that it has this length, or bytes.
+/// A file: a text with another line in place of one of its lines, which are counted from 1 (line 0
+/// changes nothing), a text after so many bytes `#` that it has this length, or bytes.
 #[derive(Clone, Copy)]
 enum Source<'a> {
     Line(&'a str, usize, &'a str),
@@ -30,7 +30,7 @@ enum Source<'a> {
     Bytes(&'a [u8]),
 }
 
-// The numbers of the calls that fail, counted from 1 for each object.
+/// The numbers of the calls that fail, counted from 1 for each object.
 #[derive(Clone, Copy)]
 struct Fails {
     files: u64,
@@ -46,9 +46,9 @@ const NONE: Fails = Fails {
     clock: 0,
 };
 
-// A run: the file `pier.txt` and those beside it, the calls that fail, the arguments, whether the
-// sheet `first` takes two events and not ten, the most bytes that a write takes, and the status and
-// the texts that follow. At most so many bytes of the second one are written.
+/// A run: the file `pier.txt` and the other files, the calls that fail, the arguments, whether the sheet
+/// `first` accepts two events rather than ten, the most bytes that a write accepts, and the resulting
+/// status and texts. At most the given number of bytes of the second text are written.
 #[derive(Clone, Copy)]
 struct Case<'a> {
     file: Source<'a>,
@@ -63,7 +63,7 @@ struct Case<'a> {
     most_err: usize,
 }
 
-// A day of the pier.
+/// A day of the pier.
 const CASE: Case<'static> = Case {
     file: Source::Line(PIER, 0, ""),
     more: &[],
@@ -77,7 +77,7 @@ const CASE: Case<'static> = Case {
     most_err: 4096,
 };
 
-// The files of a run, its outputs, and its clock.
+/// The files of a run, its outputs, and its clock.
 #[derive(Drop)]
 struct Desk {
     files: MemoryFiles,
@@ -127,12 +127,12 @@ fn files_of(alloc: Global, case: &Case<'_>) -> Result<Vec<NamedFile>, AllocError
     Ok(held)
 }
 
-// Returns an output that takes at most `most` bytes in a write.
+/// Returns an output that takes at most `most` bytes in a write.
 fn sink_of(alloc: Global, most: u64, room: u64, fails: u64) -> Result<MemorySink, AllocError> {
     MemorySink::new(alloc, most.max(1), room, [fails].to_vec(alloc)?)
 }
 
-// Returns the files and the outputs of a case, and a clock at 2000-01-10T03:00Z.
+/// Returns the files and the outputs of a case, and a clock at 2000-01-10T03:00Z.
 fn desk_of(alloc: Global, case: &Case<'_>) -> Result<Desk, AllocError> {
     let fails = case.fails;
     Ok(Desk {
@@ -143,7 +143,7 @@ fn desk_of(alloc: Global, case: &Case<'_>) -> Result<Desk, AllocError> {
     })
 }
 
-// Adds a sheet of each kind.
+/// Adds a sheet of each kind.
 fn add_sheets(
     alloc: Global,
     is_short: bool,
@@ -166,7 +166,7 @@ fn run_case(alloc: Global, case: &Case<'_>, desk: &mut Desk) -> Result<u8, Alloc
     Ok(run(alloc, &words, files, out, err, &mut desk.clock, sheets).number())
 }
 
-// Asserts the status of a run, and what it wrote to `out` and to `err`.
+/// Asserts the status of a run, and what it wrote to `out` and to `err`.
 fn assert_left(rt: &impl Abort, status: u8, desk: &Desk, case: &Case<'_>) {
     let err = case.err.as_bytes();
     assert_count(
@@ -213,7 +213,7 @@ fn files_have_limits(rt: HostRuntime) -> Result<(), Fail> {
     Ok(())
 }
 
-// Asserts the number of bytes and lines of a long text, its begin and its end.
+/// Asserts the number of bytes and lines of a long text, its begin and its end.
 fn assert_long(
     rt: &impl Abort,
     seen: &[u8],

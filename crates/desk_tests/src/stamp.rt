@@ -1,4 +1,4 @@
-//! A sheet of the tests' own.
+//! A sheet that only the tests use.
 
 ghost use Rattle.std.specs.Prelude.{◌++◌, codes, decimal, length};
 ghost use Rattle.std.specs.Fmt.{signed_decimal};
@@ -9,7 +9,7 @@ use decimal_text::{Bytes, Text};
 use report_sheets::{Collected, Head, Sheet, Taken};
 use std::alloc::{AllocError, Global};
 
-/// A sheet whose text is the number of its events and the minute of the report.
+/// A sheet with the number of its events and the minute of the report as its text.
 #[derive(Drop)]
 pub struct Stamp {
     collected: Collected,

@@ -42,7 +42,7 @@ span_minutes s = unsigned_abs (s.end -ℤ s.begin)
 
 -- ---- the events of the requested curves
 
--- the curves that are requested at a station: of high and low waters, of slack water, and of a mark
+-- the curves of the requested tracks of a station: of high and low waters, of slack water, and of a mark
 pub record Followed : Type 0 where
   pub turn : Meaning
   pub slack : Option Meaning
@@ -52,12 +52,12 @@ pub record Followed : Type 0 where
 abbrev pub curves_of : Followed → List Meaning
 curves_of f = f.turn ∷ (option_to_list f.slack ++ option_to_list f.mark)
 
--- the plain list of a curve over a span
+-- the events of a curve over a span, by looking at each minute
 abbrev pub events_over : Span → Meaning → List Event
 events_over s c = plain_list c.track s.begin (span_minutes s)
 
--- The events of a station: the plain lists of the reference's curves over the widened span, each event
--- moved and scaled, those within the span, in order.
+-- The events of a station: the events of the reference's curves over the widened span, each moved and
+-- scaled, and of these the events within the span, in order.
 unfoldable pub station_events : Followed → Basis → ℤ → ℤ → List Event
 station_events f b begin end =
     ordered (moved_within b begin end (flat_map (events_over (widened_of b begin end)) (curves_of f)))
@@ -72,7 +72,7 @@ tracks_of t = t.turn ∷ (option_to_list t.slack ++ option_to_list t.mark)
 unfoldable pub merged_of : ℤ → Tracks → List Event
 merged_of begin t = ordered (flat_map (cell_events begin) (tracks_of t))
 
--- the number of cells of all tracks
+-- the number of cells of all tracks together
 unfoldable pub cells_in : Tracks → ℕ
 cells_in t = sum_by length (tracks_of t)
 
@@ -88,24 +88,24 @@ covers_of f s = record {
   mark = option_map (cover_over s) f.mark;
 }
 
--- the number of cells of the requested curves over a span
+-- the number of cells of the requested curves over a span, by the halving rule
 unfoldable pub cell_count : Followed → Span → ℕ
 cell_count f s = cells_in (covers_of f s)
 
 -- ---- properties of curves and cells
 
--- each track has at most 6,000,000 minutes
+-- the cells of each track have at most 6,000,000 minutes together
 pub record AreShort (t : Tracks) : Type 0 where
   pub turn : all_minutes t.turn ≤ 6000000
   pub slack : ForSome t.slack (λ cells. all_minutes cells ≤ 6000000)
   pub mark : ForSome t.mark (λ cells. all_minutes cells ≤ 6000000)
 
--- a lawful curve with minutes that contain the span
+-- a lawful curve whose minutes include the span
 pub record IsValidOver (s : Span) (c : Meaning) : Type 0 where
   pub lawful : IsLawful c
   pub span : IsSpan c s.begin (span_minutes s)
 
--- all requested curves are lawful and contain the span
+-- all requested curves are lawful, and their minutes include the span
 pub record AreValidOver (f : Followed) (s : Span) : Type 0 where
   pub turn : IsValidOver s f.turn
   pub slack : ForSome f.slack (IsValidOver s)
@@ -115,26 +115,26 @@ pub record AreValidOver (f : Followed) (s : Span) : Type 0 where
 abbrev pub HasLevels : Meaning → Type 0
 HasLevels c = (m : ℤ) → IsMinute c m → unsigned_abs (c.track.note m) ≤ 11000000000
 
--- the levels of all requested curves are within the limit
+-- the levels of the events of all requested curves are at most 11,000,000,000 millionths in size
 pub record AllHaveLevels (f : Followed) : Type 0 where
   pub turn : HasLevels f.turn
   pub slack : ForSome f.slack HasLevels
   pub mark : ForSome f.mark HasLevels
 
--- a track exists exactly if its curve is requested, and is accepted over the span
+-- a track is present exactly if its curve is requested, and the check accepts it over the span
 abbrev pub IsAccepted : Span → Option Meaning → Option (List Cell) → Type 0
 IsAccepted s None None = Unit {0}
 IsAccepted s None (Some cells) = ⊥
 IsAccepted s (Some c) None = ⊥
 IsAccepted s (Some c) (Some cells) = verdict c s.begin (span_minutes s) cells ≡ Accepted
 
--- the tracks are those of the requested curves, and are accepted over the span
+-- the tracks are the requested curves' tracks, and the check accepts them over the span
 pub record AreAccepted (f : Followed) (s : Span) (t : Tracks) : Type 0 where
   pub turn : verdict f.turn s.begin (span_minutes s) t.turn ≡ Accepted
   pub slack : IsAccepted s f.slack t.slack
   pub mark : IsAccepted s f.mark t.mark
 
--- both are requested and agree over the span, or neither is requested
+-- both curves are requested and agree over the span, or neither is requested
 abbrev pub AgreeIfFollowed : Span → Option Meaning → Option Meaning → Type 0
 AgreeIfFollowed s None None = Unit {0}
 AgreeIfFollowed s None (Some d) = ⊥

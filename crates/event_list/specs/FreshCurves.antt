@@ -3,7 +3,7 @@ use Rattle.std.specs.Prelude.{◌≡◌, ◌≤ℤ◌}
 use Rattle.curve_law.specs.CurveStates.{CurveState}
 use Rattle.event_list.specs.declared.span.Span.{Span}
 
--- the curve has a value at each minute of the span, and wasn't evaluated yet
+-- the curve has a value at each minute of the span, and hasn't been evaluated yet
 pub record IsFreshOver (span : Span) (curve : CurveState) : Type 0 where
   pub forward : span.begin ≤ℤ span.end
   pub first : curve.facts.meaning.first ≤ℤ span.begin

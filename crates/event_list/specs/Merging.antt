@@ -11,8 +11,8 @@ use Rattle.event_list.specs.Order.{comes_before}
 
 -- ---- the state of a merge's searches
 
--- a search: its pending event, which was found but not yet returned, the minute that it has reached, and
--- the cells left from there on
+-- a search of a merge: its pending event, which was found but not yet returned, the minute that it has
+-- reached, and its remaining cells
 pub record Waiting : Type 0 where
   pub found : Option Event
   pub at : ℤ
@@ -23,28 +23,28 @@ abbrev pub minute_of : {C : Type 0} → Option (Looking C) → ℤ
 minute_of None = pos 0
 minute_of (Some search) = search.at
 
--- the cells left in a search; none without a search
+-- the remaining cells of a search; none without a search
 abbrev pub cells_of : {C : Type 0} → Option (Looking C) → List Cell
 cells_of None = []
 cells_of (Some search) = search.left
 
--- the state of a search with this pending event
+-- the state of a search in a merge, with this pending event
 abbrev pub waiting : {C : Type 0} → Option Event → Option (Looking C) → Waiting
 waiting found search = record { found = found; at = minute_of search; cells = cells_of search }
 
--- the states of the three searches
+-- the states of the three searches of a merge
 pub record AllWaiting : Type 0 where
   pub turn : Waiting
   pub slack : Waiting
   pub mark : Waiting
 
--- the number of cells left in all searches
+-- the number of remaining cells of all searches
 abbrev pub cells_to_come : AllWaiting → ℕ
 cells_to_come w = length w.turn.cells + length w.slack.cells + length w.mark.cells
 
 -- ---- how far a step runs the searches
 
--- a search after it has run up to the first cell with an event, or to its end
+-- a search after it has advanced up to the first cell with an event, or to its end
 unfoldable pub searched : ℤ → List Cell → Waiting
 searched a [] = record { found = None; at = a; cells = [] }
 searched a (Quiet n ∷ cells) = searched (a +ℤ pos n) cells
@@ -55,16 +55,17 @@ searched a (Turn kind level ∷ cells) = record {
   cells = cells;
 }
 
--- a search runs only if it has no pending event
+-- a search with this pending event: unchanged, or, if there is none, after it has advanced to its next
+-- event
 abbrev pub looked_event : Option Event → Waiting → Waiting
 looked_event None w = searched w.at w.cells
 looked_event (Some event) w = w
 
--- a search after it has run to its next event, if none is pending
+-- a search after it has advanced to its next event, unless it has a pending one
 abbrev pub looked : Waiting → Waiting
 looked w = looked_event w.found w
 
--- the pending event is returned, and no other is searched for yet
+-- a search after its pending event was returned; it has not advanced
 abbrev pub given : Waiting → Waiting
 given w = record { found = None; at = w.at; cells = w.cells }
 
@@ -74,20 +75,21 @@ leads a None = true
 leads None (Some e) = false
 leads (Some d) (Some e) = not (comes_before e d)
 
--- the track with the first event, if any has one; the earlier track if two events are equal
+-- the track with the first event, if any track has one; the earlier track if two events are equal
 abbrev pub leading : Option Event → Option Event → Option Event → Leading
 leading turn slack mark =
     if leads turn slack
     then (if leads turn mark then leadings.Turn else leadings.Mark)
     else (if leads slack mark then leadings.Slack else leadings.Mark)
 
--- the states after the event of one track is returned
+-- the states after the first event of one track was returned
 abbrev pub given_from : Leading → AllWaiting → AllWaiting
 given_from leadings.Turn w = record { turn = given w.turn; slack = w.slack; mark = w.mark }
 given_from leadings.Slack w = record { turn = w.turn; slack = given w.slack; mark = w.mark }
 given_from leadings.Mark w = record { turn = w.turn; slack = w.slack; mark = given w.mark }
 
--- a step runs each search without a pending event to its next one, and returns the first of the three
+-- a step of a merge: it advances each search without a pending event to its next one, and returns the
+-- first of the three
 abbrev pub stepped : AllWaiting → AllWaiting
 stepped w =
     given_from (leading (looked w.turn).found (looked w.slack).found (looked w.mark).found)
@@ -95,24 +97,25 @@ stepped w =
 
 -- ---- a merge
 
--- a merge: the events left, in order, the states of its searches, the number of cells that these have
--- returned so far, and the number of all their cells
+-- a merge: the remaining events in order, the states of its searches, the number of cells that these
+-- have returned until now, and the number of all their cells
 pub record Merging : Type 0 where
   pub left : List Event
   pub waiting : AllWaiting
   pub cells : ℕ
   pub all : ℕ
 
--- the cells left in a search, if there is one
+-- the remaining cells of a search, if there is a search
 abbrev pub cells_left : {C : Type 0} → Option (Looking C) → Option (List Cell)
 cells_left None = None
 cells_left (Some search) = Some search.left
 
--- the cells left in the three searches, as tracks
+-- the remaining cells of the three searches, as tracks
 abbrev pub tracks_left : {A B : Type 0} → Looking A → Option (Looking B) → Option (Looking B) → Tracks
 tracks_left turn slack mark = record { turn = turn.left; slack = cells_left slack; mark = cells_left mark }
 
--- a step returns the first of the events left, or none if none is left; then all cells were returned
+-- a step of a merge returns the first of the remaining events, or None if no event remains; then the
+-- searches have returned all cells
 abbrev pub ReturnsNext : Merging → Option Event → Merging → Type 0
 ReturnsNext old None new = (old.left ≡ []) × (new.left ≡ []) × (new.cells ≡ new.all)
 ReturnsNext old (Some event) new = old.left ≡ event ∷ new.left

@@ -4,8 +4,8 @@ use Rattle.std.specs.Ordering.{int_eq}
 use Rattle.curve_law.specs.declared.event.Event.{Event}
 use Rattle.curve_law.specs.Verdicts.{place_of}
 
--- the earlier minute comes first, then the kind of the lower rank; the level decides only if both are the
--- same
+-- one event is listed before another: at an earlier minute, or at the same minute with a kind of lower
+-- rank, or with the same kind at a lower level
 abbrev pub comes_before : Event → Event → Bool
 comes_before d e =
     int_lt d.minute e.minute
@@ -18,7 +18,7 @@ unfoldable pub with_event : Event → List Event → List Event
 with_event e [] = e ∷ []
 with_event e (d ∷ ds) = if comes_before d e then d ∷ with_event e ds else e ∷ d ∷ ds
 
--- the events in order
+-- events sorted into the order in which they are listed
 unfoldable pub ordered : List Event → List Event
 ordered [] = []
 ordered (e ∷ es) = with_event e (ordered es)

@@ -77,8 +77,8 @@ abbrev pub ebb_offset : Option Slack → Offset → Offset
 ebb_offset None high = high
 ebb_offset (Some slack) high = later_by slack.ebb_add
 
--- the offset of each kind: lows have their own, and so has slack water if the basis has its times; all
--- others have that of highs
+-- the offset of each kind of event: low waters and, if the basis has times of slack water, slacks have
+-- separate offsets; all others have the high waters' offset
 abbrev pub offset_of : Basis → Kind → Offset
 offset_of b High = b.high
 offset_of b Low = b.low
@@ -87,7 +87,7 @@ offset_of b EbbBegins = ebb_offset b.slack b.high
 offset_of b MarkRising = b.high
 offset_of b MarkFalling = b.high
 
--- a level in millionths, times the factor, rounded to whole millionths, plus the added level
+-- a level in millionths, times the offset's factor, rounded to whole millionths, plus the added level
 abbrev pub scaled : Offset → ℤ → ℤ
 scaled offset level = rounded_of (level *ℤ offset.times) 1000000 +ℤ offset.plus
 
@@ -105,7 +105,7 @@ moved b e = moved_by (offset_of b e.kind) e
 abbrev pub is_within : ℤ → ℤ → Event → Bool
 is_within begin end e = int_le begin e.minute && int_lt e.minute end
 
--- the events moved and scaled, those within the span
+-- the events, moved and scaled, that are then within the span
 abbrev pub moved_within : Basis → ℤ → ℤ → List Event → List Event
 moved_within b begin end events = filter (is_within begin end) (map (moved b) events)
 

@@ -1,4 +1,4 @@
--- The events of a pier and the bases of three stations near it, for tests; minutes are counted from a
+-- The events of a pier, and the bases of three stations near it, for tests; minutes are counted from a
 -- midnight (this project).
 use Rattle.std.specs.Prelude.{ℤ, pos, negsuc, false, true, List, [], ◌∷◌, Some, None}
 use Rattle.curve_law.specs.declared.cell.Cell.TheVariants.{Quiet, Still, Turn}
@@ -16,7 +16,7 @@ event minute kind level = record { minute = minute; kind = kind; level = level }
 
 -- ---- the pier
 
--- the pier's high and low waters from the minute before midnight on, for a day
+-- the pier's high and low waters for a day, from the minute before midnight on
 abbrev pub waters : List Event
 waters =
     event (negsuc 0) High (pos 999962)
@@ -35,14 +35,14 @@ slacks =
     ∷ event (pos 1260) FloodBegins (pos 0)
     ∷ []
 
--- the crossings of half a foot before noon
+-- the crossings of a mark of half a foot before noon
 abbrev pub marks : List Event
 marks = event (pos 119) MarkFalling (pos 507538) ∷ event (pos 600) MarkRising (pos 500000) ∷ []
 
 -- ---- the stations near it
 
--- a dock whose highs are 30 minutes later at 1.1 times the level plus 0.1, and its lows 10 minutes
--- earlier at 0.9 times
+-- a dock: its highs are 30 minutes later at 1.1 times the level plus 0.1, and its lows 10 minutes
+-- earlier at 0.9 times the level
 abbrev pub dock : Basis
 dock = record { station = 0; row = Some 0; high = dock_high; low = dock_low; slack = None }
 
@@ -50,7 +50,7 @@ dock = record { station = 0; row = Some 0; high = dock_high; low = dock_low; sla
 abbrev pub gate : Basis
 gate = record dock { slack = Some (record { flood_add = pos 5; ebb_add = negsuc 4 }) }
 
--- an outer harbour where each event is 30 minutes later at twice the level plus 0.5
+-- an outer harbour: each event is 30 minutes later at twice the level plus 0.5
 abbrev pub harbour : Basis
 harbour = record { station = 0; row = Some 1; high = outer; low = outer; slack = None }
 

@@ -9,11 +9,11 @@ use curve_law::{Cell, Curve, Event};
 use interval_search::{Found, Search};
 use std::marker::Model;
 
-/// The events of an optional search, one at a time. The search advances only when the caller takes its next
-/// event.
+/// The events of an optional search, one at a time. The search advances only when the caller takes its
+/// next event.
 ///
-/// In contracts its value is the events left, the state of the search, the number of cells that it has
-/// returned so far, and the number of all its cells.
+/// In contracts its value is the remaining events, the state of the search, the number of cells that it
+/// has returned until now, and the number of all its cells.
 #[derive(Drop)]
 pub struct Coming<C: Curve> {
     search: Option<Search<C>>,
@@ -41,7 +41,7 @@ impl<C: Curve> Model for Coming<C> {
 impl<C: Curve> Coming<C> {
     ghost use Rattle.event_list.specs.Workings.Coming.{events_ahead, cells_ahead, first_of};
 
-    /// Wraps `search`, which may have advanced already, as the sequence of the events in its remaining
+    /// Wraps `search`, which may have advanced already, as a stream of the events in its remaining
     /// cells.
     pub fn new(search: Option<Search<C>>) -> Coming<C>
         ensures left { result.left ≡ events_ahead search }
@@ -58,8 +58,8 @@ impl<C: Curve> Coming<C> {
         }
     }
 
-    /// Returns the first event left without removing it. If there is none, the search has returned all
-    /// its cells.
+    /// Returns the next event without removing it. If there is none, the search has returned all its
+    /// cells.
     pub fn peek(&mut self) -> Option<Event>
         ensures first { result ≡ first_of self.old.left }
         ensures found { result ≡ (looked self.old.waiting).found }
@@ -78,7 +78,7 @@ impl<C: Curve> Coming<C> {
         }
     }
 
-    /// Removes and returns the first event left.
+    /// Removes and returns the next event, or returns `None` if no event remains.
     pub fn next(&mut self) -> Option<Event>
         ensures first { result ≡ first_of self.old.left }
         ensures rest { self.new.left ≡ drop 1 self.old.left }
@@ -93,7 +93,7 @@ impl<C: Curve> Coming<C> {
         }
     }
 
-    /// Returns the number of cells that the search has returned so far.
+    /// Returns the number of cells that the search has returned until now.
     pub fn cells(&self) -> u64
         ensures { result ≡ self.now.cells }
     {
@@ -101,7 +101,7 @@ impl<C: Curve> Coming<C> {
     }
 }
 
-/// Does nothing; its contract shows a proof that `search` has at most 2^61 cells left.
+/// Does nothing. Its contract says that at most 2^61 cells of `search` remain.
 fn cells_are_few<C: Curve>(search: &Option<Search<C>>)
     ensures { cells_ahead search.now ≤ 2 ^ 61 }
 {
@@ -137,7 +137,7 @@ fn next_found<C: Curve>(search: &mut Option<Search<C>>) -> Option<Found>
     }
 }
 
-/// Returns the event in a cell that was found, if it has one.
+/// Returns the event in the cell `found`, if it has one.
 fn event_in(found: Found) -> Option<Event>
     ensures { option_to_list result ≡ event_in found.at found.cell }
 {

@@ -24,8 +24,8 @@ ghost use Rattle.event_list.specs.Events.{
   AreNamed,
 };
 
-/// Proves that the events of accepted cells over the widened span, merged and shifted, are the station's,
-/// and that the cells by the halving rule are accepted and number at most three a minute.
+/// Proves that the events of accepted cells over the widened span, merged and shifted, are the station's
+/// events, and that the cells made by the halving rule are accepted and number at most three a minute.
 pub fn cells_give_the_events()
     ensures accepted { (f : Followed) (b : Basis) (begin end : ℤ) (t : Tracks) →
         AreValidOver f (widened_of b begin end) → AreAccepted f (widened_of b begin end) t →
@@ -50,8 +50,9 @@ pub fn plain_bases_move_nothing()
         merged_of begin (covers_of f (record { begin = begin; end = end })) ≡ station_events f b begin end }
 {}
 
-/// Proves that the events of accepted cells can be moved, if both ends of the span are from -10^12 to
-/// 10^12 and the levels of each requested curve are at most 11,000,000,000 millionths in size.
+/// Proves that the events of accepted cells can be moved by a station's offsets, if both ends of the
+/// span are from -10^12 to 10^12 and the levels of each requested curve are at most 11,000,000,000
+/// millionths in size.
 pub fn accepted_events_can_be_moved()
     ensures { (f : Followed) (s : Span) (t : Tracks) → s.begin ≤ℤ s.end →
         unsigned_abs s.begin ≤ 10 ^ 12 → unsigned_abs s.end ≤ 10 ^ 12 →
@@ -70,7 +71,7 @@ pub fn events_are_named()
 {}
 
 /// Proves that curves that agree over the widened span have the same events and the same number of cells
-/// there, whatever they are elsewhere.
+/// there, even if they differ elsewhere.
 pub fn agreeing_curves_have_one_list()
     ensures events { (f g : Followed) (b : Basis) (begin end : ℤ) → AllAgree f g (widened_of b begin end) →
         station_events f b begin end ≡ station_events g b begin end }

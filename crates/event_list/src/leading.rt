@@ -7,7 +7,7 @@ ghost use Rattle.event_list.specs.Workings.Coming.{IsLeading};
 use crate::rank::comes_before;
 use curve_law::Event;
 
-/// The track with the first event.
+/// The track whose next event is the first in the order of events.
 #[derive(Clone, Copy)]
 pub enum Leading {
     Turn,
@@ -33,7 +33,7 @@ pub fn leading_of(turn: Option<Event>, slack: Option<Event>, mark: Option<Event>
     }
 }
 
-/// Returns true unless `second` is an event before `first`, or the only event of the two.
+/// Returns true if `first` is an event, and `second` isn't one before it.
 fn leads(first: Option<Event>, second: Option<Event>) -> bool
     ensures { result ≡ leads first second }
 {

@@ -14,8 +14,9 @@ use std::marker::Model;
 /// The events of a station's searches in order, one at a time. A merge doesn't allocate, and a search
 /// advances only when its next event is needed.
 ///
-/// In contracts its value is the events left, for each search its pending event and the cells left, the
-/// number of cells that the searches have returned so far, and the number of all their cells.
+/// In contracts its value is the remaining events, for each search its pending event and its remaining
+/// cells, the number of cells that the searches have returned until now, and the number of all their
+/// cells.
 #[derive(Drop)]
 pub struct Merge<A: Curve, B: Curve> {
     turn: Coming<A>,
@@ -53,7 +54,7 @@ impl<A: Curve, B: Curve> Merge<A, B> {
         }
     }
 
-    /// Returns the next event, or `None` if no event is left; then the searches have returned all their
+    /// Returns the next event, or `None` if no event remains; then the searches have returned all their
     /// cells. A search advances only if it has no pending event.
     pub fn next(&mut self) -> Option<Event>
         ensures next { ReturnsNext self.old result self.new }
@@ -70,7 +71,7 @@ impl<A: Curve, B: Curve> Merge<A, B> {
         }
     }
 
-    /// Returns the number of cells that the searches have returned so far.
+    /// Returns the number of cells that the searches have returned until now.
     pub fn cells(&self) -> u64
         ensures value { result ≡ self.now.cells }
         ensures given { result + cells_to_come self.now.waiting ≡ self.now.all }

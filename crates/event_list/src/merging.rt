@@ -1,4 +1,4 @@
-//! The events of all tracks.
+//! The merged events of all tracks.
 
 ghost use Rattle.std.specs.Prelude.{◌≡◌, ◌^◌, ◌≤◌, unsigned_abs, IfOk};
 ghost use Rattle.event_list.specs.Events.{AreShort, merged_of};
@@ -9,7 +9,7 @@ use curve_law::{Events, Tracks};
 use std::alloc::{AllocError, Global};
 
 /// Returns the events in the cells of all tracks, in order. The cells of each track begin at the minute
-/// `begin`, from -10^12 to 10^12, and have at most 6,000,000 minutes together.
+/// `begin`, from -10^12 to 10^12, and the cells of one track have at most 6,000,000 minutes together.
 ///
 /// # Errors
 /// [`AllocError`] if memory runs out.

@@ -27,7 +27,8 @@ pub fn comes_before(first: &Event, second: &Event) -> bool
     rank(first) < rank(second)
 }
 
-/// Sorts `events` into the order in which they are listed.
+/// Returns `events` sorted into the order in which they are listed: by minute, then by kind, then by
+/// level.
 pub fn in_order(events: Vec<Event>) -> Vec<Event>
     ensures { result.items ≡ ordered events.items }
 {

@@ -9,8 +9,9 @@ use curve_law::{Event, Events};
 use station_table::Basis;
 use std::alloc::{AllocError, Global};
 
-/// Returns the reference's `events`, moved and scaled by `basis`, that are from `begin` on and before `end`
-/// then, in order. Minutes are from -10^12 to 10^12, and levels at most 11,000,000,000 millionths in size.
+/// Returns the `events` of a reference, moved and scaled by `basis`, in order: only the ones that are
+/// then from `begin` up to but not including `end`. Minutes are from -10^12 to 10^12, and levels at most
+/// 11,000,000,000 millionths in size.
 ///
 /// # Errors
 /// [`AllocError`] if memory runs out.

@@ -7,7 +7,7 @@ ghost use Rattle.event_list.specs.Events.{span_minutes};
 use crate::span::Span;
 use station_table::Basis;
 
-/// Returns the span of the reference that determines all events of the station's span: `begin` less the
+/// Returns the span of the reference that determines all events of a station's span: `begin` less the
 /// most and `end` less the least minutes by which the basis moves an event. `begin` and `end` are from
 /// -10^12 to 10^12, and `begin` isn't later. Offsets in the ranges of a table move each end by at most
 /// 1,440 minutes. It doesn't allocate.

@@ -7,9 +7,9 @@ ghost use Rattle.event_list.specs.Shifts.{moved, shifted_of, widened_of};
 ghost use Rattle.event_list.specs.Events.{cell_count, cells_in, merged_of, station_events};
 ghost use Rattle.event_list.specs.Worked.{dock, event, gate, harbour, lines, marks, slacks, tracks, waters};
 
-/// Proves the spans of the dock's and the gate's reference, and the pier's events as the dock, the gate and
-/// the harbour have them: the dock's first high is a high of the day before, and its last is outside the
-/// span.
+/// Proves the spans of the reference of two subordinate stations, the dock and the gate, and how the
+/// events of their reference, the pier, are moved for the dock, the gate and the harbour: the dock's
+/// first high is a high of the day before, and its last is outside the span.
 #[tactic(auto, unfolding(decimal_text::specs::Rounding::rounded_of, crate::specs::Order::with_event, crate::specs::Order::ordered, crate::specs::Shifts::shifted_of))]
 pub fn worked_shifts()
     ensures dock_span { widened_of dock (pos 0) (pos 1440) ≡ record { begin = negsuc 29; end = pos 1450 } }

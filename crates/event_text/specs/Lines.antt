@@ -18,7 +18,7 @@ text_of_unit Meters = codes "meters"
 text_of_unit Knots = codes "knots"
 text_of_unit KnotsSquared = codes "knots^2"
 
--- a level, in millionths, as text in hundredths of its unit: it is rounded first, so a level that rounds
+-- a level, in millionths, as text in hundredths of its unit; it is rounded first, so a level that rounds
 -- to 0 has no sign
 abbrev pub level_text : ℤ → List ℕ
 level_text level = write_of (rounded_of level 10000) 2
@@ -27,7 +27,7 @@ level_text level = write_of (rounded_of level 10000) 2
 unfoldable pub padded : ℕ → List ℕ → List ℕ
 padded places text = replicate (places - length text) 32 ++ text
 
--- a line of a local time, the level and its unit
+-- the line of a level without an event: its local time, the level and its unit
 unfoldable pub height_line_of : Local → ℤ → Units → List ℕ
 height_line_of local level units =
     local_text local ++ codes "  " ++ padded 9 (level_text level) ++ codes " " ++ text_of_unit units
@@ -38,11 +38,11 @@ event_line_of local event units =
     height_line_of local event.level units ++ codes "  "
     ++ word_text (word_of units event.kind event.level) ++ codes "\n"
 
--- an event that has a line by the clock of each zone
+-- an event that has a name in the unit, and a minute that the clock of each zone can show
 pub record IsListed (units : Units) (event : Event) : Type 0 where
   pub minute : InZoneYears event.minute
   pub named : IsTrue (has_word units event.kind)
 
--- an event's line by the clock of a zone
+-- the line of an event in the local time of a zone
 abbrev pub event_line_in : Zone → Units → Event → List ℕ
 event_line_in zone units event = event_line_of (local_in zone event.minute) event units

@@ -31,7 +31,7 @@ is_slack FloodBegins = true
 is_slack EbbBegins = true
 is_slack _ = false
 
--- the events that have a name: all of a current, and all of a tide but slack water
+-- the events of this unit and kind have a name: in a current all do, in a tide all but slack water
 abbrev pub has_word : Units → Kind → Bool
 has_word Feet kind = not (is_slack kind)
 has_word Meters kind = not (is_slack kind)

@@ -48,7 +48,7 @@ fn push_spaces(count: usize, out: &mut ArrayString<96>)
     }
 }
 
-// Returns `level`, in millionths, rounded to hundredths, a half away from 0.
+/// Returns `level`, in millionths, rounded to hundredths, a half away from 0.
 fn hundredths(level: i64) -> i64
     ensures { result ≡ rounded_of level 10000 }
 {

@@ -14,9 +14,10 @@ use curve_law::Event;
 use harmonics_book::Units;
 use zone_time::{Local, write_local};
 
-/// Writes the line of `event`, such as `2000-01-10 06:00 UTC      -1.00 feet  Low Tide`, with its LF to the
-/// empty `out`. The event's level is in millionths of the unit, and [`word`] returns its name. The local
-/// year is from 0 to 9999, and an offset at most 1560 minutes. It doesn't allocate.
+/// Writes the line of `event`, such as `2000-01-10 06:00 UTC      -1.00 feet  Low Tide`, with its LF, to
+/// the empty `out`. The event's level is in millionths of the unit, and the name at the end is the one
+/// that [`word`] returns. The local year is from 0 to 9999, and an offset at most 1560 minutes. It
+/// doesn't allocate.
 #[tactic(auto, unfolding(crate::specs::Lines::event_line_of))]
 pub fn event_line(local: &Local, event: &Event, units: Units, out: &mut ArrayString<96>)
     requires local { IsLocal local.now }
@@ -30,9 +31,9 @@ pub fn event_line(local: &Local, event: &Event, units: Units, out: &mut ArrayStr
     out.push('\n');
 }
 
-/// Writes the line of `level`, in millionths of the unit, at the time `local` to the empty `out`, such as
-/// `2000-01-10 06:00 UTC      -1.00 feet`, without LF. The local year is from 0 to 9999, and an offset at
-/// most 1560 minutes. It doesn't allocate.
+/// Writes the line of `level`, in millionths of the unit, at the time `local`, such as `2000-01-10 06:00
+/// UTC      -1.00 feet`, without LF, to the empty `out`. The local year is from 0 to 9999, and an offset
+/// at most 1560 minutes. It doesn't allocate.
 #[tactic(auto, unfolding(crate::specs::Lines::height_line_of))]
 pub fn height_line(local: &Local, level: i64, units: Units, out: &mut ArrayString<96>)
     requires local { IsLocal local.now }

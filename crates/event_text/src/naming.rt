@@ -7,8 +7,9 @@ use crate::event_word::EventWord;
 use curve_law::Kind;
 use harmonics_book::Units;
 
-/// Returns the name of an event of this kind; `level` is in millionths of the unit. A current above 0 is
-/// a flood. The events of a hydraulic current have no names, and only a current has slack water.
+/// Returns the name in tide tables of an event of this kind; `level` is in millionths of the unit. A
+/// current above 0 is a flood. The events of a hydraulic current have no names, and only a current has
+/// slack water.
 pub fn word(units: Units, kind: Kind, level: i64) -> EventWord
     requires { IsTrue (has_word units kind) }
     ensures { result ≡ word_of units kind level }

@@ -6,7 +6,7 @@ ghost use Rattle.curve_law.specs.declared.kind.Kind.{Kind};
 ghost use Rattle.event_text.specs.declared.event_word.EventWord.{EventWord};
 ghost use Rattle.event_text.specs.Words.{has_word, word_of, word_text};
 
-/// Proves the names at levels above, below and at 0, where a current counts as ebb.
+/// Proves the names of events at levels above, below and at 0; a current of 0 counts as ebb.
 pub fn worked_words()
     ensures flood { word_text (word_of Units.Knots Kind.High (pos 1)) ≡ codes "Max Flood" }
     ensures still { word_text (word_of Units.Knots Kind.High (pos 0)) ≡ codes "Min Ebb" }

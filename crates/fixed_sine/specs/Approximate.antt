@@ -5,11 +5,11 @@ use Rattle.std.specs.Int.{int_shr}
 use Rattle.fixed_sine.specs.Circle.{circle}
 use Rattle.fixed_sine.specs.Sine.{isin_of}
 
--- the unit of the circle in the middle of part k
+-- the unit of the circle (1/600,000,000 degree) in the middle of part k of 8,192
 abbrev pub middle_of : ℕ → ℕ
 middle_of k = (2 * k + 1) * circle / 2 ^ 14
 
--- the sine in the middle of part k, rounded to whole 2^15 billionths
+-- the sine in the middle of part k of 8,192, in 2^15 billionths, rounded
 unfoldable pub part_sine_of : ℕ → ℤ
 part_sine_of k = int_shr (isin_of (middle_of k) +ℤ pos (2 ^ 14)) 15
 

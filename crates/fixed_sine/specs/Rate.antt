@@ -9,11 +9,11 @@ pub record IsSpeed (w : ℤ) : Type 0 where
   pub least : pos 0 ≤ℤ w
   pub most : w ≤ℤ pos 3600000000
 
--- the bound over w units: 17,454,000 a degree, and one for rounding
+-- the bound on the sine's change over w units, in billionths: 17,454,000 a degree, and one for rounding
 unfoldable pub step_of : ℕ → ℕ
 step_of w = 17454000 * w / degree + 1
 
--- over w units from each angle the sine changes by at most the step
+-- over w units from each angle the sine changes by at most the bound `step_of w`
 abbrev pub RateLaw : ℕ → Type 0
 RateLaw w =
     (p : ℕ) → p < circle → unsigned_abs (isin_of ((p + w) % circle) -ℤ isin_of p) ≤ step_of w

@@ -4,24 +4,24 @@ use Rattle.std.specs.Prelude.{ℕ, ◌+◌, ◌-◌, ◌*◌, ◌/◌, ◌%◌, 
 use Rattle.fixed_sine.specs.Circle.{degree, circle}
 use Rattle.fixed_sine.specs.Table.{sine_at, rise, correction}
 
--- 4 * degree * degree times the sine r units after k degrees
+-- 4 * degree * degree times the sine, in billionths, r units after k degrees
 unfoldable pub scaled_between : ℕ → ℕ → ℤ
 scaled_between k r =
     ((pos (4 * degree * degree) *ℤ sine_at (pos k)) +ℤ (pos (4 * degree * r) *ℤ rise k))
     -ℤ (pos (r * (degree - r)) *ℤ correction k)
 
--- the sine on the first quarter of the circle, both ends included
+-- the sine in billionths on the first quarter of the circle, both ends included, of an angle in units
 unfoldable pub quarter_of : ℕ → ℤ
 quarter_of p = int_div (scaled_between (p / degree) (p % degree)) (pos (4 * degree * degree))
 
--- the sine on the first half: the second quarter mirrors the first
+-- the sine in billionths on the first half of the circle: the second quarter mirrors the first
 unfoldable pub half_of : ℕ → ℤ
 half_of p = if nat_lt p (circle / 4) then quarter_of p else quarter_of (circle / 2 - p)
 
--- the sine on the whole circle: the second half is the first with the other sign
+-- the sine in billionths on the whole circle: the second half is minus the first
 unfoldable pub isin_of : ℕ → ℤ
 isin_of p = if nat_lt p (circle / 2) then half_of p else neg_ℤ (half_of (p - circle / 2))
 
--- the cosine: the sine of the angle plus 90 degrees
+-- the cosine in billionths: the sine of the angle plus 90 degrees
 unfoldable pub icos_of : ℕ → ℤ
 icos_of p = isin_of ((p + circle / 4) % circle)

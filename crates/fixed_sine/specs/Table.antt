@@ -25,16 +25,18 @@ sines =
     996194698 ∷ 997564050 ∷ 998629535 ∷ 999390827 ∷ 999847695 ∷
     1000000000 ∷ []
 
--- the table extended at both ends: mirrored at 90 degrees, and negative below 0
+-- the sine of any whole degree up to 180, in billionths: the table mirrored at 90 degrees, and negated
+-- below 0
 unfoldable pub sine_at : ℤ → ℤ
 sine_at (pos k) = pos (slice_index sines (if nat_le k 90 then k else 180 - k))
 sine_at (negsuc k) = neg_ℤ (pos (slice_index sines (suc k)))
 
--- the change of the sine over the degree that begins at k
+-- the change of the sine over the degree that begins at k degrees, in billionths
 abbrev pub rise : ℕ → ℤ
 rise k = sine_at (pos (k + 1)) -ℤ sine_at (pos k)
 
--- the sum of the second differences at both ends of the degree that begins at k
+-- the sum of the second differences of the sine, in billionths, at both ends of the degree that begins
+-- at k degrees
 unfoldable pub correction : ℕ → ℤ
 correction k =
     ((sine_at (pos (k + 2)) -ℤ sine_at (pos (k + 1))) -ℤ sine_at (pos k)) +ℤ sine_at (pos k -ℤ pos 1)

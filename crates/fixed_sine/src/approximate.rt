@@ -13,8 +13,8 @@ pub const APPROXIMATE_ERROR: i64 = 400_000;
 /// A part of the circle, 1/8,192, in 2^-64 of a turn.
 const PART: u64 = 1 << 51;
 
-/// Returns the approximate sine of `binary_angle`, which is in 2^-64 of a turn. The result counts 2^15
-/// billionths and is within [`APPROXIMATE_ERROR`] of [`crate::binary_angle_sine`].
+/// Returns the approximate sine of `binary_angle`, which is in 2^-64 of a turn. The result is in units
+/// of 2^15 billionths and is within [`APPROXIMATE_ERROR`] billionths of [`crate::binary_angle_sine`].
 #[inline]
 pub fn approximate_sine(binary_angle: u64) -> i64
     ensures value { result ≡ approximate_sine_of binary_angle }

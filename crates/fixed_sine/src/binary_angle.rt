@@ -13,7 +13,7 @@ use crate::circle::CIRCLE;
 use crate::degrees::degree_at;
 use crate::sine::{UNITS, isin, product};
 
-/// A full circle, in 2^-64 of it.
+/// A full circle, in 2^-64 of a turn.
 pub const FULL_CIRCLE: u128 = 1 << 64;
 
 /// A quarter of a circle, in 2^-64 of a turn.
@@ -28,8 +28,8 @@ const UNSURE: u64 = 1 << 51;
 /// A factor 2^52 is applied in two steps of 2^26, so that products fit 64 bits.
 const STEP: u64 = 1 << 26;
 
-/// Returns the angle of `units`, from 0 to `CIRCLE - 1`, in 2^-64 of a turn, rounded up. The result is
-/// within the same unit.
+/// Returns the angle of `units`, from 0 to `CIRCLE - 1`, in 2^-64 of a turn, rounded up. A unit is
+/// 1/600,000,000 degree; the result is within the same unit.
 pub fn binary_angle_of(units: u64) -> u64
     requires { units < circle }
     ensures { result ≡ binary_angle_of units }
@@ -39,8 +39,8 @@ pub fn binary_angle_of(units: u64) -> u64
     scaled / SHARE * STEP + rest * STEP / SHARE + 1
 }
 
-/// Returns the sine, in billionths, of the whole unit that contains `binary_angle`, which is in 2^-64 of a
-/// turn.
+/// Returns the sine, in billionths, of `binary_angle`, which is in 2^-64 of a turn and is first rounded
+/// down to whole units of 1/600,000,000 degree.
 #[inline]
 pub fn binary_angle_sine(binary_angle: u64) -> i64
     ensures value { result ≡ isin_of (units_of binary_angle) }

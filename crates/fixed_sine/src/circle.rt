@@ -4,13 +4,13 @@ ghost use Rattle.std.specs.Prelude.{◌≡◌, pos};
 ghost use Rattle.std.specs.Int.{int_rem_euclid};
 ghost use Rattle.fixed_sine.specs.Circle.{circle, IsOnCircle};
 
-/// The number of units in a degree.
+/// The number of units of angle in a degree; angles are whole numbers of units.
 pub const DEGREE: i64 = 600_000_000;
 
-/// The number of units in a full circle.
+/// The number of units of angle in a full circle.
 pub const CIRCLE: i64 = 216_000_000_000;
 
-/// The number of units in a radian, rounded to a whole number.
+/// The number of units of angle in a radian, rounded to a whole number.
 pub const RADIAN: i64 = 34_377_467_708;
 
 /// Returns the angle of `x` units reduced to the circle, from 0 to `CIRCLE - 1`.

@@ -4,14 +4,14 @@ ghost use Rattle.std.specs.Prelude.{◌≡◌, ◌<◌, ◌≤◌, ◌-◌, pos,
 ghost use Rattle.fixed_sine.specs.Table.{sine_at};
 ghost use Rattle.fixed_sine.specs.Workings.Degrees.{slope_at, bend_at, IsReady};
 
-/// The prepared row of one degree.
+/// The row of one degree in the table of all 360, with slopes prepared for fast sums.
 #[derive(Clone, Copy)]
 pub struct Degree {
     /// The change of the sine per unit at the start of the degree, in 2^-64 of a billionth, rounded up.
     pub slope: i64,
     /// The decrease of `slope` per unit over the degree, in 2^-72 of a billionth, rounded down.
     pub bend: i32,
-    /// The sine at the start of the degree, in billionths; from 180 degrees on one more.
+    /// The sine at the start of the degree, in billionths. From 180 degrees on it is one greater.
     pub sine: i32,
 }
 
@@ -379,7 +379,7 @@ static DEGREES: [(i64, i32, i32); 360] = [
     (536_525_926_402_141_799, -17_430_124, -17_452_405),
 ];
 
-/// Returns the prepared row of `degrees`, from 0 to 359.
+/// Returns the slope, bend and sine at `degrees` whole degrees, from 0 to 359.
 pub fn degree_at(degrees: usize) -> Degree
     requires { degrees < 360 }
     ensures first { degrees < 180 → (result.sine ≡ sine_at (pos degrees))

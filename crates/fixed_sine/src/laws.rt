@@ -18,14 +18,16 @@ pub fn table_checks()
         (((sine_at (pos k) *ℤ sine_at (pos k)) +ℤ (sine_at (pos (90 - k)) *ℤ sine_at (pos (90 - k)))) -ℤ pos (10 ^ 18)) ≤ 2 * 10 ^ 9 }
 {}
 
-/// Proves that sine and cosine are at most 1,000,000,000 in size, and that no step exceeds 104,724,001.
+/// Proves that sine and cosine are at most 1,000,000,000 in size, and that [`crate::step`], the bound on
+/// the sine's change, is at most 104,724,001.
 pub fn sine_sizes()
     ensures sine { (p : ℕ) → p < circle → unsigned_abs (isin_of p) ≤ 1000000000 }
     ensures cosine { (p : ℕ) → p < circle → unsigned_abs (icos_of p) ≤ 1000000000 }
     ensures step { (w : ℕ) → w ≤ 3600000000 → step_of w ≤ 104724001 }
 {}
 
-/// Proves that the sine changes by at most the step over `w` units, from each angle and for each `w`.
+/// Proves that over `w` units the sine changes by at most [`crate::step`] of `w`, from each angle and
+/// for each `w`.
 pub fn sine_rates()
     ensures { (w : ℕ) → RateLaw w }
 {}

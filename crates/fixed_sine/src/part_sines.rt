@@ -718,7 +718,8 @@ static PART_SINES: [i16; 8192] = [
     -199, -176, -152, -129, -105, -82, -59, -35, -12,
 ];
 
-/// Returns the sine in the middle of part `part`, in 2^15 billionths.
+/// Returns the sine in the middle of part `part` of the circle, which is divided into 8,192 equal parts,
+/// in 2^15 billionths.
 #[inline]
 pub fn part_sine(part: usize) -> i16
     requires { part < 8192 }

@@ -7,7 +7,7 @@ ghost use Rattle.fixed_sine.specs.Sine.{half_of, isin_of, icos_of};
 use crate::circle::{CIRCLE, DEGREE};
 use crate::table::row_of;
 
-/// The number of units in a degree, unsigned.
+/// The number of units of angle in a degree, as an unsigned number.
 pub const UNITS: u64 = DEGREE as u64;
 
 /// The number of units in 180 degrees.
@@ -94,7 +94,7 @@ fn gain(r: u64, slope: i64) -> i64
     product(r, slope).div_euclid(SQUARE) as i64
 }
 
-/// Returns `r * slope`.
+/// Returns `r * slope`; it can't overflow.
 pub fn product(r: u64, slope: i64) -> i128
     requires part { r < degree }
     requires slope { unsigned_abs slope ≤ 550000000000000000 }

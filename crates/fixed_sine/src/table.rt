@@ -4,7 +4,7 @@ ghost use Rattle.std.specs.Prelude.{◌≡◌, ◌-◌, ◌*◌, ◌<◌, pos, n
 ghost use Rattle.fixed_sine.specs.Circle.{degree};
 ghost use Rattle.fixed_sine.specs.Table.{sine_at, rise, correction};
 
-/// The row of one degree.
+/// The row of one degree in the table of sines: slope, sine and correction.
 #[derive(Clone, Copy)]
 pub struct SineRow {
     /// The change of the sine per unit at the start of the degree, in billionths, times 4 * degree *
@@ -12,7 +12,7 @@ pub struct SineRow {
     pub slope: i64,
     /// The sine at the start of the degree, in billionths.
     pub sine: u32,
-    /// The size of the correction over the degree; the correction is negative.
+    /// The size of the correction over the degree, in billionths; the correction is negative.
     pub correction: u32,
 }
 
@@ -200,7 +200,8 @@ static ROWS: [(i64, u32, u32); 180] = [
     (-41_882_585_400_000_000, 17_452_406, 5_315),
 ];
 
-/// Returns the row of `degrees`, from 0 to 179. The corrections after 89 mirror those before it.
+/// Returns the row of the table of sines for `degrees` whole degrees, from 0 to 179. The corrections
+/// after 89 mirror the ones before it.
 pub fn row_of(degrees: usize) -> SineRow
     requires { degrees < 180 }
     ensures slope { result.slope ≡ (pos (4 * degree) *ℤ rise degrees) +ℤ pos (degree * result.correction) }

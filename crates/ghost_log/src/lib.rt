@@ -1,6 +1,6 @@
-//! A list that exists in proofs alone, such as a record of what passed over a connection.
+//! A list that exists only in proofs, such as a record of the bytes read and written over a connection.
 //!
-//! At run time a [`Log`] is empty: it allocates nothing, and copies nothing of what it is given.
+//! At run time a [`Log`] is empty: it allocates nothing and copies no item.
 #![tactic(auto)]
 
 mod log;

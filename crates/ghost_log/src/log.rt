@@ -1,4 +1,4 @@
-//! A list that exists in proofs alone.
+//! A list that exists only in proofs.
 
 ghost use Rattle.std.specs.Prelude.{◌≡◌, List, [], ◌++◌};
 ghost use Rattle.std.specs.Borrow.{ftrue};
@@ -6,7 +6,7 @@ ghost use Rattle.std.specs.Borrow.{ftrue};
 use std::fmt;
 use std::marker::{Model, PhantomData};
 
-/// A list that exists in proofs alone. A clause reads it as `items`.
+/// A list that exists only in proofs; at run time it is empty. Contracts read its `items`.
 #[derive(Drop)]
 pub struct Log<T> {
     of: PhantomData<T>,
@@ -31,7 +31,7 @@ impl<T> Log<T> {
         Log { of: PhantomData }
     }
 
-    /// Returns this list followed by `_items`.
+    /// Returns this list followed by `_items`. It does nothing at run time.
     pub fn then(&self, _items: &[T]) -> Log<T>
         ensures { result.items ≡ self.now.items ++ _items.now }
     {

@@ -22,12 +22,12 @@ pub record IsName (most : ℕ) (name : List ℕ) : Type 0 where
   pub short : length latin ≤ most
   pub printable : All IsLatinNameByte latin
 
--- a constituent: its name and the range of its speed
+-- a valid constituent: its name, and its speed in its range
 pub record IsConstituent (c : Constituent) : Type 0 where
   pub name : IsName 32 c.name
   pub speed : IsWithin (pos 0) (pos 3600000000) c.speed
 
--- a station of a book with `count` constituents
+-- a valid station of a book with `count` constituents
 pub record IsStation (count : ℕ) (s : Station) : Type 0 where
   pub name : IsName 200 s.name
   pub meridian : IsWithin (negsuc 958) (pos 959) s.meridian

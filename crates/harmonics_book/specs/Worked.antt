@@ -3,7 +3,7 @@ use Rattle.std.specs.Prelude.{pos, [], ◌∷◌, codes}
 use Rattle.harmonics_book.specs.declared.book.Book.{Book}
 use Rattle.harmonics_book.specs.declared.book.Units.TheVariants.{Feet}
 
--- the book of a pier with a tide of half a day
+-- the book of a pier with a half-daily tide
 abbrev pub pier_book : Book
 pier_book = record {
   constituents = record { name = codes "S2"; speed = pos 300000000 } ∷ [];

@@ -6,9 +6,9 @@ use decimal_text::{Numbers, Text};
 /// A tidal constituent, such as M2.
 #[derive(Debug, Drop)]
 pub struct Constituent {
-    /// The name: from 1 to 32 characters, none of them white space.
+    /// The name of the constituent: from 1 to 32 characters, none of them white space.
     pub name: Text,
-    /// The speed in ten-millionths of a degree per hour, from 0 to 3,600,000,000.
+    /// The speed of the constituent in ten-millionths of a degree per hour, from 0 to 3,600,000,000.
     pub speed: i64,
 }
 
@@ -25,11 +25,11 @@ pub enum Units {
 /// A reference station with its harmonic constants.
 #[derive(Debug, Drop)]
 pub struct Station {
-    /// The name, from 1 to 200 characters.
+    /// The name of the station, from 1 to 200 characters.
     pub name: Text,
-    /// The meridian in minutes east of Greenwich, from -959 to 959.
+    /// The station's meridian in minutes east of Greenwich, from -959 to 959.
     pub meridian: i32,
-    /// The name of the time zone, which may be empty; no computation uses it.
+    /// The name of the station's time zone, which may be empty; no computation uses it.
     pub zone: Text,
     /// The mean level in millionths of the unit, from -10,000,000,000 to 10,000,000,000.
     pub datum: i64,
@@ -45,17 +45,18 @@ pub struct Station {
 /// The content of a file of harmonic constants.
 #[derive(Debug, Drop)]
 pub struct Book {
-    /// From 1 to 500 constituents.
+    /// The constituents, from 1 to 500, in the file's order.
     pub constituents: Constituents,
-    /// The first year of the tables, from 2 to 8800.
+    /// The first year that has equilibrium arguments and node factors, from 2 to 8800.
     pub first_year: i32,
-    /// The number of years of the tables, from 1 to 500.
+    /// The number of years that have equilibrium arguments and node factors, from 1 to 500.
     pub years: u32,
-    /// The equilibrium arguments at the start of each year, constituent by constituent, a value for each
-    /// year: in ten-millionths of a degree, from -7,200,000,000 to 7,200,000,000.
+    /// The equilibrium arguments at the start of each year, constituent by constituent, with a value for
+    /// each year, in ten-millionths of a degree, from -7,200,000,000 to 7,200,000,000.
     pub angles: Numbers,
-    /// The node factors in the order of `angles`, in millionths, from 0 to 10,000,000.
+    /// The node factors in millionths, from 0 to 10,000,000: constituent by constituent, with a value
+    /// for each year.
     pub factors: Numbers,
-    /// At most 20,000 stations.
+    /// The stations, at most 20,000, in the file's order.
     pub stations: Stations,
 }

@@ -6,7 +6,7 @@ ghost use Rattle.harmonics_book.specs.Books.{IsBook};
 use crate::book::Book;
 use std::marker::Model;
 
-/// A borrowed book with counts, names and values that are proved to be in the ranges of a file. In
+/// A borrowed book, proved to be valid: its counts, names and values are in the ranges of a file. In
 /// contracts its value is the book.
 #[derive(Drop)]
 pub struct ValidBook<'a> {
@@ -26,7 +26,8 @@ impl<'a> Model for ValidBook<'a> {
 }
 
 impl<'a> ValidBook<'a> {
-    /// Returns `book` as a valid one; the caller proves its ranges.
+    /// Returns `book` as a valid book; the caller proves that its counts, names and values are in their
+    /// ranges.
     pub fn new(book: &'a Book) -> ValidBook<'a>
         requires { IsBook book.now }
         ensures { result ≡ book.now }
@@ -34,7 +35,7 @@ impl<'a> ValidBook<'a> {
         ValidBook { book }
     }
 
-    /// Borrows the book.
+    /// Borrows the book that is proved to be valid.
     pub fn get(&self) -> &'a Book
         ensures exact { result.now ≡ self.now }
         ensures valid { IsBook self.now }

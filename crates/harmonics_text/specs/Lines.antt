@@ -35,7 +35,7 @@ pub record Line : Type 0 where
 abbrev pub is_lf : ℕ → Bool
 is_lf b = b == 10
 
--- the lines of the bytes: cut after each LF; a last piece without LF is a line if it isn't empty
+-- the lines of the bytes: cut after each LF; the bytes after the last LF are a line if there are any
 unfoldable pub cut : List ℕ → List (List ℕ)
 cut [] = []
 cut (b ∷ bs) = if is_lf b then [] ∷ cut bs else onto_first b (cut bs)
@@ -61,7 +61,7 @@ is_too_long text = nat_lt 4096 (length text)
 abbrev pub without_cr : List ℕ → List ℕ
 without_cr text = if ends_with nat_eq text (13 ∷ []) then take (length text - 1) text else text
 
--- comments and lines of white space are skipped; a line that is too long isn't
+-- a line isn't skipped; comments are skipped, and lines of white space that aren't too long
 unfoldable pub is_kept : Line → Bool
 is_kept l = not (is_comment l.text) && (is_too_long l.text || not (list_all is_blank (without_cr l.text)))
 
@@ -90,13 +90,13 @@ without_blank_end text = take (length text - suffix_len is_blank text) text
 unfoldable pub trimmed : List ℕ → List ℕ
 trimmed text = without_blank_end (drop (position_or_len is_visible text) text)
 
--- the token of a line that has exactly one
+-- the token of a line that has exactly one, else None
 abbrev pub only : List (List ℕ) → Option (List ℕ)
 only [] = None
 only (t ∷ []) = Some t
 only (t ∷ u ∷ ts) = None
 
--- the tokens of a line that has exactly two
+-- the tokens of a line that has exactly two, else None
 abbrev pub only_two : List (List ℕ) → Option (List ℕ × List ℕ)
 only_two [] = None
 only_two (t ∷ []) = None

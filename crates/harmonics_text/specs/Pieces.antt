@@ -41,16 +41,16 @@ pending_length bytes = if is_comment (pending_line bytes) then 0 else length (pe
 unfoldable pub judged_lines : List ℕ → List (List ℕ)
 judged_lines bytes = ended_lines bytes ++ (if nat_lt 4096 (pending_length bytes) then pending_line bytes ∷ [] else [])
 
--- no fault yet, if a part requires a line and none is left
+-- the fault of a part, or None if it has none or only lacks further lines
 abbrev pub fault_in : {A : Type 0} → Result A (Option At) → Option At
 fault_in (Ok x) = None
 fault_in (Err fault) = fault
 
--- the first fault in the lines that can be judged, which are read as the begin of a file
+-- the first fault in the lines that can be judged, read as the beginning of a file
 unfoldable pub fault_so_far : List ℕ → Option At
 fault_so_far bytes = fault_in (book (kept (numbered 1 (judged_lines bytes))))
 
--- A result is the fault so far, or that there is none, unless it is out of memory.
+-- A result is the fault of the first bytes, or success if they show none, unless it is out of memory.
 abbrev pub ReturnsFault : Result (Unit {0}) BookFault → Option At → Type 0
 ReturnsFault (Ok x) fault = fault ≡ None
 ReturnsFault (Err NoMemory) fault = Unit {0}

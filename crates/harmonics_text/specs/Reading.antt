@@ -32,31 +32,31 @@ pub record At : Type 0 where
   pub line : ℕ
   pub why : Why
 
--- a part reads the first of the lines and returns the rest; it fails at a line, or (None) because no line
--- is left
+-- a part of a file: it reads the first of the lines and returns its value and the remaining lines; it
+-- fails at a line, or with None if no line remains
 abbrev pub Part : Type 0 → Type 0
 Part A = List Line → Result (A × List Line) (Option At)
 
--- a rule's value, or its fault at line n
+-- a rule's value, or its fault with the number n of its line
 abbrev pub at_line : {A : Type 0} → ℕ → Result A Why → Result A (Option At)
 at_line n (Ok x) = Ok x
 at_line n (Err why) = Err (Some (record { line = n; why = why }))
 
--- a rule applied to a line; its length is tested first
+-- a rule applied to a line; a line that is too long is refused first
 abbrev pub checked : {A : Type 0} → (List ℕ → Result A Why) → List ℕ → Result A Why
 checked rule text = if is_too_long text then Err LineTooLong else rule (without_cr text)
 
--- a part of one line
+-- a part that is one line, read by a rule
 abbrev pub one : {A : Type 0} → (List ℕ → Result A Why) → Part A
 one rule [] = Err None
 one rule (l ∷ ls) = at_line l.number (checked rule l.text) >>= λ x. Ok (x, ls)
 
--- `left` constituents after the earlier ones
+-- a part of `left` constituents, which are appended to the earlier ones
 unfoldable pub constituents : ℕ → List Constituent → Part (List Constituent)
 constituents zero earlier ls = Ok (earlier, ls)
 constituents (suc left) earlier ls = one (constituent_of earlier) ls >>= λ c. constituents left (earlier ++ c.0 ∷ []) c.1
 
--- `left` values after the earlier ones, on one line or more
+-- a part of `left` values, on one line or more, which are appended to the earlier ones
 unfoldable pub values : Scale → ℕ → List ℤ → Part (List ℤ)
 values s zero earlier ls = Ok (earlier, ls)
 values s (suc left) earlier [] = Err None
@@ -71,7 +71,7 @@ table s years (c ∷ cs) earlier ls = do
   more ← values s years earlier name.1
   table s years cs more.0 more.1
 
--- the amplitude and the epoch of each constituent, after the earlier ones
+-- a part with the amplitude and the epoch of each constituent, which are appended to the earlier ones
 unfoldable pub pairs : List Constituent → List ℤ → List ℤ → Part (List ℤ × List ℤ)
 pairs [] amplitude epoch ls = Ok ((amplitude, epoch), ls)
 pairs (c ∷ cs) amplitude epoch ls = one (pair_of c.name) ls >>= λ p. pairs cs (amplitude ++ p.0.0 ∷ []) (epoch ++ p.0.1 ∷ []) p.1
@@ -100,13 +100,13 @@ station cs ls = do
 unfoldable pub most_stations : ℕ
 most_stations = 20000
 
--- the stations up to the end of the file, at most `left` after the earlier ones
+-- the stations up to the end of the file, at most `left` of them, which are appended to the earlier ones
 unfoldable pub stations : ℕ → List Constituent → List Station → List Line → Result (List Station) (Option At)
 stations left cs earlier [] = Ok earlier
 stations zero cs earlier (l ∷ ls) = at_line l.number (checked (λ text. Err TooManyStations) l.text)
 stations (suc left) cs earlier (l ∷ ls) = station cs (l ∷ ls) >>= λ s. stations left cs (earlier ++ s.0 ∷ []) s.1
 
--- the ten parts of a file
+-- the book of the ten parts of a file, in order
 unfoldable pub book : List Line → Result Book (Option At)
 book ls = do
   count ← one count_of ls

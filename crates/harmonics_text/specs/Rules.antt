@@ -66,7 +66,7 @@ use Rattle.harmonics_text.specs.declared.scale.Scale.TheVariants.{Speed, Angle, 
 use Rattle.harmonics_text.specs.declared.local_time.LocalTime.{LocalTime}
 use Rattle.harmonics_text.specs.Lines.{tokens, only, only_two, trimmed}
 
--- the value, or a fault if there is none
+-- the value, or the fault if there is none
 abbrev pub or_fault : {A : Type 0} → Why → Option A → Result A Why
 or_fault why None = Err why
 or_fault why (Some x) = Ok x
@@ -111,7 +111,7 @@ number_of s text = in_scale s (read_of text (places_of s))
 unfoldable pub whole_of : List ℕ → Option ℕ
 whole_of text = option_and_then (digits_of 9) (only (tokens text))
 
--- n, or a fault if it isn't from `least` to `most`
+-- the number n, or a fault if it isn't from `least` to `most`
 unfoldable pub from_to : ℕ → ℕ → Why → ℕ → Result ℕ Why
 from_to least most why n = if nat_le least n && nat_le n most then Ok n else Err why
 
@@ -142,7 +142,7 @@ name_of most latin =
 abbrev pub is_name : List ℕ → List ℕ → Bool
 is_name latin name = bytes_eq (encode_utf8_all latin) name
 
--- `x` stands for an absent constituent, `*END*` ends a part
+-- the token of an absent constituent is `x`, and the token that ends a part is `*END*`
 abbrev pub is_absent : List ℕ → Bool
 is_absent token = bytes_eq token (codes "x")
 
@@ -179,19 +179,19 @@ abbrev pub if_true : Bool → Why → Result (Unit {0}) Why
 if_true true why = Ok tt
 if_true false why = Err why
 
--- a line with the name of the expected constituent alone
+-- the rule for a line that must be the name of the expected constituent and nothing else
 unfoldable pub named : List ℕ → List ℕ → Result (Unit {0}) Why
 named name text = or_fault WrongConstituent (only (tokens text)) >>= λ token. if_true (is_name token name) WrongConstituent
 
--- a line with `*END*` alone
+-- the rule for a line that must be `*END*` and nothing else
 unfoldable pub end_of : List ℕ → Result (Unit {0}) Why
 end_of text = or_fault NoEnd (only (tokens text)) >>= λ token. if_true (is_end token) NoEnd
 
--- a line with the number of years of the first table
+-- the rule for a line that must have the number of years of the first table
 unfoldable pub same_count_of : ℕ → List ℕ → Result (Unit {0}) Why
 same_count_of years text = count_of text >>= λ n. if_true (n == years) YearsDiffer
 
--- the number of values still to come after some tokens, and the values so far
+-- after reading some tokens as values: the number of values still to be read, and the values read
 unfoldable pub values_from : Scale → ℕ → List ℤ → List (List ℕ) → Result (ℕ × List ℤ) Why
 values_from s left values [] = Ok (left, values)
 values_from s zero values (token ∷ more) = Err BadNumber
@@ -229,7 +229,7 @@ meridian_of token =
     or_fault BadMeridian (clock_of (without_leading_sign token)) >>= λ n.
     Ok (if starts_with_minus token then neg_ℤ (pos n) else pos n)
 
--- a byte of a zone's name: as of a name, but no space
+-- a byte of a zone's name: a byte of a name other than the space
 abbrev pub is_zone_byte : ℕ → Bool
 is_zone_byte b = (nat_le 33 b && nat_le b 126) || (nat_le 128 b && nat_le b 255)
 

@@ -17,7 +17,7 @@ use Rattle.harmonics_text.specs.declared.fault.Why.TheVariants.{
   LineTooLong,
 }
 
--- the number of each reason
+-- the number of each reason in the file format
 abbrev pub number_of : Why → ℕ
 number_of BadCount = 1
 number_of BadName = 2

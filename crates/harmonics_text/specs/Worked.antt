@@ -1,4 +1,5 @@
--- A small file, whose book is `pier_book` of harmonics_book, and the faults of changed copies (this project).
+-- A small file with the book `pier_book` of harmonics_book, and the faults of changed copies (this
+-- project).
 use Rattle.std.specs.Prelude.{ℕ, ◌-◌, List, [], ◌∷◌, ◌++◌, codes, slice_set}
 use Rattle.harmonics_text.specs.declared.fault.Why.{Why}
 use Rattle.harmonics_text.specs.declared.fault.Why.TheVariants.{
@@ -26,7 +27,7 @@ abbrev pub file_of : List (List ℕ) → List ℕ
 file_of [] = []
 file_of (line ∷ lines) = line ++ 10 ∷ file_of lines
 
--- another text for one line, and the fault of the changed file
+-- a change of the file: the number of a line, its new text, and the fault of the changed file
 pub record Change : Type 0 where
   pub line : ℕ
   pub text : List ℕ

@@ -11,7 +11,8 @@ fn begins_absent(bytes: &[u8]) -> bool
     bytes.starts_with(b"x 0 0\n".as_slice())
 }
 
-/// Returns the number of such lines that `bytes` begins with, at most `most`, and the bytes after them.
+/// Returns the number of lines of absent constituents that `bytes` begins with, at most `most`, and the
+/// bytes after them. A line counts if it is exactly as XTide's tools write it.
 pub fn absent_lines(bytes: &[u8], most: usize) -> (usize, &[u8])
     ensures count_bound { result.0 ≤ most }
     ensures exact { bytes.now ≡ absent_lines result.0 ++ result.1.now }

@@ -37,11 +37,11 @@ use harmonics_book::{Book, Constituents, Stations};
 use std::alloc::{AllocError, Global};
 use std::mem;
 
-/// The parser state: the parts of the book read so far, and so the form that the next line must have.
+/// The parser state: the parts of the book read until now, which determine the form of the next line.
 #[derive(Drop)]
 pub enum BookParser {
     Count,
-    /// The number of constituents still to come, at least one, and those read.
+    /// The number of constituents still to be read, at least one, and the constituents read.
     Constituents(u32, Constituents),
     FirstYear(Constituents),
     Years(Constituents, i32),
@@ -115,8 +115,8 @@ impl BookParser {
         Ok((0, bytes))
     }
 
-    /// Reads a line that is no comment. A line of a station is read without moving the book, and a line
-    /// of a table without moving the table if it can't be the last one.
+    /// Reads a line that isn't a comment. A line of a station is read without moving the book, and a
+    /// line of a table without moving the table if it can't be the last one.
     fn add_text(&mut self, alloc: Global, text: &[u8]) -> Result<(), LineFault>
         requires { IsBookParser self.old }
         ensures { Follows (λ _. self.new) result (after_text self.old text.now) }
@@ -137,8 +137,8 @@ impl BookParser {
         self.move_on(alloc, text)
     }
 
-    /// Moves to the state after a line that is no comment. Apart from `add_text`, so that what is moved
-    /// needs no room there, which would be cleared for each line of a station.
+    /// Moves to the state after a line that isn't a comment. A separate function from `add_text`, so
+    /// that what is moved needs no room on its stack, which would be cleared for each line of a station.
     #[inline(never)]
     fn move_on(&mut self, alloc: Global, text: &[u8]) -> Result<(), LineFault>
         requires { IsBookParser self.old }
@@ -149,7 +149,7 @@ impl BookParser {
         Ok(())
     }
 
-    /// Returns the state after a line that is no comment.
+    /// Returns the state after a line that isn't a comment.
     #[tactic(auto, unfolding(crate::specs::Workings::BookParsing::after_text, crate::specs::Workings::BookParsing::after_count))]
     fn after_text(self, alloc: Global, text: &[u8]) -> Result<BookParser, LineFault>
         requires { IsBookParser self }
@@ -191,7 +191,7 @@ impl BookParser {
         }
     }
 
-    /// Returns the book if its last part is complete.
+    /// Returns the book if its last part is complete, and otherwise `None`.
     pub fn into_book(self) -> Option<Book>
         ensures { result ≡ book_in self }
     {
@@ -209,7 +209,7 @@ impl BookParser {
     }
 }
 
-/// Returns true if the values of a further constituent follow those that are next in `table`.
+/// Returns true if, in `table`, another constituent's values follow the next ones.
 fn has_more(heading: &Heading, table: &Table) -> bool
     requires here { table.now.place < length heading.now.constituents }
     requires count_bound { length heading.now.constituents ≤ 500 }

@@ -14,15 +14,16 @@ use harmonics_book::Book;
 use std::alloc::{AllocError, Global};
 use std::marker::Model;
 
-/// A reader of a file that comes in pieces, which may be cut anywhere, also within a comment or before
-/// the last byte of a line. It keeps only the bytes of the line that has not ended, at most 4,096.
+/// A reader of a file that is passed to it in pieces, which may be cut anywhere, also within a comment
+/// or before the last byte of a line. It keeps only the bytes of the line that has not ended, at most
+/// 4,096.
 ///
 /// In contracts its value is the bytes that it was fed, and the fault that it returned, if any. All
 /// pieces together have at most 400,000,000 bytes.
 #[derive(Drop)]
 pub struct BookReader {
     alloc: Global,
-    /// The parser state after the bytes so far, up to the fault.
+    /// The parser state after the bytes fed until now, up to the fault.
     progress: Progress,
     /// The fault that was returned, if any.
     fault: Option<BookFault>,
@@ -60,9 +61,9 @@ impl BookReader {
     /// Reads `piece`, the next bytes of the file.
     ///
     /// # Errors
-    /// [`BookFault::At`] with the first line that is bad, as soon as its last byte has come, or more
-    /// bytes than a line may have; [`BookFault::NoMemory`] if memory runs out. Each later call returns
-    /// the same fault.
+    /// [`BookFault::At`] with the first line that is bad, as soon as it was fed the line's last byte, or
+    /// more bytes than a line may have; [`BookFault::NoMemory`] if memory runs out. Each later call
+    /// returns the same fault.
     pub fn feed(&mut self, piece: &[u8]) -> Result<(), BookFault>
         requires { length self.old.bytes + length piece.now ≤ MOST_BYTES }
         ensures fed { self.new.bytes ≡ self.old.bytes ++ piece.now }
@@ -82,7 +83,8 @@ impl BookReader {
     /// Returns the book of all bytes that the reader was fed.
     ///
     /// # Errors
-    /// The [`BookFault`] that a call of [`BookReader::feed`] returned, or that the end of the file shows.
+    /// The [`BookFault`] that a call of [`BookReader::feed`] returned; otherwise [`BookFault::At`] if
+    /// the last line is bad or the file ends too early, and [`BookFault::NoMemory`] if memory runs out.
     pub fn finish(self) -> Result<Book, BookFault>
         ensures exact { ReturnsBook result (book_of self.bytes) }
         ensures again { IfSome self.fault (λ fault. result ≡ Err fault) }

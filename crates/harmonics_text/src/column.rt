@@ -6,7 +6,8 @@ use decimal_text::Numbers;
 use std::alloc::{AllocError, Global};
 use std::marker::Model;
 
-/// The numbers read so far. In contracts its value is the list of them.
+/// The numbers read until now from a table or a station of a file. In contracts its value is the list of
+/// them.
 #[derive(Drop)]
 pub struct Column {
     items: Vec<i64>,
@@ -42,14 +43,14 @@ impl Column {
         })
     }
 
-    /// Returns the number of numbers.
+    /// Returns how many numbers the list has.
     pub fn len(&self) -> usize
         ensures { result ≡ length self.now }
     {
         self.items.len()
     }
 
-    /// Appends `value`.
+    /// Appends `value` to the list.
     ///
     /// # Errors
     /// [`AllocError`] if memory runs out.
@@ -60,7 +61,7 @@ impl Column {
         Ok(())
     }
 
-    /// Appends `count` zeros.
+    /// Appends `count` zeros to the list.
     ///
     /// # Errors
     /// [`AllocError`] if memory runs out.
@@ -73,7 +74,7 @@ impl Column {
         self.items.resize(len, 0)
     }
 
-    /// Returns the finished list.
+    /// Returns the finished list as [`Numbers`].
     pub fn into_numbers(self) -> Numbers
         ensures { result ≡ self }
     {

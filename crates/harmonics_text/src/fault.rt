@@ -4,39 +4,40 @@ ghost use Rattle.std.specs.Prelude.{◌≡◌};
 
 use std::alloc::AllocError;
 
-/// The reason why a line wasn't read.
+/// The reason why a line of a harmonics file couldn't be read.
 #[derive(Clone, Copy)]
 pub enum LineFault {
-    /// Out of memory.
+    /// Memory ran out while the line was read.
     NoMemory,
-    /// The line breaks a rule: the first reason.
+    /// The line breaks a rule of the file format: the first reason.
     Bad(Why),
 }
 
-/// The fault of a line. The file format numbers these reasons from 1 (docs/FORMATS.md).
+/// The reason why a line of a harmonics file is bad. The file format numbers these reasons from 1
+/// (docs/FORMATS.md).
 #[derive(Clone, Copy, Debug, PartialEq, Eq)]
 pub enum Why {
     /// A number of constituents or years isn't from 1 to 500.
     BadCount,
-    /// A name has a bad byte or length, or is that of an earlier constituent.
+    /// A name has a bad byte or length, or is the name of an earlier constituent.
     BadName,
-    /// A number is missing or isn't a decimal.
+    /// A required number is missing or isn't a decimal.
     BadNumber,
-    /// A number has more decimal places than its unit.
+    /// A number has more decimal places than the unit of its field.
     TooFine,
-    /// A number is out of its range.
+    /// A number isn't in the range of its field.
     OutOfRange,
-    /// The second table has another number of years than the first.
+    /// The second table has a different number of years than the first.
     YearsDiffer,
-    /// A line is of another constituent than the next one.
+    /// The line isn't for the constituent that is expected there.
     WrongConstituent,
     /// A table doesn't end with `*END*`.
     NoEnd,
-    /// A meridian or a zone is bad.
+    /// The meridian or the zone of a station is missing or malformed.
     BadMeridian,
     /// The unit of a datum is missing or unknown.
     BadUnits,
-    /// The file ends too early.
+    /// The file ends before a part is complete.
     CutShort,
     /// The file has more than 20,000 stations.
     TooManyStations,
@@ -47,7 +48,7 @@ pub enum Why {
 impl Why {
     ghost use Rattle.harmonics_text.specs.Whys.{number_of, text_of};
 
-    /// Returns the number of the reason, from 1 to 13.
+    /// Returns the number of the reason in the file format, from 1 to 13.
     pub fn number(self) -> u32
         ensures { result ≡ number_of self }
     {
@@ -68,7 +69,7 @@ impl Why {
         }
     }
 
-    /// Returns the text of the reason, as it is printed.
+    /// Returns the text of the reason that is printed.
     pub fn text(self) -> &'static str
         ensures { result.now ≡ text_of self }
     {
@@ -110,13 +111,13 @@ impl From<Why> for LineFault {
     }
 }
 
-/// The reason why a file has no book.
+/// The reason why a harmonics file couldn't be read as a book.
 #[derive(Clone, Copy, Debug, PartialEq, Eq)]
 pub enum BookFault {
-    /// Out of memory.
+    /// Memory ran out while the file was read.
     NoMemory,
     /// The first line that breaks a rule, counted from 1, and the first reason. If the file ends too
-    /// early, the line is one after its last.
+    /// early, the line is the one after its last.
     At { line: u32, why: Why },
 }
 

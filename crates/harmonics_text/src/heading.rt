@@ -13,23 +13,23 @@ use decimal_text::Text;
 use harmonics_book::{Constituent, Constituents};
 use std::alloc::Global;
 
-/// The parts of a book before its tables.
+/// The parts of a harmonics file before its tables: the constituents with their speeds, and the years.
 #[derive(Drop)]
 pub struct Heading {
     pub constituents: Constituents,
     pub first_year: i32,
-    /// The number of years of each table.
+    /// The number of years in each table of the file.
     pub years: u32,
 }
 
-/// Returns true if `token` stands for an absent constituent.
+/// Returns true if `token` is the name that XTide's tools write for an absent constituent.
 pub fn is_absent(token: &[u8]) -> bool
     ensures { result ≡ is_absent token.now }
 {
     token == b"x".as_slice()
 }
 
-/// Returns true if `token` ends a part.
+/// Returns true if `token` is `*END*`, which closes a table of the file.
 pub fn is_end(token: &[u8]) -> bool
     ensures { result ≡ is_end token.now }
 {
@@ -62,7 +62,7 @@ fn new_name(alloc: Global, earlier: &Constituents, token: &[u8]) -> Result<Text,
 /// Returns the constituent of line `text`, after the constituents `earlier`.
 ///
 /// # Errors
-/// [`Why::BadName`] if the name is bad or not new; else [`Why::BadNumber`], [`Why::TooFine`] or
+/// [`Why::BadName`] if the name is bad or isn't new; otherwise [`Why::BadNumber`], [`Why::TooFine`] or
 /// [`Why::OutOfRange`] for the speed; [`LineFault::NoMemory`] if memory runs out.
 #[tactic(auto, unfolding(crate::specs::Rules::constituent_of, crate::specs::Rules::constituent_from))]
 pub fn constituent(

@@ -29,7 +29,7 @@ ghost use Rattle.harmonics_text.specs.Worked.{pier_lines, file_of, pier_with, ch
 
 use crate::fault::Why;
 
-/// Proves examples of lines, tokens and numbers.
+/// Proves examples of how a harmonics file is cut into lines and tokens, and of its numbers.
 pub fn worked_lines()
     ensures lines { cut (codes "a\n\nb") ≡ codes "a" ∷ [] ∷ codes "b" ∷ [] }
     ensures kept { kept (numbered 1 (codes "#a" ∷ codes " #a" ∷ codes " \t\r" ∷ codes "\r\r" ∷ []))
@@ -46,7 +46,8 @@ pub fn worked_lines()
     ensures absent { pair_of (codes "S2") (codes "x 1 2") ≡ Ok (pos 0, pos 0) }
 {}
 
-/// Proves the book of a small file, and the fault of each changed copy.
+/// Proves which book the definition of reading gives for a small file, and which fault for each changed
+/// copy.
 pub fn worked_files()
     ensures pier { book_of (file_of pier_lines) ≡ Ok pier_book }
     ensures cut_short { book_of (file_of (take 15 pier_lines)) ≡ Err (record { line = 16; why = Why.CutShort }) }
@@ -55,7 +56,7 @@ pub fn worked_files()
     ensures too_fine { book_of (codes "# a comment\n1\n\nS2 30.00000001\r\n") ≡ Err (record { line = 4; why = Why.TooFine }) }
 {}
 
-/// Proves examples of the fault and the pending line of a file's first bytes.
+/// Proves examples of the fault of a file's first bytes and of the line that has not ended.
 pub fn worked_pieces()
     ensures begun { fault_so_far (codes "# Pier test\n1") ≡ None }
     ensures one_byte { pending_length (codes "# Pier test\n1") ≡ 1 }

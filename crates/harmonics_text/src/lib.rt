@@ -1,7 +1,7 @@
 //! The reader of text files of harmonic constants.
 //!
 //! [`read_book`] reads a [`Book`] from the bytes of a file in the format of XTide's tools, and a
-//! [`BookReader`] reads it piece by piece. The book and its lists are those of the crate
+//! [`BookReader`] reads it piece by piece. The book and its lists are types of the crate
 //! `harmonics_book`.
 #![tactic(auto)]
 

@@ -26,7 +26,7 @@ fn lf_at(bytes: &[u8]) -> Option<usize>
     memchr(b'\n', bytes)
 }
 
-/// Returns the bytes before the first LF and those after it, or `None` if there is no LF.
+/// Returns the bytes before the first LF and the bytes after it, or `None` if there is no LF.
 #[inline(always)]
 pub fn next_line(bytes: &[u8]) -> Option<(&[u8], &[u8])>
     ensures shorter { IfSome result (λ r. length r.1.now < length bytes.now) }
@@ -44,14 +44,14 @@ pub fn is_comment(line: &[u8]) -> bool
     line.starts_with(b"#".as_slice())
 }
 
-/// Returns true if `line` is longer than a line other than a comment may be: 4,096 bytes.
+/// Returns true if `line` has more than 4,096 bytes, which only a comment may have.
 pub fn is_too_long(line: &[u8]) -> bool
     ensures { result ≡ is_too_long line.now }
 {
     line.len() > 4096
 }
 
-/// Returns `line` without one CR at its end.
+/// Returns `line` without the CR at its end, if it has one.
 pub fn without_cr(line: &[u8]) -> &[u8]
     ensures { result.now ≡ without_cr line.now }
 {
@@ -76,7 +76,7 @@ pub fn is_all_blank(text: &[u8]) -> bool
     text.iter().all(|b| is_blank(*b))
 }
 
-/// Returns the index of the first byte of `text` that isn't white space.
+/// Returns the index of the first byte of `text` that isn't white space, or `None` if there isn't one.
 pub fn visible_at(text: &[u8]) -> Option<usize>
     ensures { result ≡ position is_visible text.now }
 {
@@ -96,8 +96,8 @@ fn is_padded(text: &[u8]) -> bool
     text.starts_with(b"    ".as_slice())
 }
 
-/// Returns `text` without spaces that it begins with, four at a time. Names of constituents are padded with
-/// spaces, mostly twelve or more.
+/// Returns `text` without its first spaces, removed four at a time, so that up to three may remain.
+/// Names of constituents are padded with spaces, mostly twelve or more.
 pub fn without_padding(text: &[u8]) -> &[u8]
     ensures { tokens result.now ≡ tokens text.now }
 {
@@ -119,7 +119,7 @@ pub fn next_token(text: &[u8]) -> Option<(&[u8], &[u8])>
     Some(visible.split_at(end))
 }
 
-/// Returns the token of `text` if there is exactly one.
+/// Returns the token of `text` if there is exactly one, and otherwise `None`.
 pub fn only_token(text: &[u8]) -> Option<&[u8]>
     ensures { option_copied result ≡ only (tokens text.now) }
 {
@@ -130,7 +130,7 @@ pub fn only_token(text: &[u8]) -> Option<&[u8]>
     }
 }
 
-/// Returns the tokens of `text` if there are exactly two.
+/// Returns the tokens of `text` if there are exactly two, and otherwise `None`.
 pub fn only_two_tokens(text: &[u8]) -> Option<(&[u8], &[u8])>
     ensures { option_map (λ r. (r.0.now, r.1.now)) result ≡ only_two (tokens text.now) }
 {

@@ -23,7 +23,7 @@ use std::alloc::Global;
 /// A station's local time: its meridian and the name of its zone.
 #[derive(Drop)]
 pub struct LocalTime {
-    /// The meridian in minutes east of Greenwich.
+    /// The station's meridian in minutes east of Greenwich.
     pub meridian: i32,
     pub zone: Text,
 }
@@ -115,7 +115,8 @@ fn zone_name(alloc: Global, token: &[u8]) -> Result<Text, LineFault>
 /// Returns the meridian and the zone of line `text`.
 ///
 /// # Errors
-/// [`Why::BadMeridian`] if the line has another form; [`LineFault::NoMemory`] if memory runs out.
+/// [`Why::BadMeridian`] if the line isn't a meridian and a zone; [`LineFault::NoMemory`] if memory runs
+/// out.
 #[tactic(auto, unfolding(crate::specs::Rules::local_time_of, crate::specs::Rules::local_time_from))]
 pub fn local_time_of_line(alloc: Global, text: &[u8]) -> Result<LocalTime, LineFault>
     ensures { Follows (λ p. p) result (local_time_of text.now) }

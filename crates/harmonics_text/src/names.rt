@@ -52,7 +52,7 @@ pub fn name_of(alloc: Global, latin: &[u8], most: usize) -> Result<Text, LineFau
     Ok(utf8_of(alloc, latin)?)
 }
 
-/// Returns the bytes after the first if that is `b`.
+/// Returns the bytes after the first if the first is `b`, and otherwise `None`.
 pub fn without_byte(text: &[u8], b: u8) -> Option<&[u8]>
     ensures { option_copied result ≡ without_byte b text.now }
 {
@@ -60,7 +60,7 @@ pub fn without_byte(text: &[u8], b: u8) -> Option<&[u8]>
     if *first == b { Some(rest) } else { None }
 }
 
-/// Returns the bytes after the first character if that is `latin`, in UTF-8.
+/// Returns the bytes after the first character if that is `latin`, in UTF-8, and otherwise `None`.
 #[tactic(auto, unfolding(crate::specs::Latin::without_bytes))]
 fn without_char(text: &[u8], latin: u8) -> Option<&[u8]>
     ensures { option_copied result ≡ without_bytes (utf8_byte_or_two latin) text.now }

@@ -20,7 +20,7 @@ fn whole_number(text: &[u8]) -> Option<u32>
 /// Returns the number of constituents or years in line `text`, from 1 to 500.
 ///
 /// # Errors
-/// [`Why::BadCount`] if the line is no such number.
+/// [`Why::BadCount`] if the line isn't such a number.
 #[tactic(auto, unfolding(crate::specs::Rules::count_of, crate::specs::Rules::from_to))]
 pub fn count(text: &[u8]) -> Result<u32, Why>
     ensures { result ≡ count_of text.now }
@@ -40,8 +40,8 @@ pub fn count(text: &[u8]) -> Result<u32, Why>
 /// Returns the first year in line `text`, from 2 to 8800.
 ///
 /// # Errors
-/// [`Why::BadNumber`] if the line is no number of one to nine digits, [`Why::OutOfRange`] if it is out of
-/// range.
+/// [`Why::BadNumber`] if the line isn't a number of one to nine digits, [`Why::OutOfRange`] if the
+/// number is out of range.
 #[tactic(auto, unfolding(crate::specs::Rules::first_year_of, crate::specs::Rules::from_to))]
 pub fn first_year(text: &[u8]) -> Result<i32, Why>
     ensures { result ≡ first_year_of text.now }
@@ -68,11 +68,11 @@ fn in_scale(value: i128, scale: Scale) -> Result<i64, Why>
     Ok(value as i64)
 }
 
-/// Returns the decimal `text` in the unit of `scale`, if it is in the range of `scale`.
+/// Returns the decimal `text` as a whole number in the unit of `scale`.
 ///
 /// # Errors
-/// The first of [`Why::BadNumber`] if `text` isn't a decimal, [`Why::TooFine`] if it has too many places,
-/// and [`Why::OutOfRange`].
+/// The first that applies: [`Why::BadNumber`] if `text` isn't a decimal, [`Why::TooFine`] if it has more
+/// decimal places than the unit, and [`Why::OutOfRange`] if it isn't in the range of `scale`.
 #[tactic(auto, unfolding(crate::specs::Rules::number_of, crate::specs::Rules::in_scale))]
 pub fn number(text: &[u8], scale: Scale) -> Result<i64, Why>
     ensures { result ≡ number_of scale text.now }

@@ -13,8 +13,8 @@ use std::marker::Model;
 /// The most bytes of a line other than a comment.
 const MOST: usize = 4096;
 
-/// The kept bytes of a line: of a comment only the `#`, of any other line all bytes so far. In contracts
-/// its value is the list of them.
+/// The kept bytes of a line that has not ended: of a comment only the `#`, of any other line all bytes
+/// read until now. In contracts its value is the list of them.
 #[derive(Drop)]
 pub struct Pending {
     kept: Vec<u8>,
@@ -50,14 +50,14 @@ impl Pending {
         self.kept.is_empty()
     }
 
-    /// Borrows the kept bytes.
+    /// Borrows the kept bytes of the line that has not ended.
     pub fn as_slice(&self) -> &[u8]
         ensures { result.now ≡ self.now }
     {
         self.kept.as_slice()
     }
 
-    /// Returns the number of bytes of the line so far: 0 within a comment.
+    /// Returns the number of bytes of the line read until now: 0 within a comment.
     pub fn count(&self) -> u32
         ensures { result ≡ (if is_comment self.now then 0 else length self.now) }
     {
@@ -114,7 +114,7 @@ impl Pending {
         }
     }
 
-    /// Begins the next line.
+    /// Removes all bytes, to begin the next line.
     pub fn clear(&mut self)
         ensures { self.new ≡ [] }
     {

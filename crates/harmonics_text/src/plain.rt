@@ -1,5 +1,5 @@
 //! Numbers in their usual form, an optional `-`, digits, and an optional point with digits. They are
-//! read in one pass and in 64 bits. `numbers` reads any form.
+//! read in one pass and in 64 bits. The module `numbers` reads any form.
 
 ghost use Rattle.std.specs.Prelude.{◌≡◌, ◌+◌, ◌-◌, ◌*◌, ◌%◌, ◌^◌, ◌<◌, ◌≤◌, ◌∷◌, ◌++◌, [], Ok, take, if◌then◌else◌, IfSome, IsTrue};
 ghost use Rattle.std.specs.List.{prefix_len};
@@ -16,8 +16,8 @@ use crate::scale::Scale;
 /// The most digits of a number that is read here: it fits 64 bits in the unit of any scale.
 const MOST_DIGITS: usize = 11;
 
-/// Returns the number, modulo 2^64, that the digits which `text` begins with write after those of
-/// `before`, and their count.
+/// Returns the number, modulo 2^64, that the digits of `before` and the digits that `text` begins with
+/// write together, and the count of the latter.
 fn digits_after(before: u64, text: &[u8]) -> (u64, usize)
     ensures count { result.1 ≡ prefix_len is_ascii_digit text.now }
     ensures value { result.0 ≡ digits_value_after 10 before (take result.1 text.now) % 2 ^ 64 }
@@ -32,7 +32,7 @@ fn digits_after(before: u64, text: &[u8]) -> (u64, usize)
     (value, text.len())
 }
 
-/// Returns true and the bytes after the first if that is `b`, and else false and `text`.
+/// Returns true and the bytes after the first if the first is `b`, and otherwise false and `text`.
 fn split_byte(text: &[u8], b: u8) -> (bool, &[u8])
     ensures { text.now ≡ (if result.0 then b ∷ [] else []) ++ result.1.now }
 {
@@ -52,8 +52,8 @@ fn ends_token(rest: &[u8]) -> bool
     }
 }
 
-/// Returns true if a number of `digits` digits is read here, if its unit has `most` places and
-/// `places` of the digits are after the point.
+/// Returns true if a number of `digits` digits, `places` of them after the point, is read here; its unit
+/// has `most` decimal places.
 fn is_short(digits: usize, places: usize, most: u32) -> bool
     ensures { IsTrue result → (1 ≤ digits) × (digits ≤ 11) × (places ≤ most) }
 {
@@ -79,7 +79,7 @@ fn power_of_ten(exponent: u32) -> u64
     }
 }
 
-/// Returns `number` in a unit of which `10^missing` are one.
+/// Returns `number` times `10^missing`.
 #[inline(always)]
 fn in_units(number: u64, missing: u32) -> u64
     requires small { number < 10 ^ 11 }
@@ -111,7 +111,8 @@ fn within(value: i64, scale: Scale) -> Option<i64>
 }
 
 /// Returns the first number of `text`, in the unit of `scale`, and the bytes after it, or `None` if the
-/// number has another form or is out of range.
+/// number isn't in the usual form (an optional `-`, digits, and an optional point with digits) or is out
+/// of range.
 #[inline(always)]
 pub fn plain_number(text: &[u8], scale: Scale) -> Option<(i64, &[u8])>
     ensures { IfSome result (λ r. IsFirstNumber scale text.now r.0 r.1.now) }

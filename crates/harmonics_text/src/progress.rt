@@ -23,7 +23,7 @@ use crate::pending::Pending;
 use harmonics_book::Book;
 use std::alloc::{AllocError, Global};
 
-/// The state between two pieces of a file.
+/// The state of reading between two pieces of a file.
 #[derive(Drop)]
 pub struct Progress {
     /// The parser state after the lines that have ended.
@@ -59,7 +59,7 @@ impl Progress {
     }
 
     /// Reads `piece`. Lines that begin and end in it are read without being copied. After a fault the
-    /// state is somewhere in the piece, and must not be read on.
+    /// state is somewhere in the piece, and nothing more may be read.
     ///
     /// # Errors
     /// [`BookFault::At`] with the first bad line; [`BookFault::NoMemory`] if memory runs out.
@@ -132,8 +132,8 @@ impl Progress {
     }
 }
 
-/// Reads the line `first` and those that end in `bytes`: returns the number of the next line and the
-/// bytes left, or the fault.
+/// Reads the line `first` and the lines that end in `bytes`. Returns the number of the next line and the
+/// unread bytes, or the fault.
 fn add_lines<'a>(
     parser: &mut BookParser,
     mut number: u32,

@@ -14,8 +14,8 @@ use std::alloc::Global;
 ///
 /// The file has the format of the text files that XTide's tools write: constituents with their speeds, a
 /// table of equilibrium arguments and one of node factors, and records of stations. Comments begin with
-/// `#`, lines of white space are skipped, and names are in ISO 8859-1. Units and ranges of the numbers
-/// are those of [`Book`]'s fields.
+/// `#`, lines of white space are skipped, and names are in ISO 8859-1. The units and ranges of the
+/// numbers are documented at the fields of [`Book`].
 ///
 /// `bytes`, at most 400,000,000, are read once, line by line.
 ///
@@ -39,7 +39,7 @@ pub fn read_book(alloc: Global, bytes: &[u8]) -> Result<Book, BookFault>
     ensures valid { IfOk result IsBook }
 {
     let mut reader = BookReader::new(alloc)?;
-    // A fault is kept by the reader: `finish` returns it again.
+    // The reader keeps a fault: `finish` returns it again.
     let _ = reader.feed(bytes);
     reader.finish()
 }

@@ -16,7 +16,7 @@ use crate::scale::Scale;
 use decimal_text::Text;
 use harmonics_book::{Station, Units};
 
-/// A station whose constants are being read.
+/// A station with the constants that were read until now.
 #[derive(Drop)]
 pub struct Constants {
     pub name: Text,
@@ -27,7 +27,7 @@ pub struct Constants {
     pub epoch: Column,
 }
 
-/// The part of the next station's record that is read.
+/// The state of reading a station's record: which lines of it were read, with their values.
 #[derive(Drop)]
 pub enum Record {
     Nothing,
@@ -36,7 +36,7 @@ pub enum Record {
     Constants(Constants),
 }
 
-/// Returns the station with the constants read.
+/// Returns the station with the constants that were read.
 pub fn into_station(constants: Constants) -> Station
     ensures { result ≡ station_of constants }
 {
@@ -80,7 +80,7 @@ fn parse_units(token: &[u8]) -> Result<Units, Why>
 /// Returns the datum of line `text`, in millionths, and its unit.
 ///
 /// # Errors
-/// [`Why::BadUnits`] if the line isn't a number and a known unit, else the fault of the number.
+/// [`Why::BadUnits`] if the line isn't a number and a known unit; otherwise the fault of the number.
 #[tactic(auto, unfolding(crate::specs::Rules::datum_of))]
 pub fn datum(text: &[u8]) -> Result<(i64, Units), Why>
     ensures { result ≡ datum_of text.now }
@@ -106,8 +106,8 @@ fn is_for(token: &[u8], name: &Text) -> bool
     is_absent(token) || is_name(token, name)
 }
 
-/// Returns the amplitude and the epoch of the constituent `name` in line `text`, if the line has its
-/// usual form.
+/// Returns the amplitude and the epoch of the constituent `name` in line `text`, or `None` unless the
+/// line has its usual form.
 fn plain_pair(name: &Text, text: &[u8]) -> Option<(i64, i64)>
     ensures { IfSome result (λ p. pair_of name.now text.now ≡ Ok p) }
 {
@@ -123,10 +123,11 @@ fn plain_pair(name: &Text, text: &[u8]) -> Option<(i64, i64)>
     }
 }
 
-/// Returns the amplitude and the epoch of the constituent `name` in line `text`.
+/// Returns the amplitude and the epoch of the constituent `name` in line `text`; both are 0 if the line
+/// is for an absent constituent.
 ///
 /// # Errors
-/// [`Why::WrongConstituent`] if the line begins with another name, else the fault of the first bad
+/// [`Why::WrongConstituent`] if the line begins with another name; otherwise the fault of the first bad
 /// number.
 pub fn amplitude_and_epoch(name: &Text, text: &[u8]) -> Result<(i64, i64), Why>
     ensures { result ≡ pair_of name.now text.now }

@@ -3,7 +3,7 @@
 ghost use Rattle.std.specs.Prelude.{◌≡◌, ◌≤◌};
 ghost use Rattle.harmonics_text.specs.Rules.{places_of, least_of, most_of};
 
-/// The meaning of a decimal, which determines its unit and its range.
+/// The kind of a decimal in a harmonics file, which determines its unit and its range.
 #[derive(Clone, Copy)]
 pub enum Scale {
     /// A speed, in ten-millionths of a degree per hour.
@@ -17,7 +17,7 @@ pub enum Scale {
 }
 
 impl Scale {
-    /// Returns the number of decimal places of the unit.
+    /// Returns the number of decimal places of the scale's unit: 7 for ten-millionths, 6 for millionths.
     pub fn places(self) -> u32
         ensures exact { result ≡ places_of self }
         ensures count_bound { result ≤ 9 }
@@ -28,7 +28,7 @@ impl Scale {
         }
     }
 
-    /// Returns the least value, in the unit of the scale.
+    /// Returns the least value of a decimal of this scale, in the unit of the scale.
     pub fn least(self) -> i64
         ensures { result ≡ least_of self }
     {
@@ -39,7 +39,7 @@ impl Scale {
         }
     }
 
-    /// Returns the greatest value, in the unit of the scale.
+    /// Returns the greatest value of a decimal of this scale, in the unit of the scale.
     pub fn most(self) -> i64
         ensures { result ≡ most_of self }
     {

@@ -102,7 +102,7 @@ fn after_pair(book: &mut Book, mut station: Constants, text: &[u8]) -> Result<Re
     Ok(with_pair(book, station)?)
 }
 
-/// Returns the record after a line of the station that `begun` has so far.
+/// Returns the record after a line of the station; `begun` is its record before the line.
 #[tactic(auto, unfolding(crate::specs::Workings::BookParsing::after_record))]
 fn after_record(
     alloc: Global,
@@ -124,8 +124,9 @@ fn after_record(
     }
 }
 
-/// Moves to the record after a line of the station that `begun` has so far. Apart from
-/// `add_station_line`, so that what is moved needs no room there, which would be cleared for each pair.
+/// Moves to the record after a line of the station; `begun` is its record before the line. A separate
+/// function from `add_station_line`, so that what is moved needs no room on its stack, which would be
+/// cleared for each pair.
 #[inline(never)]
 fn move_on(alloc: Global, book: &mut Book, begun: &mut Record, text: &[u8]) -> Result<(), LineFault>
     requires { IsBookParser (Stations book.old begun.old) }
@@ -136,8 +137,8 @@ fn move_on(alloc: Global, book: &mut Book, begun: &mut Record, text: &[u8]) -> R
     Ok(())
 }
 
-/// Reads a line of the station that `begun` has so far. A pair that isn't the station's last is added
-/// without moving the record.
+/// Reads a line of the station; `begun` is its record before the line. A pair that isn't the station's
+/// last is added without moving the record.
 pub fn add_station_line(
     alloc: Global,
     book: &mut Book,
@@ -164,7 +165,7 @@ fn push_absent(station: &mut Constants, count: usize) -> Result<(), AllocError>
     Ok(())
 }
 
-/// Reads the lines of absent constituents that `bytes` begins with, but for the station's last line.
+/// Reads the lines of absent constituents that `bytes` begins with, except the station's last line.
 /// Returns their count and the bytes after them.
 ///
 /// # Errors

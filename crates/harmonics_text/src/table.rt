@@ -24,17 +24,17 @@ use crate::scale::Scale;
 use decimal_text::Text;
 use std::alloc::{AllocError, Global};
 
-/// A table that is read in part.
+/// A table of equilibrium arguments or node factors, read in part.
 #[derive(Drop)]
 pub struct Table {
-    /// The index of the constituent whose values are next.
+    /// The index of the constituent that has the next values.
     pub place: usize,
-    /// The number of its values still to come: 0 before its name.
+    /// The number of values of that constituent that are still to be read: 0 before its name was read.
     pub left: u32,
     pub values: Column,
 }
 
-/// Returns the table before any line.
+/// Returns the state of a table before any line of it is read.
 pub fn start_table(alloc: Global) -> Table
     ensures { result ≡ new_table }
 {
@@ -54,7 +54,8 @@ fn push_number(values: &mut Column, scale: Scale, token: &[u8]) -> Result<(), Li
     Ok(())
 }
 
-/// Returns the constituent's index after a line that leaves `left` values to come.
+/// Returns the index of the constituent that has the next values, after a line that leaves `left` values
+/// of constituent `place` to be read.
 fn next_place(left: u32, place: usize) -> usize
     requires { place < 500 }
     ensures { result ≡ at_place left place }
@@ -62,7 +63,7 @@ fn next_place(left: u32, place: usize) -> usize
     if left == 0 { place + 1 } else { place }
 }
 
-/// Appends the values that `text` begins with to `table`, up to the first that hasn't the usual form.
+/// Appends the values that `text` begins with to `table`, up to the first that isn't in the usual form.
 /// Returns the bytes after them.
 fn add_plain_values<'a>(
     table: &mut Table,
@@ -133,8 +134,8 @@ fn check_name(name: &Text, text: &[u8]) -> Result<(), Why>
 /// Reads the next line `text` of `table`, which is incomplete.
 ///
 /// # Errors
-/// [`Why::WrongConstituent`] if the line should name the next constituent and doesn't, else the fault of
-/// the first bad number; [`LineFault::NoMemory`] if memory runs out.
+/// [`Why::WrongConstituent`] if the line should name the next constituent and doesn't; otherwise the
+/// fault of the first bad number; [`LineFault::NoMemory`] if memory runs out.
 #[tactic(auto, unfolding(crate::specs::Workings::BookParsing::after_table_line, crate::specs::Workings::BookParsing::after_name))]
 pub fn add_table_line(
     table: &mut Table,

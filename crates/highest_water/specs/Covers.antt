@@ -1,5 +1,5 @@
--- The cells that show a highest water: cells that the curve's rate keeps under it, halved down to single
--- minutes elsewhere (this project).
+-- The cells that show a highest water: cells that by the curve's rate are under it, and otherwise halves
+-- of cells, down to single minutes (this project).
 use Rattle.std.specs.Prelude.{
   ℕ,
   zero,
@@ -44,38 +44,41 @@ unfoldable pub all_minutes : List PeakCell → ℕ
 all_minutes [] = 0
 all_minutes (cell ∷ cells) = minutes_of cell + all_minutes cells
 
--- twice the greatest value that a rate allows between two values n minutes apart: both values, and the rate
--- times the minutes
+-- twice the greatest value that a rate allows between two values n minutes apart: the sum of both values
+-- and of the rate times the minutes
 abbrev pub twice_most : ℤ → ℕ → ℤ → ℤ → ℤ
 twice_most rate n v w = v +ℤ w +ℤ (rate *ℤ pos n)
 
--- a greatest value below `value`
+-- by the rate, every value between two values n minutes apart is below `value`
 unfoldable pub stays_below : Option ℤ → ℕ → ℤ → ℤ → ℤ → Bool
 stays_below None n v w value = false
 stays_below (Some rate) n v w value = int_lt (twice_most rate n v w) (pos 2 *ℤ value)
 
--- a greatest value of at most `value`
+-- by the rate, every value between two values n minutes apart is at most `value`
 unfoldable pub stays_within : Option ℤ → ℕ → ℤ → ℤ → ℤ → Bool
 stays_within None n v w value = false
 stays_within (Some rate) n v w value = int_le (twice_most rate n v w) (pos 2 *ℤ value)
 
--- a cell of n minutes from a on that ends by the minute `at`, and whose values are all below `value`
+-- the n minutes from minute a on end by the minute `at`, and by the rate their values are all below
+-- `value`
 abbrev pub ends_below : Meaning → ℤ → ℤ → ℤ → ℕ → Bool
 ends_below c at value a n =
     int_le (a +ℤ pos n) at && stays_below (c.rate a n) n (c.track.value a) (c.track.value (a +ℤ pos n)) value
 
--- a cell of n minutes from a on that begins after the minute `at`, and whose values are all at most `value`
+-- the n minutes from minute a on begin after the minute `at`, and by the rate their values are all at
+-- most `value`
 abbrev pub begins_within : Meaning → ℤ → ℤ → ℤ → ℕ → Bool
 begins_within c at value a n =
     int_lt at a && stays_within (c.rate a n) n (c.track.value a) (c.track.value (a +ℤ pos n)) value
 
--- a cell of 2 to 1,024 minutes that is under the value of the minute `at`: it ends below it or begins
--- within it; a cell that contains the minute does neither
+-- the n minutes from minute a on, 2 to 1,024, are under the value of the minute `at`: they end before it
+-- with lower values, or begin after it with values that aren't greater; minutes that include `at` do
+-- neither
 unfoldable pub is_under : Meaning → ℤ → ℤ → ℤ → ℕ → Bool
 is_under c at value a n =
     nat_le 2 n && nat_le n MOST_MINUTES && (ends_below c at value a n || begins_within c at value a n)
 
--- the cells of n minutes, with at most that many halvings
+-- the cells of n minutes from minute a on, with at most this many halvings
 unfoldable pub split_within : ℕ → Meaning → ℤ → ℤ → ℤ → ℕ → List PeakCell
 split_within zero c at value a n = []
 split_within (suc halvings) c at value a n =
@@ -87,12 +90,12 @@ split_within (suc halvings) c at value a n =
       ]
     ]
 
--- the cells of n minutes: one that is under, one of a single minute, or those of its two halves, the first
--- the shorter
+-- the cells of n minutes from minute a on: one that is under the highest water, or one of a single
+-- minute, or the cells of the two halves, the shorter half first
 unfoldable pub peak_split : Meaning → ℤ → ℤ → ℤ → ℕ → List PeakCell
 peak_split c at value a n = split_within n c at value a n
 
--- the cells of n minutes, in at most that many blocks
+-- the cells of n minutes from minute a on, in at most this many blocks
 unfoldable pub cover_within : ℕ → Meaning → ℤ → ℤ → ℤ → ℕ → List PeakCell
 cover_within zero c at value a n = []
 cover_within (suc blocks) c at value a n =
@@ -101,8 +104,8 @@ cover_within (suc blocks) c at value a n =
       | false ↦ peak_split c at value a MOST_MINUTES ++ cover_within blocks c at value (a +ℤ pos MOST_MINUTES) (n - MOST_MINUTES)
     ]
 
--- the cells of a span of n minutes, by the minute and the value of its highest water, in blocks of 1,024
--- minutes from its begin on, of which the last may be shorter
+-- the cells of a span of n minutes from minute a on, for the minute and the value of its highest water,
+-- cut into blocks of 1,024 minutes from its beginning on; the last block may be shorter
 unfoldable pub peak_cover : Meaning → ℤ → ℤ → ℤ → ℕ → List PeakCell
 peak_cover c at value a n = cover_within n c at value a n
 

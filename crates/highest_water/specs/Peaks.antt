@@ -1,11 +1,11 @@
--- The highest water of a span: the first of its minutes that has their greatest value (this project).
+-- The highest water of a span: the first minute with the greatest value of the span (this project).
 use Rattle.std.specs.Prelude.{◌≡◌, ℕ, zero, suc, ◌+◌, ◌≤◌, ℤ, pos, ◌+ℤ◌, ◌≤ℤ◌, ◌<ℤ◌, int_lt, Bool, ◌&&◌, ◌||◌, if◌then◌else◌}
 use Rattle.std.specs.Ordering.{int_eq}
 use Rattle.curve_law.specs.Meaning.{Meaning}
 use Rattle.curve_law.specs.declared.quiet.TheConstants.{MOST_MINUTES}
 
--- `at` is the first minute with the greatest value of all minutes from `begin` up to `end`, which isn't one
--- of them; `value` is this value
+-- `at` is the first minute with the greatest value of the minutes from `begin` up to but not including
+-- `end`, and `value` is this value
 pub record IsHighest (c : Meaning) (begin end at value : ℤ) : Type 0 where
   pub from : begin ≤ℤ at
   pub before : at <ℤ end
@@ -13,8 +13,8 @@ pub record IsHighest (c : Meaning) (begin end at value : ℤ) : Type 0 where
   pub greatest : (m : ℤ) → begin ≤ℤ m → m <ℤ end → c.track.value m ≤ℤ value
   pub first : (m : ℤ) → begin ≤ℤ m → m <ℤ at → c.track.value m <ℤ value
 
--- the minute m with the value v is higher than the minute `at` with `value`: v is greater, or equal and m
--- comes first
+-- the minute m with the value v is higher than the minute `at` with `value`: v is greater, or v is equal
+-- and m is earlier
 abbrev pub is_higher : ℤ → ℤ → ℤ → ℤ → Bool
 is_higher at value m v = int_lt value v || (int_eq value v && int_lt m at)
 
@@ -23,7 +23,7 @@ abbrev pub higher_minute : Meaning → ℤ → ℤ → ℤ
 higher_minute c earlier later =
     if int_lt (c.track.value earlier) (c.track.value later) then later else earlier
 
--- the minute of the highest water of the n minutes from a on, by an evaluation of each
+-- the minute of the highest water of the n minutes from minute a on, by looking at each of them
 unfoldable pub highest_minute : Meaning → ℤ → ℕ → ℤ
 highest_minute c a zero = a
 highest_minute c a (suc n) = higher_minute c (highest_minute c a n) (a +ℤ pos n)

@@ -1,14 +1,14 @@
--- A small curve with two tops, for tests (this project).
+-- A small curve with two maxima, for tests (this project).
 use Rattle.std.specs.Prelude.{ℤ, pos, negsuc, ◌-ℤ◌, unsigned_abs, Some}
 use Rattle.std.specs.Int.{int_max}
 use Rattle.curve_law.specs.declared.kind.Kind.TheVariants.{High, Low}
 use Rattle.curve_law.specs.Meaning.{Meaning}
 
--- a top at a minute, from which the value falls by 1 each minute to both sides
+-- the values of a maximum: its value at its minute, and 1 less each minute to both sides
 abbrev pub hill : ℤ → ℤ → ℤ → ℤ
 hill at top m = top -ℤ pos (unsigned_abs (m -ℤ at))
 
--- a curve of two hills, whose value at each minute is that of the higher one
+-- a curve with two maxima: its value at each minute is the greater of the two
 abbrev pub hills : ℤ → ℤ → ℤ → ℤ → ℤ → Meaning
 hills at top other_at other_top rate = record {
   first = negsuc 999999;

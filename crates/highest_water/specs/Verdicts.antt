@@ -1,5 +1,5 @@
--- The verdict on a highest water, whoever wrote it: first the length of its cells, then its minute, then
--- each cell (this project).
+-- The verdict on a highest water, however it was made: first the length of its cells, then its minute,
+-- then each cell (this project).
 use Rattle.std.specs.Prelude.{ℕ, suc, ◌-◌, ◌^◌, min, ℤ, pos, ◌+ℤ◌, int_lt, int_le, Bool, ◌==◌, ◌&&◌, if◌then◌else◌, List, [], ◌∷◌}
 use Rattle.std.specs.Ordering.{int_eq}
 use Rattle.curve_law.specs.Meaning.{Meaning}
@@ -11,8 +11,8 @@ use Rattle.highest_water.specs.declared.verdict.PeakVerdict.TheVariants.{WrongLe
 use Rattle.highest_water.specs.Peaks.{is_higher}
 use Rattle.highest_water.specs.Covers.{minutes_of, all_minutes, is_under}
 
--- the verdict on the cell with a number that begins at minute a, by the minute and the value that are
--- written
+-- the verdict on the cell with this number, which begins at minute a; the minute and the value are the
+-- written ones
 unfoldable pub cell_verdict : Meaning → ℤ → ℤ → ℤ → ℕ → PeakCell → PeakVerdict
 cell_verdict c at value a number (Under n) = if is_under c at value a n then Accepted else NotUnder number
 cell_verdict c at value a number Single =
@@ -29,17 +29,18 @@ or_next (WrongValue written computed) next = WrongValue written computed
 or_next (Above cell) next = Above cell
 or_next Accepted next = next
 
--- the first verdict that doesn't accept on cells of which the first begins at minute a and has the number
+-- the first verdict that doesn't accept on consecutive cells, of which the first has this number and
+-- begins at minute a
 unfoldable pub cells_verdict : Meaning → ℤ → ℤ → ℤ → ℕ → List PeakCell → PeakVerdict
 cells_verdict c at value a number [] = Accepted
 cells_verdict c at value a number (cell ∷ cells) =
     or_next (cell_verdict c at value a number cell) (cells_verdict c at value (a +ℤ pos (minutes_of cell)) (suc number) cells)
 
--- a minute is one of the n minutes from a on
+-- a minute is one of the n minutes from minute a on
 abbrev pub is_inside : ℤ → ℤ → ℕ → Bool
 is_inside at a n = int_le a at && int_lt at (a +ℤ pos n)
 
--- the verdict on a highest water of the n minutes from a on; cells are counted from 1
+-- the verdict on a highest water of the n minutes from minute a on; cells are counted from 1
 unfoldable pub peak_verdict : Meaning → ℤ → ℕ → Peak → PeakVerdict
 peak_verdict c a n peak =
     if all_minutes peak.cells == n

@@ -15,14 +15,14 @@ use crate::peak_cell_finding::finding_on;
 use crate::verdict::PeakVerdict;
 use curve_law::{Curve, Point, point_at};
 
-/// Checks `peak` as the highest water of the minutes from `begin` up to `end`, which isn't one of
-/// them, and over which the curve is valid: first whether its cells have these minutes, then
-/// whether its own minute is one of them, and then each cell in turn. If it is accepted, its minute
-/// is the first one with the greatest value, and its value is this one, whoever wrote it.
+/// Checks whether `peak` is the highest water of the minutes from `begin` up to but not including `end`,
+/// all of them minutes of `curve`: first whether its cells have these minutes, then whether its own
+/// minute is one of them, and then each cell in turn. If it is accepted, its minute is the first with
+/// the greatest value, and its value is this value, however it was made.
 ///
-/// The written value is below 10^37 in size. There are fewer than 2^32 cells, and with the
-/// evaluations of the curve so far at most 2^62. The curve is evaluated at most once a cell and
-/// once more.
+/// The written value is below 10^37 in size. There are fewer than 2^32 cells, and the cells and the
+/// earlier evaluations of the curve together number at most 2^62. The call evaluates the curve at most
+/// once per cell, plus once.
 pub fn check_peak<C: Curve>(curve: &mut C, peak: &Peak, begin: i64, end: i64) -> PeakVerdict
     requires forward { begin ≤ℤ end }
     requires first { (C.state curve.old).facts.meaning.first ≤ℤ begin }
@@ -51,7 +51,7 @@ pub fn check_peak<C: Curve>(curve: &mut C, peak: &Peak, begin: i64, end: i64) ->
     first_finding(curve, highest, peak.cells.as_slice(), begin)
 }
 
-/// Returns true if `at` is a minute from `begin` up to `end`, which isn't one of them.
+/// Returns true if `at` is a minute from `begin` up to but not including `end`.
 fn is_inside(at: i64, begin: i64, end: i64) -> bool
     requires { begin ≤ℤ end }
     ensures { result ≡ is_inside at begin (unsigned_abs (end -ℤ begin)) }
@@ -59,8 +59,8 @@ fn is_inside(at: i64, begin: i64, end: i64) -> bool
     begin <= at && at < end
 }
 
-/// Returns the verdict of the first cell that is wrong; the cells begin at minute `begin` and
-/// `highest` is the written highest water.
+/// Returns the verdict on the first cell that is wrong; the cells begin at minute `begin` and `highest`
+/// is the written highest water.
 fn first_finding<C: Curve>(
     curve: &mut C,
     highest: Point,

@@ -9,10 +9,9 @@ use crate::walk::{next_cell, walk_from};
 use curve_law::{Curve, Point};
 use std::alloc::{AllocError, Global};
 
-/// Returns the cells that show the highest water of the minutes from `begin` up to `end`, which
-/// isn't one of them, and over which the curve is valid. The highest water is at minute `at`, and
-/// `value` is the value there. The curve was evaluated at most 2^62 times, and is evaluated at most
-/// once a cell and once more.
+/// Returns the cells showing that `value`, at minute `at`, is the highest water of the minutes from
+/// `begin` up to but not including `end`, all of them minutes of `curve`. Before the call the curve may
+/// have been evaluated at most 2^62 times; the call evaluates it at most once per cell, plus once.
 ///
 /// The program doesn't call it: the search for the highest water makes these cells.
 pub fn peak_cover<C: Curve>(
@@ -37,7 +36,8 @@ pub fn peak_cover<C: Curve>(
     cells_by(alloc, curve, begin, end, Point { minute: at, value })
 }
 
-/// Returns the cells of a span for the point `highest`, which need not be the highest one.
+/// Returns the cells of a span that the rule makes for the point `highest`, which need not be the
+/// highest water.
 pub fn cells_by<C: Curve>(
     alloc: Global,
     curve: &mut C,

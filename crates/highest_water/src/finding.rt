@@ -14,10 +14,10 @@ use curve_law::{Curve, Point, point_at};
 use interval_search::block_end;
 use std::alloc::{AllocError, Global};
 
-/// Finds the highest water of the minutes from `begin` up to `end`, which isn't one of them, and
-/// over which the curve is valid: the first minute with their greatest value, this value, and the
-/// cells that show it. There are 1 to 5,270,400 minutes. The curve was evaluated at most 2^62
-/// times, and is evaluated at most twice a minute, once a cell of the highest water and twice more.
+/// Returns the highest water of the minutes from `begin` up to but not including `end`, all of them
+/// minutes of `curve`: the first minute with the greatest value, this value, and the cells that show it.
+/// There are 1 to 5,270,400 minutes. Before the call the curve may have been evaluated at most 2^62
+/// times; the call evaluates it at most twice per minute and once per cell of the result, plus twice.
 pub fn find_peak<C: Curve>(
     alloc: Global,
     curve: &mut C,
@@ -44,10 +44,10 @@ pub fn find_peak<C: Curve>(
     })
 }
 
-/// Finds the highest water of the minutes from `begin` up to `end`, which isn't one of them, and
-/// over which the curve is valid: the first minute with their greatest value, and this value. There
-/// are 1 to 5,270,400 minutes. The curve was evaluated at most 2^62 times, and is evaluated at most
-/// twice a minute and once more. Makes no cells and doesn't allocate.
+/// Returns the highest water of the minutes from `begin` up to but not including `end`, all of them
+/// minutes of `curve`: the first minute with the greatest value, and this value. There are 1 to
+/// 5,270,400 minutes. Before the call the curve may have been evaluated at most 2^62 times; the call
+/// evaluates it at most twice per minute, plus once. It makes no cells and doesn't allocate.
 pub fn highest_point<C: Curve>(curve: &mut C, begin: i64, end: i64) -> Point
     requires some { begin <ℤ end }
     requires length_bound { (end -ℤ begin) ≤ℤ pos 5270400 }
@@ -60,8 +60,8 @@ pub fn highest_point<C: Curve>(curve: &mut C, begin: i64, end: i64) -> Point
     ensures count { (C.state curve.new).count ≤ (C.state curve.old).count + 2 * unsigned_abs (end -ℤ begin) + 1 }
     ensures unchanged { (C.state curve.new).facts ≡ (C.state curve.old).facts }
 {
-    // Cells that the curve's rate keeps under the highest point so far are skipped, so that the
-    // curve is evaluated seldom.
+    // Cells that by the curve's rate are under the highest point found until now are skipped, so that
+    // the curve is evaluated at few minutes.
     let mut highest = highest_block(curve, begin, end);
     let mut front = walk_from(curve, highest, begin, end);
     while let Some(found) = next_cell(curve, &mut front, highest) {
@@ -70,8 +70,8 @@ pub fn highest_point<C: Curve>(curve: &mut C, begin: i64, end: i64) -> Point
     highest
 }
 
-/// Returns the highest of the points at which blocks begin. A search that starts with it can skip
-/// most cells, which are low enough.
+/// Returns the highest of the points at which blocks begin. A search that starts with it can skip most
+/// cells, which are under it.
 fn highest_block<C: Curve>(curve: &mut C, begin: i64, end: i64) -> Point
     requires some { begin <ℤ end }
     requires first { (C.state curve.old).facts.meaning.first ≤ℤ begin }

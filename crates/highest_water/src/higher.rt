@@ -16,7 +16,8 @@ pub fn is_higher(highest: Point, point: Point) -> bool
     point.value > highest.value || (point.value == highest.value && point.minute < highest.minute)
 }
 
-/// Returns the higher of two points.
+/// Returns the higher of two points: `highest` unless `point` has a greater value, or an equal one at an
+/// earlier minute.
 pub fn higher_of(highest: Point, point: Point) -> Point
     ensures { result ≡ higher_of highest point }
 {
@@ -27,7 +28,8 @@ pub fn higher_of(highest: Point, point: Point) -> Point
     }
 }
 
-/// Returns the highest point after the cell `found`: a single minute may be higher.
+/// Returns the highest point after the cell `found`: the point at which `found` begins if it is a single
+/// minute and higher than `highest`, and otherwise `highest`.
 pub fn raised_by(highest: Point, found: LocatedCell) -> Point
     ensures { result ≡ raised_by highest found }
 {

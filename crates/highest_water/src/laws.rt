@@ -10,7 +10,8 @@ ghost use Rattle.highest_water.specs.Peaks.{IsHighest, highest_minute, AgreeOnVa
 ghost use Rattle.highest_water.specs.Covers.{all_minutes, is_under, peak_split, peak_cover, peak_of};
 ghost use Rattle.highest_water.specs.Verdicts.{peak_verdict};
 
-/// A span has exactly one highest water, and an evaluation of each of its minutes finds it.
+/// Proves that a span has exactly one highest water, and that an evaluation of each of its minutes finds
+/// it.
 pub fn spans_have_one_highest_water()
     ensures some { (c : Meaning) (a : ℤ) (n : ℕ) → 1 ≤ n →
         IsHighest c a (a +ℤ pos n) (highest_minute c a n) (c.track.value (highest_minute c a n)) }
@@ -19,8 +20,8 @@ pub fn spans_have_one_highest_water()
         (at ≡ other_at) × (value ≡ other_value) }
 {}
 
-/// The cells of a block are one single minute, or one cell that is under, or the cells of its first
-/// half, rounded down, and of the rest.
+/// Proves how a block is cut: into one cell if it is a single minute or under the highest water, and
+/// otherwise into the cells of its first half, rounded down, followed by the cells of the rest.
 pub fn blocks_are_halved()
     ensures one_minute { (c : Meaning) (at value a : ℤ) → peak_split c at value a 1 ≡ PeakCell.Single ∷ [] }
     ensures under { (c : Meaning) (at value a : ℤ) (n : ℕ) → is_under c at value a n ≡ true →
@@ -30,8 +31,8 @@ pub fn blocks_are_halved()
         ≡ peak_split c at value a (n / 2) ++ peak_split c at value (a +ℤ pos (n / 2)) (n - n / 2) }
 {}
 
-/// The cells of a span are none, or those of its last block of at most 1,024 minutes, or those of a
-/// block of 1,024 minutes and of the rest.
+/// Proves how a span is cut: an empty span has no cells; from a longer one blocks of 1,024 minutes are
+/// cut off until at most 1,024 minutes remain, which are the last block.
 pub fn spans_are_cut_into_blocks()
     ensures no_minute { (c : Meaning) (at value a : ℤ) → peak_cover c at value a 0 ≡ [] }
     ensures last_block { (c : Meaning) (at value a : ℤ) (n : ℕ) → n ≤ MOST_MINUTES →
@@ -42,8 +43,9 @@ pub fn spans_are_cut_into_blocks()
         ++ peak_cover c at value (a +ℤ pos MOST_MINUTES) (n - MOST_MINUTES) }
 {}
 
-/// No minute of a cell that is under a point has a greater value than the point, nor an equal one
-/// before it; and the cell doesn't contain the point's minute.
+/// Proves that no minute of a cell that is under a point has a greater value than the point, nor an
+/// equal value at an earlier minute than the point's, and that the cell doesn't contain the point's
+/// minute.
 pub fn under_cells_hold_nothing_higher()
     ensures greatest { (c : Meaning) (at value a : ℤ) (n : ℕ) → IsLawful c → IsSpan c a n →
         is_under c at value a n ≡ true → (m : ℤ) → a ≤ℤ m → m <ℤ (a +ℤ pos n) → c.track.value m ≤ℤ value }
@@ -54,8 +56,8 @@ pub fn under_cells_hold_nothing_higher()
         a ≤ℤ at → (a +ℤ pos n) ≤ℤ at }
 {}
 
-/// An accepted highest water is that of the span, whoever wrote it: it is the one that an
-/// evaluation of each minute finds.
+/// Proves that a highest water that the check accepts is the span's, however it was made: it is the one
+/// that an evaluation of each minute finds.
 pub fn accepted_highest_waters_are_right()
     ensures highest { (c : Meaning) (a : ℤ) (n : ℕ) (peak : Peak) → IsLawful c → IsSpan c a n →
         peak_verdict c a n peak ≡ PeakVerdict.Accepted → IsHighest c a (a +ℤ pos n) peak.at peak.value }
@@ -64,8 +66,8 @@ pub fn accepted_highest_waters_are_right()
         (peak.at ≡ highest_minute c a n) × (peak.value ≡ c.track.value (highest_minute c a n)) }
 {}
 
-/// The cells of a span by the rule cover its minutes, with at most one cell a minute. With them the
-/// span's highest water is accepted.
+/// Proves that the cells that the rule makes for a span have all its minutes and number at most one a
+/// minute, and that with them the span's highest water is accepted.
 pub fn covers_are_accepted()
     ensures minutes { (c : Meaning) (at value a : ℤ) (n : ℕ) → all_minutes (peak_cover c at value a n) ≡ n }
     ensures count_bound { (c : Meaning) (at value a : ℤ) (n : ℕ) → length (peak_cover c at value a n) ≤ n }
@@ -76,8 +78,8 @@ pub fn covers_are_accepted()
         peak_verdict c a n (peak_of c a n) ≡ PeakVerdict.Accepted }
 {}
 
-/// Two curves that agree over a span have the same highest water there, the same cells and the same
-/// verdicts, whatever their values elsewhere.
+/// Proves that two curves that agree over a span have the same highest water there, the same cells and
+/// the same verdicts, even if they differ elsewhere.
 pub fn agreeing_curves_have_one_highest_water()
     ensures highest { (c d : Meaning) (a : ℤ) (n : ℕ) (at value : ℤ) → AgreeOnValues c d a n →
         IsHighest c a (a +ℤ pos n) at value → IsHighest d a (a +ℤ pos n) at value }

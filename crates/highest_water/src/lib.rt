@@ -1,9 +1,9 @@
 //! The highest water of a span, found and checked.
 //!
-//! A [`Peak`] is the first minute with a curve's greatest value, this value, and the cells that
-//! show it: cells in which the curve's rate excludes a greater value, and before that minute an
-//! equal one, and single minutes. [`find_peak`] finds one and [`check_peak`] checks one that
-//! anybody wrote. `specs/` has the definition of each.
+//! A [`Peak`] is the first minute with a curve's greatest value, this value, and the cells that show it:
+//! cells in which the curve's rate excludes a greater value, and before that minute an equal one, and
+//! single minutes. [`find_peak`] finds a peak, and [`check_peak`] checks one that any program may have
+//! made. `specs/` has the definition of each.
 #![tactic(auto)]
 
 mod checking;

@@ -1,11 +1,11 @@
 //! The cells of a highest water.
 
-/// A cell of a highest water: minutes of the span that lie one after the other.
+/// A cell of a certificate of a highest water: consecutive minutes of the span.
 #[derive(Clone, Copy, PartialEq, Eq)]
 pub enum PeakCell {
-    /// A cell of 2 to 1,024 minutes that is under the highest water: none has a greater value, and
-    /// none before the minute of the highest water an equal one.
+    /// A cell of 2 to 1,024 minutes that is under the highest water: no minute of it has a greater
+    /// value, and none before the minute of the highest water has an equal value.
     Under(u32),
-    /// A cell of one minute, which is evaluated.
+    /// A single minute, which the check evaluates.
     Single,
 }

@@ -47,8 +47,8 @@ fn under_finding(number: u32, is_under: bool) -> PeakVerdict
     }
 }
 
-/// Returns the verdict on a single minute: the highest one has the written value, and no other is
-/// higher.
+/// Returns the verdict on a single minute: the minute of the highest water must have the written value,
+/// and no other minute may be higher.
 fn single_finding(highest: Point, number: u32, at: Point) -> PeakVerdict
     ensures { result ≡ single_finding highest number at }
 {
@@ -61,7 +61,7 @@ fn single_finding(highest: Point, number: u32, at: Point) -> PeakVerdict
     PeakVerdict::Accepted
 }
 
-/// Returns the verdict on the written value of the highest water's own minute.
+/// Returns the verdict on the written value of the highest water.
 fn value_finding(written: i128, computed: i128) -> PeakVerdict
     ensures { result ≡ value_finding written computed }
 {

@@ -5,7 +5,7 @@ ghost use Rattle.std.specs.Prelude.{◌≡◌};
 use crate::peak_cell::PeakCell;
 use std::marker::Model;
 
-/// Cells that lie one after the other. Contracts see it as a list.
+/// Consecutive cells. In contracts its value is the list of the cells.
 #[derive(Drop)]
 pub struct PeakCells {
     items: Vec<PeakCell>,
@@ -21,14 +21,14 @@ impl Model for PeakCells {
 }
 
 impl PeakCells {
-    /// Returns the list of the cells in `items`. Doesn't allocate.
+    /// Returns the list of the cells in `items`. It doesn't allocate.
     pub fn from_vec(items: Vec<PeakCell>) -> PeakCells
         ensures { result ≡ items.items }
     {
         PeakCells { items }
     }
 
-    /// Returns the cells as a slice.
+    /// Borrows the cells as a slice.
     pub fn as_slice(&self) -> &[PeakCell]
         ensures { result.now ≡ self.now }
     {

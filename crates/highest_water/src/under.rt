@@ -8,8 +8,10 @@ ghost use Rattle.highest_water.specs.Verdicts.{is_inside};
 
 use curve_law::{Curve, MOST_MINUTES, Point, most_change};
 
-/// Returns true if the cell of the `n` minutes from the point `begin` on is under `highest`;
-/// `end_value` is the value at the cell's end.
+/// Returns true if the cell of the `n` minutes from the point `begin` on is under `highest`: by the
+/// curve's rate no minute of it has a greater value than `highest`, nor an equal value if it is before
+/// `highest`, and it doesn't contain the minute of `highest`. `end_value` is the value at the cell's
+/// end.
 pub fn is_under<C: Curve>(curve: &C, highest: Point, begin: Point, n: u32, end_value: i128) -> bool
     requires size { unsigned_abs highest.value < 10 ^ 37 }
     requires span { IsSpan (C.state curve.now).facts.meaning begin.minute n }
@@ -55,8 +57,8 @@ fn twice_most(rate: i128, n: u32, value: i128, end_value: i128) -> i128
     value + end_value + most_change(rate, n)
 }
 
-/// Returns true if the greatest value of a cell, of which `twice_most` is twice the bound, is low
-/// enough: at most `value` after the highest water, and below it before.
+/// Returns true if the greatest value that a cell may have, half of `twice_most`, is low enough: at most
+/// `value` if the cell is after the highest water, and below `value` if it is before.
 fn is_low(twice_most: i128, value: i128, is_after: bool) -> bool
     requires size { unsigned_abs value < 10 ^ 37 }
     ensures { result ≡ (if is_after then int_le twice_most (pos 2 *ℤ value) else int_lt twice_most (pos 2 *ℤ value)) }

@@ -6,7 +6,7 @@ use crate::under::is_under;
 use curve_law::{Curve, Point, point_at};
 use interval_search::{Piece, PieceRule};
 
-/// Leaves the pieces whole that are under `highest`, and uses exact values.
+/// The rule that leaves pieces whole that are under `highest`, by exact values.
 #[derive(Drop)]
 pub struct UnderPieces {
     pub highest: Point,

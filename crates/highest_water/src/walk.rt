@@ -30,7 +30,8 @@ fn cell_of(piece: Piece) -> PeakCell
     }
 }
 
-/// Returns the begin of a walk from minute `begin` up to `end`. `highest` is the highest point so far.
+/// Returns the start of a walk over the minutes from `begin` up to `end`. `highest` is the highest point
+/// found until now.
 pub fn walk_from<C: Curve>(curve: &mut C, highest: Point, begin: i64, end: i64) -> Front
     requires size { unsigned_abs highest.value < 10 ^ 37 }
     requires forward { begin ≤ℤ end }

@@ -9,8 +9,8 @@ ghost use Rattle.highest_water.specs.Covers.{is_under, peak_cover};
 ghost use Rattle.highest_water.specs.Samples.{hills};
 ghost use Rattle.highest_water.specs.Verdicts.{peak_verdict};
 
-/// The minutes of highest waters. Of two equal tops the first one counts, and the minute at which a
-/// span ends is none of its minutes.
+/// Proves the minutes of highest waters: of two equal maxima the first is the highest water, and a span
+/// doesn't include its end.
 #[tactic(auto, unfolding(crate::specs::Peaks::highest_minute))]
 pub fn worked_minutes()
     ensures equal_tops { highest_minute (hills (pos 2) (pos 5) (pos 6) (pos 5) (pos 1)) (pos 0) 8 ≡ pos 2 }
@@ -22,8 +22,8 @@ pub fn worked_minutes()
     ensures first_even { highest_minute ripple (pos 3) 6 ≡ pos 4 }
 {}
 
-/// Cells under a value. A bound equal to the value is low enough after the highest water and not
-/// before it.
+/// Proves examples of cells under a value: a bound equal to the value is low enough after the highest
+/// water but not before it.
 #[tactic(auto, unfolding(crate::specs::Covers::stays_below, crate::specs::Covers::stays_within, crate::specs::Covers::is_under))]
 pub fn worked_cells_under()
     ensures exactly_before { is_under (line (pos 0) false (pos 1)) (pos 7) (pos 7) (pos 5) 2 ≡ false }
@@ -39,8 +39,8 @@ pub fn worked_cells_under()
     ensures too_long { is_under (line (pos 0) true (pos 1)) (negsuc 0) (pos 99) (pos 0) 1025 ≡ false }
 {}
 
-/// The cells of highest waters: halved until they are under it, the first half of an odd number of
-/// minutes the shorter one, down to single minutes around it, and in blocks of 1,024 minutes.
+/// Proves examples of the cells of highest waters: halved until they are under it, with the shorter half
+/// of an odd number of minutes first, down to single minutes around it, and in blocks of 1,024 minutes.
 #[tactic(auto, unfolding(crate::specs::Covers::stays_below, crate::specs::Covers::stays_within, crate::specs::Covers::is_under, crate::specs::Covers::split_within, crate::specs::Covers::peak_split, crate::specs::Covers::cover_within, crate::specs::Covers::peak_cover))]
 pub fn worked_covers()
     ensures first_top { peak_cover (hills (pos 2) (pos 5) (pos 6) (pos 5) (pos 1)) (pos 2) (pos 5) (pos 0) 8
@@ -57,8 +57,8 @@ pub fn worked_covers()
         ∷ PeakCell.Under 64 ∷ PeakCell.Under 128 ∷ PeakCell.Under 256 ∷ PeakCell.Under 512 ∷ PeakCell.Single ∷ [] }
 {}
 
-/// Verdicts on highest waters of two tops with the value 5, at minutes 2 and 6, over minutes 0 to
-/// 8.
+/// Proves verdicts on highest waters of two maxima with the value 5, at minutes 2 and 6, over the
+/// minutes from 0 to 8.
 #[tactic(auto, unfolding(crate::specs::Covers::all_minutes, crate::specs::Covers::stays_below, crate::specs::Covers::stays_within, crate::specs::Covers::is_under, crate::specs::Verdicts::cell_verdict, crate::specs::Verdicts::cells_verdict, crate::specs::Verdicts::peak_verdict))]
 pub fn worked_verdicts()
     ensures by_halves { peak_verdict (hills (pos 2) (pos 5) (pos 6) (pos 5) (pos 1)) (pos 0) 8 (record {

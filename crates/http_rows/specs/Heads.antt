@@ -59,7 +59,7 @@ pub record Occurs : Type 0 where
 abbrev pub values_of : List ℕ → List (List ℕ × List ℕ) → List (List ℕ)
 values_of name fields = map (λ f. f.1) (filter (λ f. str_eq_ignore_ascii_case f.0 name) fields)
 
--- the first value, or no bytes if there is none
+-- the first value in a list, or no bytes if the list is empty
 abbrev pub first_or_empty : List (List ℕ) → List ℕ
 first_or_empty [] = []
 first_or_empty (value ∷ more) = value
@@ -78,7 +78,7 @@ pub record Head : Type 0 where
   pub content_length : Occurs
   pub transfer_coding : Occurs
 
--- the parts of a request head with these fields that the server uses
+-- the parts that the server uses of a request head with this method, target, version and fields
 abbrev pub head_of : List ℕ → List ℕ → ℕ → List (List ℕ × List ℕ) → Head
 head_of method target minor fields = record {
   method = method;
@@ -89,8 +89,8 @@ head_of method target minor fields = record {
   transfer_coding = occurs (codes "transfer-encoding") fields;
 }
 
--- Bytes read as a head: to their last byte they are a request head of the grammar of `httparse`, with at
--- most MOST_FIELDS fields. They read as none if each such head has more fields.
+-- The result of parsing bytes as a head: if they are, to the last byte, a request head of the grammar of
+-- `httparse` with at most MOST_FIELDS fields, its parts; otherwise None.
 abbrev pub ReadsAs : List ℕ → Option Head → Type 0
 ReadsAs bytes None = (h : RequestHead) → ReadsRequest bytes h [] → MOST_FIELDS < length h.fields
 ReadsAs bytes (Some head) =

@@ -18,11 +18,11 @@ text_of Check = codes "/check"
 abbrev pub all_paths : List Path
 all_paths = Predict ∷ Certify ∷ Heights ∷ Calendar ∷ Clock ∷ Stations ∷ Check ∷ []
 
--- the path with a text, if there is one
+-- the path with a text, or None if the server has no such path
 abbrev pub path_named : List ℕ → Option Path
 path_named text = find (λ path. bytes_eq (text_of path) text) all_paths
 
--- a path is for POST; the others are for GET and HEAD
+-- a path is for POST; all others are for GET and HEAD
 abbrev pub is_posted : Path → Bool
 is_posted Check = true
 is_posted Predict = false

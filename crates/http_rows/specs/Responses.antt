@@ -37,7 +37,8 @@ response_head code kind allow size =
     ++ allow
     ++ codes "Connection: close\r\n\r\n"
 
--- a response with its body or without it; its length is the body's in both cases
+-- a response with its body or, if the Bool is true, without it; its Content-Length is the body's length
+-- in both cases
 abbrev pub response : Code → List ℕ → List ℕ → List ℕ → Bool → List ℕ
 response code kind allow body bodiless = response_head code kind allow (length body) ++ (if bodiless then [] else body)
 
@@ -79,27 +80,28 @@ allow_of LengthRequired = []
 allow_of BodyTooLarge = []
 allow_of BodyCutShort = []
 
--- the reply to a rejected request
+-- the fixed reply to a rejected request; if the Bool is true, without its body
 abbrev pub rejection_of : RequestRejection → Bool → List ℕ
 rejection_of rejection bodiless =
     response (code_of rejection) (codes "text/plain") (allow_of rejection) (body_of rejection) bodiless
 
--- the reply of a fixed row; none for a request that the predictor answers
+-- the reply of a fixed row, or None for a request that the predictor answers
 abbrev pub fixed_of : ReplyRow → Option (List ℕ)
 fixed_of (rejects rejection bodiless) = Some (rejection_of rejection bodiless)
 fixed_of (asks asking) = None
 
 -- ---- out of memory
 
--- the reply of a row has no body
+-- the reply of a row has no body, because the method is HEAD
 abbrev pub is_bodiless : ReplyRow → Bool
 is_bodiless (rejects rejection bodiless) = bodiless
 is_bodiless (asks asking) = asking.bodiless
 
--- the reply that replaces any other one if memory runs out
+-- the reply 503, which replaces any other reply if memory runs out; if the Bool is true, without its
+-- body
 abbrev pub unavailable_to : Bool → List ℕ
 unavailable_to bodiless = response code.Unavailable (codes "text/plain") [] (codes "no memory\n") bodiless
 
--- the reply to a row's request that replaces any other one if memory runs out
+-- the reply 503 to a row's request, which replaces any other reply if memory runs out
 abbrev pub unavailable_of : ReplyRow → List ℕ
 unavailable_of row = unavailable_to (is_bodiless row)

@@ -56,7 +56,7 @@ path_of target = take (position_or_len (λ b. b == 63) target) target
 abbrev pub query_of : List ℕ → List ℕ
 query_of target = drop (position_or_len (λ b. b == 63) target + 1) target
 
--- the path of a head's target, if the server has it
+-- the path of a head's target, or None if the server has no such path
 abbrev pub path_in : Head → Option Path
 path_in head = path_named (path_of head.target)
 
@@ -80,7 +80,8 @@ is_get_or_head head = bytes_eq head.method (codes "GET") || is_head head
 abbrev pub is_post : Head → Bool
 is_post head = bytes_eq head.method (codes "POST")
 
--- the length of the body: the digits of exactly one Content-Length, without any Transfer-Encoding
+-- the length of the body in bytes: the digits of the only Content-Length, if there is no
+-- Transfer-Encoding
 abbrev pub length_in : Head → Option ℕ
 length_in head =
     if nat_lt 1 head.content_length.count || nat_lt 0 head.transfer_coding.count then None
@@ -125,27 +126,27 @@ body_rows head rest =
     (is_post head && nat_lt (length rest) (length_of head), BodyCutShort)
     ∷ []
 
--- the first row with a true condition
+-- the rejection of the first row with a true condition, or None if there is no such row
 abbrev pub first_row : List (Bool × RequestRejection) → Option RequestRejection
 first_row [] = None
 first_row (row ∷ rows) = if row.0 then Some row.1 else first_row rows
 
 -- ---- the row that applies
 
--- a request for the predictor: path, query and body, and whether the reply has no body
+-- a request that the predictor answers: path, query and body, and whether the reply has no body
 pub record Asking : Type 0 where
   pub path : List ℕ
   pub query : List ℕ
   pub body : List ℕ
   pub bodiless : Bool
 
--- A fixed row rejects a request, and says whether its reply has no body. Any other request is for the
--- predictor.
+-- A fixed row rejects a request, and says whether its reply has no body. The predictor answers any other
+-- request.
 pub data ReplyRow : Type 0 where
   rejects : RequestRejection → Bool → ReplyRow
   asks : Asking → ReplyRow
 
--- the request of a head; its body is at the start of `rest`
+-- the predictor's request with this head; its body is at the start of `rest`
 abbrev pub asking : Head → List ℕ → Asking
 asking head rest = record {
   path = path_of head.target;
@@ -154,7 +155,7 @@ asking head rest = record {
   bodiless = is_head head;
 }
 
--- a rejection after the head was read: a reply to HEAD has no body
+-- the row of a request after its head was read; a reply to HEAD has no body
 abbrev pub field_row : Option RequestRejection → Head → List ℕ → ReplyRow
 field_row (Some rejection) head rest = rejects rejection (is_head head)
 field_row None head rest = asks (asking head rest)
@@ -183,7 +184,7 @@ IsRowAt (Some end) request row =
 abbrev pub IsRow : List ℕ → ReplyRow → Type 0
 IsRow request row = IsRowAt (head_end request) request row
 
--- further bytes of the request can't change the row: neither its head nor its body was cut short
+-- further bytes of the request can't change this rejection: neither its head nor its body was cut short
 abbrev pub is_settled_by : RequestRejection → Bool
 is_settled_by HeadCutShort = false
 is_settled_by BodyCutShort = false

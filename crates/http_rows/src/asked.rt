@@ -1,4 +1,4 @@
-//! The request for the predictor that a head and a body make, or the reason why they are rejected.
+//! The request that a head and a body make, or the reason why it is rejected.
 
 ghost use Rattle.std.specs.Prelude.{◌≡◌, ◌==◌, ◌≤◌, length, nat_lt, ◌&&◌, ◌||◌, ◌++◌, Some, None, IfOk, IfErr, codes};
 ghost use Rattle.std.specs.List.{starts_with};
@@ -13,13 +13,13 @@ use crate::request_rejection::RequestRejection;
 use crate::target::{path_of, query_of};
 use decimal_text::digits;
 
-/// A request that passes all fixed rows: its path, query and body.
+/// A request that the predictor answers: its path, query and body.
 #[derive(Clone, Copy)]
 pub struct Asking<'a> {
     pub path: Path,
     pub query: &'a [u8],
     pub body: &'a [u8],
-    /// True if the reply has no body (a request by HEAD).
+    /// True if the reply must have no body, because the method is HEAD.
     pub bodiless: bool,
 }
 
@@ -41,8 +41,8 @@ fn has_bad_host(head: &Head<'_>) -> bool
     head.host.count > 1 || head.minor == 1 && head.host.count == 0
 }
 
-/// Returns the length of the body in bytes, or `None` unless exactly one Content-Length has digits only
-/// and there is no Transfer-Encoding.
+/// Returns the length of the body in bytes, or `None` unless there is exactly one Content-Length, it has
+/// only digits, and there is no Transfer-Encoding.
 fn length_in(head: &Head<'_>) -> Option<u64>
     ensures { result ≡ length_in (head_seen head.now) }
 {

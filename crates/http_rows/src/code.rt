@@ -3,22 +3,22 @@
 /// A status code of the server's responses (RFC 9110, section 15).
 #[derive(Clone, Copy, PartialEq, Eq)]
 pub enum Code {
-    /// 200
+    /// 200 (OK)
     Success,
-    /// 400
+    /// 400 (Bad Request)
     BadRequest,
-    /// 404
+    /// 404 (Not Found)
     NotFound,
-    /// 405
+    /// 405 (Method Not Allowed)
     MethodNotAllowed,
-    /// 411
+    /// 411 (Length Required)
     LengthRequired,
-    /// 413
+    /// 413 (Content Too Large)
     ContentTooLarge,
-    /// 422
+    /// 422 (Unprocessable Content)
     Unprocessable,
-    /// 431
+    /// 431 (Request Header Fields Too Large)
     FieldsTooLarge,
-    /// 503
+    /// 503 (Service Unavailable)
     Unavailable,
 }

@@ -9,8 +9,8 @@ use crate::reply_row::{ReplyRow, row_for};
 use crate::responses::{write_rejection, write_unavailable};
 use arrayvec::ArrayString;
 
-/// Returns true if the bytes received so far settle the reply: further bytes can't change it. It doesn't
-/// allocate.
+/// Returns true if the bytes received of a request determine the reply: further bytes can't change it.
+/// It doesn't allocate.
 ///
 /// The program doesn't call it: it finds the row once, by [`row_for`], and uses that.
 pub fn enough(request: &[u8]) -> bool
@@ -19,8 +19,8 @@ pub fn enough(request: &[u8]) -> bool
     row_for(request).is_settled()
 }
 
-/// Writes the reply to `request`, the whole of a request, to the empty `out` and returns true; if the
-/// predictor has to answer it, returns false and writes nothing. It doesn't allocate.
+/// Writes the fixed reply to `request`, a whole request, to the empty `out` and returns true; if
+/// `request` needs the predictor, returns false and writes nothing. It doesn't allocate.
 ///
 /// The program doesn't call it: it finds the row once, by [`row_for`], and uses that.
 pub fn fixed_reply(request: &[u8], out: &mut ArrayString<256>) -> bool
@@ -37,8 +37,8 @@ pub fn fixed_reply(request: &[u8], out: &mut ArrayString<256>) -> bool
     }
 }
 
-/// Writes to the empty `out` the reply 503, which replaces any other reply if memory runs out. It
-/// doesn't allocate.
+/// Writes to the empty `out` the reply 503 to `request`, which replaces any other reply if memory runs
+/// out. It doesn't allocate.
 ///
 /// The program doesn't call it: it finds the row once, by [`row_for`], and uses that.
 pub fn unavailable_reply(request: &[u8], out: &mut ArrayString<256>)

@@ -37,8 +37,8 @@ pub(crate) fn is_head(head: &Head<'_>) -> bool
     head.method == b"HEAD".as_slice()
 }
 
-/// Parses all of `bytes` as a head, or returns `None` if they are no head of HTTP/1.x or have more than 64
-/// fields.
+/// Parses all of `bytes` as a head, or returns `None` if they aren't a head of HTTP/1.x or have more
+/// than 64 fields.
 pub(crate) fn read_head(bytes: &[u8]) -> Option<Head<'_>>
     ensures { ReadsAs bytes.now (option_map head_seen result) }
 {

@@ -20,7 +20,7 @@ fn empty_line(bytes: &[u8]) -> Option<usize>
     }
 }
 
-/// Returns the bytes from index `at` on.
+/// Returns the bytes of `bytes` from index `at` on; `at` is at most the length.
 pub fn rest_from(bytes: &[u8], at: usize) -> &[u8]
     requires { at ≤ length bytes.now }
     ensures { result.now ≡ drop at bytes.now }

@@ -51,7 +51,7 @@ impl Path {
             .find(|path| path.text().as_bytes() == text)
     }
 
-    /// Returns true if the path is for POST, false if it is for GET and HEAD.
+    /// Returns true if the server serves the path by POST, false if by GET and HEAD.
     pub(crate) fn is_posted(self) -> bool
         ensures { result ≡ is_posted self }
     {

@@ -11,12 +11,13 @@ use crate::head_lines::{head_end, line_feeds};
 use crate::limits::{MOST_HEAD, MOST_LINES};
 use crate::request_rejection::RequestRejection;
 
-/// The row of the table of statuses that applies to a request.
+/// The row of the server's table of statuses that applies to a request.
 #[derive(Clone, Copy)]
 pub enum ReplyRow<'a> {
-    /// A fixed row, which rejects the request; true if its reply has no body.
+    /// A fixed reply rejects the request. The second field is true if the reply has no body (a request
+    /// by HEAD).
     Rejects(RequestRejection, bool),
-    /// A row after the fixed ones: the predictor answers this request.
+    /// The predictor answers the request.
     Asks(Asking<'a>),
 }
 
@@ -26,7 +27,7 @@ impl ReplyRow<'_> {
     ghost use Rattle.http_rows.specs.Rows.{is_settled};
     ghost use Rattle.http_rows.specs.Workings.Views.{row_seen};
 
-    /// Returns true if further bytes of the request can't change the row.
+    /// Returns true if further bytes of the request can't change the row of the table of statuses.
     pub fn is_settled(&self) -> bool
         ensures { result ≡ is_settled (row_seen self.now) }
     {
@@ -36,7 +37,7 @@ impl ReplyRow<'_> {
         }
     }
 
-    /// Returns true if the reply has no body.
+    /// Returns true if the reply has no body, because the method is HEAD.
     pub fn is_bodiless(&self) -> bool
         ensures { result ≡ is_bodiless (row_seen self.now) }
     {

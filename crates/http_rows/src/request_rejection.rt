@@ -1,21 +1,22 @@
 //! The reasons why a request is rejected without the predictor.
 
-/// The reason why a request is rejected by its head or the length of its body.
+/// The reason why the server rejects a request by its head or the length of its body, without the
+/// predictor.
 #[derive(Clone, Copy, PartialEq, Eq)]
 pub enum RequestRejection {
     /// The head doesn't end within 8,192 bytes, or has more than 66 lines.
     HeadTooLarge,
     /// The request ended before its head did.
     HeadCutShort,
-    /// The head isn't one of HTTP/1.x, or its fields contradict each other.
+    /// The head isn't a valid head of HTTP/1.x, or its fields contradict each other.
     BadRequest,
-    /// The server has no such path.
+    /// The server doesn't serve the request's path.
     NotFound,
     /// The path is for GET and HEAD, and the method is another one.
     RequiresGet,
     /// The path is for POST, and the method is another one.
     RequiresPost,
-    /// A POST has no Content-Length.
+    /// The request is a POST without a Content-Length.
     LengthRequired,
     /// The body is longer than 4,194,304 bytes.
     BodyTooLarge,

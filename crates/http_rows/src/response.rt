@@ -40,7 +40,7 @@ impl Response {
         Response { head, body }
     }
 
-    /// Returns the head and the body. The body is empty if it is left out.
+    /// Returns the head and the body. The body is empty in a response to `HEAD`.
     pub fn parts(&self) -> (&[u8], &[u8])
         ensures { result.0.now ++ result.1.now ≡ self.now }
     {

@@ -27,7 +27,8 @@ pub fn worked_rows()
     ensures unknown { path_named (codes "/Clock") ≡ None }
 {}
 
-/// Proves examples of the order of the rows, and of the bytes of a reply.
+/// Proves examples of which row of the table of statuses applies to a request, and of the bytes of a
+/// reply.
 pub fn worked_replies()
     ensures host_first { first_row (field_rows (head_of (codes "PUT") (codes "/tides") 1 [])) ≡ Some RequestRejection.BadRequest }
     ensures path_before_method { first_row (field_rows (head_of (codes "PUT") (codes "/tides") 0 [])) ≡ Some RequestRejection.NotFound }
@@ -41,7 +42,8 @@ pub fn worked_replies()
         ≡ codes "HTTP/1.1 405 Method Not Allowed\r\nContent-Type: text/plain; charset=utf-8\r\nContent-Length: 19\r\nAllow: POST\r\nConnection: close\r\n\r\n" }
 {}
 
-/// Proves the limits that the definitions of requests name by constants.
+/// Proves the values of the limits on requests: bytes, lines and fields of a head, digits of a
+/// Content-Length, and bytes of a body.
 pub fn worked_limits()
     ensures head { MOST_HEAD ≡ 8192 }
     ensures lines { MOST_LINES ≡ 66 }

@@ -18,7 +18,7 @@ use Rattle.report_sheets.specs.Sheets.{SheetMeaning}
 use Rattle.zone_time.specs.Dates.{date_of, two_digits}
 use Rattle.zone_time.specs.Moments.{day_of, minute_of_day}
 
--- a moment as a date and a time of universal time
+-- a moment as text, date and time of universal time, such as `20000110T060000Z`
 unfoldable pub stamp_of : ℤ → List ℕ
 stamp_of moment =
     let date = date_of (day_of moment) in let minute = minute_of_day moment in
@@ -29,7 +29,7 @@ stamp_of moment =
 abbrev pub nearest_moment : ℤ → ℤ
 nearest_moment minute = int_min (int_max minute (negsuc 1035593279)) (pos 4223371679)
 
--- the number of a kind in identifiers
+-- the number of a kind of event in identifiers
 abbrev pub number_of : Kind → List ℕ
 number_of High = codes "0"
 number_of Low = codes "1"
@@ -75,11 +75,11 @@ content_lines head (event ∷ events) =
 unfoldable pub calendar_of : Head → List Event → List ℕ
 calendar_of head events = flat_map folded (content_lines head events)
 
--- an event with numbers of 64 bits
+-- an event whose minute and level fit 64 bits
 pub record IsNarrow (event : Event) : Type 0 where
   pub minute : unsigned_abs event.minute < 2 ^ 64
   pub level : unsigned_abs event.level < 2 ^ 64
 
--- the sheet `ical`
+-- the sheet `ical` with a limit
 abbrev pub ical_sheet : ℕ → SheetMeaning
 ical_sheet limit = record { word = codes "ical"; limit = limit; layout = calendar_of }

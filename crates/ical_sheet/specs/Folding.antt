@@ -1,5 +1,5 @@
 -- Content lines, folded and unfolded (RFC 5545, section 3.1; the length of the pieces is this project's
--- own).
+-- choice).
 use Rattle.std.specs.Prelude.{
   ℕ,
   zero,
@@ -30,11 +30,11 @@ use Rattle.std.specs.Str.{IsUtf8}
 
 -- ---- content lines
 
--- a text that begins with no space (32) and no tab (9)
+-- a text that doesn't begin with a space (32) or a tab (9)
 abbrev pub IsUnindented : List ℕ → Type 0
 IsUnindented text = (slice_index text 0 ≢ 32) × (slice_index text 0 ≢ 9)
 
--- a content line: text without CR (13) and LF (10), which begins with no space and no tab
+-- a content line: text without CR (13) and LF (10) that doesn't begin with a space or a tab
 pub record IsContentLine (line : List ℕ) : Type 0 where
   pub utf8 : IsUtf8 line
   pub unbroken : All (λ octet. (octet ≢ 13) × (octet ≢ 10)) line
@@ -42,7 +42,7 @@ pub record IsContentLine (line : List ℕ) : Type 0 where
 
 -- ---- folding
 
--- an octet of a character after its first one (RFC 3629, section 3)
+-- an octet of a character other than its first (RFC 3629, section 3)
 abbrev pub is_inner : ℕ → Bool
 is_inner octet = nat_le 128 octet && nat_lt octet 192
 
@@ -79,7 +79,7 @@ pieces_of line = let n = prefix_length 75 line in take n line ∷ further_pieces
 unfoldable pub folded : List ℕ → List ℕ
 folded line = join_by (λ piece. piece) (codes "\r\n ") (pieces_of line) ++ codes "\r\n"
 
--- a prefix of n octets that is text, and so splits no character; no longer one of at most `most` octets is
+-- the longest prefix of at most `most` octets that is text, and so splits no character; it has n octets
 pub record IsLongestPrefix (most : ℕ) (text : List ℕ) (n : ℕ) : Type 0 where
   pub short : n ≤ most
   pub within : n ≤ length text
@@ -101,7 +101,7 @@ unfolded [] = []
 
 -- ---- the lines of a text
 
--- lines with one more octet at the beginning of the first
+-- lines with another octet at the beginning of the first
 abbrev pub begun_with : ℕ → List (List ℕ) → List (List ℕ)
 begun_with octet [] = (octet ∷ []) ∷ []
 begun_with octet (line ∷ lines) = (octet ∷ line) ∷ lines

@@ -29,7 +29,7 @@ pub(crate) fn push_escaped(out: &mut String, text: &str) -> Result<(), AllocErro
     Ok(())
 }
 
-/// Appends `letter`, escaped if it is one of the three.
+/// Appends `letter`, escaped if it is a backslash, a semicolon or a comma.
 fn push_letter(out: &mut String, letter: char) -> Result<(), AllocError>
     ensures { OnOk result (string_bytes out.new
         ≡ string_bytes out.old ++ (if is_special letter then 92 ∷ encode_utf8 letter else encode_utf8 letter)) }

@@ -17,7 +17,7 @@ use decimal_text::write;
 use event_text::{unit_text, word, write_level};
 use std::alloc::AllocError;
 
-/// Appends the lines of `event`. `line` is a buffer for one of them.
+/// Appends the lines of `event`; `line` is a buffer for one line.
 pub(crate) fn push_event(
     text: &mut Vec<u8>,
     line: &mut String,

@@ -20,9 +20,9 @@ use std::alloc::{AllocError, Global};
 /// The greatest number of octets of a physical line without its CR LF (RFC 5545, 3.1).
 const MOST_OCTETS: usize = 75;
 
-/// Returns the content line `line` folded into physical lines of at most 75 octets, each but the
-/// first after a space, and each with a CR LF at its end. No character is split. `line` is text in
-/// UTF-8 without CR and LF, and begins with no space and no tab.
+/// Returns the content line `line` folded into physical lines (RFC 5545, 3.1) of at most 75 octets: each
+/// ends with a CR LF, and each after the first begins with a space. No character is split. `line` is
+/// text in UTF-8 without CR and LF, and doesn't begin with a space or a tab.
 ///
 /// The program doesn't call it: a sheet appends to one text.
 pub fn fold(alloc: Global, line: &[u8]) -> Result<Bytes, AllocError>
@@ -72,8 +72,8 @@ fn push_further(text: &mut Vec<u8>, further: &[u8]) -> Result<(), AllocError>
     Ok(())
 }
 
-/// Returns the longest prefix of `text` with at most `most` octets that ends at the end of a
-/// character, and what follows it.
+/// Returns the longest prefix of `text` with at most `most` octets that ends at the end of a character,
+/// and the text after it.
 fn cut(text: &[u8], most: usize) -> (&[u8], &[u8])
     ensures piece { result.0.now ≡ take (prefix_length most text.now) text.now }
     ensures rest { result.1.now ≡ drop (prefix_length most text.now) text.now }

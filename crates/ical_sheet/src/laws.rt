@@ -22,8 +22,8 @@ ghost use Rattle.ical_sheet.specs.Folding.{
 use crate::sheet::IcalPage;
 use report_sheets::Layout;
 
-/// Proves that a piece is the longest prefix, of at most the given number of octets, that splits no
-/// character, and that each piece after a line's first has at most 74 octets.
+/// Proves that each piece of a folded line is the longest prefix, of at most the given number of octets,
+/// that splits no character, and that each piece after a line's first has at most 74 octets.
 pub fn lines_are_cut_between_characters()
     ensures longest { (most : ℕ) (text : List ℕ) → IsUtf8 text → IsLongestPrefix most text (prefix_length most text) }
     ensures further { (text : List ℕ) → IsUtf8 text → 0 < length text →
@@ -48,13 +48,13 @@ pub fn calendars_unfold()
         AreShort (physical_lines (calendar_of head events)) }
 {}
 
-/// Proves that a calendar has the layout that `specs/` defines.
+/// Proves that the text of the sheet `ical` has the layout that `specs/` defines.
 pub fn calendars_are_sheets()
     ensures { ⟦<IcalPage as Layout>⟧.sheet ≡ ical_sheet }
 {}
 
-/// Proves that two events with the same identifier have the same minute, the same kind and stations of the
-/// same name.
+/// Proves that two calendar entries with the same identifier have the same minute, the same kind of
+/// event and stations with the same name.
 pub fn identifiers_are_unique()
     ensures { (name other : List ℕ) (event later : Event) → IsBytes name → IsBytes other → IsNarrow event → IsNarrow later →
         uid_line name event ≡ uid_line other later → (name ≡ other) × (event.minute ≡ later.minute) × (event.kind ≡ later.kind) }

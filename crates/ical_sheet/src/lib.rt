@@ -1,9 +1,8 @@
 //! The events of a station as a calendar for other programs (RFC 5545).
 //!
-//! [`IcalSheet`] is the sheet that writes it. A calendar consists of content lines: [`fold`] splits
-//! one into physical lines of at most 75 octets, [`unfold`] joins the lines of a text again, and
-//! [`escape`] marks the characters of a text that have a special meaning. `specs/` has the
-//! rules.
+//! [`IcalSheet`] is the sheet that writes it. A calendar consists of content lines: [`fold`] splits a
+//! content line into physical lines of at most 75 octets, [`unfold`] joins the lines of a text again,
+//! and [`escape`] marks the characters of a text that have a special meaning. `specs/` has the rules.
 #![tactic(auto)]
 
 mod calendar;

@@ -15,9 +15,9 @@ use std::alloc::{AllocError, Global};
 #[derive(Drop)]
 pub(crate) struct Shared<'a> {
     pub head: &'a Head,
-    /// The station's name in hexadecimal digits.
+    /// The station's name in hexadecimal digits, for identifiers.
     pub digits: String,
-    /// The station's name, escaped.
+    /// The station's name, escaped, for summaries.
     pub escaped: String,
     /// The moment at which the calendar was made, such as `20000110T060000Z`.
     pub made: [u8; 16],

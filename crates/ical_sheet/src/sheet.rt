@@ -13,7 +13,7 @@ use std::alloc::{AllocError, Global};
 /// of type `text/calendar`, and empty if there is no event.
 pub type IcalSheet = SheetOf<IcalPage>;
 
-/// The layout of [`IcalSheet`].
+/// The layout of the sheet `ical`, [`IcalSheet`].
 #[derive(Drop)]
 pub struct IcalPage;
 

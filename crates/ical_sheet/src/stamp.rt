@@ -7,10 +7,10 @@ ghost use Rattle.zone_time.specs.Moments.{IsMoment};
 use arrayvec::ArrayString;
 use zone_time::write_moment;
 
-/// 0001-01-01T00:00Z.
+/// The moment 0001-01-01T00:00Z, in minutes since 1970-01-01T00:00Z.
 const FIRST_MOMENT: i64 = -1_035_593_280;
 
-/// 9999-12-31T23:59Z.
+/// The moment 9999-12-31T23:59Z, in minutes since 1970-01-01T00:00Z.
 const LAST_MOMENT: i64 = 4_223_371_679;
 
 /// Returns the minute of the years 1 to 9999 that is nearest to `minute`.
@@ -21,7 +21,8 @@ pub(crate) fn nearest_moment(minute: i64) -> i64
     minute.clamp(FIRST_MOMENT, LAST_MOMENT)
 }
 
-/// Returns `moment`, minutes since 1970-01-01T00:00Z, such as `20000110T060000Z` (RFC 5545, 3.3.5).
+/// Returns the text of `moment`, in minutes since 1970-01-01T00:00Z, such as `20000110T060000Z` (RFC
+/// 5545, 3.3.5).
 pub(crate) fn stamp(moment: i64) -> [u8; 16]
     requires { IsMoment moment }
     ensures { result ≡ stamp_of moment }
@@ -31,7 +32,7 @@ pub(crate) fn stamp(moment: i64) -> [u8; 16]
     without_marks(text.as_bytes())
 }
 
-/// Returns a moment such as `2000-01-10T06:00Z` as `20000110T060000Z`.
+/// Returns `text`, a moment such as `2000-01-10T06:00Z`, in the form `20000110T060000Z`.
 fn without_marks(text: &[u8]) -> [u8; 16]
     requires { length text.now ≡ 17 }
     ensures { result ≡ slice_index text.now 0 ∷ slice_index text.now 1 ∷ slice_index text.now 2 ∷ slice_index text.now 3

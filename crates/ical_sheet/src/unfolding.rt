@@ -6,8 +6,8 @@ ghost use Rattle.ical_sheet.specs.Folding.{is_fold, unfolded};
 use decimal_text::Bytes;
 use std::alloc::{AllocError, Global};
 
-/// Returns `text` without each CR LF that a space or a tab directly follows, and without this space
-/// or tab.
+/// Returns `text` with its lines unfolded (RFC 5545, 3.1): without each CR LF that a space or a tab
+/// directly follows, and without this space or tab.
 ///
 /// The program doesn't call it: it writes calendars and reads none.
 pub fn unfold(alloc: Global, text: &[u8]) -> Result<Bytes, AllocError>

@@ -23,8 +23,8 @@ pub fn worked_folds()
     ensures lines { map length (physical_lines (folded (replicate 150 97))) ≡ 75 ∷ 75 ∷ 2 ∷ [] }
 {}
 
-/// Proves examples of unfolded texts: a fold before a space and one before a tab, a CR LF that neither
-/// follows, and folds within what another leaves.
+/// Proves examples of unfolded texts: a fold before a space and one before a tab, a CR LF before
+/// neither, and folds that appear when another is removed.
 #[tactic(auto, unfolding(crate::specs::Folding::unfolded))]
 pub fn worked_unfolds()
     ensures space { unfolded (codes "SUMMARY:Pie\r\n r\r\n") ≡ codes "SUMMARY:Pier\r\n" }

@@ -1,18 +1,19 @@
--- A search in steps: the cells left from a minute on (this project).
+-- A search in steps: the remaining cells from a minute on (this project).
 use Rattle.std.specs.Prelude.{◌≡◌, ℕ, ℤ, pos, ◌+ℤ◌, List, [], ◌∷◌, Option, Some, None}
 use Rattle.curve_law.specs.declared.cell.Cell.{Cell}
 use Rattle.curve_law.specs.Cells.{minutes_of}
 use Rattle.interval_search.specs.declared.found.Found.{Found}
 
--- a search: its curve, the minute that it has reached, the cells left from there on, and the greatest
--- number of evaluations of the curve in the end
+-- a search: its curve, the minute that it has reached, the remaining cells, and the greatest number of
+-- evaluations of the curve at the end of the search
 pub record Looking (C : Type 0) : Type 0 where
   pub curve : C
   pub at : ℤ
   pub left : List Cell
   pub most : ℕ
 
--- a step returns the first of the cells left and moves to its end; it returns none if no cell is left
+-- a step returns the first of the remaining cells and moves to its end; it returns None if no cell
+-- remains
 abbrev pub StepsOn : {C : Type 0} → Looking C → Option Found → Looking C → Type 0
 StepsOn old None new = (old.left ≡ []) × (new.left ≡ []) × (new.at ≡ old.at)
 StepsOn old (Some found) new =

@@ -12,7 +12,7 @@ pub record Interval : Type 0 where
 abbrev pub interval : ℤ → ℕ → Interval
 interval a n = record { begin = a; minutes = n }
 
--- the n minutes from `a` on aren't halved: there is one, or the test leaves them whole
+-- the n minutes from `a` on aren't halved: n is 1, or the test leaves them whole
 abbrev pub stays_whole : (ℤ → ℕ → Bool) → ℤ → ℕ → Bool
 stays_whole test a n = nat_le n 1 || test a n
 
@@ -25,7 +25,8 @@ halves_within (suc halvings) test a n =
       | false ↦ halves_within halvings test a (n / 2) ++ halves_within halvings test (a +ℤ pos (n / 2)) (n - n / 2)
     ]
 
--- the pieces of a block of n minutes from `a` on: all of it, or those of its two halves, the shorter first
+-- the pieces of a block of n minutes from `a` on: the whole block, or the pieces of its two halves, the
+-- shorter half first
 unfoldable pub pieces_of_block : (ℤ → ℕ → Bool) → ℤ → ℕ → List Interval
 pieces_of_block test a n = halves_within n test a n
 
@@ -38,7 +39,7 @@ blocks_within (suc blocks) test a n =
       | false ↦ pieces_of_block test a MOST_MINUTES ++ blocks_within blocks test (a +ℤ pos MOST_MINUTES) (n - MOST_MINUTES)
     ]
 
--- the pieces of the span of n minutes from `a` on, in blocks of 1,024 minutes from its begin on; the last
--- may be shorter
+-- the pieces of the span of n minutes from `a` on, cut into blocks of 1,024 minutes from its beginning
+-- on; the last block may be shorter
 unfoldable pub pieces_of : (ℤ → ℕ → Bool) → ℤ → ℕ → List Interval
 pieces_of test a n = blocks_within n test a n

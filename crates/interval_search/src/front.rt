@@ -10,7 +10,8 @@ use crate::rule::PieceRule;
 use crate::waiting::Waiting;
 use curve_law::{Curve, Point};
 
-/// Returns the end of the nearest piece, which is removed from `waiting`, or else of the next block.
+/// Removes the nearest piece from `waiting` and returns its end; if there isn't one, returns the end of
+/// the next block.
 #[inline(always)]
 fn nearest_end<C: Curve, R: PieceRule>(
     curve: &mut C,
@@ -63,8 +64,8 @@ fn nearest_piece<C: Curve, R: PieceRule>(
     }
 }
 
-/// The state of a search over a span: the point that it has reached, the ends of the pieces after it
-/// whose values are known, the nearest first, and the end of the span.
+/// The state of a search over a span: the point that it has reached, the known end points of the pending
+/// pieces after it, the nearest first, and the end of the span.
 #[derive(Drop)]
 pub struct Front {
     pub at: Point,
@@ -72,7 +73,7 @@ pub struct Front {
     pub end: i64,
 }
 
-/// Returns the state of a search at its begin.
+/// Returns the state of a search at the beginning of its span.
 pub fn front_at<C: Curve, R: PieceRule>(curve: &mut C, rule: &R, begin: i64, end: i64) -> Front
     requires forward { begin ≤ℤ end }
     requires first { (C.state curve.old).facts.meaning.first ≤ℤ begin }

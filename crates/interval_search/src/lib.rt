@@ -1,12 +1,12 @@
 //! The search for the cells of a span.
 //!
 //! [`search`] returns all cells of a span at once, and a [`Search`] returns them one after the other
-//! without allocating. Both evaluate their curve at the ends of cells only, approximately, and at no
-//! minute twice: the ends of pending pieces wait on a small stack with their approximate values. If these
-//! leave the cell open, the exact values are used.
+//! without allocating. Both evaluate their curve approximately, only at the ends of cells, and at no
+//! minute twice: the ends of pending pieces are kept on a small stack with their approximate values. If
+//! these leave a cell open, the exact values are used.
 //!
-//! Searches for cells of another kind give a [`PieceRule`] of their own: [`front_at`] and [`next_piece`]
-//! find the pieces that it leaves whole, one after the other.
+//! A search for another kind of cells supplies a [`PieceRule`]: [`front_at`] and [`next_piece`] find the
+//! pieces that the rule leaves whole, one after the other.
 #![tactic(auto)]
 
 mod found;

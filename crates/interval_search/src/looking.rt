@@ -11,10 +11,11 @@ use crate::quiet_pieces::{QuietPieces, next_found};
 use curve_law::Curve;
 use std::marker::Model;
 
-/// A search that returns the cells of a span one after the other. It owns its curve and doesn't allocate.
+/// A search that returns the cells of a span one after the other. It owns its curve and doesn't
+/// allocate.
 ///
-/// In contracts its value is the curve, the minute that it has reached, the cells left from there on, and
-/// the greatest number of evaluations in the end.
+/// In contracts its value is the curve, the minute that it has reached, the remaining cells, and the
+/// greatest number of evaluations at the end of the search.
 #[derive(Drop)]
 pub struct Search<C: Curve> {
     curve: C,
@@ -59,7 +60,7 @@ impl<C: Curve> Search<C> {
         Search { curve, front }
     }
 
-    /// Returns the next cell and the minute at which it begins, or `None` if no cell is left.
+    /// Returns the next cell and the minute at which it begins, or `None` if no cell remains.
     #[inline(always)]
     pub fn next(&mut self) -> Option<Found>
         ensures found { StepsOn self.old result self.new }
@@ -69,14 +70,15 @@ impl<C: Curve> Search<C> {
         next_found(&mut self.curve, &mut self.front)
     }
 
-    /// Does nothing; its contract shows a proof that at most 2^61 cells are left, one for each minute.
+    /// Does nothing. Its contract says that at most 2^61 cells remain, since each has at least one
+    /// minute.
     pub fn cells_are_few(&self)
         ensures { length self.now.left ≤ 2 ^ 61 }
     {
         let _end = self.front.end;
     }
 
-    /// Returns the number of evaluations of the curve so far.
+    /// Returns the number of evaluations of the curve until now.
     ///
     /// The program doesn't call it.
     pub fn evaluations(&self) -> u64

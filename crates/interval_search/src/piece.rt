@@ -7,7 +7,7 @@ ghost use Rattle.interval_search.specs.Workings.Ahead.{minutes_to, piece_between
 use crate::rule::PieceRule;
 use curve_law::{Curve, MOST_MINUTES, Point};
 
-/// The minutes between two points, which are one block or lie in one.
+/// The minutes between two points. They are one block of a span or part of one.
 #[derive(Clone, Copy)]
 pub struct Piece {
     pub begin: Point,
@@ -16,7 +16,7 @@ pub struct Piece {
     pub minutes: u32,
 }
 
-/// Returns the piece from `begin` to `end`.
+/// Returns the piece of the minutes from the point `begin` to the point `end`.
 pub fn piece_between(begin: Point, end: Point) -> Piece
     requires some { begin.minute <ℤ end.minute }
     requires count_bound { end.minute ≤ℤ (begin.minute +ℤ pos MOST_MINUTES) }
@@ -45,8 +45,8 @@ pub fn halfway(piece: Piece) -> i64
     piece.begin.minute + i64::from(piece.minutes / 2)
 }
 
-/// Returns the end of the block that begins at `begin`, at most 2^60 in size: [`MOST_MINUTES`] later, or
-/// `end`, the later end of the span, if that comes first.
+/// Returns the end of the block that begins at `begin`: [`MOST_MINUTES`] later, or `end`, the end of the
+/// span, if that is earlier. `begin` is before `end` and at most 2^60 in size.
 pub fn block_end(begin: i64, end: i64) -> i64
     requires some { begin <ℤ end }
     requires in_range { unsigned_abs begin ≤ 2 ^ 60 }

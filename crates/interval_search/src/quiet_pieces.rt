@@ -15,7 +15,7 @@ use curve_law::{
     Cell, Curve, Point, approximate_point_at, is_quiet_from_approximate, unit_cell_from_approximate,
 };
 
-/// Leaves quiet pieces whole, and uses approximate values.
+/// The rule that leaves quiet pieces of a span whole, by approximate values of the curve.
 pub struct QuietPieces;
 
 impl PieceRule for QuietPieces {

@@ -13,13 +13,13 @@ use curve_law::{Curve, Point};
 /// In contracts a rule is a test and values. The test may differ from rule to rule, and so may change in
 /// the course of a search; the values are the same for all rules of a type.
 pub trait PieceRule {
-    /// True for 2 to 1,024 minutes from a minute on that are left whole.
+    /// True if the given minutes, 2 to 1,024 from the given minute on, are left whole.
     ghost whole: { Self → Meaning → ℤ → ℕ → Bool };
 
     /// The value of a curve at a minute, exact or approximate.
     ghost values: { CurveFacts → ℤ → ℤ };
 
-    /// Returns the point at `minute`. The curve is evaluated once.
+    /// Returns the point at `minute`: the minute and the curve's value. The curve is evaluated once.
     fn evaluate<C: Curve>(&self, curve: &mut C, minute: i64) -> Point
         requires minute { IsMinute (C.state curve.old).facts.meaning minute }
         requires count_bound { (C.state curve.old).count < 2 ^ 63 }

@@ -8,8 +8,9 @@ use crate::quiet_pieces::{QuietPieces, next_found};
 use curve_law::{Cells, Curve};
 use std::alloc::{AllocError, Global};
 
-/// Returns the cells of the minutes from `begin` on and before `end`, all of them minutes of `curve`. The
-/// curve was evaluated at most 2^62 times, and is evaluated at most once a cell and once more.
+/// Returns the cells of the minutes from `begin` up to but not including `end`, all of them minutes of
+/// `curve`. Before the call the curve may have been evaluated at most 2^62 times; the call evaluates it
+/// at most once per cell, plus once.
 ///
 /// # Errors
 /// [`AllocError`] if memory runs out.

@@ -32,7 +32,7 @@ impl Waiting {
         }
     }
 
-    /// Pushes `point` onto at most fifteen points.
+    /// Pushes `point` onto the stack, which has at most fifteen points before.
     pub fn push(&mut self, point: Point)
         requires { length self.old < 16 }
         ensures { self.new ≡ point ∷ self.old }
@@ -40,7 +40,7 @@ impl Waiting {
         self.points.push(point);
     }
 
-    /// Removes and returns the last point pushed, if there is one.
+    /// Removes and returns the point that was pushed last, or returns `None` if the stack is empty.
     pub fn pop(&mut self) -> Option<Point>
         ensures { MatchOption result ((self.old ≡ []) × (self.new ≡ [])) (λ point. self.old ≡ point ∷ self.new) }
     {

@@ -1,5 +1,5 @@
--- The listings of a station's events and levels, and of its level now (the layout of XTide's plain listings
--- and of its clock).
+-- The listings of a station's events and levels, and of its present level (the layout of XTide's plain
+-- listings and of its clock).
 use Rattle.std.specs.Prelude.{ℕ, ℤ, Bool, true, false, List, ◌++◌, codes}
 use Rattle.std.specs.List.{flat_map}
 use Rattle.curve_law.specs.declared.event.Event.{Event}
@@ -9,7 +9,7 @@ use Rattle.listing.specs.declared.row.Row.{Row}
 use Rattle.zone_time.specs.declared.zone.Zone.{Zone}
 use Rattle.zone_time.specs.Zones.{local_in}
 
--- the line of a level by the clock of a zone
+-- the line of a level, in the local time of a zone
 abbrev pub row_line_in : Zone → Units → Row → List ℕ
 row_line_in zone units row = height_line_of (local_in zone row.minute) row.level units ++ codes "\n"
 
@@ -21,7 +21,7 @@ plain_events_of name units events zone = name ++ codes "\n" ++ flat_map (event_l
 unfoldable pub plain_heights_of : List ℕ → Units → List Row → Zone → List ℕ
 plain_heights_of name units rows zone = name ++ codes "\n" ++ flat_map (row_line_in zone units) rows
 
--- the word of a direction
+-- `Rising` if the level rises, else `Falling`
 abbrev pub direction_of : Bool → List ℕ
 direction_of true = codes "Rising"
 direction_of false = codes "Falling"
@@ -40,7 +40,7 @@ highest_line_of zone units minute level =
 unfoldable pub highest_text_of : List ℕ → Units → ℤ → ℤ → Zone → List ℕ
 highest_text_of name units minute level zone = name ++ codes "\n" ++ highest_line_of zone units minute level
 
--- the station's name, its level now, and a line for each event to come
+-- the station's name, the line of its present level, and a line for each of the next events
 unfoldable pub clock_text_of : List ℕ → Units → ℤ → ℤ → Bool → List Event → Zone → List ℕ
 clock_text_of name units now level rising events zone =
     name ++ codes "\n" ++ now_line_of zone units now level rising ++ flat_map (event_line_in zone units) events

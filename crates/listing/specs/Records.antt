@@ -18,7 +18,7 @@ use Rattle.zone_time.specs.Zones.{local_in}
 abbrev pub record_of : List (List ℕ) → List ℕ
 record_of fields = row_text default_writer fields
 
--- a minute by the clock of a zone, without a label
+-- a minute in the local time of a zone, without a label
 abbrev pub time_in : Zone → ℤ → List ℕ
 time_in zone minute = time_text (local_in zone minute).minute
 

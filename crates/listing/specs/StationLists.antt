@@ -9,7 +9,7 @@ use Rattle.harmonics_book.specs.declared.book.Units.{Units}
 use Rattle.station_table.specs.declared.offsets.Offsets.{Offsets}
 use Rattle.event_text.specs.Lines.{text_of_unit}
 
--- the unit of the first station of a name
+-- the unit of the first station with a name
 abbrev pub unit_in : List Station → List ℕ → Option Units
 unit_in stations name = option_map (λ station. station.units) (find (λ station. bytes_eq name station.name) stations)
 
@@ -28,6 +28,6 @@ subordinate_line stations row =
     codes "Sub " ++ unit_or_dash (unit_in stations row.reference) ++ codes " " ++ row.name
     ++ codes " (" ++ row.reference ++ codes ")\n"
 
--- a line for each station of the harmonics file, and then one for each row of the table
+-- a line for each station of the harmonics file, and then a line for each row of the table
 unfoldable pub stations_text_of : Book → List Offsets → List ℕ
 stations_text_of book table = flat_map reference_line book.stations ++ flat_map (subordinate_line book.stations) table

@@ -1,4 +1,4 @@
--- A level that listings were worked out for (this project).
+-- A level used in examples of listings (this project).
 use Rattle.std.specs.Prelude.{pos}
 use Rattle.listing.specs.declared.row.Row.{Row}
 

@@ -8,10 +8,10 @@ use event_text::unit_text;
 use harmonics_book::Units;
 use std::alloc::{AllocError, Global};
 
-/// Returns five lines: the station's `name`; its reference's name after `reference`; the unit of its
-/// levels after `units`; the number of `constituents` after this word; and after `agreement` a bound of
-/// the difference between the station's slope and the steps of its levels from minute to minute, in the
-/// slope's unit (docs/FORMATS.md).
+/// Returns five lines about a station: its `name`; the word `reference` and its reference's name; the
+/// word `units` and the unit of its levels; the word `constituents` and their number; and the word
+/// `agreement` and a bound on the difference between the station's slope and the steps of its levels
+/// from minute to minute, in the slope's unit (docs/FORMATS.md).
 #[tactic(auto, unfolding(crate::specs::Abouts::about_text_of))]
 pub fn about_text(
     alloc: Global,

@@ -15,10 +15,11 @@ use question::Layout;
 use std::alloc::{AllocError, Global};
 use zone_time::Zone;
 
-/// Returns the events of the station `name` in `layout`, as [`plain_events`] or [`csv_events`].
+/// Returns the listing of the events of the station `name` in `layout`: the same as [`plain_events`] or
+/// [`csv_events`].
 ///
-/// Each event has a [`word`](event_text::word) in `units`, and a minute in the years 2 to 9300 or
-/// on the day before them.
+/// Each event has a [`word`](event_text::word) in `units`, and a minute in the years 2 to 9300 or on the
+/// day before them.
 ///
 /// # Errors
 /// [`AllocError`] if memory runs out.
@@ -40,8 +41,8 @@ pub fn events_text(
     }
 }
 
-/// Returns the levels of the station `name` in `layout`, as [`plain_heights`] or [`csv_heights`].
-/// The minutes are in the years 2 to 9300 or on the day before them.
+/// Returns the listing of the levels of the station `name` in `layout`: the same as [`plain_heights`] or
+/// [`csv_heights`]. The minutes are in the years 2 to 9300 or on the day before them.
 ///
 /// # Errors
 /// [`AllocError`] if memory runs out.

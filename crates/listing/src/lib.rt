@@ -1,14 +1,15 @@
 //! Listings of events, levels and stations, as lines or as comma-separated values.
 //!
-//! A line of a listing has the local time with its label, the level in hundredths of the unit, the
-//! unit and the event's name: [`event_line`].
+//! A line of a listing has the local time with its label, the level in hundredths of the unit, the unit
+//! and the event's name: [`event_line`].
 //!
-//! - [`plain_events`] returns such lines below the station's name, and [`csv_events`] the same
-//!   events as records; [`plain_heights`] and [`csv_heights`] do so for levels. [`events_text`] and
+//! - [`plain_events`] returns such lines below the station's name, and [`csv_events`] the same events as
+//!   records; [`plain_heights`] and [`csv_heights`] do so for levels. [`events_text`] and
 //!   [`heights_text`] choose between them by the layout.
-//! - [`clock_text`] begins with the level now, and [`highest_text`] has only the highest level.
-//! - [`stations_text`] lists the stations of a harmonics file and of a table, and [`about_text`]
-//!   the facts of one station.
+//! - [`clock_text`] returns the present level and the next events, and [`highest_text`] the highest
+//!   level of a span.
+//! - [`stations_text`] lists the stations of a harmonics file and of a table, and [`about_text`] the
+//!   facts of one station.
 //!
 //! `specs/` has the layouts.
 #![tactic(auto)]

@@ -43,7 +43,9 @@ pub fn plain_events(
     Ok(Bytes::from_vec(text))
 }
 
-/// Appends what [`plain_events`] returns.
+/// Appends a listing to `text`: the station's `name`, and the line of each event in the zone's local
+/// time. Each event has a [`word`](event_text::word) in `units`, and a minute in the years 2 to 9300 or
+/// on the day before them.
 #[tactic(auto, unfolding(crate::specs::Listings::plain_events_of))]
 pub fn push_plain_events(
     text: &mut Vec<u8>,
@@ -84,7 +86,7 @@ pub fn plain_heights(
     Ok(Bytes::from_vec(text))
 }
 
-/// Returns the first line of a listing, the station's `name`.
+/// Returns the first line of a listing: the station's `name` and an LF.
 pub(crate) fn name_line(alloc: Global, name: &Text) -> Result<Vec<u8>, AllocError>
     ensures { IfOk result (λ text. text.items ≡ name.now ++ codes "\n") }
 {

@@ -30,12 +30,12 @@ use harmonics_book::Units;
 use std::alloc::{AllocError, Global};
 use zone_time::{Zone, ZoneClock, write_moment, write_time};
 
-/// Returns the header `station,moment,local,event,level,units` and a record for each event. The
-/// moment is in universal time, such as `2000-01-10T11:59Z`, and the local time is the zone's, such
-/// as `2000-01-10 11:59`. The level has six decimals.
+/// Returns the header `station,moment,local,event,level,units` and a record for each event. The moment
+/// is in universal time, such as `2000-01-10T11:59Z`, and the local time is in the zone, such as
+/// `2000-01-10 11:59`. The level has six decimals.
 ///
-/// Each event has a [`word`](event_text::word) in `units`, and a minute in the years 2 to 9300 or
-/// on the day before them.
+/// Each event has a [`word`](event_text::word) in `units`, and a minute in the years 2 to 9300 or on the
+/// day before them.
 #[tactic(auto, unfolding(crate::specs::Records::csv_events_of))]
 pub fn csv_events(
     alloc: Global,
@@ -57,8 +57,9 @@ pub fn csv_events(
     bytes_of(records)
 }
 
-/// Returns the header `station,moment,local,level,units` and a record for each level, with the
-/// fields of [`csv_events`]. The minutes are in the years 2 to 9300 or on the day before them.
+/// Returns the header `station,moment,local,level,units` and a record for each level. The moment is in
+/// universal time, such as `2000-01-10T11:59Z`, and the local time is the zone's, such as `2000-01-10
+/// 11:59`. The level has six decimals. The minutes are in the years 2 to 9300 or on the day before them.
 #[tactic(auto, unfolding(crate::specs::Records::csv_heights_of))]
 pub fn csv_heights(
     alloc: Global,

@@ -5,7 +5,7 @@ ghost use Rattle.std.specs.Prelude.{◌≡◌};
 use crate::row::Row;
 use std::marker::Model;
 
-/// Levels in the order of their listing. In contracts its value is the list of them.
+/// Levels in the order of their listing. In contracts its value is the list of the levels.
 #[derive(Drop)]
 pub struct Rows {
     items: Vec<Row>,
@@ -21,14 +21,14 @@ impl Model for Rows {
 }
 
 impl Rows {
-    /// Returns the list of the levels in `items`. Doesn't allocate.
+    /// Returns the list of the levels in `items`. It doesn't allocate.
     pub fn from_vec(items: Vec<Row>) -> Rows
         ensures { result ≡ items.items }
     {
         Rows { items }
     }
 
-    /// Returns the levels as a slice.
+    /// Borrows the levels as a slice.
     pub fn as_slice(&self) -> &[Row]
         ensures { result.now ≡ self.now }
     {

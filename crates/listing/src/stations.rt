@@ -12,9 +12,9 @@ use station_table::{OffsetTable, Offsets};
 use std::alloc::{AllocError, Global};
 use std::collections::BTreeMap;
 
-/// Returns a line such as `Ref feet Pier` for each station of `book`, and then one such as
-/// `Sub feet Dock (Pier)` for each row of `table`. A row has the unit of the first station of its
-/// reference's name, or `-` if `book` has no such station.
+/// Returns a line such as `Ref feet Pier` for each station of `book`, and then a line such as `Sub feet
+/// Dock (Pier)` for each row of `table`. The unit in a row's line is the unit of the first station of
+/// `book` with the name of the row's reference, or `-` if there isn't one.
 #[tactic(auto, unfolding(crate::specs::StationLists::stations_text_of))]
 pub fn stations_text(alloc: Global, book: &Book, table: &OffsetTable) -> Result<Bytes, AllocError>
     ensures { IfOk result (λ text. text ≡ stations_text_of book.now table.now) }
@@ -48,7 +48,7 @@ fn push_reference(text: &mut Vec<u8>, station: &Station) -> Result<(), AllocErro
     text.extend_from_slice(b"\n")
 }
 
-/// Returns the unit of the first station of each name.
+/// Returns the units of the stations by name: for each name the unit of the first station with it.
 fn units_by_name(alloc: Global, stations: &[Station]) -> Result<BTreeMap<&str, Units>, AllocError>
     ensures { IfOk result (AreUnitsOf stations.now) }
 {

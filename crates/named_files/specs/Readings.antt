@@ -1,5 +1,5 @@
--- The contents of a request's files; each is read and its form checked before the next is opened (this
--- project).
+-- The contents of a request's files; each is read and its contents checked before the next is opened
+-- (this project).
 use Rattle.std.specs.Prelude.{ℕ, List, [], Option, Some, None, Result, Ok, Err}
 use Rattle.decimal_text.specs.Expected.{◌>>=◌}
 use Rattle.harmonics_book.specs.declared.book.Book.{Book as TheBook}
@@ -33,29 +33,29 @@ use Rattle.decimal_text.specs.declared.limits.TheConstants.{MOST_BYTES}
 
 -- ---- The bytes of a file
 
--- the greatest number of bytes of a file, by what it is read as
+-- the greatest number of bytes of a file, by the purpose for which it is read
 abbrev pub limit_of : Slot → ℕ
 limit_of slots.File = 67108864
 limit_of slots.Offsets = 67108864
 limit_of slots.Zone = 1048576
 limit_of slots.Certificate = MOST_BYTES
 
--- the reason for which a file couldn't be read
+-- the reason why a file couldn't be read
 abbrev pub fault_of_reading : Slot → ReadAllFault → NoAnswer
 fault_of_reading slot reading.Failed = Unread
 fault_of_reading slot reading.TooLong = Faulty (TooLong slot)
 fault_of_reading slot reading.NoMemory = Faulty (Refused NoMemory)
 
--- the bytes of a file, or the reason
+-- the bytes of a file, or the reason why it couldn't be read
 abbrev pub bytes_from : Slot → Result (List ℕ) ReadAllFault → Result (List ℕ) NoAnswer
 bytes_from slot (Ok bytes) = Ok bytes
 bytes_from slot (Err fault) = Err (fault_of_reading slot fault)
 
--- the bytes of the file of a name, or the reason
+-- the bytes of a file with these contents, or the reason why it can't be read
 abbrev pub bytes_of : Slot → Option (List ℕ) → Result (List ℕ) NoAnswer
 bytes_of slot file = bytes_from slot (whole (limit_of slot) file)
 
--- the reason for which a harmonics file, whose form is checked while it is read, couldn't be loaded
+-- the reason why a harmonics file, which is parsed while it is read, couldn't be loaded
 abbrev pub fault_of_loading : LoadFault → NoAnswer
 fault_of_loading load.Failed = Unread
 fault_of_loading load.TooLong = Faulty (TooLong slots.File)
@@ -63,17 +63,17 @@ fault_of_loading (load.Book fault) = Faulty (Book fault)
 
 -- ---- The contents
 
--- the harmonic constants of a file, or the reason
+-- the harmonic constants of a file, or the reason why there are none
 abbrev pub book_from : Result TheBook At → Result TheBook NoAnswer
 book_from (Ok book) = Ok book
 book_from (Err at) = Err (Faulty (Book (form.At at.line at.why)))
 
--- the rows of a table's file, or the reason
+-- the rows of a table's file, or the reason why there are none
 abbrev pub table_from : Result (List TableRow) OffsetFault → Result (List TableRow) NoAnswer
 table_from (Ok rows) = Ok rows
 table_from (Err fault) = Err (Faulty (Offsets fault))
 
--- the zone of a file, or the reason
+-- the zone of a file, or the reason why there is none
 abbrev pub zone_from : Result Zone ZoneFault → Result Zone NoAnswer
 zone_from (Ok zone) = Ok zone
 zone_from (Err zones.BadZone) = Err (Faulty BadZone)
@@ -81,13 +81,13 @@ zone_from (Err zones.NoMemory) = Err (Faulty (Refused NoMemory))
 
 -- ---- By the names of a request
 
--- the harmonic constants in the file of a name
+-- the harmonic constants in the file with a name, or the reason why there are none
 unfoldable pub book_named : Folder → List ℕ → Result TheBook NoAnswer
 book_named folder name = do
   bytes ← bytes_of slots.File (folder name)
   book_from (book_of bytes)
 
--- the rows in the file of a name; no row if no table is named
+-- the rows in the file with a name; no rows if no table is named
 unfoldable pub table_named : Folder → Option (List ℕ) → Result (List TableRow) NoAnswer
 table_named folder None = Ok []
 table_named folder (Some name) = do
@@ -102,16 +102,18 @@ zone_named folder (words.Named name) = do
   bytes ← bytes_of slots.Zone (folder name)
   zone_from (zone_of bytes)
 
--- the text in the file of a name; no byte if no certificate is named; the request checks its form
+-- the text in the file with a name; no bytes if no certificate is named; its format is checked when the
+-- request is answered
 unfoldable pub certificate_named : Folder → Option (List ℕ) → Result (List ℕ) NoAnswer
 certificate_named folder None = Ok []
 certificate_named folder (Some name) = bytes_of slots.Certificate (folder name)
 
--- a folder for each purpose of a file, since a file that is read twice may have changed in between
+-- the contents of files, separately for each purpose of a file, since a file that is read twice may
+-- change in between
 abbrev pub Folders : Type 0
 Folders = Slot → Folder
 
--- the contents of all files of a request in their order; the harmonics file has the name
+-- the contents of all files of a request in their order; its harmonics file has this name
 unfoldable pub files_in : Folders → Question → List ℕ → Result Materials NoAnswer
 files_in folders question name = do
   book ← book_named (folders slots.File) name

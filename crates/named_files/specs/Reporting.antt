@@ -6,16 +6,16 @@ use Rattle.tide_fault.specs.declared.status.Status.TheVariants.{NoMemory}
 use Rattle.named_files.specs.declared.no_answer.NoAnswer.{NoAnswer}
 use Rattle.named_files.specs.NoAnswers.{status_of, line_of, is_unread}
 
--- a line was written, or a failed write has cut it short
+-- a line was written, or a failed write cut it short
 abbrev pub WroteLine : SinkState → SinkState → List ℕ → Type 0
 WroteLine before after line = (failed : Bool) × Wrote before after failed line
 
--- a status with its line; or that memory ran out
+-- the status is the given one and its line was written, or memory ran out
 abbrev pub ReportsFault : Status → List ℕ → Status → SinkState → SinkState → Type 0
 ReportsFault own line status before after =
     ((status ≡ own) × WroteLine before after line) ⊎ ((status ≡ NoMemory) × WroteLine before after (codes "no memory\n"))
 
--- the status and the line of a reason; or that memory ran out, except if something couldn't be read
+-- the status and the line of a reason; or memory ran out, except if a file or the clock couldn't be read
 abbrev pub Reports : NoAnswer → Status → SinkState → SinkState → Type 0
 Reports none status before after =
     ((status ≡ status_of none) × WroteLine before after (line_of none))

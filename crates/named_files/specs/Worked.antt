@@ -1,10 +1,10 @@
--- The files of worked rows (this project).
+-- The files of examples (this project).
 use Rattle.std.specs.Prelude.{Some, None}
 use Rattle.harmonics_text.specs.Worked.{file_of, pier_lines}
 use Rattle.tide_fault.specs.declared.slot.Slot.TheVariants.{File, Offsets, Zone, Certificate}
 use Rattle.named_files.specs.Readings.{Folders}
 
--- a file of constants under each name, and no other file
+-- the folders of a run in which each name has the pier's constants, as the harmonics file only
 abbrev pub pier_alone : Folders
 pier_alone File name = Some (file_of pier_lines)
 pier_alone Offsets name = None

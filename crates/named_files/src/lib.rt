@@ -1,9 +1,8 @@
 //! The files of a request, and the line that reports why there is no answer.
 //!
-//! [`read_files`] reads the files of a request in their order; each is opened at most once and read
-//! to its end, or to a piece of 65,536 bytes past its limit, and its form is checked before the
-//! next is opened. [`NoAnswer`] is the reason for which a command line has no answer, and [`report`]
-//! writes its line.
+//! [`read_files`] reads the files of a request in their order; each is opened at most once and read to
+//! its end, or up to 65,536 bytes past its limit, and its contents are checked before the next is
+//! opened. [`NoAnswer`] is the reason why a command line has no answer, and [`report`] writes its line.
 #![tactic(auto)]
 
 mod materials;

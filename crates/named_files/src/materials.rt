@@ -5,15 +5,15 @@ use harmonics_book::Book;
 use station_table::OffsetTable;
 use zone_time::Zone;
 
-/// The contents of a request's files.
+/// The contents of the files that a request names.
 #[derive(Drop)]
 pub struct Materials {
-    /// The harmonic constants.
+    /// The harmonic constants, read from the file that the request names.
     pub book: Book,
-    /// The subordinate stations. It has no row if no table is named.
+    /// The subordinate stations. The table has no rows if the request names no table.
     pub table: OffsetTable,
-    /// The zone of local times.
+    /// The zone in which local times are shown.
     pub zone: Zone,
-    /// The text of the certificate, which is empty if none is named.
+    /// The text of the certificate. It is empty if the request names no certificate.
     pub certificate: Bytes,
 }

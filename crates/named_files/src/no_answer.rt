@@ -1,17 +1,18 @@
-//! The reasons for which a command line has no answer.
+//! The reasons why a command line has no answer.
 
 use station_table::OffsetTable;
 use tide_fault::{Fault, Refusal};
 
-/// A reason for which a command line has no answer.
+/// The reason why a command line has no answer.
 #[derive(Drop)]
 pub enum NoAnswer {
     /// A file couldn't be opened or read, or the clock couldn't be read.
     Unread,
-    /// The command line is no request, a file is not of its form, or a request that names no file
-    /// has no answer.
+    /// The command line isn't a request, a file is too long or isn't in its format, or a request that
+    /// names no file has no answer.
     Faulty(Fault),
-    /// The request has no answer over the files that were read. The table is the one that was read.
+    /// The request has no answer with the files that were read. The table is the table of offsets that
+    /// was read.
     Refused(Refusal, OffsetTable),
 }
 

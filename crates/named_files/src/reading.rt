@@ -39,13 +39,13 @@ use tide_edge::{Files, ReadAllFault, read_all};
 use tide_fault::{Fault, Refusal, Slot};
 use zone_time::{Zone, ZoneFault, read_zone};
 
-/// Reads the files of `question` in this order: the harmonic constants, which are in the file
-/// `name`, the table, the zone, the certificate. Each is read and its form checked before the next
-/// is opened; none is opened after a fault, and none twice.
+/// Reads the files of `question` in this order: the harmonic constants, which are in the file `name`,
+/// the table, the zone, the certificate. Each is read and its contents checked before the next is
+/// opened; none is opened after a fault, and none twice.
 ///
 /// # Errors
-/// The first fault: [`NoAnswer::Unread`] if a file couldn't be opened or read, and
-/// [`NoAnswer::Faulty`] if one is too long or is not of its form, or if memory ran out.
+/// The first fault: [`NoAnswer::Unread`] if a file couldn't be opened or read, and [`NoAnswer::Faulty`]
+/// if a file is too long or isn't in its format, or if memory ran out.
 #[tactic(auto, unfolding(crate::specs::Readings::files_in))]
 pub fn read_files<F: Files>(
     alloc: Global,
@@ -80,7 +80,8 @@ pub fn read_files<F: Files>(
 /// Reads the harmonic constants in the file `name`. A file that is too long isn't read to its end.
 ///
 /// # Errors
-/// As [`read_files`].
+/// [`NoAnswer::Unread`] if the file couldn't be opened or read, and [`NoAnswer::Faulty`] if it is too
+/// long or has a bad line, or if memory ran out.
 pub fn read_book<F: Files>(alloc: Global, files: &mut F, name: &Text) -> Result<Book, NoAnswer>
     ensures own { IsTrue (F.state files.old).store.is_observable
         → Meets source_of (IsTrue (F.state files.old).store.is_steady) (book_named (F.state files.old).store.folder name.now) result }
@@ -97,11 +98,12 @@ pub fn read_book<F: Files>(alloc: Global, files: &mut F, name: &Text) -> Result<
     }
 }
 
-/// Reads the table of subordinate stations in the file `name`, or returns a table without a row if
-/// there is no name.
+/// Reads the table of subordinate stations in the file `name`, or returns a table without rows if there
+/// is no name.
 ///
 /// # Errors
-/// As [`read_files`].
+/// [`NoAnswer::Unread`] if the file couldn't be opened or read, and [`NoAnswer::Faulty`] if it is too
+/// long or has a bad row, or if memory ran out.
 pub fn read_table<F: Files>(
     alloc: Global,
     files: &mut F,
@@ -125,7 +127,7 @@ pub fn read_table<F: Files>(
     }
 }
 
-/// Returns the table that was read, or the reason for which there is none. Doesn't allocate.
+/// Returns the table that was read, or the reason why there is none. It doesn't allocate.
 fn table_from(read: Result<OffsetTable, OffsetFault>) -> Result<OffsetTable, NoAnswer>
     ensures exact { result ≡ table_from read }
     ensures printable { IfErr result IsPrintable }
@@ -138,7 +140,7 @@ fn table_from(read: Result<OffsetTable, OffsetFault>) -> Result<OffsetTable, NoA
     }
 }
 
-// Returns the zone of `word`, which may name a file.
+/// Returns the zone of `word`, which may name a file.
 fn read_zone_named<F: Files>(
     alloc: Global,
     files: &mut F,
@@ -165,7 +167,7 @@ fn read_zone_named<F: Files>(
     }
 }
 
-/// Returns the zone that was read, or the reason for which there is none. Doesn't allocate.
+/// Returns the zone that was read, or the reason why there is none. It doesn't allocate.
 fn zone_from(read: Result<Zone, ZoneFault>) -> Result<Zone, NoAnswer>
     requires { IfOk read IsZone }
     ensures exact { result ≡ zone_from read }
@@ -181,7 +183,7 @@ fn zone_from(read: Result<Zone, ZoneFault>) -> Result<Zone, NoAnswer>
     }
 }
 
-// Reads the text of the certificate in the file `name`, or returns no byte if there is no name.
+/// Reads the text of the certificate in the file `name`, or returns no bytes if there is no name.
 fn read_certificate<F: Files>(
     alloc: Global,
     files: &mut F,
@@ -204,7 +206,7 @@ fn read_certificate<F: Files>(
     }
 }
 
-// Reads the bytes of the file `name`, which is to be read as `slot`.
+/// Reads the bytes of the file `name`, which is the file of `slot`.
 fn read_file<F: Files>(
     alloc: Global,
     files: &mut F,
@@ -225,7 +227,7 @@ fn read_file<F: Files>(
     }
 }
 
-// Returns the greatest number of bytes of a file that is read as `slot`.
+/// Returns the greatest number of bytes that are read of the file of `slot`.
 fn limit_of(slot: Slot) -> u64
     ensures { result ≡ limit_of slot }
 {
@@ -236,7 +238,7 @@ fn limit_of(slot: Slot) -> u64
     }
 }
 
-/// Returns the reason for which the file of `slot` couldn't be read.
+/// Returns the reason why the file of `slot` couldn't be read.
 fn fault_of_reading(slot: Slot, fault: ReadAllFault) -> NoAnswer
     ensures { result ≡ fault_of_reading slot fault }
 {

@@ -12,8 +12,8 @@ use std::alloc::Global;
 use tide_edge::{Sink, write_all};
 use tide_fault::{Fault, Status, fault_line, fault_status};
 
-/// Writes the line of the reason `none` to `err`, and returns its exit status. The status doesn't
-/// depend on whether the write fails.
+/// Writes the line of the reason `none` to `err`, and returns the exit status, which doesn't depend on
+/// whether the write fails.
 pub fn report<E: Sink>(alloc: Global, none: NoAnswer, err: &mut E) -> Status
     requires { IsPrintable none }
     ensures reported { Reports none result (E.state err.old) (E.state err.new) }
@@ -31,7 +31,7 @@ pub fn report<E: Sink>(alloc: Global, none: NoAnswer, err: &mut E) -> Status
     }
 }
 
-/// Writes the line of `fault`, and returns its status.
+/// Writes the line of `fault`, and returns its exit status.
 fn report_fault<E: Sink>(alloc: Global, fault: &Fault, table: &OffsetTable, err: &mut E) -> Status
     requires { IsPrintableFault table.now fault.now }
     ensures { ReportsFault (status_of_fault fault.now) (line_of_fault table.now fault.now) result (E.state err.old) (E.state err.new) }
@@ -42,7 +42,8 @@ fn report_fault<E: Sink>(alloc: Global, fault: &Fault, table: &OffsetTable, err:
     }
 }
 
-/// Writes `line` to `err`, and returns `status`, also if the write fails. Nothing is tried again.
+/// Writes `line` to `err`, and returns `status`, even if the write fails. A failed write isn't tried
+/// again.
 pub fn refuse<E: Sink>(err: &mut E, status: Status, line: &[u8]) -> Status
     ensures same { result ≡ status }
     ensures line { (failed : Bool) × Wrote (E.state err.old) (E.state err.new) failed line.now }
@@ -51,7 +52,7 @@ pub fn refuse<E: Sink>(err: &mut E, status: Status, line: &[u8]) -> Status
     status
 }
 
-/// Writes `line` to `err`. A write that fails changes nothing, and isn't tried again.
+/// Writes `line` to `err`. A failed write is ignored, and isn't tried again.
 pub fn print_line<E: Sink>(err: &mut E, line: &[u8])
     ensures { (failed : Bool) × Wrote (E.state err.old) (E.state err.new) failed line.now }
 {

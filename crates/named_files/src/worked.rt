@@ -18,7 +18,8 @@ ghost use Rattle.named_files.specs.Worked.{pier_alone};
 
 use crate::no_answer::NoAnswer;
 
-/// The contents of files: an empty one under each name, or that of the pier alone.
+/// Proves examples of contents of files: an empty file under each name, and the pier's file under one
+/// name only.
 pub fn worked_files()
     ensures form_before_table { files_in (λ slot name. Some [])
         (record (bare Command.Stations) { offsets = Some (codes "o.csv") }) (codes "pier.txt")
@@ -33,7 +34,7 @@ pub fn worked_files()
         (codes "pier.txt") ≡ Err NoAnswer.Unread }
 {}
 
-/// The lines and statuses of reasons.
+/// Proves the lines and exit statuses of some reasons why there is no answer.
 #[tactic(auto, unfolding(tide_fault::specs::Faults::line_of, tide_fault::specs::Faults::refusal_line))]
 pub fn worked_faults()
     ensures reference { line_of (NoAnswer.Refused (Refusal.NoReference 2) dock_rows) ≡ codes "refused: no reference Nowhere\n" }

@@ -1,5 +1,5 @@
--- The certificate of a highest water of a text, as a function of its bytes; it is proved to follow the
--- grammar (this project).
+-- The certificate of a highest water that a text is, as a function of its bytes; it is proved to follow
+-- the grammar (this project).
 use Rattle.std.specs.Prelude.{ℕ, List, Result, Ok, Err, Bool, true, false, codes}
 use Rattle.cert_text.specs.declared.fault.CertFault.{CertFault as ReadingFault}
 use Rattle.cert_text.specs.declared.fault.CertFault.TheVariants as reading
@@ -13,14 +13,14 @@ use Rattle.peak_text.specs.declared.fault.PeakFault.TheVariants.{NoMemory, NotAC
 use Rattle.peak_text.specs.PeakTexts.{peak_title}
 use Rattle.peak_text.specs.Workings.PeakLineReading.{value_of, cell_of}
 
--- the cells, a line each, and the end of the text
+-- the part of the cells, with a line for each, and the last line
 abbrev pub cells_part : Part (List PeakCell)
 cells_part = do
   cells ← items_of cell_of
   last ← last_part
   returned cells
 
--- a certificate
+-- the part of a whole certificate of a highest water
 abbrev pub peak_part : Part PeakCertificate
 peak_part = do
   title ← line_of (is_word peak_title)
@@ -47,11 +47,11 @@ abbrev pub with_fault : {C : Type 0} → Result C ReadingFault → Result C Peak
 with_fault (Ok said) = Ok said
 with_fault (Err fault) = Err (fault_of fault)
 
--- the certificate whose text the bytes are, or the line of the fault
+-- the certificate of a highest water that the bytes are the text of, or the line of the fault
 unfoldable pub peak_of : List ℕ → Result PeakCertificate PeakFault
 peak_of bytes = with_fault (read_by peak_part bytes)
 
--- true if memory ran out
+-- a fault is that memory ran out
 abbrev pub is_out_of_memory : PeakFault → Bool
 is_out_of_memory NoMemory = true
 is_out_of_memory (NotACertificate line) = false

@@ -14,16 +14,16 @@ use Rattle.peak_text.specs.PeakTexts.{IsPeakValue}
 
 -- ---- the lines of a certificate
 
--- the line of the value
+-- a line spells the value
 abbrev pub SpellsValue : ℤ → List ℕ → Type 0
 SpellsValue value line = IsPeakValue value × (line ≡ codes "value " ++ signed_decimal value)
 
--- the line of a cell
+-- a line spells a cell
 abbrev pub SpellsPeakCell : PeakCell → List ℕ → Type 0
 SpellsPeakCell (Under n) line = (2 ≤ n) × (n ≤ MOST_MINUTES) × (line ≡ codes "u " ++ decimal n)
 SpellsPeakCell Single line = line ≡ codes "m"
 
--- the lines of the cells, and then the last line
+-- lines spell the cells, with the last line after them
 abbrev pub SpellsPeakCells : List PeakCell → List (List ℕ) → Type 0
 SpellsPeakCells cells [] = ⊥
 SpellsPeakCells [] (line ∷ lines) = (line ≡ codes "done") × (lines ≡ [])
@@ -48,13 +48,14 @@ SpellsPeak c [] = ⊥
 abbrev pub IsPeakTextOf : PeakCertificate → List ℕ → Type 0
 IsPeakTextOf c bytes = IsTextBy SpellsPeak c bytes
 
--- the line of the first fault of bytes that are no certificate's text
+-- the bytes aren't the text of a certificate of a highest water, and this is the line of their first
+-- fault
 abbrev pub IsPeakFaultLine : List ℕ → ℕ → Type 0
 IsPeakFaultLine bytes line = IsFaultBy SpellsPeak bytes line
 
 -- ---- the result of reading
 
--- a fault of reading is right; out of memory says nothing
+-- a fault of reading is right; nothing is said if memory ran out
 abbrev pub RefusesPeak : List ℕ → PeakFault → Type 0
 RefusesPeak bytes NoMemory = Unit {0}
 RefusesPeak bytes (NotACertificate line) = RefusedBy SpellsPeak bytes line

@@ -13,16 +13,16 @@ use Rattle.highest_water.specs.declared.peak_cell.PeakCell.TheVariants.{Under, S
 
 -- ---- the ranges of a certificate's parts
 
--- a value of the highest water
+-- the value of a highest water, below 10^37 in size
 abbrev pub IsPeakValue : ℤ → Type 0
 IsPeakValue value = unsigned_abs value < 10 ^ 37
 
--- a cell that has a line: one that is under has 2 to 1,024 minutes
+-- a cell that has a line in a certificate: one that is under the highest water has 2 to 1,024 minutes
 abbrev pub IsPeakCell : PeakCell → Type 0
 IsPeakCell (Under n) = (2 ≤ n) × (n ≤ MOST_MINUTES)
 IsPeakCell Single = Unit {0}
 
--- a certificate that has a text
+-- a certificate of a highest water that has a text: its parts are in their ranges
 pub record IsPeakCertificate (c : PeakCertificate) : Type 0 where
   pub station : IsStationName c.station
   pub begin : IsMoment c.begin
@@ -41,7 +41,7 @@ peak_title = codes "peak certificate 1"
 unfoldable pub at_line_of : ℤ → List ℕ
 at_line_of m = codes "at " ++ moment_text m
 
--- the line of its value
+-- the line of the highest water's value
 unfoldable pub value_line_of : ℤ → List ℕ
 value_line_of value = codes "value " ++ signed_decimal value
 

@@ -18,7 +18,7 @@ pier = record {
   };
 }
 
--- the lines of its text
+-- the lines of the text of the certificate `pier`
 abbrev pub pier_lines : List (List ℕ)
 pier_lines =
     codes "peak certificate 1" ∷ codes "station Pier" ∷ codes "begin 2000-01-10T00:00Z" ∷ codes "end 2000-01-10T01:04Z"
@@ -31,7 +31,7 @@ pier_lines =
 abbrev pub pier_with : Change → List ℕ
 pier_with c = joined (slice_set pier_lines (c.line - 1) c.text)
 
--- changes of the lines, the first into that of another kind of certificate
+-- changes of each line; the first makes the title another kind of certificate's
 abbrev pub changes : List Change
 changes =
     change 1 (codes "tide certificate 2") 1
@@ -55,6 +55,6 @@ changes =
     ∷ change 31 (codes "Done") 31
     ∷ []
 
--- a certificate whose value has the most digits, 37
+-- a certificate with a value of the most digits, 37
 abbrev pub widest : PeakCertificate
 widest = record pier { peak = record { at = pos 15791040; value = pos 9999999999999999999999999999999999999; cells = [] } }

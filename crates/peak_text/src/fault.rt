@@ -4,14 +4,14 @@ ghost use Rattle.std.specs.Prelude.{◌≡◌};
 
 use thiserror::Error;
 
-/// An error of reading bytes as a certificate of a highest water.
+/// The reason why bytes couldn't be read as a certificate of a highest water.
 #[derive(Clone, Copy, Debug, PartialEq, Eq, Error)]
 pub enum PeakFault {
-    /// Memory ran out.
+    /// Memory ran out while the certificate was read.
     #[error("no memory for the certificate")]
     NoMemory,
-    /// The bytes are no certificate's text. `line`, counted from 1, is the first line such that no
-    /// certificate begins with the lines up to it.
+    /// The bytes aren't the text of a certificate of a highest water. `line`, counted from 1, is the
+    /// first line such that no such certificate begins with the lines up to it.
     #[error("line {line} is of no certificate")]
     NotACertificate { line: u32 },
 }

@@ -1,9 +1,9 @@
 //! The text of a certificate of a highest water, read and written.
 //!
 //! A [`PeakCertificate`] names a station and a span, and has the span's highest water with the cells
-//! that show it. [`write_peak`] returns the one text of a certificate, and [`read_peak`] the
-//! certificate of a text or the line of its first fault. [`verdict_line`] returns the line that
-//! reports the verdict of a check. `specs/PeakSpelling.antt` is the grammar.
+//! that show it. [`write_peak`] returns the only text of a certificate, and [`read_peak`] returns the
+//! certificate of a text or the line of its first fault. [`verdict_line`] returns the line that reports
+//! the verdict of a check. `specs/PeakSpelling.antt` is the grammar.
 #![tactic(auto)]
 
 mod certificate;

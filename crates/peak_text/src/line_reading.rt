@@ -13,7 +13,7 @@ const VALUE_DIGITS: usize = 37;
 /// The greatest number of digits of a cell's minutes.
 const MINUTE_DIGITS: usize = 4;
 
-/// Reads the value from its line, or returns `None` if `line` isn't one.
+/// Reads the highest water's value from its line, or returns `None` if `line` isn't such a line.
 #[tactic(auto, unfolding(crate::specs::Workings::PeakLineReading::value_of))]
 pub fn value_of(line: &[u8]) -> Option<i128>
     ensures { result ≡ value_of line.now }
@@ -21,7 +21,7 @@ pub fn value_of(line: &[u8]) -> Option<i128>
     number_of(after(b"value ".as_slice(), line)?, VALUE_DIGITS)
 }
 
-/// Returns a cell of `minutes` that is under, or `None` unless they are 2 to 1,024.
+/// Returns a cell of `minutes` that is under the highest water, or `None` unless they are 2 to 1,024.
 fn under_for(minutes: u128) -> Option<PeakCell>
     ensures { result ≡ under_for minutes }
 {
@@ -32,7 +32,7 @@ fn under_for(minutes: u128) -> Option<PeakCell>
     }
 }
 
-/// Reads the line of a cell that is under, or returns `None` if `line` isn't one.
+/// Reads the line of a cell that is under the highest water, or returns `None` if `line` isn't one.
 #[tactic(auto, unfolding(crate::specs::Workings::PeakLineReading::under_of))]
 fn under_of(line: &[u8]) -> Option<PeakCell>
     ensures { result ≡ under_of line.now }
@@ -40,7 +40,7 @@ fn under_of(line: &[u8]) -> Option<PeakCell>
     under_for(size_of(after(b"u ".as_slice(), line)?, MINUTE_DIGITS)?)
 }
 
-/// Reads the line of a cell, or returns `None` if `line` isn't one.
+/// Reads a cell of a highest water from its line, or returns `None` if `line` isn't such a line.
 #[tactic(auto, unfolding(crate::specs::Workings::PeakLineReading::cell_of))]
 pub fn cell_of(line: &[u8]) -> Option<PeakCell>
     ensures { result ≡ cell_of line.now }

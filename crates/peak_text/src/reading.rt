@@ -39,7 +39,7 @@ fn read_value(lines: &mut LineCursor<'_>) -> Result<i128, CertFault>
     value_of(lines.next()?).ok_or(lines.fault())
 }
 
-/// Reads the cells and the end of the text.
+/// Reads the cells and the last line.
 fn read_cells(alloc: Global, lines: &mut LineCursor<'_>) -> Result<PeakCells, CertFault>
     ensures { Takes cells_part lines.old lines.new result }
 {
@@ -48,7 +48,7 @@ fn read_cells(alloc: Global, lines: &mut LineCursor<'_>) -> Result<PeakCells, Ce
     Ok(PeakCells::from_vec(cells))
 }
 
-/// Reads a certificate.
+/// Reads a whole certificate.
 #[tactic(auto, unfolding(crate::specs::PeakTexts::peak_title))]
 fn read_lines(alloc: Global, lines: &mut LineCursor<'_>) -> Result<PeakCertificate, CertFault>
     ensures { Takes peak_part lines.old lines.new result }
@@ -68,14 +68,14 @@ fn read_lines(alloc: Global, lines: &mut LineCursor<'_>) -> Result<PeakCertifica
     })
 }
 
-/// Reads the certificate of a highest water whose text `bytes` is, at most 400,000,000 bytes, in
+/// Returns the certificate of a highest water with the text `bytes`, at most 400,000,000 bytes. It takes
 /// linear time.
 ///
 /// # Errors
-/// [`PeakFault::NotACertificate`] exactly if `bytes` is no such certificate's text. Its line is the
-/// first, counted from 1, such that no certificate begins with the lines up to it, each with its
-/// LF: a last piece without LF is no line, and if the bytes end too early the line is one past the
-/// last. [`PeakFault::NoMemory`] may be returned in place of any result.
+/// [`PeakFault::NotACertificate`] exactly if `bytes` isn't the text of such a certificate. Its line is
+/// the first, counted from 1, such that no certificate begins with the lines up to it, each with its LF:
+/// bytes after the last LF aren't a line, and if the bytes end too early the line is one past the last.
+/// If memory runs out, [`PeakFault::NoMemory`] is returned in place of any other result.
 pub fn read_peak(alloc: Global, bytes: &[u8]) -> Result<PeakCertificate, PeakFault>
     requires { length bytes.now ≤ MOST_BYTES }
     ensures exact { ReturnsUnless is_out_of_memory (peak_of bytes.now) result }

@@ -8,8 +8,8 @@ ghost use Rattle.peak_text.specs.PeakTexts.{IsPeakCertificate, peak_lines_of, pe
 ghost use Rattle.peak_text.specs.PeakSpelling.{SpellsPeak, IsPeakTextOf, IsPeakFaultLine, ReadsPeak};
 ghost use Rattle.peak_text.specs.PeakReadings.{peak_of};
 
-/// Each certificate whose parts are within their ranges has exactly one text, no other certificate
-/// has one, and each text has at most one certificate.
+/// Proves that each certificate of a highest water with parts in their ranges has exactly one text, that
+/// no other certificate has a text, and that each text belongs to at most one certificate.
 pub fn peak_certificates_have_one_text()
     ensures lines { (c : PeakCertificate) → IsPeakCertificate c → SpellsPeak c (peak_lines_of c) }
     ensures only_lines { (c : PeakCertificate) (lines : List (List ℕ)) →
@@ -21,9 +21,9 @@ pub fn peak_certificates_have_one_text()
         IsPeakTextOf c bytes → IsPeakTextOf d bytes → c ≡ d }
 {}
 
-/// The cells have at most two bytes for each of their minutes, and all the rest of the text at most
-/// 545. If they have no more than the 5,270,400 minutes of the longest span, the text has fewer
-/// than 10,542,000 bytes, and so can be read again.
+/// Proves that in the text of a certificate of a highest water the cells have at most two bytes for each
+/// of their minutes, and the rest of the text at most 545 bytes. If they have no more than the 5,270,400
+/// minutes of the longest span, the text has fewer than 10,542,000 bytes, and so can be read again.
 pub fn peak_texts_are_short()
     ensures length_bound { (c : PeakCertificate) → IsPeakCertificate c →
         length (peak_text c) ≤ 545 + 2 * all_minutes c.peak.cells }
@@ -31,9 +31,9 @@ pub fn peak_texts_are_short()
         length (peak_text c) < 10542000 }
 {}
 
-/// Reading by lines follows the grammar for all bytes, memory apart: it yields the certificate
-/// whose text the bytes are, or the one line of the fault if they are no certificate's. The text of
-/// a certificate reads as this certificate.
+/// Proves that reading line by line follows the grammar for all bytes, unless memory runs out: it
+/// returns the certificate of a highest water that the bytes are the text of, or the line of the fault
+/// if there is none. The text of a certificate reads as this certificate.
 pub fn peak_readings_go_by_the_grammar()
     ensures reads { (bytes : List ℕ) → ReadsPeak bytes (peak_of bytes) }
     ensures never_memory { (bytes : List ℕ) → peak_of bytes ≢ Err PeakFault.NoMemory }

@@ -8,7 +8,8 @@ use decimal_text::Bytes;
 use highest_water::PeakVerdict;
 use std::alloc::{AllocError, Global};
 
-/// Returns the line that reports `verdict`, with its LF: `Accepted`, or `Rejected` and the fault.
+/// Returns the line that reports `verdict` on a highest water, with its LF: `Accepted`, or `Rejected`
+/// and the fault.
 #[tactic(auto, unfolding(crate::specs::VerdictLines::verdict_line))]
 pub fn verdict_line(alloc: Global, verdict: PeakVerdict) -> Result<Bytes, AllocError>
     ensures { IfOk result (λ line. line ≡ verdict_line verdict) }
@@ -24,7 +25,7 @@ pub fn verdict_line(alloc: Global, verdict: PeakVerdict) -> Result<Bytes, AllocE
     Ok(Bytes::from_vec(text.into_bytes()))
 }
 
-/// Returns the line for cells that cover `covered` minutes in place of `wanted`.
+/// Returns the line for cells that have `covered` minutes instead of `wanted`.
 fn length_line(alloc: Global, covered: i64, wanted: i64) -> Result<String, AllocError>
     ensures { IfOk result (λ text. string_bytes text
         ≡ (codes "Rejected: cells cover " ++ signed_decimal covered) ++ (codes " of " ++ signed_decimal wanted ++ codes " minutes\n")) }
@@ -35,7 +36,7 @@ fn length_line(alloc: Global, covered: i64, wanted: i64) -> Result<String, Alloc
     Ok(text)
 }
 
-// Returns the line for the cell with the number `cell`, counted from 1.
+/// Returns the line for the cell with the number `cell`, counted from 1.
 fn cell_line(alloc: Global, cell: u32, what: &str) -> Result<String, AllocError>
     ensures { IfOk result (λ text. string_bytes text ≡ cell_line cell what.now) }
 {

@@ -7,13 +7,13 @@ ghost use Rattle.peak_text.specs.PeakTexts.{peak_text};
 ghost use Rattle.peak_text.specs.PeakReadings.{peak_of};
 ghost use Rattle.peak_text.specs.Worked.{pier, pier_lines, pier_with, changes};
 
-/// The text of a certificate of 64 minutes.
+/// Proves which text an example certificate of 64 minutes has.
 pub fn worked_peak_texts()
     ensures pier { peak_text pier ≡ joined pier_lines }
 {}
 
-/// The results of reading a whole text, and texts in which a line is changed, the last lines are
-/// missing or more follows: the certificate, or the line of the fault.
+/// Proves the results of reading a whole text, and texts in which a line is changed, the last lines are
+/// missing or further lines are added: the certificate, or the line of the fault.
 pub fn worked_peak_readings()
     ensures pier { peak_of (joined pier_lines) ≡ Ok pier }
     ensures changed { map (λ c. peak_of (pier_with c)) changes ≡ map (λ c. Err (PeakFault.NotACertificate c.at)) changes }

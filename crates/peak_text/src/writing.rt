@@ -94,7 +94,8 @@ fn push_cells(out: &mut Vec<u8>, cells: &[PeakCell]) -> Result<(), AllocError>
     Ok(())
 }
 
-/// Returns the text of `cert`, whose parts are within their ranges.
+/// Returns the text of `cert`, a certificate of a highest water; the parts of `cert` are in their
+/// ranges.
 #[tactic(auto, unfolding(crate::specs::PeakTexts::peak_text, cert_text::specs::Lines::last_line))]
 pub fn write_peak(alloc: Global, cert: &PeakCertificate) -> Result<Bytes, AllocError>
     requires { IsPeakCertificate cert.now }

@@ -38,7 +38,7 @@ pub record HasSpan (q : Question) : Type 0 where
   pub begin : IsSome q.begin
   pub end : IsSome q.end
 
--- the values that a command requires of a question of either origin
+-- the values that a command requires, from a command line and from a query
 abbrev pub HasNeeded : Command → Question → Type 0
 HasNeeded Predict q = HasSpan q
 HasNeeded Certify q = HasSpan q
@@ -56,7 +56,7 @@ HasNeeded Peak q = HasSpan q
 HasNeeded PeakCheck q = Unit {0}
 HasNeeded About q = IsSome q.station
 
--- the files that a command requires a command line to name
+-- the files that a command requires of a command line
 abbrev pub HasFiles : Command → Question → Type 0
 HasFiles Check q = IsSome q.file × IsSome q.certificate
 HasFiles PeakCheck q = IsSome q.file × IsSome q.certificate
@@ -64,7 +64,7 @@ HasFiles Sample q = Unit {0}
 HasFiles Trial q = Unit {0}
 HasFiles _ q = IsSome q.file
 
--- a question from a command line names the required files
+-- a question from a command line names the files that its command requires
 abbrev pub NamesFiles : Origin → Question → Type 0
 NamesFiles Line q = HasFiles q.command q
 NamesFiles Query q = Unit {0}
@@ -77,7 +77,7 @@ pub record AreInRange (q : Question) : Type 0 where
   pub step_first : pos 1 ≤ℤ q.step
   pub step_last : q.step ≤ℤ pos 44640
 
--- a question is complete, and all its values are in range
+-- a question has all values that its command requires, and they are in their ranges
 pub record IsAsked (q : Question) : Type 0 where
   pub whole : HasNeeded q.command q
   pub ranges : AreInRange q

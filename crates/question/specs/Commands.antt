@@ -54,11 +54,12 @@ word_of About = codes "about"
 abbrev pub is_among : List Command → Command → Bool
 is_among commands command = list_any (λ c. bytes_eq (word_of c) (word_of command)) commands
 
--- a command line can request each command, and a query those with a path
+-- a question of this origin can request the command: a command line each command, and a query the ones
+-- with a path
 abbrev pub is_asked_in : Origin → Command → Bool
 is_asked_in Line command = true
 is_asked_in Query command = is_among with_path command
 
--- the command called `word` that a question of this origin can request
+-- the command called `word` that a question of this origin can request, or None
 abbrev pub command_named : Origin → List ℕ → Option Command
 command_named origin word = find (λ command. bytes_eq (word_of command) word && is_asked_in origin command) all_commands

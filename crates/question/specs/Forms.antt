@@ -12,35 +12,35 @@ use Rattle.question.specs.declared.origin.Origin.TheVariants.{Line, Query}
 use Rattle.question.specs.declared.question.ZoneWord.{ZoneWord}
 use Rattle.question.specs.declared.question.ZoneWord.TheVariants.{Utc, Fixed, Named}
 
--- any text other than the empty one
+-- the text itself, or None if it is empty
 unfoldable pub some_text : List ℕ → Option (List ℕ)
 some_text text = if nat_lt 0 (length text) then Some text else None
 
--- the number of 1 to `digits` digits, if it is from `least` to `most`
+-- the number that a text writes in 1 to `digits` digits, if it is from `least` to `most`
 unfoldable pub number_of : ℕ → ℕ → ℕ → List ℕ → Option ℕ
 number_of digits least most text =
     if nat_lt 0 (length text) && nat_le (length text) digits && list_all is_ascii_digit text
     && nat_le least (digits_value 10 text) && nat_le (digits_value 10 text) most
     then Some (digits_value 10 text) else None
 
--- the seed of a generator, of 64 bits
+-- the seed that a text writes, of 64 bits
 abbrev pub seed_of : List ℕ → Option ℕ
 seed_of text = number_of 20 0 18446744073709551615 text
 
--- a port, from 1 to 65,535
+-- the port that a text writes, from 1 to 65,535
 abbrev pub port_of : List ℕ → Option ℕ
 port_of text = number_of 5 1 65535 text
 
--- the minutes from one height to the next, from 1 to 44,640
+-- the minutes from one height to the next that a text writes, from 1 to 44,640
 abbrev pub step_of : List ℕ → Option ℤ
 step_of text = option_map pos (number_of 6 1 44640 text)
 
--- a mark: a decimal that is a whole number of millionths from -10000 to 10000
+-- a mark in millionths: a decimal read in millionths, if it is from -10,000,000,000 to 10,000,000,000
 abbrev pub mark_from : Result ℤ DecimalFault → Option ℤ
 mark_from (Ok millionths) = if nat_le (unsigned_abs millionths) 10000000000 then Some millionths else None
 mark_from (Err fault) = None
 
--- a mark in millionths
+-- the mark that a text writes, in millionths
 unfoldable pub mark_of : List ℕ → Option ℤ
 mark_of text = mark_from (read_of text 6)
 
@@ -52,7 +52,7 @@ after first (byte ∷ rest) = if byte == first then Some rest else None
 abbrev pub is_colon : ℕ → Bool
 is_colon byte = byte == 58
 
--- the number of exactly two digits, up to `most`
+-- the number that exactly two digits write, up to `most`
 abbrev pub two_digits_of : ℕ → List ℕ → Option ℕ
 two_digits_of most text = if length text == 2 then number_of 2 0 most text else None
 
@@ -70,12 +70,12 @@ offset_of text =
     (option_map pos (option_and_then clock_of (after 43 text)))
     (option_map (λ minutes. neg_ℤ (pos minutes)) (option_and_then clock_of (after 45 text)))
 
--- a zone by the name of its file, which a query can't give
+-- a zone by the name of its file, which a query can't have
 abbrev pub file_zone : Origin → List ℕ → Option ZoneWord
 file_zone Line name = option_map Named (some_text name)
 file_zone Query name = None
 
--- a zone: `UTC`, `@` (64) with the name of a file, or an offset
+-- the zone that a text writes: `UTC`, `@` (64) with the name of a file, or an offset
 unfoldable pub zone_of : Origin → List ℕ → Option ZoneWord
 zone_of origin text =
     if bytes_eq text (codes "UTC") then Some Utc
@@ -88,12 +88,12 @@ is_comma byte = byte == 44
 abbrev pub is_sheet : List ℕ → Bool
 is_sheet word = nat_lt 0 (length word) && nat_le (length word) 16 && list_all is_ascii_lowercase word
 
--- each word is the name of a sheet, and none occurs earlier
+-- each of the words is the name of a sheet, and none occurs among the earlier ones
 abbrev pub are_sheets : List (List ℕ) → List (List ℕ) → Bool
 are_sheets earlier [] = true
 are_sheets earlier (word ∷ words) =
     is_sheet word && not (list_any (bytes_eq word) earlier) && are_sheets (word ∷ earlier) words
 
--- the names of sheets with single commas (44) between them, if none occurs twice
+-- the names of sheets in a text, with single commas (44) between them, if none occurs twice
 unfoldable pub sheets_of : List ℕ → Option (List (List ℕ))
 sheets_of text = let words = slice_split is_comma text in if are_sheets [] words then Some words else None

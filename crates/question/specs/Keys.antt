@@ -72,7 +72,8 @@ Value key.Seed = ℕ
 Value key.Port = ℕ
 Value key.Sheets = List (List ℕ)
 
--- the type of a question's field for a key: its value if the key has a default, else an optional value
+-- the type of a question's field for a key: the key's value if the key has a default, else an optional
+-- value
 abbrev pub Field : Key → Type 0
 Field key.Step = ℤ
 Field key.Zone = ZoneWord
@@ -80,7 +81,8 @@ Field key.Layout = Layout
 Field key.Port = ℕ
 Field k = Option (Value k)
 
--- whether a key is required, and the field of a question for its value, if one is given
+-- how a command needs a key: whether the key is required, and the field of a question for its value, if
+-- it is given
 pub record Need (V F : Type 0) : Type 0 where
   pub is_needed : Bool
   pub field : Option V → F
@@ -97,7 +99,8 @@ optional = record { is_needed = false; field = λ value. value }
 abbrev pub otherwise : {V : Type 0} → V → Need V V
 otherwise default = record { is_needed = false; field = λ value. unwrap_or value default }
 
--- a key's row: the commands and the origins that have it, the form of its value, and its need
+-- a row of the table of keys: the commands and the origins that have the key, the form of its value, and
+-- how it is needed
 pub record KeyRow (V F : Type 0) : Type 0 where
   pub commands : List Command
   pub origins : List Origin
@@ -107,15 +110,15 @@ pub record KeyRow (V F : Type 0) : Type 0 where
 abbrev pub row : {V F : Type 0} → List Command → List Origin → (Origin → List ℕ → Option V) → Need V F → KeyRow V F
 row commands origins form need = record { commands = commands; origins = origins; form = form; need = need }
 
--- a form that is the same for each origin
+-- a form of values that is the same for each origin
 abbrev pub always : {V : Type 0} → (List ℕ → Option V) → Origin → List ℕ → Option V
 always form origin text = form text
 
--- the origins that name files: a command line only
+-- the origins of questions that can name files: only a command line
 abbrev pub in_line : List Origin
 in_line = Line ∷ []
 
--- both origins
+-- both origins of questions
 abbrev pub anywhere : List Origin
 anywhere = Line ∷ Query ∷ []
 
@@ -136,35 +139,35 @@ of_span = Predict ∷ Certify ∷ Heights ∷ Calendar ∷ Report ∷ Highest �
 abbrev pub of_check : List Command
 of_check = Check ∷ PeakCheck ∷ []
 
--- the commands with a mark
+-- the commands that have the key `mark`
 abbrev pub of_mark : List Command
 of_mark = Predict ∷ Certify ∷ Calendar ∷ Report ∷ []
 
--- the commands with a step
+-- the commands that have the key `step`
 abbrev pub of_step : List Command
 of_step = Heights ∷ []
 
--- the commands with a zone
+-- the commands that have the key `zone`
 abbrev pub of_zone : List Command
 of_zone = Predict ∷ Check ∷ Heights ∷ Calendar ∷ Clock ∷ Highest ∷ []
 
--- the commands with a layout
+-- the commands that have the key `layout`
 abbrev pub of_layout : List Command
 of_layout = Predict ∷ Heights ∷ []
 
--- the commands with a seed
+-- the commands that have the key `seed`
 abbrev pub of_seed : List Command
 of_seed = Sample ∷ Trial ∷ []
 
--- the commands with a port
+-- the commands that have the key `port`
 abbrev pub of_port : List Command
 of_port = Serve ∷ []
 
--- the commands with sheets
+-- the commands that have the key `sheets`
 abbrev pub of_sheets : List Command
 of_sheets = Report ∷ []
 
--- the table: key, commands, origins, form of the value, and need
+-- the table of keys: for each key the commands, the origins, the form of the value, and how it is needed
 abbrev pub row_of : (k : Key) → KeyRow (Value k) (Field k)
 row_of key.File = row of_file in_line (always some_text) needed
 row_of key.Offsets = row of_file in_line (always some_text) optional

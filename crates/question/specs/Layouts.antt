@@ -5,7 +5,7 @@ use Rattle.std.specs.Str.{bytes_eq}
 use Rattle.question.specs.declared.layout.Layout.{Layout}
 use Rattle.question.specs.declared.layout.Layout.TheVariants.{Plain, Csv}
 
--- the layout of a name
+-- the layout with a name, or None
 unfoldable pub layout_of : List ℕ → Option Layout
 layout_of text =
     if bytes_eq text (codes "plain") then Some Plain

@@ -45,12 +45,12 @@ use Rattle.question.specs.declared.question.Question.{Question}
 use Rattle.question.specs.Commands.{command_named}
 use Rattle.question.specs.Keys.{all_keys, name_of, Field, row_of, is_needed, key_named}
 
--- a fault is out of memory
+-- a fault is that memory ran out
 abbrev pub is_out_of_memory : AskFault → Bool
 is_out_of_memory NoMemory = true
 is_out_of_memory _ = false
 
--- the text that was given to each key, if any
+-- the text that items give to each key, if any
 abbrev pub Said : Type 0
 Said = Key → Option (List ℕ)
 
@@ -58,11 +58,11 @@ Said = Key → Option (List ℕ)
 abbrev pub nothing_said : Said
 nothing_said k = None
 
--- the texts with one more; keys are compared by their names
+-- the texts of keys with another key's; keys are compared by their names
 abbrev pub also : Key → List ℕ → Said → Said
 also new text said k = if bytes_eq (name_of k) (name_of new) then Some text else said k
 
--- a fault if the condition is true
+-- the fault if the condition is true
 abbrev pub refuse_if : Bool → AskFault → Result (Unit {0}) AskFault
 refuse_if true fault = Err fault
 refuse_if false fault = Ok tt
@@ -71,12 +71,12 @@ refuse_if false fault = Ok tt
 abbrev pub has_form : Origin → Key → List ℕ → Bool
 has_form origin k text = is_some ((row_of k).form origin text)
 
--- the command, or the fault that it is missing or unknown
+-- the command of a question, or the fault that it is missing or unknown
 abbrev pub command_of : Origin → Option (List ℕ) → Result Command AskFault
 command_of origin None = Err NoCommand
 command_of origin (Some word) = ok_or (command_named origin word) UnknownCommand
 
--- the texts after one more item, or the first fault of the item
+-- the texts of keys after another item, or the first fault of the item
 unfoldable pub with_item : Origin → Command → ℕ → Item → Said → Result Said AskFault
 with_item origin command place item said = do
   text ← ok_or item.value (NotAPair place)
@@ -85,17 +85,17 @@ with_item origin command place item said = do
   good ← refuse_if (not (has_form origin k text)) (BadValue place)
   Ok (also k text said)
 
--- the texts after items, from the left; the first has the number `place`
+-- the texts of keys after items, read from the left; the first item has the number `place`
 unfoldable pub with_items : Origin → Command → ℕ → List Item → Said → Result Said AskFault
 with_items origin command place [] said = Ok said
 with_items origin command place (item ∷ items) said =
     with_item origin command place item said >>= with_items origin command (place + 1) items
 
--- the first key of the table that is required and has no text
+-- the first key of the table that the command requires and that has no text
 abbrev pub missing_key : Origin → Command → Said → Option Key
 missing_key origin command said = find (λ k. is_needed origin command k && not (is_some (said k))) all_keys
 
--- the fault of a missing key, if there is one
+-- the fault that a key is missing, if one is
 abbrev pub complete : Option Key → Result (Unit {0}) AskFault
 complete None = Ok tt
 complete (Some k) = Err (MissingKey k)
@@ -123,13 +123,13 @@ asked origin command said = record {
   sheets = field_of origin said key.Sheets;
 }
 
--- the question of a command with items: the items are read first, then the required keys are checked
+-- the question of a command with items: first the items are read, then the required keys are checked
 abbrev pub question_with : Origin → Command → List Item → Result Question AskFault
 question_with origin command items = do
   said ← with_items origin command 1 items nothing_said
   whole ← complete (missing_key origin command said)
   Ok (asked origin command said)
 
--- the question of pairs: the command is read first
+-- the question of a command and its items: first the command is read
 unfoldable pub question_of : Pairs → Result Question AskFault
 question_of pairs = command_of pairs.origin pairs.command >>= λ command. question_with pairs.origin command pairs.items

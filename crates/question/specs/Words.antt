@@ -11,14 +11,14 @@ use Rattle.question.specs.Commands.{word_of}
 abbrev pub is_equals_sign : ℕ → Bool
 is_equals_sign byte = byte == 61
 
--- an argument is split at its first `=`; without one it has no value
+-- the item of an argument, which is split at its first `=`; without `=` it has no value
 abbrev pub item_of : List ℕ → Item
 item_of word =
     if list_any is_equals_sign word
     then record { key = before_first is_equals_sign word; value = Some (after_first is_equals_sign word) }
     else record { key = word; value = None }
 
--- the first argument is the command
+-- the command, which is the first argument, and the items of the others
 abbrev pub pairs_of : List (List ℕ) → Pairs
 pairs_of words = record { origin = Line; command = slice_get words 0; items = map item_of (drop 1 words) }
 

@@ -23,7 +23,7 @@ const DEFAULT_STEP: i64 = 60;
 
 const DEFAULT_PORT: u16 = 8080;
 
-/// Returns the question of `command` without items: each key has its default.
+/// Returns the question of `command` in which each key has its default.
 pub fn bare_question(command: Command) -> Question
     ensures { (origin : Origin) → result ≡ asked origin command nothing_said }
 {
@@ -45,8 +45,8 @@ pub fn bare_question(command: Command) -> Question
     }
 }
 
-/// Reads `text` as the value of `key`, and puts it into `question`. Returns false if the text doesn't have
-/// the form of the key's values; the key then has its default.
+/// Parses `text` as the value of `key`, and puts it into `question`. Returns false if the text doesn't
+/// have the form of the key's values; the key then has its default.
 ///
 /// # Errors
 /// [`AllocError`] if memory runs out.

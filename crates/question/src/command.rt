@@ -5,38 +5,38 @@ ghost use Rattle.question.specs.Commands.{command_named};
 
 use crate::origin::Origin;
 
-/// The command of a question.
+/// The command of a question: the kind of answer that it requests.
 #[derive(Clone, Copy, PartialEq, Eq)]
 pub enum Command {
-    /// The events of a station over a span.
+    /// `predict`: the events of a station over a span.
     Predict,
-    /// A certificate of the events of a station over a span.
+    /// `certify`: a certificate of the events of a station over a span.
     Certify,
-    /// The check of a certificate of events.
+    /// `check`: the check of a certificate of events.
     Check,
-    /// The levels of a station at even steps of time.
+    /// `heights`: the levels of a station at even steps of time.
     Heights,
-    /// The events of a station day by day.
+    /// `calendar`: the events of a station day by day.
     Calendar,
-    /// The next events of a station from now on.
+    /// `clock`: the next events of a station from the present minute on.
     Clock,
-    /// The stations of a file.
+    /// `stations`: the list of the stations of a file.
     Stations,
-    /// A sample file drawn from a seed.
+    /// `sample`: a sample file drawn from a seed.
     Sample,
-    /// A trial of the program on a sample file.
+    /// `trial`: a trial of the program on a sample file.
     Trial,
-    /// The web server.
+    /// `serve`: the web server.
     Serve,
-    /// Several sheets of one list of events.
+    /// `report`: several sheets of one list of events.
     Report,
-    /// The highest water of a station over a span.
+    /// `highest`: the highest water of a station over a span.
     Highest,
-    /// A certificate of a highest water.
+    /// `peak`: a certificate of a highest water.
     Peak,
-    /// The check of a certificate of a highest water.
+    /// `peakcheck`: the check of a certificate of a highest water.
     PeakCheck,
-    /// The facts about a station.
+    /// `about`: the facts about a station.
     About,
 }
 
@@ -92,8 +92,8 @@ impl Command {
         self == other
     }
 
-    /// Returns true if a question of this origin can request the command. A query can request only what
-    /// the web server has a path for.
+    /// Returns true if a question of this origin can request the command. A query can request only
+    /// commands for which the web server has a path.
     fn is_asked_in(self, origin: Origin) -> bool
         ensures { result ≡ is_asked_in origin self }
     {
@@ -113,7 +113,8 @@ impl Command {
     }
 }
 
-/// Returns the command called `word` that a question of this origin can request.
+/// Returns the command called `word` that a question of this origin can request, or `None` if there
+/// isn't one.
 pub fn command_named(origin: Origin, word: &str) -> Option<Command>
     ensures { result ≡ command_named origin word.now }
 {

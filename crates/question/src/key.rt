@@ -210,7 +210,8 @@ pub fn is_needed(origin: Origin, command: Command, key: Key) -> bool
     row_of(key).is_needed && has_key(origin, command, key)
 }
 
-/// Returns the key called `name` that the command has in questions of this origin.
+/// Returns the key called `name` that the command has in questions of this origin, or `None` if there
+/// isn't one.
 pub fn key_named(origin: Origin, command: Command, name: &str) -> Option<Key>
     ensures { result ≡ key_named origin command name.now }
 {

@@ -1,11 +1,11 @@
 //! The layouts of a listing.
 
-/// The layout of a listing.
+/// The layout of a listing of events or of levels.
 #[derive(Clone, Copy, PartialEq, Eq)]
 pub enum Layout {
-    /// Text in columns.
+    /// Text in columns, a line for each event or level.
     Plain,
-    /// Comma-separated values.
+    /// Comma-separated values, a record for each event or level.
     Csv,
 }
 
@@ -13,7 +13,7 @@ impl Layout {
     ghost use Rattle.std.specs.Prelude.{◌≡◌, ◌≤◌, length};
     ghost use Rattle.question.specs.Layouts.{layout_of, media_type_of};
 
-    /// Returns the layout called `text`.
+    /// Returns the layout called `text`, or `None` if there isn't one.
     #[tactic(auto, unfolding(crate::specs::Layouts::layout_of))]
     pub(crate) fn named(text: &str) -> Option<Layout>
         ensures { result ≡ layout_of text.now }

@@ -6,15 +6,15 @@ use crate::origin::Origin;
 use decimal_text::Text;
 use std::marker::Model;
 
-/// A key with its value.
+/// A key with its value, as text: an argument of a command line, or a pair of a web query.
 #[derive(Drop)]
 pub struct Item {
     pub key: Text,
-    /// `None` for an argument without `=`.
+    /// The value of the key, or `None` for an argument without `=`.
     pub value: Option<Text>,
 }
 
-/// A list of items. In contracts its value is the list of them.
+/// A list of items, each a key with its value as text. In contracts its value is the list of them.
 #[derive(Drop)]
 pub struct Items {
     items: Vec<Item>,
@@ -45,7 +45,7 @@ impl Items {
     }
 }
 
-/// A command with its items, as they were given.
+/// A command with its items, as they were given, before they are checked.
 #[derive(Drop)]
 pub struct Pairs {
     pub origin: Origin,

@@ -17,7 +17,7 @@ use crate::said::{is_said, missing_key, text_of};
 use decimal_text::Text;
 use std::alloc::Global;
 
-/// Returns the question of `pairs`.
+/// Returns the question that `pairs`, a command and its items, make.
 ///
 /// # Errors
 /// The first of these: [`AskFault::NoCommand`] or [`AskFault::UnknownCommand`]; then for each item, from
@@ -49,7 +49,9 @@ pub fn read_question(alloc: Global, pairs: &Pairs) -> Result<Question, AskFault>
 /// Returns the question of `command` with `items`.
 ///
 /// # Errors
-/// Those of [`read_question`] from the items on.
+/// For each item, from the left, [`AskFault::NotAPair`], [`AskFault::UnknownKey`],
+/// [`AskFault::RepeatedKey`] or [`AskFault::BadValue`]; then [`AskFault::MissingKey`] with the first key
+/// of the table that the command requires; [`AskFault::NoMemory`] if memory runs out.
 pub fn read_items(
     alloc: Global,
     origin: Origin,
@@ -121,7 +123,7 @@ fn read_values(
     Ok(())
 }
 
-/// Puts the value of `item` into `question`, which has those of the items `earlier`.
+/// Puts the value of `item` into `question`, which has the values of the items `earlier`.
 #[tactic(auto, unfolding(crate::specs::Questions::with_item))]
 fn read_value(
     alloc: Global,

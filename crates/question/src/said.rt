@@ -10,7 +10,8 @@ use crate::key::{KEYS, Key, is_needed};
 use crate::origin::Origin;
 use crate::pairs::Item;
 
-/// Returns the text that `items` give to `key`, that is, the value of the last item with this key.
+/// Returns the text that `items` give to `key`: the value of the last item with this key, or `None` if
+/// there isn't one.
 pub fn text_for<'a>(items: &'a [Item], key: Key) -> Option<&'a str>
     ensures { option_copied result ≡ said_by items.now key }
 {
@@ -23,7 +24,7 @@ pub fn text_for<'a>(items: &'a [Item], key: Key) -> Option<&'a str>
     text
 }
 
-/// Returns the text of an item's value.
+/// Returns the text of an item's value, or `None` if it has no value.
 pub fn text_of<'a>(item: &'a Item) -> Option<&'a str>
     ensures { option_copied result ≡ item.now.value }
 {
@@ -40,7 +41,8 @@ pub fn is_said(items: &[Item], key: Key) -> bool
     text_for(items, key).is_some()
 }
 
-/// Returns the first key of the table that the command requires and no item has.
+/// Returns the first key of the table that the command requires and no item has, or `None` if none is
+/// missing.
 pub fn missing_key(origin: Origin, command: Command, items: &[Item]) -> Option<Key>
     ensures { result ≡ missing_key origin command (said_by items.now) }
 {

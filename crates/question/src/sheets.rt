@@ -51,8 +51,8 @@ fn texts(alloc: Global, words: &[&str]) -> Result<Vec<Text>, AllocError>
     Ok(texts)
 }
 
-/// Returns the parts of `text` between single commas, if each is the name of a sheet and none occurs
-/// twice.
+/// Returns the parts of `text` between single commas, or `None` unless each is the name of a sheet (1 to
+/// 16 letters from a to z) and none occurs twice.
 ///
 /// # Errors
 /// [`AllocError`] if memory runs out.

@@ -6,8 +6,8 @@ ghost use Rattle.question.specs.Asked.{AreInRange};
 use crate::question::Question;
 use std::marker::Model;
 
-/// A borrowed question with a span, a mark and a step that are proved to be in the ranges of their
-/// keys. In contracts its value is the question.
+/// A borrowed question, proved to be valid: its span, mark and step are in the ranges of their keys. In
+/// contracts its value is the question.
 #[derive(Drop)]
 pub struct ValidQuestion<'a> {
     question: &'a Question,
@@ -26,8 +26,8 @@ impl<'a> Model for ValidQuestion<'a> {
 }
 
 impl<'a> ValidQuestion<'a> {
-    /// Returns `question` as a valid one; the caller proves the ranges, which each question that was
-    /// read has.
+    /// Returns `question` as a valid question; the caller proves that its span, mark and step are in
+    /// their ranges, as they are in each question that was read from text.
     pub fn new(question: &'a Question) -> ValidQuestion<'a>
         requires { AreInRange question.now }
         ensures { result ≡ question.now }
@@ -35,7 +35,7 @@ impl<'a> ValidQuestion<'a> {
         ValidQuestion { question }
     }
 
-    /// Borrows the question.
+    /// Borrows the question that is proved to be valid.
     pub fn get(&self) -> &'a Question
         ensures exact { result.now ≡ self.now }
         ensures valid { AreInRange self.now }

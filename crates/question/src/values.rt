@@ -39,7 +39,8 @@ fn value(digits: &str) -> Option<u64>
     digits.parse().ok()
 }
 
-/// Returns the number that `text` writes in 1 to `digits` digits, if it is from `least` to `most`.
+/// Returns the number that `text` writes in 1 to `digits` digits, or `None` unless it is from `least` to
+/// `most`.
 #[tactic(auto, unfolding(crate::specs::Forms::number_of))]
 pub fn number(text: &str, digits: usize, least: u64, most: u64) -> Option<u64>
     ensures value { result ≡ number_of digits least most text.now }
@@ -56,14 +57,14 @@ pub fn number(text: &str, digits: usize, least: u64, most: u64) -> Option<u64>
     }
 }
 
-/// Parses `text` as the seed of a generator, from 0 to 2^64 - 1.
+/// Parses `text` as the seed of a sample file, from 0 to 2^64 - 1, or returns `None`.
 pub fn seed(text: &str) -> Option<u64>
     ensures { result ≡ seed_of text.now }
 {
     number(text, 20, 0, u64::MAX)
 }
 
-/// Parses `text` as the port of the web server, from 1 to 65,535.
+/// Parses `text` as the port of the web server, from 1 to 65,535, or returns `None`.
 pub fn port(text: &str) -> Option<u16>
     ensures { result ≡ port_of text.now }
 {
@@ -79,7 +80,8 @@ pub fn step(text: &str) -> Option<i64>
     Some(number as i64)
 }
 
-/// Parses `text` as a mark, and returns it in millionths, from -10,000,000,000 to 10,000,000,000.
+/// Parses `text` as a mark, a decimal with at most six places, and returns it in millionths, from
+/// -10,000,000,000 to 10,000,000,000.
 #[tactic(auto, unfolding(crate::specs::Forms::mark_of))]
 pub fn mark(text: &str) -> Option<i64>
     ensures { result ≡ mark_of text.now }

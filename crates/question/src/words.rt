@@ -31,7 +31,7 @@ pub fn pairs_of_words(alloc: Global, words: &Words) -> Result<Pairs, AllocError>
     })
 }
 
-/// Returns true if the first argument is the command of the web server. Doesn't allocate.
+/// Returns true if the first argument is the command of the web server. It doesn't allocate.
 pub fn asks_to_serve(words: &Words) -> bool
     ensures { result ≡ asks_to_serve words.now }
 {

@@ -9,7 +9,7 @@ use crate::question::ZoneWord;
 use crate::values::{number, some_text};
 use std::alloc::{AllocError, Global};
 
-/// Returns the rest of `text` after `first`, an ASCII character, if it begins with it.
+/// Returns the rest of `text` after `first`, an ASCII character, or `None` unless `text` begins with it.
 fn after(text: &str, first: char) -> Option<&str>
     requires { first < 128 }
     ensures { option_copied result ≡ after first text.now }

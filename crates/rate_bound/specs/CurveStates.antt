@@ -1,4 +1,4 @@
--- The states of a station's two curves, its slope and its level against a mark (this project).
+-- The states of a station's two curves, its slope and its level less a mark (this project).
 use Rattle.std.specs.Prelude.{◌*◌, unsigned_abs}
 use Rattle.curve_law.specs.CurveStates.{CurveState}
 use Rattle.station_curve.specs.Approximate.{approximate_level_of, approximate_slope_of}
@@ -18,7 +18,7 @@ turn_state c = record {
   count = c.evaluations;
 }
 
--- the state of the curve of the level against a mark
+-- the state of the curve of the level less a mark
 abbrev pub mark_state : MarkCurve → CurveState
 mark_state c = record {
   facts = record {

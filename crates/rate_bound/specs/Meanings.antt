@@ -12,7 +12,8 @@ use Rattle.year_blend.specs.Years.{year_start_of}
 use Rattle.rate_bound.specs.declared.version.Version.{Version}
 use Rattle.rate_bound.specs.Rates.{predicted_slope_rate, predicted_level_rate}
 
--- the slope by every constituent of the book: it rises past 0 at a low water, and falls to 0 at a high water
+-- the curve whose value is the slope, by every constituent of the book: the slope rises past 0 at a low
+-- water, and falls to 0 at a high water
 abbrev pub predicted_turn : Version → Book → Station → Meaning
 predicted_turn version b s = record {
   first = year_start_of b.first_year;
@@ -26,8 +27,8 @@ abbrev pub over_mark : ℤ → ℤ → ℤ → ℤ → ℤ
 over_mark times plus mark level =
     (times *ℤ level) +ℤ (pos (10 ^ 6 * total_weight * 10 ^ 9) *ℤ (plus -ℤ mark))
 
--- the level less a mark, which changes sign at each crossing of the mark; for slacks the level of a
--- current less 0
+-- the curve whose value is `times` millionths of the level plus `plus` less the mark, by every
+-- constituent of the book: it changes sign at each crossing of the mark; for slacks the mark is 0
 abbrev pub predicted_mark : Version → Book → Station → ℤ → ℤ → ℤ → Bool → Meaning
 predicted_mark version b s times plus mark slack = record {
   first = year_start_of b.first_year;
@@ -41,11 +42,11 @@ predicted_mark version b s times plus mark slack = record {
   rate = predicted_level_rate version times b s;
 }
 
--- the slope, at the minutes that a curve predicts
+-- the curve of the slope, at the minutes of a prediction
 abbrev pub turn_meaning : Version → Prediction → Meaning
 turn_meaning version c = record (predicted_turn version c.book c.station) { first = c.first; last = c.last }
 
--- the level less a mark, at the minutes that a curve predicts
+-- the curve of the level less a mark, at the minutes of a prediction
 abbrev pub mark_meaning : Version → Prediction → ℤ → ℤ → ℤ → Bool → Meaning
 mark_meaning version c times plus mark slack =
     record (predicted_mark version c.book c.station times plus mark slack) { first = c.first; last = c.last }

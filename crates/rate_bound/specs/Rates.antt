@@ -1,6 +1,6 @@
--- Bounds on the change of the slope and the level of a station in a minute (this project): outside blends
--- by the year's sums, and across a new year by those of both years and by how fast the weight moves from
--- one to the other.
+-- Bounds on the change of the slope and the level of a station in a minute (this project): outside
+-- blends from the year's sums, and across a new year from both years' sums and from how fast the weight
+-- changes.
 use Rattle.std.specs.Prelude.{ℕ, ◌-◌, ◌*◌, ◌^◌, Option, Some, None, ℤ, pos, ◌+ℤ◌, ◌*ℤ◌, int_le, if◌then◌else◌}
 use Rattle.std.specs.Int.{int_max}
 use Rattle.fixed_sine.specs.Circle.{radian}
@@ -24,16 +24,16 @@ most_rise = 64800000
 abbrev pub most_bend : ℕ
 most_bend = 1663000
 
--- the bound on the slope outside blends
+-- the bound on the change of the slope in a minute outside blends
 abbrev pub plain_slope_rate : Sums → ℤ
 plain_slope_rate year = pos total_weight *ℤ year.far
 
--- the bound on the level outside blends
+-- the bound on the change of the level in a minute outside blends
 abbrev pub plain_level_rate : Sums → ℤ
 plain_level_rate year = pos total_weight *ℤ year.near
 
--- the bound on the slope across the new year between two years: the greater of theirs, and the part that
--- comes from the moving weight
+-- the bound on the change of the slope in a minute across the new year between two years: the greater of
+-- both years' bounds, and the part that is due to the changing weight
 abbrev pub blended_slope_rate : Sums → Sums → ℤ
 blended_slope_rate earlier later =
     (pos total_weight *ℤ int_max earlier.far later.far)
@@ -41,13 +41,13 @@ blended_slope_rate earlier later =
     +ℤ (pos (most_rise * radian) *ℤ (earlier.near +ℤ later.near))
     +ℤ (pos (most_bend * radian * 10 ^ 9) *ℤ (earlier.amount +ℤ later.amount))
 
--- the bound on the level across the new year between two years
+-- the bound on the change of the level in a minute across the new year between two years
 abbrev pub blended_level_rate : Sums → Sums → ℤ
 blended_level_rate earlier later =
     (pos total_weight *ℤ int_max earlier.near later.near)
     +ℤ (pos (most_rise * 10 ^ 9) *ℤ (earlier.amount +ℤ later.amount))
 
--- a rate, or none if 1,024 minutes of it are too much for a slope
+-- a rate, or None if 1,024 times it exceeds what a slope may change
 abbrev pub limited : ℤ → Option ℤ
 limited rate = if int_le rate (pos (4 * 10 ^ 34)) then Some rate else None
 
@@ -72,7 +72,8 @@ unfoldable pub predicted_slope_rate : Version → Book → Station → ℤ → �
 predicted_slope_rate version b s a n =
     slope_rate_in version (book_sums b s) (stretch_of b.first_year b.years a n)
 
--- the rate of `times` times the level over that cell
+-- the rate of `times` times the level over the cell of n minutes from `a` on, by every constituent of
+-- the book
 unfoldable pub predicted_level_rate : Version → ℤ → Book → Station → ℤ → ℕ → Option ℤ
 predicted_level_rate version times b s a n =
     level_rate_in version times (book_sums b s) (stretch_of b.first_year b.years a n)

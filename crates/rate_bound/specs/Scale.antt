@@ -1,7 +1,7 @@
--- The numbers that scale a level and set it against a mark, in millionths (this project).
+-- The numbers that scale a level and move it relative to a mark, in millionths (this project).
 use Rattle.std.specs.Prelude.{◌^◌, ℤ, pos, negsuc, ◌≤ℤ◌}
 
--- a factor up to 100, and up to 10,000 of the unit to add and at the mark
+-- a factor up to 100, and an added level and a mark of at most 10,000 units in size
 pub record IsScale (times plus mark : ℤ) : Type 0 where
   pub times_least : pos 1 ≤ℤ times
   pub times_most : times ≤ℤ pos (10 ^ 8)

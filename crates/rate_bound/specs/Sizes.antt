@@ -2,11 +2,11 @@
 use Rattle.std.specs.Prelude.{ℕ, ◌*◌, ◌^◌, ◌<◌, ℤ, unsigned_abs}
 use Rattle.curve_law.specs.Meaning.{Meaning, IsMinute}
 
--- the limit on a slope
+-- the limit on the size of a slope
 abbrev pub slope_limit : ℕ
 slope_limit = 10 ^ 37
 
--- the limit on a level less a mark
+-- the limit on the size of a level less a mark
 abbrev pub mark_limit : ℕ
 mark_limit = 5 * 10 ^ 36
 

@@ -11,16 +11,16 @@ ghost use Rattle.rate_bound.specs.Scale.{IsScale};
 ghost use Rattle.rate_bound.specs.Sizes.{slope_limit, mark_limit, IsBelow};
 ghost use Rattle.rate_bound.specs.Meanings.{turn_meaning, mark_meaning, predicted_turn, predicted_mark};
 
-/// Proves that both curves of a station within the limits are lawful: a step of a minute within a cell
-/// changes the value by at most the cell's rate.
+/// Proves that both curves of a station within the limits, its slope and its level less a mark, are
+/// lawful: in each minute of a cell the value changes by at most the cell's rate.
 pub fn curves_are_lawful()
     ensures turn { (version : Version) (c : Prediction) → IsPrediction c → IsLawful (turn_meaning version c) }
     ensures mark { (version : Version) (c : Prediction) (times plus mark : ℤ) (slack : Bool) →
         IsPrediction c → IsScale times plus mark → IsLawful (mark_meaning version c times plus mark slack) }
 {}
 
-/// Proves that each slope is below 10^37 in size, and each level against a mark below 5*10^36, from the
-/// first minute to the last: of a curve, and of a station that has one.
+/// Proves that from the first minute to the last each slope is below 10^37 in size, and each level less
+/// a mark below 5*10^36, both for a curve and for a station that has a curve.
 pub fn values_are_small()
     ensures turn { (version : Version) (c : Prediction) → IsPrediction c → IsBelow slope_limit (turn_meaning version c) }
     ensures mark { (version : Version) (c : Prediction) (times plus mark : ℤ) (slack : Bool) →

@@ -35,8 +35,9 @@ pub struct MarkCurve<'a> {
 impl<'a> MarkCurve<'a> {
     ghost use Rattle.rate_bound.specs.Meanings.{mark_meaning};
 
-    /// Returns the level less a mark with rates outside new-year blends only. The numbers are as of
-    /// [`new`](MarkCurve::new).
+    /// Returns the curve of a level less a mark, with rates only outside new-year blends. `times` is
+    /// from 1 to 100,000,000 millionths, `plus` and `mark` are from -10,000,000,000 to 10,000,000,000
+    /// millionths, and `mark` is 0 if `slack`.
     ///
     /// The program doesn't call it: it names the version in [`new`](MarkCurve::new).
     pub fn over(station: &'a StationCurve, times: i64, plus: i64, mark: i64, slack: bool) -> Self
@@ -49,8 +50,9 @@ impl<'a> MarkCurve<'a> {
         MarkCurve::new(station, Version::First, times, plus, mark, slack)
     }
 
-    /// Returns the level less a mark with rates across a new year too. The numbers are as of
-    /// [`new`](MarkCurve::new).
+    /// Returns the curve of a level less a mark, with rates also across a new year. `times` is from 1 to
+    /// 100,000,000 millionths, `plus` and `mark` are from -10,000,000,000 to 10,000,000,000 millionths,
+    /// and `mark` is 0 if `slack`.
     pub fn blended(station: &'a StationCurve, times: i64, plus: i64, mark: i64, slack: bool) -> Self
         requires scale { IsScale times plus mark }
         requires slack { OnTrue slack (mark ≡ pos 0) }
@@ -61,9 +63,9 @@ impl<'a> MarkCurve<'a> {
         MarkCurve::new(station, Version::Second, times, plus, mark, slack)
     }
 
-    /// Returns the level less `mark`, or less 0 if the curve is of a current's slacks (`slack`), with the
-    /// rates of `version`. `times` is from 1 to 100,000,000 millionths, `plus` and `mark` are from
-    /// -10,000,000,000 to 10,000,000,000 millionths, and the mark of a slack is 0. The curve is not yet
+    /// Returns the curve of the level less `mark`, with the rates of `version`. If `slack`, `mark` is 0,
+    /// and the changes of sign are a current's slacks. `times` is from 1 to 100,000,000 millionths, and
+    /// `plus` and `mark` are from -10,000,000,000 to 10,000,000,000 millionths. The curve is not yet
     /// evaluated.
     pub fn new(
         station: &'a StationCurve,

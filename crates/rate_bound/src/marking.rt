@@ -20,7 +20,7 @@ pub fn over_mark(times: i64, plus: i64, mark: i64, level: i128) -> i128
     scaled(times, level) + raised(plus - mark)
 }
 
-/// Returns `times * level`, also for a level's rate.
+/// Returns `times * level`; it also scales the rate of a level.
 pub fn scaled(times: i64, level: i128) -> i128
     requires times { unsigned_abs times ≤ 10 ^ 8 }
     requires level { unsigned_abs level ≤ 10 ^ 29 }

@@ -34,7 +34,8 @@ const BILLION: i128 = 1_000_000_000;
 /// The greatest rate of a slope across a new year.
 const MOST_RATE: i128 = 40_000_000_000_000_000_000_000_000_000_000_000;
 
-/// Returns the most that the slope changes in a minute outside blends, from the sums of the year.
+/// Returns the most that the slope changes in a minute outside blends, from the sums of the year: the
+/// rate of a slope.
 pub fn plain_slope_rate(year: &Sums) -> i128
     requires { AreWithinLimits year.now }
     ensures value { result ≡ plain_slope_rate year.now }
@@ -42,7 +43,8 @@ pub fn plain_slope_rate(year: &Sums) -> i128
     WEIGHT * year.far
 }
 
-/// Returns the most that the level changes in a minute outside blends, from the sums of the year.
+/// Returns the most that the level changes in a minute outside blends, from the sums of the year: the
+/// rate of a level.
 pub fn plain_level_rate(year: &Sums) -> i128
     requires { AreWithinLimits year.now }
     ensures value { result ≡ plain_level_rate year.now }
@@ -77,7 +79,7 @@ pub fn blended_level_rate(earlier: &Sums, later: &Sums) -> i128
     WEIGHT * earlier.near.max(later.near) + MOST_RISE * BILLION * (earlier.amount + later.amount)
 }
 
-/// Returns `rate`, or `None` if it is too great for a curve.
+/// Returns `rate`, or `None` if it is too great for a curve: above 4 * 10^34.
 pub fn limited(rate: i128) -> Option<i128>
     ensures { result ≡ limited rate }
 {

@@ -9,7 +9,8 @@ ghost use Rattle.rate_bound.specs.Workings.Cells.{AreNeeded};
 use station_curve::StationCurve;
 use year_blend::Stretch;
 
-/// Returns the stretch of the `n` minutes of a station from `a` on, at most `LONGEST_SPAN`.
+/// Returns which years the `n` minutes of a station from `a` on are in: the plain part of one year, or
+/// both sides of one new year. `n` is at most `LONGEST_SPAN`.
 #[inline(always)]
 pub fn stretch_of(station: &StationCurve, a: i64, n: u32) -> Stretch
     requires first { IsPredicted station.now a }

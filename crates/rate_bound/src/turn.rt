@@ -27,7 +27,7 @@ pub struct TurnCurve<'a> {
 impl<'a> TurnCurve<'a> {
     ghost use Rattle.rate_bound.specs.Meanings.{turn_meaning};
 
-    /// Returns the slope with rates outside new-year blends only. It is not yet evaluated.
+    /// Returns the curve of the slope with rates only outside new-year blends. It is not yet evaluated.
     ///
     /// The program doesn't call it: it names the version in [`new`](TurnCurve::new).
     pub fn over(station: &'a StationCurve) -> TurnCurve<'a>
@@ -37,7 +37,7 @@ impl<'a> TurnCurve<'a> {
         TurnCurve::new(station, Version::First)
     }
 
-    /// Returns the slope with rates across a new year too. It is not yet evaluated.
+    /// Returns the curve of the slope with rates also across a new year. It is not yet evaluated.
     ///
     /// The program doesn't call it: it names the version in [`new`](TurnCurve::new).
     pub fn blended(station: &'a StationCurve) -> TurnCurve<'a>
@@ -47,7 +47,7 @@ impl<'a> TurnCurve<'a> {
         TurnCurve::new(station, Version::Second)
     }
 
-    /// Returns the slope with the rates of `version`. It is not yet evaluated.
+    /// Returns the curve of the slope of `station` with the rates of `version`. It is not yet evaluated.
     pub fn new(station: &'a StationCurve, version: Version) -> TurnCurve<'a>
         ensures meaning { (⟦<TurnCurve<'a> as Curve>⟧.state result).facts.meaning ≡ turn_meaning version station.now }
         ensures count { (⟦<TurnCurve<'a> as Curve>⟧.state result).count ≡ 0 }

@@ -34,8 +34,8 @@ pub fn worked_rates()
 {}
 
 /// Proves cells of the slope. In the first minutes of a day the slope falls from 0, by 0.04 per cent too
-/// fast for one quiet cell of eight minutes. Across a new year a cell is quiet by the second version
-/// only.
+/// fast for one quiet cell of eight minutes. Across a new year a cell is quiet only by the second
+/// version.
 pub fn worked_turns()
     ensures from_midnight { cover (predicted_turn Version.First pier_book pier) (pos 15791040) 8
         ≡ Cell.Still ∷ Cell.Still ∷ Cell.Quiet 2 ∷ Cell.Quiet 4 ∷ [] }

@@ -24,7 +24,7 @@ const NARROWS: &str =
     s\nt low -1000000\ntrack slack\nt flood 0\nt ebb 99999999999999\nq 1024\ntrack mark\nt rise -99999999999999\n\
     t fall 7\ns\ndone\n";
 
-/// Returns the line of the fault of `bytes`, or 0 if they are a certificate's text.
+/// Returns the line of the fault of `bytes`, or 0 if they are the text of a certificate.
 fn fault(alloc: Global, bytes: &[u8]) -> u32 {
     if bytes.len() > MOST_BYTES {
         return 9998;

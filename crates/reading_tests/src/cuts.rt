@@ -62,7 +62,8 @@ fn are_printed(alloc: Global, file: &[u8], counts: &[usize], whole: &str) -> boo
     true
 }
 
-/// Returns true if `file` is read in pieces of each of `counts` bytes as it is read whole.
+/// Returns true if reading `file` in pieces of each of `counts` bytes gives the same as reading it
+/// whole.
 pub fn may_be_cut(alloc: Global, file: &[u8], counts: &[usize]) -> bool {
     match printed_in_pieces(alloc, file, file.len()) {
         Ok(whole) => are_printed(alloc, file, counts, whole.as_str()),

@@ -76,7 +76,8 @@ fn has_replies(door: &MemoryDoor, first: &str) -> bool {
     has_reply(door, 0, first) && has_reply(door, 1, "") && door.reply(2) == None
 }
 
-/// Returns a door whose call `failing` fails, with room for `room` bytes of each reply.
+/// Returns a door, with room for `room` bytes of each reply, at which the call with the number `failing`
+/// fails.
 fn memory_door(alloc: Global, room: u64, failing: u64) -> Result<MemoryDoor, AllocError>
     ensures { IfOk result (λ door. door.doorway ≡ not_listening) }
 {
@@ -117,7 +118,7 @@ fn a_door_in_memory_fails_as_required(rt: HostRuntime) {
     }
 }
 
-/// Returns a door without a request, whose call `failing` fails.
+/// Returns a door without requests, at which the call with the number `failing` fails.
 fn shut_door(alloc: Global, failing: u64) -> Result<MemoryDoor, AllocError>
     ensures { IfOk result (λ door. door.doorway ≡ not_listening) }
 {
@@ -131,7 +132,7 @@ fn a_shut_door_fails(rt: HostRuntime) -> Result<(), AllocError> {
     Ok(())
 }
 
-/// Returns true if the bytes that are left of `peer` are `expected`.
+/// Returns true if the unread bytes of `peer` are `expected`.
 fn rest_is<P: Read>(alloc: Global, peer: &mut P, expected: &[u8]) -> bool {
     let mut answer = Vec::new(alloc);
     peer.read_to_end(&mut answer).is_ok() && answer.as_slice() == expected

@@ -150,7 +150,8 @@ const SINKS: &[(u64, u64, Option<u64>)] = &[
     (0, 0, Some(0)),
 ];
 
-/// Returns a sink that takes `most` bytes in a write and `room` in all, whose call `failing` fails.
+/// Returns a sink that accepts `most` bytes in a write and `room` in all, and at which the call with the
+/// number `failing` fails.
 fn sink(alloc: Global, most: u64, room: u64, failing: u64) -> Result<MemorySink, AllocError> {
     MemorySink::new(alloc, most.max(1), room, [failing].to_vec(alloc)?)
 }

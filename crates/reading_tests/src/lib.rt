@@ -1,8 +1,8 @@
 //! Tests of the crates that read and write: files of harmonic constants and of offsets, zones and
 //! moments, requests, certificates, and the objects of the machine.
 //!
-//! They use only the public items of those crates. They are in a crate of their own because a crate
-//! with tests is proved twice: with and without them.
+//! They use only the public items of these crates. They are in a separate crate because a crate with
+//! tests is proved twice: with and without them.
 #![tactic(auto)]
 
 #[cfg(test)]
@@ -29,6 +29,8 @@ mod loading;
 mod offsets;
 #[cfg(test)]
 mod peak_texts;
+#[cfg(test)]
+mod question_values;
 #[cfg(test)]
 mod questions;
 #[cfg(test)]

@@ -18,7 +18,7 @@ const PIER: &str =
     value 4147200000000000000000000000000\nm\nm\nm\nm\nm\nm\nm\nm\nm\nm\nm\nm\nm\nm\nm\nm\nu 2\nu 2\nu 4\nu 4\nu 4\n\
     u 8\nu 8\nu 16\ndone\n";
 
-/// Returns the line of the fault of `bytes`, or 0 if they are a certificate's text.
+/// Returns the line of the fault of `bytes`, or 0 if they are the text of a certificate.
 fn fault(alloc: Global, bytes: &[u8]) -> u32 {
     if bytes.len() > MOST_BYTES {
         return 9998;

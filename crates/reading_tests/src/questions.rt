@@ -1,15 +1,14 @@
-//! Requests, and the faults of command lines and queries that are none.
+//! Requests, and the faults of command lines and queries that aren't requests.
 
 use crate::asserts::assert_holds;
 use decimal_text::{Text, Words};
 use question::{
-    AskFault, Command, Key, Layout, Origin, Pairs, Question, ZoneWord, pairs_of_words,
-    read_question, worked_faults, worked_query_faults, worked_questions, worked_values,
-    worked_words,
+    AskFault, Command, Key, Origin, Pairs, Question, pairs_of_words, read_question, worked_faults,
+    worked_query_faults, worked_questions, worked_values, worked_words,
 };
 use std::alloc::{AllocError, Global};
 
-// Arguments, separated by `|`, and their fault.
+/// Arguments, separated by `|`, and their fault.
 const LINES: &[(&str, Option<AskFault>)] = &[
     (
         "predict|file=pier.txt|station=Pier|begin=2000-01-10T00:00Z|end=2000-01-11T00:00Z",
@@ -161,7 +160,7 @@ const LINES: &[(&str, Option<AskFault>)] = &[
     ("predict |file=f", Some(AskFault::UnknownCommand)),
 ];
 
-// The command and the pairs of a query in the same form, and their fault.
+/// The command and the pairs of a query in the same form, and their fault.
 const QUERIES: &[(&str, Option<AskFault>)] = &[
     (
         "predict|station=Pier|begin=2000-01-10T00:00Z|end=2000-01-11T00:00Z",
@@ -225,7 +224,7 @@ fn words_of(alloc: Global, line: &str) -> Result<Words, AllocError> {
     Ok(Words::from_vec(words))
 }
 
-/// Returns the arguments in `line`, as those of `origin`.
+/// Returns the arguments in `line`, as arguments of `origin`.
 fn pairs_of(alloc: Global, origin: Origin, line: &str) -> Result<Pairs, AllocError> {
     let words = words_of(alloc, line)?;
     let mut pairs = pairs_of_words(alloc, &words)?;
@@ -236,10 +235,6 @@ fn pairs_of(alloc: Global, origin: Origin, line: &str) -> Result<Pairs, AllocErr
 pub fn asked(alloc: Global, origin: Origin, line: &str) -> Result<Question, AskFault> {
     let pairs = pairs_of(alloc, origin, line)?;
     read_question(alloc, &pairs)
-}
-
-fn line(alloc: Global, words: &str) -> Result<Question, AskFault> {
-    asked(alloc, Origin::Line, words)
 }
 
 fn fault_of(alloc: Global, origin: Origin, line: &str) -> Option<AskFault> {
@@ -273,172 +268,6 @@ fn fault_of_nothing(alloc: Global) -> Option<AskFault> {
 fn no_command_is_reported(rt: HostRuntime) {
     let found = fault_of_nothing(rt.alloc());
     assert_holds(&rt, found == Some(AskFault::NoCommand), "no command");
-}
-
-// The values of a question: an empty name for none, and the sheets as their number.
-struct Values {
-    command: Command,
-    file: &'static str,
-    offsets: &'static str,
-    station: &'static str,
-    certificate: &'static str,
-    begin: Option<i64>,
-    end: Option<i64>,
-    mark: Option<i64>,
-    step: i64,
-    zone: Option<i32>,
-    zone_file: &'static str,
-    layout: Layout,
-    seed: Option<u64>,
-    port: u16,
-    sheets: usize,
-}
-
-// What a question has if its arguments don't say otherwise.
-const USUAL: Values = Values {
-    command: Command::Predict,
-    file: "f",
-    offsets: "",
-    station: "",
-    certificate: "",
-    begin: None,
-    end: None,
-    mark: None,
-    step: 60,
-    zone: None,
-    zone_file: "",
-    layout: Layout::Plain,
-    seed: None,
-    port: 8080,
-    sheets: 0,
-};
-
-// Arguments, and the values of the question.
-const VALUES: &[(&str, Values)] = &[
-    (
-        "predict|file=pier.txt|station=Pier|begin=2000-01-10T00:00Z|end=2000-01-11T00:00Z",
-        Values {
-            file: "pier.txt",
-            station: "Pier",
-            begin: Some(15_791_040),
-            end: Some(15_792_480),
-            ..USUAL
-        },
-    ),
-    (
-        "predict|end=2000-01-11T00:00Z|begin=2000-01-10T00:00Z|station=Pier|file=a=b|mark=-0.5|zone=-05:30|layout=csv|offsets=o.csv",
-        Values {
-            file: "a=b",
-            offsets: "o.csv",
-            station: "Pier",
-            begin: Some(15_791_040),
-            end: Some(15_792_480),
-            mark: Some(-500_000),
-            zone: Some(-330),
-            layout: Layout::Csv,
-            ..USUAL
-        },
-    ),
-    (
-        "check|file=f|certificate=c|zone=@rome",
-        Values {
-            command: Command::Check,
-            certificate: "c",
-            zone_file: "rome",
-            ..USUAL
-        },
-    ),
-    (
-        "report|file=f|station=s|begin=2000-01-10T00:00Z|end=2000-01-11T00:00Z|sheets=first,tally,range",
-        Values {
-            command: Command::Report,
-            station: "s",
-            begin: Some(15_791_040),
-            end: Some(15_792_480),
-            sheets: 3,
-            ..USUAL
-        },
-    ),
-    (
-        "sample|seed=18446744073709551615",
-        Values {
-            command: Command::Sample,
-            file: "",
-            seed: Some(u64::MAX),
-            ..USUAL
-        },
-    ),
-    (
-        "serve|file=f|port=65535",
-        Values {
-            command: Command::Serve,
-            port: 65535,
-            ..USUAL
-        },
-    ),
-];
-
-/// Returns true if `name` is `text`, or isn't there and `text` is empty.
-fn is_name(name: &Option<Text>, text: &str) -> bool {
-    match name {
-        Some(name) => name.as_str() == text,
-        None => text.is_empty(),
-    }
-}
-
-fn is_zone(zone: &ZoneWord, ahead: Option<i32>, file: &str) -> bool {
-    match zone {
-        ZoneWord::Utc => ahead.is_none() & file.is_empty(),
-        ZoneWord::Fixed(minutes) => ahead == Some(*minutes),
-        ZoneWord::Named(name) => name.as_str() == file,
-    }
-}
-
-fn sheets_of(question: &Question) -> usize {
-    match &question.sheets {
-        Some(words) => words.as_slice().len(),
-        None => 0,
-    }
-}
-
-fn has_names(question: &Question, values: &Values) -> bool {
-    is_name(&question.file, values.file)
-        & is_name(&question.offsets, values.offsets)
-        & is_name(&question.station, values.station)
-        & is_name(&question.certificate, values.certificate)
-        & is_zone(&question.zone, values.zone, values.zone_file)
-}
-
-fn has_numbers(question: &Question, values: &Values) -> bool {
-    (question.begin == values.begin)
-        & (question.end == values.end)
-        & (question.mark == values.mark)
-        & (question.step == values.step)
-        & (question.seed == values.seed)
-        & (question.port == values.port)
-        & (sheets_of(question) == values.sheets)
-}
-
-fn has_values(question: &Question, values: &Values) -> bool {
-    (question.command == values.command)
-        & (question.layout == values.layout)
-        & has_names(question, values)
-        & has_numbers(question, values)
-}
-
-fn is_read(alloc: Global, words: &str, values: &Values) -> Result<bool, AskFault> {
-    let question = line(alloc, words)?;
-    let is_read = has_values(&question, values);
-    drop(question);
-    Ok(is_read)
-}
-
-#[test]
-fn questions_have_their_values(rt: HostRuntime) -> Result<(), AskFault> {
-    for (words, values) in VALUES {
-        assert_holds(&rt, is_read(rt.alloc(), words, values)?, *words);
-    }
-    Ok(())
 }
 
 #[test]

@@ -122,7 +122,7 @@ fn long_lists_of_words_are_copied(rt: HostRuntime) -> Result<(), AllocError> {
     check_copies(&rt, rt.alloc(), long.as_str())
 }
 
-// The sample file has as many lines as the harmonics file of a harbour office.
+/// The sample file has as many lines as the harmonics file of a harbour office.
 #[test]
 fn a_file_of_many_stations_is_read(rt: HostRuntime) -> Result<(), AllocError> {
     let file = sample(rt.alloc(), 0)?;
@@ -169,7 +169,7 @@ fn check_pieces(rt: &impl Abort, alloc: Global, text: &[u8]) {
 const HEADER: &str =
     "name,reference,high_add,low_add,high_times,low_times,high_plus,low_plus,flood_add,ebb_add";
 
-/// Returns a table of 1,200 rows, whose names have 400 letters.
+/// Returns a table of 1,200 rows with names of 400 letters.
 fn long_table(alloc: Global) -> Result<String, AllocError> {
     let row = filled(
         alloc,
@@ -214,7 +214,7 @@ fn check_row(rt: &impl Abort, row: &Offsets) {
     assert_holds(rt, row.slack.is_some(), "slacks");
 }
 
-/// Returns the request of the arguments in `line`, separated by `|`, whose names have 400 letters.
+/// Returns the request of the arguments in `line`, separated by `|`, with names of 400 letters.
 fn long_question(alloc: Global, line: &str) -> Result<Question, AskFault> {
     let long = filled(alloc, line)?;
     asked(alloc, Origin::Line, long.as_str())

@@ -117,7 +117,7 @@ fn is_written(local: &Local) -> bool {
     has_label && (-1036120320..=4223371679).contains(&local.minute)
 }
 
-// The zone file of New York with a table up to 1999: no old block, three changes, three types.
+/// The zone file of New York with a table up to 1999: no old block, three changes, three types.
 const OLD_BLOCK: &[u8] =
     b"TZif2\0\0\0\0\0\0\0\0\0\0\0\0\0\0\0\0\0\0\0\0\0\0\0\0\0\0\0\0\0\0\0\0\0\0\x01\0\0\0\x01\0\0\0\0\0\0\0";
 
@@ -193,8 +193,8 @@ fn other_zones_show_local_times(rt: HostRuntime) {
 const LONG_HEAD: &[u8] =
     b"TZif2\0\0\0\0\0\0\0\0\0\0\0\0\0\0\0\0\0\0\0\0\0\0\0\0\0\0\0\0\0\0\xec\0\0\0\x03\0\0\0\x0c";
 
-// Returns a zone file with 236 changes, 182 and a half days from each to the next, the first in
-// 1901.
+/// Returns a zone file with 236 changes, 182 and a half days from each to the next, the first in
+/// 1901.
 fn changed_often(alloc: Global) -> Result<Vec<u8>, Fail> {
     let mut bytes = Vec::new(alloc);
     bytes.extend_from_slice(OLD_BLOCK)?;

@@ -1,4 +1,4 @@
--- The sheet of the first events, line by line (the layout of XTide's plain listings).
+-- The sheet with the first events, line by line (the layout of XTide's plain listings).
 use Rattle.std.specs.Prelude.{ℕ, List, codes}
 use Rattle.curve_law.specs.declared.event.Event.{Event}
 use Rattle.listing.specs.Listings.{plain_events_of}
@@ -10,6 +10,6 @@ use Rattle.report_sheets.specs.Sheets.{SheetMeaning}
 abbrev pub lines_of : Head → List Event → List ℕ
 lines_of head events = plain_events_of head.name head.units events Utc
 
--- the sheet `first`
+-- the sheet `first` with a limit
 abbrev pub first_sheet : ℕ → SheetMeaning
 first_sheet limit = record { word = codes "first"; limit = limit; layout = lines_of }

@@ -6,11 +6,11 @@ use Rattle.curve_law.specs.declared.event.Event.{Event}
 use Rattle.report_sheets.specs.declared.head.Head.{Head}
 use Rattle.report_sheets.specs.Sheets.{SheetMeaning}
 
--- the page of a sheet: its layout of the head and the first events, up to its limit
+-- the page of a sheet: its text for the head and the first events, up to its limit
 unfoldable pub page_of : Head → List Event → SheetMeaning → List ℕ
 page_of head events sheet = sheet.layout head (take sheet.limit events)
 
--- a sheet with a requested word
+-- the word of a sheet is among the requested words
 abbrev pub is_wanted : List (List ℕ) → SheetMeaning → Bool
 is_wanted wanted sheet = list_any (λ word. bytes_eq word sheet.word) wanted
 
@@ -22,6 +22,6 @@ pages_of sheets wanted head events = flat_map (page_of head events) (filter (is_
 abbrev pub has_sheet : List SheetMeaning → List ℕ → Bool
 has_sheet sheets word = list_any (λ sheet. bytes_eq word sheet.word) sheets
 
--- the index of the first requested word that no sheet has
+-- the index of the first requested word that no sheet has, or None
 unfoldable pub missing_of : List SheetMeaning → List (List ℕ) → Option ℕ
 missing_of sheets wanted = position (λ word. not (has_sheet sheets word)) wanted

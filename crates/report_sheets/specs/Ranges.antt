@@ -12,22 +12,22 @@ use Rattle.report_sheets.specs.declared.extreme.Extreme.TheVariants.{Highest, Lo
 use Rattle.report_sheets.specs.declared.head.Head.{Head}
 use Rattle.report_sheets.specs.Sheets.{SheetMeaning}
 
--- a kind that is an end of the range: a high is the highest water's, a low the lowest water's
+-- a kind belongs to an end of the range: high waters to the highest, low waters to the lowest
 abbrev pub is_of : Extreme → Kind → Bool
 is_of Highest High = true
 is_of Lowest Low = true
 is_of _ _ = false
 
--- a level that another level isn't beyond
+-- a level is at least as extreme as another level
 abbrev pub reaches : Extreme → ℤ → ℤ → Bool
 reaches Highest level other = int_le other level
 reaches Lowest level other = int_le level other
 
--- the first event that no event is beyond
+-- the first event that is at least as extreme as all others
 abbrev pub first_of : Extreme → List Event → Option Event
 first_of extreme events = find (λ event. list_all (λ other. reaches extreme event.level other.level) events) events
 
--- the first high of greatest level, or the first low of least level
+-- the first of the highest high waters, or the first of the lowest low waters
 abbrev pub extreme_of : Extreme → List Event → Option Event
 extreme_of extreme events = first_of extreme (filter (λ event. is_of extreme event.kind) events)
 
@@ -48,6 +48,6 @@ ranges_of head events =
     head.name ++ codes "\n" ++ range_line Highest head.units (extreme_of Highest events)
     ++ range_line Lowest head.units (extreme_of Lowest events)
 
--- the sheet `range`
+-- the sheet `range` with a limit
 abbrev pub range_sheet : ℕ → SheetMeaning
 range_sheet limit = record { word = codes "range"; limit = limit; layout = ranges_of }

@@ -1,4 +1,4 @@
--- Sheets: the word, the limit and the layout, and the list after one more event (this project).
+-- Sheets: the word, the limit and the layout, and the list after another event (this project).
 use Rattle.std.specs.Prelude.{◌≢◌, ℕ, pos, ◌≤◌, ◌==◌, if◌then◌else◌, List, [], ◌∷◌, ◌++◌, length, All}
 use Rattle.curve_law.specs.declared.event.Event.{Event}
 use Rattle.harmonics_book.specs.declared.book.Units.TheVariants.{Feet, KnotsSquared}
@@ -6,7 +6,8 @@ use Rattle.report_sheets.specs.declared.head.Head.{Head}
 use Rattle.report_sheets.specs.declared.taken.Taken.{Taken}
 use Rattle.report_sheets.specs.declared.taken.Taken.TheVariants.{Kept, Full}
 
--- the constants of a sheet: its word, the greatest number of its events, and its text for a head and a list
+-- the definition of a sheet: its word, the greatest number of its events, and its text for a head and a
+-- list
 pub record SheetMeaning : Type 0 where
   pub word : List ℕ
   pub limit : ℕ
@@ -26,10 +27,10 @@ pub record IsHead (head : Head) : Type 0 where
 abbrev pub first_head : Head
 first_head = record { name = []; units = Feet; now = pos 0 }
 
--- the answer of a sheet with a limit to one more event
+-- the answer to another event of a sheet with a limit
 abbrev pub taken_of : ℕ → List Event → Taken
 taken_of limit list = if length list == limit then Full else Kept
 
--- the list after one more event: a full list is unchanged
+-- the list after another event; a full list is unchanged
 abbrev pub list_after : ℕ → List Event → Event → List Event
 list_after limit list event = if length list == limit then list else list ++ event ∷ []

@@ -50,6 +50,6 @@ unfoldable pub tally_of : Head → List Event → List ℕ
 tally_of head events =
     head.name ++ codes "\n" ++ flat_map (λ word. count_line (count_at head.units events (place_of word)) word) names
 
--- the sheet `tally`
+-- the sheet `tally` with a limit
 abbrev pub tally_sheet : ℕ → SheetMeaning
 tally_sheet limit = record { word = codes "tally"; limit = limit; layout = tally_of }

@@ -10,7 +10,7 @@ use Rattle.report_sheets.specs.Tallies.{tally_sheet}
 use Rattle.report_sheets.specs.Ranges.{range_sheet}
 use Rattle.report_sheets.specs.Listings.{first_sheet}
 
--- the tides of a day of which the second high and low are as high and as low as the first
+-- the tides of a day; the second high and low are as high and as low as the first
 abbrev pub tides : List Event
 tides =
     low_tide ∷ high_tide

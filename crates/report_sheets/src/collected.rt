@@ -11,11 +11,11 @@ use decimal_text::Text;
 use harmonics_book::Units;
 use std::alloc::{AllocError, Global};
 
-/// The head with which a sheet was opened, and the events that it has taken since. A sheet that
-/// writes its text at the end can be built on it.
+/// The events of a sheet that writes its text at the end: the head with which the sheet was opened, and
+/// the events that it accepted since then.
 #[derive(Drop)]
 pub struct Collected {
-    /// The greatest number of events that the sheet takes, from 1 to 1,000,000.
+    /// The greatest number of events that the sheet accepts, from 1 to 1,000,000.
     pub limit: u32,
     pub head: Head,
     /// The events in their order. Each has a [`word`](event_text::word) in the head's unit, and a
@@ -31,8 +31,8 @@ impl Collected {
     ghost use Rattle.std.specs.Prelude.{◌≡◌, [], IfOk, OnOk, OnErr};
     ghost use Rattle.report_sheets.specs.Sheets.{first_head, taken_of, list_after};
 
-    /// Returns a collection of no event with an empty name, feet and minute 0 as its head. Doesn't
-    /// allocate.
+    /// Returns a collection without events; its head has an empty name, the unit feet and minute 0. It
+    /// doesn't allocate.
     pub fn new(alloc: Global, limit: u32) -> Collected
         requires { IsLimit limit }
         ensures limit { result.limit ≡ limit }
@@ -50,8 +50,7 @@ impl Collected {
         }
     }
 
-    /// Removes all events and takes a copy of `head`, as [`Sheet::open`](crate::Sheet::open)
-    /// requires.
+    /// Removes all events and stores a copy of `head`, as [`Sheet::open`](crate::Sheet::open) requires.
     pub fn open(&mut self, head: &Head) -> Result<(), AllocError>
         requires { IsHead head.now }
         ensures limit { self.new.limit ≡ self.old.limit }
@@ -64,8 +63,8 @@ impl Collected {
         Ok(())
     }
 
-    /// Appends `event` unless the collection is full, as [`Sheet::take`](crate::Sheet::take)
-    /// requires.
+    /// Appends `event`, unless there are as many events as the limit; then it changes nothing and
+    /// returns [`Taken::Full`].
     pub fn take(&mut self, event: &Event) -> Result<Taken, AllocError>
         requires { IsListed self.old.head.units event.now }
         ensures limit { self.new.limit ≡ self.old.limit }

@@ -1,4 +1,4 @@
-//! The sheet of the first events.
+//! The sheet with the first events.
 
 ghost use Rattle.std.specs.Prelude.{◌≡◌, refl, [], ◌++◌, OnOk};
 ghost use Rattle.event_text.specs.Lines.{IsListed, event_line_in};
@@ -20,7 +20,7 @@ use zone_time::Zone;
 /// [`event_line`] writes it.
 pub type FirstLines = SheetOf<FirstLinesPage>;
 
-/// The layout of [`FirstLines`].
+/// The layout of the sheet `first`, [`FirstLines`].
 pub struct FirstLinesPage;
 
 impl Layout for FirstLinesPage {

@@ -6,10 +6,10 @@ use decimal_text::Text;
 use harmonics_book::Units;
 use std::alloc::{AllocError, Global};
 
-/// The head of a report: a station, its unit and the minute at which the report is made.
+/// The head of a report: the station's name, its unit and the minute at which the report is made.
 #[derive(Drop)]
 pub struct Head {
-    /// The station's name.
+    /// The name of the station that the report is about.
     pub name: Text,
     /// The unit of the events' levels.
     pub units: Units,
@@ -18,7 +18,7 @@ pub struct Head {
 }
 
 impl Head {
-    /// Returns a copy.
+    /// Returns a copy of the head.
     pub fn copy(&self) -> Result<Head, AllocError>
         ensures { IfOk result (λ head. head ≡ self.entry.now) }
     {
@@ -29,7 +29,7 @@ impl Head {
         })
     }
 
-    /// Returns the first line of a page, the station's name.
+    /// Returns the first line of a sheet's page, which is the station's name.
     pub fn name_line(&self, alloc: Global) -> Result<Vec<u8>, AllocError>
         ensures { IfOk result (λ text. text.items ≡ self.entry.now.name ++ codes "\n") }
     {

@@ -15,7 +15,7 @@ use crate::ranges::RangesPage;
 use crate::tally::TallyPage;
 
 /// Proves that a sheet shows all events if they don't exceed its limit, and otherwise exactly the first
-/// ones up to the limit.
+/// events up to the limit.
 #[tactic(auto, unfolding(crate::specs::Pages::page_of))]
 pub fn pages_show_the_first_events()
     ensures all { (sheet : SheetMeaning) (head : Head) (events : List Event)
@@ -25,7 +25,7 @@ pub fn pages_show_the_first_events()
         × (length (take sheet.limit events) ≡ sheet.limit) }
 {}
 
-/// Proves that a tally, ranges and first lines have the layouts that `specs/` defines for them.
+/// Proves that the sheets `tally`, `range` and `first` have the layouts that `specs/` defines for them.
 pub fn sheets_write_their_layouts()
     ensures tally { ⟦<TallyPage as Layout>⟧.sheet ≡ tally_sheet }
     ensures range { ⟦<RangesPage as Layout>⟧.sheet ≡ range_sheet }

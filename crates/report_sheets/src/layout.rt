@@ -9,9 +9,10 @@ use curve_law::Event;
 use decimal_text::Bytes;
 use std::alloc::{AllocError, Global};
 
-/// A layout: the word of a sheet, and the text that it writes for a head and events.
+/// The layout of a sheet: the word that requests the sheet, and the text that it writes for a head and
+/// events.
 pub trait Layout {
-    /// The meaning of the sheet with a limit.
+    /// The definition of the sheet with a limit: its word, its limit and its text.
     ghost sheet: { ℕ → SheetMeaning };
 
     /// Returns the word that requests the sheet.
@@ -24,6 +25,6 @@ pub trait Layout {
         requires { All (IsListed head.now.units) events.now }
         ensures { (limit : ℕ) → IfOk result (λ text. text ≡ (sheet limit).layout head.entry.now events.now) };
 
-    /// The limit is the greatest number of events that the sheet takes.
+    /// The limit is the greatest number of events that the sheet accepts.
     ghost limited: { (limit : ℕ) → (sheet limit).limit ≡ limit };
 }

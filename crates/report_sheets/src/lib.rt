@@ -1,10 +1,10 @@
 //! Sheets: listings of one station's events, each in its layout, joined into a report.
 //!
-//! A [`Sheet`] has a word, is opened with a [`Head`], takes the events one by one up to its limit,
-//! and writes its text. [`Tally`] counts events, [`Ranges`] shows the highest and the lowest water,
-//! and [`FirstLines`] the first events; each is a [`SheetOf`] a [`Layout`]. [`missing`] finds a
-//! requested word that no sheet has, and [`fill`] writes the requested sheets. `specs/` has the
-//! layouts.
+//! A [`Sheet`] has a word that requests it; it is opened with a [`Head`], accepts events one by one up
+//! to its limit, and writes its text. [`Tally`] counts events, [`Ranges`] shows the highest and the
+//! lowest water, and [`FirstLines`] the first events; each is a [`SheetOf`] a [`Layout`]. [`missing`]
+//! returns a requested word that no sheet has, and [`fill`] writes the requested sheets. `specs/` has
+//! the layouts.
 #![tactic(auto)]
 
 mod collected;

@@ -14,7 +14,8 @@ use curve_law::{Event, Events};
 use decimal_text::{Bytes, Text, Words};
 use std::alloc::{AllocError, Global};
 
-/// Returns the index of the first word in `wanted` that no sheet has. Doesn't allocate.
+/// Returns the index of the first word in `wanted` that no sheet has, or `None` if there isn't one. It
+/// doesn't allocate.
 pub fn missing(sheets: &Vec<Box<dyn Sheet>>, wanted: &Words) -> Option<u64>
     ensures { result ≡ missing_of (map meaning sheets.now.items) wanted.now }
 {
@@ -84,8 +85,8 @@ fn is_wanted(sheet: &Box<dyn Sheet>, wanted: &[Text]) -> bool
     false
 }
 
-/// Appends the page of `sheet`: opens it with `head`, offers it `events` until it is full, and
-/// appends its text.
+/// Appends the page of `sheet`: opens it with `head`, passes it `events` until it is full, and appends
+/// its text.
 #[tactic(auto, unfolding(crate::specs::Pages::page_of))]
 fn push_page(
     text: &mut Vec<u8>,
@@ -107,7 +108,7 @@ fn push_page(
     push_text(text, sheet)
 }
 
-/// Offers `event` to `sheet`.
+/// Passes `event` to `sheet`.
 fn offer(sheet: &mut Box<dyn Sheet>, event: &Event) -> Result<Taken, AllocError>
     requires { IsListed (heading sheet.old).units event.now }
     ensures unchanged { meaning sheet.new ≡ meaning sheet.old }

@@ -18,12 +18,12 @@ use harmonics_book::Units;
 use std::alloc::{AllocError, Global};
 use zone_time::write_moment;
 
-/// The sheet `range`: the station's name; a line such as `Highest 1.00 feet 2000-01-10T11:59Z` for
-/// the first high of greatest level; and one such as `Lowest -1.00 feet 2000-01-10T06:00Z` for the
-/// first low of least level.
+/// The sheet `range`: the station's name; a line such as `Highest 1.00 feet 2000-01-10T11:59Z` for the
+/// first of the highest high waters; and a line such as `Lowest -1.00 feet 2000-01-10T06:00Z` for the
+/// first of the lowest low waters.
 pub type Ranges = SheetOf<RangesPage>;
 
-/// The layout of [`Ranges`].
+/// The layout of the sheet `range`, [`Ranges`].
 pub struct RangesPage;
 
 impl Layout for RangesPage {
@@ -60,7 +60,7 @@ fn push_extreme(
     }
 }
 
-/// Returns the first high of greatest level, or the first low of least level.
+/// Returns the first of the highest high waters, or the first of the lowest low waters.
 fn first_extreme(extreme: Extreme, events: &[Event]) -> Option<Event>
     ensures { result ≡ extreme_of extreme events.now }
 {

@@ -13,8 +13,8 @@ use curve_law::Event;
 use decimal_text::{Bytes, Text};
 use std::alloc::AllocError;
 
-/// A listing of events in some layout. A sheet is opened with a head, takes events up to its limit, and
-/// returns the text for this head and these events.
+/// A listing of events in some layout. A sheet is opened with a head, accepts events up to its limit,
+/// and returns the text for this head and these events.
 ///
 /// Its word, its limit and its layout never change.
 pub trait Sheet: Drop {
@@ -24,10 +24,10 @@ pub trait Sheet: Drop {
     /// The head with which the sheet was last opened.
     ghost heading: { Self → Head };
 
-    /// The events taken since then, in their order.
+    /// The events accepted since then, in their order.
     ghost list: { Self → List Event };
 
-    /// Returns true if `word` is the sheet's word. Doesn't allocate.
+    /// Returns true if `word` is the sheet's word. It doesn't allocate.
     fn named(&self, word: &Text) -> bool
         ensures { result ≡ bytes_eq word.now (meaning self.now).word };
 

@@ -21,7 +21,8 @@ pub struct SheetOf<L> {
 }
 
 impl<L: Layout> SheetOf<L> {
-    /// Returns a sheet of at most `limit` events, which is 1 to 1,000,000. Doesn't allocate.
+    /// Returns a sheet that accepts at most `limit` events; `limit` is from 1 to 1,000,000. It doesn't
+    /// allocate.
     pub fn new(alloc: Global, limit: u32) -> SheetOf<L>
         requires { IsLimit limit }
         ensures meaning { ⟦<SheetOf<L> as Sheet>⟧.meaning result ≡ L.sheet limit }

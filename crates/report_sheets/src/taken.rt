@@ -1,10 +1,10 @@
 //! The answer of a sheet to an event.
 
-/// The answer of a sheet to an event that it is offered.
+/// The result of passing an event to a sheet: whether the sheet took it.
 #[derive(Clone, Copy, PartialEq, Eq)]
 pub enum Taken {
     /// The event was appended to the sheet's list.
     Kept,
-    /// The list has as many events as the sheet takes, and is unchanged.
+    /// The sheet's list has as many events as its limit, and is unchanged.
     Full,
 }

@@ -30,11 +30,11 @@ const NAMES: [EventWord; 10] = [
     EventWord::MarkFalling,
 ];
 
-/// The sheet `tally`: the station's name, and a line such as `2 High Tide` for each name that an
-/// event has.
+/// The sheet `tally`, which counts events: the station's name, and a line such as `2 High Tide` for each
+/// name that an event has.
 pub type Tally = SheetOf<TallyPage>;
 
-/// The layout of [`Tally`].
+/// The layout of the sheet `tally`, [`Tally`].
 pub struct TallyPage;
 
 impl Layout for TallyPage {

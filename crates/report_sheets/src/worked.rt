@@ -22,7 +22,7 @@ pub fn worked_ranges()
 {}
 
 /// Proves an example of a report: the pages of the requested sheets in the order of the sheets; the last
-/// sheet takes two events.
+/// sheet has a limit of two events.
 pub fn worked_pages()
     ensures first { pages_of (sheets_with 2) (codes "first" ∷ codes "tally" ∷ []) pier tides
         ≡ codes "Pier\n2 High Tide\n2 Low Tide\nPier\n2000-01-10 06:00 UTC      -1.00 feet  Low Tide\n2000-01-10 11:59 UTC       1.00 feet  High Tide\n" }
@@ -31,7 +31,7 @@ pub fn worked_pages()
     ensures none_wanted { pages_of (sheets_with 2) [] pier tides ≡ [] }
 {}
 
-/// Proves examples of the first requested word that no sheet has.
+/// Proves examples of which requested word is the first that no sheet has.
 #[tactic(auto, unfolding(crate::specs::Pages::missing_of))]
 pub fn worked_words()
     ensures second { missing_of (sheets_with 10) (codes "tally" ∷ codes "graph" ∷ codes "table" ∷ []) ≡ Some 1 }

@@ -4,7 +4,7 @@ use Rattle.std.specs.Prelude.{ℕ, ◌+◌, ◌%◌, ◌==◌, nat_le, if◌then
 use Rattle.decimal_text.specs.Writing.{write_of}
 use Rattle.sample_tides.specs.Parts.{Part, append, line, draw, ◌>>=◌, ◌>>◌, each}
 
--- the name of the k-th constituent
+-- the name of constituent k, counted from 1
 unfoldable pub name_of : ℕ → List ℕ
 name_of k =
     if k == 1 then codes "M2"
@@ -29,7 +29,7 @@ constituent k = do
 unfoldable pub hundredths : ℕ → List ℕ
 hundredths n = write_of (pos n) 2
 
--- a drawn decimal: one of `bound` numbers from `least` on, over 10 ^ places
+-- a drawn decimal: one of the `bound` numbers from `least` on, over 10 ^ places
 unfoldable pub value : (least bound places : ℕ) → Part
 value least bound places = do
   more ← draw bound
@@ -60,11 +60,11 @@ level = do
   feet ← draw 1001
   line (hundredths feet ++ codes " feet")
 
--- the datum of the i-th station; every fifth is of currents
+-- the datum of station i; every fifth station is a current station
 unfoldable pub datum : ℕ → Part
 datum i = if i % 5 == 0 then line (codes "0.00 knots") else level
 
--- the amplitude and the epoch of the k-th constituent; every seventh is absent
+-- the amplitude and the epoch of constituent k; every seventh is absent
 unfoldable pub constants : ℕ → Part
 constants k =
     if k % 7 == 0 then line (codes "x 0 0")
@@ -73,7 +73,7 @@ constants k =
       epoch ← draw 36000
       line (name_of k ++ codes " " ++ hundredths amplitude ++ codes " " ++ hundredths epoch)
 
--- the i-th station
+-- the record of station i
 unfoldable pub station : ℕ → Part
 station i = do
   line (codes "Station " ++ decimal i)

@@ -2,7 +2,7 @@
 -- of Knuth's MMIX; the high half of its state is scaled to a range.
 use Rattle.std.specs.Prelude.{ℕ, ◌+◌, ◌*◌, ◌/◌, ◌%◌, ◌^◌}
 
--- the next state
+-- the generator's next state
 unfoldable pub next : ℕ → ℕ
 next state = (state * 6364136223846793005 + 1442695040888963407) % 2 ^ 64
 

@@ -2,7 +2,7 @@
 use Rattle.std.specs.Prelude.{ℕ, zero, suc, ◌+◌, List, ◌++◌, codes}
 use Rattle.sample_tides.specs.Generator.{next, scaled_to}
 
--- the text so far, and the state of the generator
+-- the text written until now, and the state of the generator
 pub record SampleWriter : Type 0 where
   pub text : List ℕ
   pub state : ℕ
@@ -11,7 +11,7 @@ pub record SampleWriter : Type 0 where
 abbrev pub Part : Type 0
 Part = SampleWriter → SampleWriter
 
--- one part after another
+-- one part after another part
 infixl 10 ◌>>◌
 abbrev pub ◌>>◌ : Part → Part → Part
 (first >> then) writer = then (first writer)
@@ -24,15 +24,15 @@ append text writer = record { text = writer.text ++ text; state = writer.state }
 abbrev pub line : List ℕ → Part
 line text = append (text ++ codes "\n")
 
--- the state is advanced once, before each draw
+-- advances the generator's state once, before each draw
 unfoldable pub moved : Part
 moved writer = record { text = writer.text; state = next writer.state }
 
--- a drawn number below `bound`
+-- a drawn number below `bound`, and the writer after the draw
 abbrev pub draw : ℕ → SampleWriter → ℕ × SampleWriter
 draw bound writer = (scaled_to bound (moved writer).state, moved writer)
 
--- a draw, then the part that uses the number
+-- a draw, and then the part that uses the drawn number
 infixl 10 ◌>>=◌
 abbrev pub ◌>>=◌ : (SampleWriter → ℕ × SampleWriter) → (ℕ → Part) → Part
 (drawn >>= part) writer = part (drawn writer).0 (drawn writer).1

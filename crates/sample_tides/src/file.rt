@@ -28,7 +28,7 @@ const FACTOR: Quantity = Quantity {
 };
 
 /// Returns the sample file of `seed`: a harmonics file of 8,192 lines, with 37 constituents, 30 years
-/// from 2000 on and 200 stations, every fifth of them of currents.
+/// from 2000 on and 200 stations, of which every fifth is a current station.
 ///
 /// # Errors
 /// [`AllocError`] if memory runs out.

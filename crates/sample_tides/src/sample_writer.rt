@@ -1,4 +1,4 @@
-//! The text written so far, with the generator of its numbers.
+//! The text written until now, with the generator of its numbers.
 
 ghost use Rattle.std.specs.Prelude.{◌≡◌, ◌<◌, ◌≤◌, [], IfOk, OnOk, pos, decimal};
 ghost use Rattle.decimal_text.specs.Writing.{write_of};
@@ -11,7 +11,7 @@ use itoa::Buffer;
 use std::alloc::{AllocError, Global};
 use std::marker::Model;
 
-/// The text written so far, and the generator of the numbers that are still to be drawn.
+/// The text written until now, and the generator of the numbers that are still to be drawn.
 #[derive(Drop)]
 pub(crate) struct SampleWriter {
     text: Vec<u8>,

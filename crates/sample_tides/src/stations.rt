@@ -65,8 +65,8 @@ fn append_level(writer: &mut SampleWriter) -> Result<(), AllocError>
     writer.append(b"\n")
 }
 
-/// Appends the amplitude and the epoch of constituent `constituent`, counted from 1; every seventh is
-/// absent.
+/// Appends the amplitude and the epoch of constituent `constituent`, counted from 1. Every seventh
+/// constituent is absent.
 #[tactic(auto, using(crate::proofs::PartsLemmas::append_twice), unfolding(crate::specs::File::constants))]
 fn append_constants(writer: &mut SampleWriter, constituent: u32) -> Result<(), AllocError>
     ensures { OnOk result (writer.new ≡ constants constituent writer.old) }

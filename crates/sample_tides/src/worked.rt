@@ -4,7 +4,7 @@ ghost use Rattle.std.specs.Prelude.{◌≡◌, ◌-◌, ◌/◌, ◌^◌, [], co
 ghost use Rattle.sample_tides.specs.Generator.{next, scaled_to};
 ghost use Rattle.sample_tides.specs.File.{heading, constituent, value, meridian, level, datum, constants};
 
-/// Proves the first draw of seed 0, and the state after one that wraps.
+/// Proves the first number that the generator draws for seed 0, and the state after one that wraps.
 #[tactic(auto, unfolding(crate::specs::Generator::next, crate::specs::Generator::scaled_to))]
 pub fn worked_draws()
     ensures first_state { next 0 ≡ 1442695040888963407 }

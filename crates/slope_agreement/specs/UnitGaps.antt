@@ -1,4 +1,4 @@
--- The difference between the change of the cosine over some units and its slope at their begin (this
+-- The difference between the change of the cosine over some units and its slope at their beginning (this
 -- project): the change over one unit is within 100,000 billionths of the slope, and over the units the
 -- slope itself changes by at most the sine's step.
 use Rattle.std.specs.Prelude.{ℕ, ◌+◌, ◌*◌, ◌%◌, ◌<◌, ◌≤◌, pos, ◌+ℤ◌, ◌-ℤ◌, ◌*ℤ◌, unsigned_abs}
@@ -14,18 +14,19 @@ each_unit = 100000
 abbrev pub two_cuts : ℕ
 two_cuts = 2 * radian
 
--- the bound over w units, in billionths times the units of a radian: the slope's own change, the gap of
--- each unit, and rounding
+-- the bound on the difference over w units, in billionths times the units of a radian: the slope's
+-- change, the gap of each unit, and rounding
 unfoldable pub unit_gap_of : ℕ → ℕ
 unit_gap_of w = w * step_of w + each_unit * w + two_cuts
 
--- over w units from each angle the cosine falls by w times the sine, within the bound
+-- over w units from each angle the cosine falls by w times the sine there, within the bound `unit_gap_of
+-- w`
 abbrev pub SlopeLaw : ℕ → Type 0
 SlopeLaw w =
     (p : ℕ) → p < circle →
     unsigned_abs ((pos radian *ℤ (icos_of ((p + w) % circle) -ℤ icos_of p)) +ℤ (pos w *ℤ isin_of p)) ≤ unit_gap_of w
 
--- over w units the cosine falls by w times the sine at their end, within the same bound
+-- over w units the cosine falls by w times the sine at their end, within the bound `unit_gap_of w`
 abbrev pub SlopeLawBefore : ℕ → Type 0
 SlopeLawBefore w =
     (p : ℕ) → p < circle →

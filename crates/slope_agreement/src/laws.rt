@@ -9,8 +9,8 @@ ghost use Rattle.harmonics_book.specs.Books.{IsBook, IsStation};
 ghost use Rattle.station_curve.specs.Curves.{first_fault, prediction_of, IsPrediction};
 ghost use Rattle.slope_agreement.specs.Agreements.{predicted_gap, predicted_gap_before, IsPlainMinute, agreement_of, predicted_agreement};
 
-/// Proves two checks of the whole table: at the begin and at the end of each degree the slope of the
-/// interpolated sine is within 30,000 billionths of the cosine's entry.
+/// Proves two checks of the whole table of sines: at the beginning and at the end of each degree the
+/// slope of the interpolated sine is within 30,000 billionths of the cosine's entry.
 pub fn table_checks()
     ensures begins { (k : ℕ) → k < 90 → unsigned_abs
         ((pos radian *ℤ ((pos 4 *ℤ rise k) -ℤ correction k)) -ℤ (pos (4 * degree) *ℤ sine_at (pos (90 - k))))
@@ -20,10 +20,10 @@ pub fn table_checks()
         ≤ 4 * degree * 30000 }
 {}
 
-/// Proves that the curve of all minutes has the bound by every constituent of the book, and that the
-/// station's level keeps to it at each minute outside blends, if no year exceeds a limit: the rise to
-/// the next minute is within the bound of the slope at the begin of the minute, and of the slope at its
-/// end.
+/// Proves for a curve of all minutes that its slope error bound, computed from its years, is the bound
+/// defined by every constituent of the book; and that, if no year exceeds a limit, at each minute
+/// outside blends the rise of the level to the next minute differs by at most this bound from the slope
+/// at the beginning of the minute, and from the slope at its end.
 pub fn predicted_agreements()
     ensures value { (b : Book) (s : Station) → IsPrediction (prediction_of b s) → agreement_of (prediction_of b s) ≡ predicted_agreement b s }
     ensures law { (b : Book) (s : Station) (m : ℤ) (year : ℕ) → IsBook b → IsStation (length b.constituents) s

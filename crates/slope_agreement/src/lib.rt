@@ -1,7 +1,7 @@
 //! The slope error bound of a station: how far its slope is from the steps of its level.
 //!
-//! Level and slope are sums of cosines and sines in whole numbers, so the slope isn't exactly the rise of
-//! the level in a minute. [`unit_gap`] bounds the difference for one wave, by its speed alone, and
+//! Level and slope are sums of cosines and sines in whole numbers, so the slope isn't exactly the rise
+//! of the level in a minute. [`unit_gap`] bounds the difference for one wave, from only its speed, and
 //! [`agreement`] for a station, over all its years.
 #![tactic(auto)]
 

@@ -12,9 +12,9 @@ use year_blend::TOTAL_WEIGHT;
 /// The total weight.
 const WEIGHT: i128 = TOTAL_WEIGHT as i128;
 
-/// Returns a bound on the difference between the rise of the level of `station` in a minute and the slope
-/// at the begin of that minute, over all its minutes that are outside blends together with the next one:
-/// the greatest bound of the years, in the slope's unit.
+/// Returns the slope error bound of `station`, in the slope's unit: a bound on the difference between
+/// the rise of the level in a minute and the slope at the beginning of that minute. It holds at each
+/// minute that is, like the next one, outside blends, and is the greatest bound of any year.
 pub fn agreement(station: &StationCurve) -> i128
     ensures value { result ≡ agreement_of station.now }
     ensures law { (m : ℤ) (year : ℕ) → IsPredicted station.now m

@@ -1,4 +1,4 @@
--- The faults of a certificate whose request is in order, and the line that reports one (this project).
+-- The faults of a certificate's tracks, and the line that reports one (this project).
 use Rattle.std.specs.Prelude.{ℕ, ◌<◌, ◌^◌, Bool, true, false, List, ◌++◌, length, codes, decimal, Option, Some, None, is_some}
 use Rattle.std.specs.Option.{option_or, ForSome}
 use Rattle.std.specs.Fmt.{signed_decimal}
@@ -22,7 +22,7 @@ use Rattle.station_cells.specs.declared.rejection.Rejection.TheVariants.{SlackWa
 abbrev pub cell_text : ℕ → List ℕ
 cell_text cell = codes ": cell " ++ decimal cell
 
--- the end of a track's line: what its verdict says
+-- the end of a track's line: what its verdict says about the cells
 unfoldable pub finding_text : Verdict → List ℕ
 finding_text Accepted = codes ": accepted\n"
 finding_text (WrongLength covered wanted) =
@@ -40,24 +40,25 @@ rejection_line (Track track finding) = codes "Rejected: track " ++ track_word tr
 
 -- ---- the first fault
 
--- the slack track is present exactly if it is required
+-- the fault of the slack track: it must be present exactly if it is required
 abbrev pub slack_fault : Bool → Bool → Option Rejection
 slack_fault true false = Some SlackWanted
 slack_fault false true = Some SlackNotWanted
 slack_fault true true = None
 slack_fault false false = None
 
--- the verdict on a track as a rejection, if it doesn't accept
+-- the rejection with a track's verdict, or None if the verdict accepts
 abbrev pub fault_from : TrackName → Verdict → Option Rejection
 fault_from track Accepted = None
 fault_from track finding = Some (Track track finding)
 
--- the fault of a track's cells by its curve, over the minutes of the reference that are evaluated
+-- the fault of a track's cells by its curve, over the evaluated minutes of the reference
 abbrev pub track_fault : Span → TrackName → Option Meaning → Option (List Cell) → Option Rejection
 track_fault span track (Some curve) (Some cells) = fault_from track (verdict curve span.begin (span_minutes span) cells)
 track_fault span track _ _ = None
 
--- the first fault: whether the slack track is required, and then the tracks one after the other
+-- the first fault of tracks: whether the slack track is present exactly if required, and then each track
+-- in turn
 unfoldable pub rejection_of : Followed → Span → Tracks → Option Rejection
 rejection_of curves span tracks =
     option_or (option_or (option_or

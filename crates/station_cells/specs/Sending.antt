@@ -26,8 +26,8 @@ use Rattle.tide_edge.specs.declared.writing.WriteFailed.{WriteFailed}
 use Rattle.tide_edge.specs.SinkStates.{SinkState, put, sink_failed}
 use Rattle.station_cells.specs.declared.sending.Sent.{Sent}
 
--- a piece of a text and its cells are written after what was sent before: all of it, or the bytes that were
--- sent when a write failed
+-- a piece of a text and its cells are written after the bytes sent before: the whole piece, or the bytes
+-- sent until a write failed
 abbrev pub Sends : SinkState → SinkState → Sent → List ℕ → ℕ → Result Sent WriteFailed → Type 0
 Sends before after sent text cells (Ok done) =
     (done.bytes ≡ sent.bytes + length text) × (done.cells ≡ sent.cells + cells) × (after ≡ put text before)
@@ -35,19 +35,19 @@ Sends before after sent text cells (Err fault) =
     (sent.bytes ≤ fault.sent) × (fault.sent < sent.bytes + length text)
     × (after ≡ sink_failed (put (take (fault.sent - sent.bytes) text) before))
 
--- a line has room in a buffer after what it holds
+-- a buffer with these contents has room for a line
 abbrev pub has_room : List ℕ → List ℕ → Bool
 has_room held line = nat_le (length held + length line) 4096
 
--- the bytes of a buffer that are written before a line is put into it
+-- the bytes of a buffer that are written before a line is appended to it
 abbrev pub gone_for : List ℕ → List ℕ → List ℕ
 gone_for held line = if has_room held line then [] else held
 
--- the bytes of a buffer after a line was put into it
+-- the contents of a buffer after a line was appended to it
 abbrev pub held_after : List ℕ → List ℕ → List ℕ
 held_after held line = if has_room held line then held ++ line else line
 
--- the number of cells that a search has left, if there is one
+-- the number of remaining cells of a search, 0 without a search
 abbrev pub left_count : {C : Type 0} → Option (Looking C) → ℕ
 left_count None = 0
 left_count (Some search) = length search.left

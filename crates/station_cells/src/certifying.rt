@@ -1,4 +1,4 @@
-//! The cells of a track, written as they are found. None of these functions allocates.
+//! The cells of a track, written while they are found. None of these functions allocates.
 
 ghost use Rattle.std.specs.Prelude.{◌≡◌, ◌+◌, ◌*◌, ◌<◌, ◌≤◌, ◌^◌, length, map, All, IfOk, OnOk};
 ghost use Rattle.std.specs.Option.{ForSome};
@@ -15,10 +15,10 @@ use curve_law::{Cell, Curve};
 use interval_search::Search;
 use tide_edge::{Sink, WriteFailed};
 
-/// Writes the heading and the cells of `track`, if there is a search for it.
+/// Writes the heading and the cells of `track`, or nothing if `search` is `None`.
 ///
 /// # Errors
-/// [`WriteFailed`] if the sink fails: then it holds a prefix of the lines.
+/// [`WriteFailed`] if the sink fails: then it has a prefix of the lines.
 #[tactic(auto, using(crate::proofs::SendLemmas::same_state))]
 pub fn send_if_followed<C: Curve + Drop, S: Sink>(
     out: &mut S,
@@ -39,10 +39,10 @@ pub fn send_if_followed<C: Curve + Drop, S: Sink>(
     }
 }
 
-/// Writes the heading of `track`, and the line of each cell that `search` still finds.
+/// Writes the heading of `track`, and the line of each remaining cell of `search`.
 ///
 /// # Errors
-/// [`WriteFailed`] if the sink fails: then it holds a prefix of the lines.
+/// [`WriteFailed`] if the sink fails: then it has a prefix of the lines.
 pub fn send_track<C: Curve + Drop, S: Sink>(
     out: &mut S,
     sent: Sent,
@@ -61,7 +61,7 @@ pub fn send_track<C: Curve + Drop, S: Sink>(
     send_cells(out, sent, search)
 }
 
-// Writes the line of each cell that `search` still finds.
+/// Writes the line of each remaining cell of `search`.
 fn send_cells<C: Curve + Drop, S: Sink>(
     out: &mut S,
     sent: Sent,
@@ -82,7 +82,7 @@ fn send_cells<C: Curve + Drop, S: Sink>(
     buffer.end(out, so_far)
 }
 
-// Puts the line of `cell` on `buffer`, and counts the cell.
+/// Appends the line of `cell` to `buffer`, and counts the cell.
 fn put_cell<S: Sink>(
     buffer: &mut LineBuffer,
     out: &mut S,
@@ -107,7 +107,8 @@ fn put_cell<S: Sink>(
     put_cell_at_end(buffer, out, sent, cell)
 }
 
-// Does the same if the buffer may have to be written first.
+/// Appends the line of `cell` to `buffer`, which is written first if the line doesn't fit, and counts the
+/// cell.
 #[cold]
 #[inline(never)]
 fn put_cell_at_end<S: Sink>(

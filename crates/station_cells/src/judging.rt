@@ -13,9 +13,9 @@ use cert_text::TrackName;
 use curve_law::{Cells, Curve, Tracks, Verdict};
 use event_list::Span;
 
-/// Returns the first fault of `tracks` over `span`, or `None` if they are right: first whether the
-/// slack track is present exactly if there is a curve `slack`, and then the cells of each track. No
-/// curve has been evaluated yet, and each is valid over the span. Doesn't allocate.
+/// Returns the first fault of `tracks` over `span`, or `None` if they are right. It checks first whether
+/// the slack track is present exactly if there is a curve `slack`, and then the cells of each track. No
+/// curve has been evaluated yet, and each is valid over the span. It doesn't allocate.
 #[tactic(auto, unfolding(crate::specs::Rejections::rejection_of))]
 pub fn rejection_over<A: Curve + Drop, B: Curve + Drop>(
     turn: A,
@@ -46,7 +46,7 @@ pub fn rejection_over<A: Curve + Drop, B: Curve + Drop>(
     fault_if_followed(TrackName::Mark, mark, &tracks.mark, span)
 }
 
-// Returns a rejection unless the slack track is present exactly if it is required.
+/// Returns a rejection unless the slack track is present exactly if it is required.
 fn slack_fault(is_asked: bool, is_there: bool) -> Option<Rejection>
     ensures { result ≡ slack_fault is_asked is_there }
 {
@@ -57,8 +57,7 @@ fn slack_fault(is_asked: bool, is_there: bool) -> Option<Rejection>
     }
 }
 
-/// Returns the first fault of a track's cells, or `None` if the track isn't followed or the cells
-/// are right.
+/// Returns the first fault of a track's cells, or `None` if there is no curve or the cells are right.
 fn fault_if_followed<C: Curve + Drop>(
     track: TrackName,
     curve: Option<C>,
@@ -75,7 +74,7 @@ fn fault_if_followed<C: Curve + Drop>(
     }
 }
 
-/// Returns the first fault of `cells` as the cells of `track`, or `None` if they are right.
+/// Returns the first fault of `cells` in the track `track`, or `None` if they are right.
 fn track_fault<C: Curve + Drop>(
     track: TrackName,
     curve: C,

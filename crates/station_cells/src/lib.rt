@@ -1,9 +1,9 @@
-//! The cells of the curves that are followed at a station, and the check of a certificate's cells.
+//! The cells of a station's curves, and the check of a certificate's cells.
 //!
-//! [`tracks_over`] finds the cells of each curve, [`rejection_over`] the first fault of cells that
-//! anybody wrote, and [`rejection_line`] prints it. [`send_track`] writes the cells as a search
-//! finds them, buffered in a [`LineBuffer`]. The functions take any curve; `specs/Rejections.antt`
-//! defines the order of faults.
+//! [`tracks_over`] returns the cells of each curve, [`rejection_over`] the first fault of given cells,
+//! however they were made, and [`rejection_line`] the line that reports it. [`send_track`] writes the
+//! cells while a search finds them, buffered in a [`LineBuffer`]. The functions take any curve;
+//! `specs/Rejections.antt` defines the order of faults.
 #![tactic(auto)]
 
 mod certifying;

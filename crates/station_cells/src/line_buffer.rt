@@ -1,4 +1,4 @@
-//! A buffer of lines, which saves a system call for each line.
+//! A buffer of lines, so that several lines need only one system call.
 
 ghost use Rattle.std.specs.Prelude.{◌≡◌, ◌+◌, ◌<◌, ◌≤◌, ◌^◌, ◌↔◌, IsTrue, [], length, OnErr, OnOk};
 ghost use Rattle.cert_text.specs.Certificates.{IsCell};
@@ -21,7 +21,7 @@ pub struct LineBuffer {
 }
 
 impl LineBuffer {
-    /// Returns an empty buffer.
+    /// Returns an empty buffer of lines.
     pub fn new() -> LineBuffer
         ensures { result.text.bytes ≡ [] }
     {
@@ -37,7 +37,7 @@ impl LineBuffer {
         self.text.len() + MOST_CELL_BYTES <= self.text.capacity()
     }
 
-    /// Appends the line of `cell`, for which there is room.
+    /// Appends the line of `cell`; the buffer has room for it.
     pub fn put_cell(&mut self, cell: &Cell)
         requires cell { IsCell cell.now }
         requires room { length self.old.text.bytes + MOST_CELL_BYTES ≤ 4096 }
@@ -48,8 +48,8 @@ impl LineBuffer {
         push_cell_line(cell, &mut self.text);
     }
 
-    /// Appends `line`, of at most 4,096 bytes, to the buffer. If there is no room for it the buffer
-    /// is written first.
+    /// Appends `line`, of at most 4,096 bytes, to the buffer. If the buffer has no room for it, the
+    /// buffer's contents are written to `out` first.
     ///
     /// # Errors
     /// [`WriteFailed`] if this write fails: then the buffer is unchanged.
@@ -71,7 +71,7 @@ impl LineBuffer {
         Ok(done)
     }
 
-    /// Writes the buffer.
+    /// Writes the buffer's contents to `out`.
     ///
     /// # Errors
     /// [`WriteFailed`] if the write fails.

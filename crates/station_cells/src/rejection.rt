@@ -10,18 +10,18 @@ use curve_law::Verdict;
 use decimal_text::Bytes;
 use std::alloc::{AllocError, Global};
 
-/// The first fault of the tracks of a certificate whose request is in order.
+/// The first fault of the tracks of a certificate.
 #[derive(Clone, Copy, PartialEq, Eq)]
 pub enum Rejection {
-    /// The slack track is required and isn't there.
+    /// The slack track is required, and the certificate doesn't have it.
     SlackWanted,
-    /// The slack track is there and isn't required.
+    /// The certificate has a slack track, and none is required.
     SlackNotWanted,
-    /// The verdict on the cells of a track.
+    /// The verdict on the cells of this track, which rejects them.
     Track(TrackName, Verdict),
 }
 
-/// Returns the line that reports `rejection`, with its LF.
+/// Returns the line that reports `rejection` of a certificate, with its LF.
 #[tactic(auto, unfolding(crate::specs::Rejections::rejection_line))]
 pub fn rejection_line(alloc: Global, rejection: Rejection) -> Result<Bytes, AllocError>
     ensures { IfOk result (λ line. line ≡ rejection_line rejection) }
@@ -47,7 +47,7 @@ fn track_text(alloc: Global, track: TrackName, finding: Verdict) -> Result<Strin
     Ok(text)
 }
 
-/// Returns the end of that line: what `finding` says of the cells.
+/// Returns the end of the line that reports a track's verdict: what `finding` says about the cells.
 #[tactic(auto, unfolding(crate::specs::Rejections::finding_text))]
 fn finding_text(alloc: Global, finding: Verdict) -> Result<String, AllocError>
     ensures { IfOk result (λ text. string_bytes text ≡ finding_text finding) }
@@ -65,7 +65,7 @@ fn finding_text(alloc: Global, finding: Verdict) -> Result<String, AllocError>
     }
 }
 
-/// Returns the end of the line for cells that cover `covered` minutes in place of `wanted`.
+/// Returns the end of the line for cells that have `covered` minutes instead of `wanted`.
 fn length_text(alloc: Global, covered: i64, wanted: i64) -> Result<String, AllocError>
     ensures { IfOk result (λ text. string_bytes text
         ≡ (codes ": cells cover " ++ signed_decimal covered) ++ (codes " of " ++ signed_decimal wanted ++ codes " minutes\n")) }
@@ -76,7 +76,7 @@ fn length_text(alloc: Global, covered: i64, wanted: i64) -> Result<String, Alloc
     Ok(text)
 }
 
-// Returns the end of the line for the cell with the number `cell`, counted from 1.
+/// Returns the end of the line for the cell with the number `cell`, counted from 1.
 fn cell_text(alloc: Global, cell: u32, said: &str) -> Result<String, AllocError>
     ensures { IfOk result (λ text. string_bytes text ≡ cell_text cell ++ said.now) }
 {
@@ -85,7 +85,7 @@ fn cell_text(alloc: Global, cell: u32, said: &str) -> Result<String, AllocError>
     Ok(text)
 }
 
-/// Returns the end of the line for a cell whose level `written` isn't the `computed` one, in
+/// Returns the end of the line for a cell with a `written` level other than the `computed` one, in
 /// millionths.
 fn level_text(alloc: Global, cell: u32, written: i64, computed: i64) -> Result<String, AllocError>
     ensures { IfOk result (λ text. string_bytes text

@@ -9,13 +9,13 @@ use tide_edge::{Sink, WriteFailed, write_all};
 /// The progress of a text that is written piece by piece.
 #[derive(Clone, Copy)]
 pub struct Sent {
-    /// The number of its bytes that are written.
+    /// The number of bytes of the text that are written.
     pub bytes: u64,
-    /// The number of cells whose lines are written, or are in a buffer.
+    /// The number of cells whose lines are written or in a buffer.
     pub cells: u64,
 }
 
-/// Writes `piece` after what is written already, and returns the new progress.
+/// Writes `piece` to `out`, after the text that `sent` counts, and returns the new progress.
 ///
 /// # Errors
 /// [`WriteFailed`] if the sink fails.
@@ -34,7 +34,7 @@ pub fn send<S: Sink>(out: &mut S, sent: Sent, piece: &str) -> Result<Sent, Write
     }
 }
 
-/// Writes the line of `prefix` and `name`.
+/// Writes a line, `prefix` followed by `name`, to `out`, and returns the new progress.
 pub fn send_name<S: Sink>(
     out: &mut S,
     sent: Sent,

@@ -1,4 +1,4 @@
-//! The cells of the curves that are followed at a station.
+//! The cells of a station's curves.
 
 ghost use Rattle.std.specs.Prelude.{◌≡◌, ◌<◌, ◌^◌, length, option_map, option_to_list, sum_by, IfOk};
 ghost use Rattle.std.specs.Option.{ForSome};
@@ -10,8 +10,8 @@ use event_list::Span;
 use interval_search::search;
 use std::alloc::{AllocError, Global};
 
-/// Returns the cells of each curve over `span`. No curve has been evaluated yet, and each is valid
-/// over the span.
+/// Returns the cells of each curve over `span`: of `turn`, and of `slack` and `mark` if they are
+/// present. No curve has been evaluated yet, and each is valid over the span.
 pub fn tracks_over<A: Curve + Drop, B: Curve + Drop>(
     alloc: Global,
     turn: A,
@@ -43,7 +43,7 @@ fn cells_over<C: Curve + Drop>(alloc: Global, curve: C, span: &Span) -> Result<C
     search(alloc, &mut curve, span.begin, span.end)
 }
 
-/// Returns the cells of a curve that may not be followed.
+/// Returns the cells of an optional curve.
 fn cells_if_followed<C: Curve + Drop>(
     alloc: Global,
     curve: Option<C>,
@@ -58,7 +58,7 @@ fn cells_if_followed<C: Curve + Drop>(
     }
 }
 
-/// Returns the number of cells of all tracks.
+/// Returns the number of cells of all tracks together.
 #[tactic(auto, unfolding(event_list::specs::Events::cells_in))]
 pub fn cell_count(tracks: &Tracks) -> u64
     requires { cells_in tracks.now < 2 ^ 64 }

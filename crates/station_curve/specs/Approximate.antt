@@ -14,28 +14,30 @@ use Rattle.station_curve.specs.Levels.{minutes_into}
 use Rattle.station_curve.specs.Schureman.{predicted_level, predicted_slope}
 use Rattle.station_curve.specs.Curves.{waves_of}
 
--- the phase of a wave t minutes later, as a fraction of a turn
+-- the phase of a wave t minutes after its start, as a fraction of a turn
 abbrev pub binary_angle_after : Harmonic → ℕ → ℕ
 binary_angle_after h t = (binary_angle_of h.phase + binary_angle_of h.speed * t) % 2 ^ 64
 
--- the phase plus a quarter of a circle, whose sine is the cosine
+-- the phase of a wave t minutes after its start, plus a quarter of a turn: its sine is the cosine of the
+-- phase
 abbrev pub binary_angle_ahead : Harmonic → ℕ → ℕ
 binary_angle_ahead h t = (binary_angle_after h t + 2 ^ 62) % 2 ^ 64
 
--- the wave's approximate part of the level, in 2^15 billionths of a millionth
+-- the wave's approximate height (its part of the level) t minutes after its start, in 2^15 billionths of
+-- a millionth
 abbrev pub approximate_height_at : ℕ → Harmonic → ℤ
 approximate_height_at t h = h.amplitude *ℤ approximate_sine_of (binary_angle_ahead h t)
 
--- the wave's approximate part of the slope with the other sign, in 2^24 of the slope's unit: its speed is in
--- whole 2^9 units, so that a year's sum fits 64 bits
+-- the wave's approximate fall (minus its part of the slope) t minutes after its start, in 2^24 of the
+-- slope's unit: its speed is rounded down to a multiple of 2^9 units, so that a year's sum fits 64 bits
 abbrev pub approximate_fall_at : ℕ → Harmonic → ℤ
 approximate_fall_at t h = (h.amplitude *ℤ pos (h.speed / 2 ^ 9)) *ℤ approximate_sine_of (binary_angle_after h t)
 
--- the sum of the approximate heights
+-- the sum of the waves' approximate heights, t minutes after their start
 abbrev pub approximate_heights_of : ℕ → List Harmonic → ℤ
 approximate_heights_of t hs = fold (λ sum h. sum +ℤ approximate_height_at t h) (pos 0) hs
 
--- the sum of the approximate falls
+-- the sum of the waves' approximate falls, t minutes after their start
 abbrev pub approximate_falls_of : ℕ → List Harmonic → ℤ
 approximate_falls_of t hs = fold (λ sum h. sum +ℤ approximate_fall_at t h) (pos 0) hs
 
@@ -50,17 +52,17 @@ unfoldable pub approximate_year_slope : Book → Station → ℤ → ℕ → ℤ
 approximate_year_slope b s m year =
     neg_ℤ (pos (2 ^ 24) *ℤ approximate_falls_of (minutes_into b.first_year year m) (waves_of b s year))
 
--- an approximate value outside blends, and the exact one in a blend
+-- a value at minute m: the approximate value outside blends, the exact one in a blend
 abbrev pub approximate_or_exact : (ℕ → ℤ) → ℤ → Place → ℤ
 approximate_or_exact approximate exact (Plain year) = pos total_weight *ℤ approximate year
 approximate_or_exact approximate exact (Blend year x) = exact
 
--- the approximate level at minute m
+-- the approximate level at minute m, in the unit of the level
 unfoldable pub approximate_level_of : Book → Station → ℤ → ℤ
 approximate_level_of b s m =
     approximate_or_exact (approximate_year_level b s m) (predicted_level b s m) (place_of b.first_year b.years m)
 
--- the approximate slope at minute m
+-- the approximate slope at minute m, in the unit of the slope
 unfoldable pub approximate_slope_of : Book → Station → ℤ → ℤ
 approximate_slope_of b s m =
     approximate_or_exact (approximate_year_slope b s m) (predicted_slope b s m) (place_of b.first_year b.years m)

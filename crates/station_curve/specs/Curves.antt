@@ -15,7 +15,7 @@ use Rattle.station_curve.specs.Sums.{sums_of}
 use Rattle.station_curve.specs.Limits.{most_amount, most_steepness}
 use Rattle.station_curve.specs.Schureman.{constituents_of, speed_of, amplitude_of, phase_of}
 
--- the wave of constituent k in a year
+-- the wave of constituent k in a year, counted from 0
 abbrev pub wave_of : Book → Station → ℕ → ℕ → Harmonic
 wave_of b s year k = record {
   amplitude = amplitude_of b s year k;
@@ -37,7 +37,7 @@ is_touched b first last year =
 unfoldable pub waves_over : Book → Station → ℤ → ℤ → ℕ → List Harmonic
 waves_over b s first last year = if is_touched b first last year then waves_of b s year else []
 
--- what a curve predicts: a station of a book, at the minutes from `first` to `last`
+-- a prediction: a station of a book, and the minutes from `first` to `last`
 pub record Prediction : Type 0 where
   pub book : Book
   pub station : Station
@@ -57,11 +57,11 @@ prediction_over b s first last = record { book = b; station = s; first = first; 
 abbrev pub prediction_of : Book → Station → Prediction
 prediction_of b s = prediction_over b s (year_start_of b.first_year) (year_start_of (b.first_year +ℤ pos b.years))
 
--- the waves of a year that a prediction needs
+-- the waves of a year in a prediction: none if the prediction doesn't need the year
 abbrev pub waves_for : Prediction → ℕ → List Harmonic
 waves_for c year = waves_over c.book c.station c.first c.last year
 
--- the sums of a year that a prediction needs
+-- the sums of a year in a prediction: 0 if the prediction doesn't need the year
 abbrev pub sums_for : Prediction → ℕ → Sums
 sums_for c year = sums_of (waves_for c year)
 
@@ -72,12 +72,12 @@ year_fault b s year =
     else if nat_lt most_steepness (steepness_of (waves_of b s year)) then Some (TooSteep (b.first_year +ℤ pos year))
     else None
 
--- the first fault of the first years, `year` of them
+-- the first fault of the first `year` years
 unfoldable pub first_fault : Book → Station → ℕ → Option CurveFault
 first_fault b s zero = None
 first_fault b s (suc year) = option_or (first_fault b s year) (year_fault b s year)
 
--- the unit of a hydraulic current, whose speed is the square root of the predicted value
+-- the unit is a hydraulic current's, whose speed is the square root of the predicted value
 abbrev pub is_hydraulic : Units → Bool
 is_hydraulic KnotsSquared = true
 is_hydraulic Feet = false
@@ -98,7 +98,7 @@ curve_over b s first last =
 unfoldable pub curve_of : Book → Station → Result Prediction CurveFault
 curve_of b s = curve_over b s (year_start_of b.first_year) (year_start_of (b.first_year +ℤ pos b.years))
 
--- a fault is out of memory
+-- a fault is that memory ran out
 abbrev pub is_out_of_memory : CurveFault → Bool
 is_out_of_memory NoMemory = true
 is_out_of_memory _ = false
@@ -108,14 +108,15 @@ pub record AreTimes (b : Book) : Type 0 where
   pub years : AreYears b.first_year b.years
   pub speeds : (k : ℕ) → k < length b.constituents → (pos 0 ≤ℤ speed_of b k) × (speed_of b k ≤ℤ pos 3600000000)
 
--- a station of which no year is beyond a limit
+-- a station with no year beyond a limit
 pub record IsWithinLimits (b : Book) (s : Station) : Type 0 where
   pub times : AreTimes b
   pub datum : unsigned_abs s.datum ≤ 10 ^ 10
   pub amounts : (year : ℕ) → year < b.years → amount_of (waves_of b s year) ≤ most_amount
   pub steepnesses : (year : ℕ) → year < b.years → steepness_of (waves_of b s year) ≤ most_steepness
 
--- a prediction that a curve can have: of a station within the limits, at minutes of the book's years
+-- a prediction that a curve can have: the station is within the limits, and the minutes are in the
+-- book's years
 pub record IsPrediction (c : Prediction) : Type 0 where
   pub limits : IsWithinLimits c.book c.station
   pub forward : c.first ≤ℤ c.last

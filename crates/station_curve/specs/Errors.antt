@@ -5,7 +5,7 @@ use Rattle.year_blend.specs.Weights.{total_weight}
 use Rattle.station_curve.specs.Waves.{amount_of, steepness_of}
 use Rattle.station_curve.specs.Curves.{Prediction, waves_for}
 
--- the greatest of the first values, `count` of them; 0 if there is none
+-- the greatest of the first `count` values; 0 if there is none
 unfoldable pub greatest_of : (ℕ → ℕ) → ℕ → ℕ
 greatest_of value zero = 0
 greatest_of value (suc count) = max (greatest_of value count) (value count)
@@ -22,8 +22,8 @@ greatest_steepness c = greatest_of (λ year. steepness_of (waves_for c year)) c.
 unfoldable pub level_error_of : Prediction → ℕ
 level_error_of c = total_weight * (approximate_error * greatest_amount c)
 
--- the error of a slope for each millionth of an amplitude whose speed is in whole 2^9 units: the units that are
--- left, less than 2^9, times the greatest sine
+-- the error of a slope for each millionth of an amplitude, because speeds are rounded down to multiples
+-- of 2^9 units: at most 2^9 - 1 units, times the greatest sine
 abbrev pub speed_error : ℕ
 speed_error = 2 ^ 9 * 10 ^ 9
 

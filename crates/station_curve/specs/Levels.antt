@@ -10,13 +10,14 @@ use Rattle.year_blend.specs.Weights.{total_weight, weight_of, weight_slope_of}
 abbrev pub minutes_into : ℤ → ℕ → ℤ → ℕ
 minutes_into first_year year m = unsigned_abs ((m -ℤ start_of first_year year) +ℤ pos 60)
 
--- a value outside blends, and the values of both years by their weights in a blend
+-- a value at a position, from each year's value: the year's own outside blends; in a blend both years'
+-- by their weights
 abbrev pub blended : (ℕ → ℤ) → Place → ℤ
 blended value (Plain year) = pos total_weight *ℤ value year
 blended value (Blend year x) =
     ((pos total_weight -ℤ weight_of x) *ℤ value (year - 1)) +ℤ (weight_of x *ℤ value year)
 
--- the part of the slope that comes from the moving weight
+-- the part of the slope that is due to the changing weight
 abbrev pub drift : (ℕ → ℤ) → Place → ℤ
 drift level (Plain year) = pos 0
 drift level (Blend year x) =

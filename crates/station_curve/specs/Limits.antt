@@ -1,4 +1,5 @@
--- The limits on a year of a station (this project): a station beyond one of the two in a year has no curve.
+-- The limits on the sums of a year (this project): a station with a year beyond one of them has no
+-- curve.
 use Rattle.std.specs.Prelude.{ℕ, ◌*◌, ◌^◌, ◌≤◌, unsigned_abs}
 use Rattle.station_curve.specs.declared.year_sums.Sums.{Sums}
 
@@ -6,7 +7,8 @@ use Rattle.station_curve.specs.declared.year_sums.Sums.{Sums}
 abbrev pub most_amount : ℕ
 most_amount = 10 ^ 9
 
--- the greatest sum of the amplitudes times the speeds of a year
+-- the greatest sum of the amplitudes times the speeds of a year, in millionths times units of the circle
+-- a minute
 abbrev pub most_steepness : ℕ
 most_steepness = 10 ^ 17
 

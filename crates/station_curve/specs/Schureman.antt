@@ -33,32 +33,33 @@ angle_of b s year m k =
     (speed_of b k *ℤ ((m -ℤ start_of b.first_year year) +ℤ s.meridian))
     +ℤ (pos 60 *ℤ (slice_index_or b.angles (k * b.years + year) (pos 0) -ℤ slice_index_or s.epoch k (pos 0)))
 
--- the angle reduced to the circle
+-- the angle of the cosine at minute m, reduced to the circle
 abbrev pub phase_of : Book → Station → ℕ → ℤ → ℕ → ℕ
 phase_of b s year m k = unsigned_abs (int_rem_euclid (angle_of b s year m k) (pos circle))
 
--- the level at minute m by the constants of one year, in billionths of a millionth
+-- the level at minute m by one year's constants, in billionths of a millionth of the unit
 unfoldable pub predicted_year_level : Book → Station → ℤ → ℕ → ℤ
 predicted_year_level b s m year =
     (pos (10 ^ 9) *ℤ s.datum)
     +ℤ fold (λ sum k. sum +ℤ (amplitude_of b s year k *ℤ icos_of (phase_of b s year m k))) (pos 0) (constituents_of b)
 
--- the slope at minute m by the constants of one year
+-- the slope at minute m by one year's constants, in billionths of a millionth a minute, times the units
+-- of a radian
 unfoldable pub predicted_year_slope : Book → Station → ℤ → ℕ → ℤ
 predicted_year_slope b s m year =
     neg_ℤ (fold (λ sum k. sum +ℤ ((amplitude_of b s year k *ℤ speed_of b k) *ℤ isin_of (phase_of b s year m k))) (pos 0)
     (constituents_of b))
 
--- the level at minute m, in billionths of a millionth times the total weight
+-- the level at minute m, in billionths of a millionth of the unit, times the total weight of a blend
 unfoldable pub predicted_level : Book → Station → ℤ → ℤ
 predicted_level b s m = blended (predicted_year_level b s m) (place_of b.first_year b.years m)
 
--- the slope at minute m: the change of the level a minute, times the units of a radian
+-- the slope at minute m: the change of the level per minute, times the units of a radian
 unfoldable pub predicted_slope : Book → Station → ℤ → ℤ
 predicted_slope b s m =
     blended (predicted_year_slope b s m) (place_of b.first_year b.years m)
     +ℤ drift (predicted_year_level b s m) (place_of b.first_year b.years m)
 
--- the level at minute m in whole millionths of the station's unit
+-- the level at minute m in whole millionths of the station's unit, a half rounded away from 0
 unfoldable pub predicted_millionths : Book → Station → ℤ → ℤ
 predicted_millionths b s m = rounded_of (predicted_level b s m) (total_weight * 10 ^ 9)

@@ -5,11 +5,11 @@ use Rattle.fixed_sine.specs.Rate.{step_of}
 use Rattle.station_curve.specs.declared.year_sums.Sums.{Sums}
 use Rattle.station_curve.specs.Waves.{Harmonic, amount_of, steepness_of}
 
--- the most that a wave's height changes in a minute
+-- the most that a wave's height (its part of the level) changes in a minute
 abbrev pub height_rate_of : Harmonic → ℕ
 height_rate_of h = unsigned_abs h.amplitude * step_of h.speed
 
--- the most that a wave's fall changes in a minute
+-- the most that a wave's fall (minus its part of the slope) changes in a minute
 abbrev pub fall_rate_of : Harmonic → ℕ
 fall_rate_of h = unsigned_abs h.amplitude * h.speed * step_of h.speed
 
@@ -21,7 +21,7 @@ near_of hs = sum_by height_rate_of hs
 abbrev pub far_of : List Harmonic → ℕ
 far_of hs = sum_by fall_rate_of hs
 
--- the four sums of a year
+-- the four sums (`amount`, `steep`, `near`, `far`) of a year's waves
 abbrev pub sums_of : List Harmonic → Sums
 sums_of hs = record {
   amount = pos (amount_of hs);

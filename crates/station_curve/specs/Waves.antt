@@ -11,31 +11,33 @@ pub record Harmonic : Type 0 where
   pub speed : ℕ
   pub phase : ℕ
 
--- the phase t minutes later
+-- the phase of a wave t minutes after its start, in units of the circle
 abbrev pub phase_at : Harmonic → ℕ → ℕ
 phase_at h t = (h.phase + h.speed * t) % circle
 
--- the wave's part of the level, in billionths of a millionth
+-- the wave's height, its part of the level, t minutes after its start, in billionths of a millionth
 abbrev pub height_at : ℕ → Harmonic → ℤ
 height_at t h = h.amplitude *ℤ icos_of (phase_at h t)
 
--- the wave's part of the slope with the other sign: in billionths of a millionth a minute, times the
--- units of a radian
+-- the wave's fall, minus its part of the slope, t minutes after its start: in billionths of a millionth
+-- a minute, times the units of a radian
 abbrev pub fall_at : ℕ → Harmonic → ℤ
 fall_at t h = (h.amplitude *ℤ pos h.speed) *ℤ isin_of (phase_at h t)
 
--- the sum of the heights
+-- the sum of the waves' heights, t minutes after their start, in billionths of a millionth
 abbrev pub heights_of : ℕ → List Harmonic → ℤ
 heights_of t hs = fold (λ sum h. sum +ℤ height_at t h) (pos 0) hs
 
--- the sum of the falls
+-- minus the slope, summed over the waves, t minutes after their start: in billionths of a millionth a
+-- minute, times the units of a radian
 abbrev pub falls_of : ℕ → List Harmonic → ℤ
 falls_of t hs = fold (λ sum h. sum +ℤ fall_at t h) (pos 0) hs
 
--- the sum of the sizes of the amplitudes
+-- the sum of the sizes of the waves' amplitudes, in millionths
 abbrev pub amount_of : List Harmonic → ℕ
 amount_of hs = sum_by (λ h. unsigned_abs h.amplitude) hs
 
--- the sum of each size times the speed
+-- the sum over the waves of the amplitude's size times the speed, in millionths times units of the
+-- circle a minute
 abbrev pub steepness_of : List Harmonic → ℕ
 steepness_of hs = sum_by (λ h. unsigned_abs h.amplitude * h.speed) hs

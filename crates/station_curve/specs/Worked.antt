@@ -1,4 +1,4 @@
--- Small books and their stations, whose tides were computed elsewhere (this project).
+-- Small books and their stations, with tides that another program computed (this project).
 use Rattle.std.specs.Prelude.{[], ◌∷◌, codes, ℤ, pos, negsuc}
 use Rattle.harmonics_book.specs.declared.book.Units.{Units}
 use Rattle.harmonics_book.specs.declared.book.Units.TheVariants.{Feet}
@@ -38,7 +38,7 @@ small_wave = record { amplitude = pos 1000000; speed = 300000000; phase = 0 }
 abbrev pub pier_book : Book
 pier_book = small_book (pos 300000000) (pos 0)
 
--- the tide of pier_book, but 60 degrees further on from the second year on
+-- the book of pier_book's tide, but 60 degrees ahead from the second year on
 abbrev pub shifted_book : Book
 shifted_book = small_book (pos 300000000) (pos 600000000)
 

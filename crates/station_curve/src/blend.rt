@@ -9,10 +9,11 @@ ghost use Rattle.station_curve.specs.Errors.{speed_error};
 use fixed_sine::{APPROXIMATE_ERROR, RADIAN};
 use year_blend::{TOTAL_WEIGHT, weight_slope};
 
-/// The error of a slope for each millionth of an amplitude whose speed is in whole 2^9 units.
+/// The error of a slope for each millionth of an amplitude, if its speed is rounded down to a multiple
+/// of 2^9 units.
 const SPEED_ERROR: i128 = 512_000_000_000;
 
-/// Returns `weight * value`.
+/// Returns `weight * value`, a year's part in a blend; it can't overflow.
 pub fn weighted(weight: i64, value: i128) -> i128
     requires value { unsigned_abs value ≤ 10 ^ 26 }
     requires least { pos 0 ≤ℤ weight }
@@ -23,7 +24,8 @@ pub fn weighted(weight: i64, value: i128) -> i128
     i128::from(weight) * value
 }
 
-/// Returns the values of the earlier and the later year, mixed by the `weight` of the later.
+/// Returns the values of the earlier and the later year, mixed by the `weight` of the later year: the
+/// sum of each value times its year's weight.
 pub fn mixed(earlier: i128, later: i128, weight: i64) -> i128
     requires earlier { unsigned_abs earlier ≤ 10 ^ 26 }
     requires later { unsigned_abs later ≤ 10 ^ 26 }
@@ -35,7 +37,7 @@ pub fn mixed(earlier: i128, later: i128, weight: i64) -> i128
     weighted(TOTAL_WEIGHT - weight, earlier) + weighted(weight, later)
 }
 
-/// Returns the part of the slope that comes from the moving weight, `x` minutes from the new year;
+/// Returns the part of the slope that is due to the changing weight, `x` minutes from the new year;
 /// `change` is the later year's level less the earlier year's.
 pub fn drift(change: i64, x: i64) -> i128
     requires change { unsigned_abs change ≤ 2 * 10 ^ 18 }
@@ -55,7 +57,7 @@ fn weight_rise(x: i64) -> i64
     weight_slope(x) * RADIAN
 }
 
-/// Returns `value` times the whole weight.
+/// Returns `value` times the total weight of both years of a blend.
 pub fn by_full_weight(value: i128) -> i128
     requires { unsigned_abs value ≤ 2 * 10 ^ 26 }
     ensures { result ≡ pos total_weight *ℤ value }
@@ -63,8 +65,8 @@ pub fn by_full_weight(value: i128) -> i128
     i128::from(TOTAL_WEIGHT) * value
 }
 
-/// Returns the most that a sum of approximate sines differs from the sum of sines, in the unit of a blend;
-/// `size` is the sum of the absolute values of their factors.
+/// Returns a bound on the difference between a sum of approximate sines and the same sum of sines, in
+/// the unit of a blend; `size` is the sum of the absolute values of the factors.
 pub fn error_of(size: i128) -> i128
     requires { unsigned_abs size ≤ 10 ^ 17 }
     ensures { result ≡ pos (total_weight * approximate_error) *ℤ size }
@@ -72,8 +74,8 @@ pub fn error_of(size: i128) -> i128
     i128::from(TOTAL_WEIGHT) * i128::from(APPROXIMATE_ERROR) * size
 }
 
-/// Returns the most that a slope changes if each speed is in whole 2^9 units, in the unit of a blend; `amount`
-/// is the sum of the absolute values of the amplitudes.
+/// Returns the most that a slope changes if each speed is rounded down to a multiple of 2^9 units, in
+/// the unit of a blend; `amount` is the sum of the absolute values of the amplitudes.
 pub fn speed_error_of(amount: i128) -> i128
     requires { unsigned_abs amount ≤ 10 ^ 9 }
     ensures { result ≡ pos (total_weight * speed_error) *ℤ amount }

@@ -11,8 +11,8 @@ ghost use Rattle.station_curve.specs.Limits.{AreWithinLimits};
 ghost use Rattle.station_curve.specs.Curves.{waves_of, IsWithinLimits};
 ghost use Rattle.station_curve.specs.Schureman.{predicted_year_level, predicted_year_slope};
 
-/// Proves that from an hour before the year on the level changes by at most the sum `near` of the year in a
-/// minute, and the slope by at most `far`.
+/// Proves that, by one year's constants, the level changes by at most the sum `near` of the year in a
+/// minute, and the slope by at most `far`, from an hour before the year on.
 pub fn year_changes()
     ensures level { (b : Book) (s : Station) (m : ℤ) (year : ℕ) → IsBook b → pos 0 ≤ℤ ((m -ℤ start_of b.first_year year) +ℤ pos 60)
         → unsigned_abs (predicted_year_level b s (m +ℤ pos 1) year -ℤ predicted_year_level b s m year) ≤ near_of (waves_of b s year) }
@@ -20,7 +20,7 @@ pub fn year_changes()
         → unsigned_abs (predicted_year_slope b s (m +ℤ pos 1) year -ℤ predicted_year_slope b s m year) ≤ far_of (waves_of b s year) }
 {}
 
-/// Proves bounds on the sizes of level and slope by the year's sums. The mean level cancels in the
+/// Proves bounds on the sizes of level and slope by one year's constants. The mean level cancels in the
 /// difference of two years' levels.
 pub fn year_sizes()
     ensures level { (b : Book) (s : Station) (m : ℤ) (year : ℕ) →

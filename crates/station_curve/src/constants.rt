@@ -39,10 +39,12 @@ use fixed_sine::reduce;
 use harmonics_book::{Station, ValidBook};
 use std::alloc::{AllocError, Global};
 
-/// The greatest sum of the amplitudes of a year, in millionths of the unit.
+/// The greatest sum of the sizes of the amplitudes that a station may have in a year, in millionths of
+/// the unit.
 pub const MOST_AMOUNT: u64 = 1_000_000_000;
 
-/// The greatest sum of the amplitudes times the speeds of a year.
+/// The greatest sum of the sizes of the amplitudes times the speeds that a station may have in a year,
+/// in millionths of the unit times units of the circle a minute.
 pub const MOST_STEEPNESS: u128 = 100_000_000_000_000_000;
 
 /// Returns the indices of the constituents that have an amplitude at `station`.
@@ -71,8 +73,8 @@ pub fn present_places(
 /// constituents with an amplitude.
 ///
 /// # Errors
-/// [`CurveFault::TooLarge`] if the sizes of the amplitudes sum to more than 1,000,000,000 millionths; else
-/// [`CurveFault::TooSteep`] if the sizes times the speeds sum to more than 10^17.
+/// [`CurveFault::TooLarge`] if the sizes of the amplitudes sum to more than 1,000,000,000 millionths;
+/// otherwise [`CurveFault::TooSteep`] if the sizes times the speeds sum to more than 10^17.
 pub fn check_year(
     book: &ValidBook<'_>,
     station: &Station,
@@ -98,7 +100,8 @@ pub fn check_year(
     Ok(())
 }
 
-/// Returns the calendar year of year `year`, counted from 0; also of the year after the last.
+/// Returns the calendar year of the book's year `year`, counted from 0; `year` may be the one after the
+/// last.
 pub fn calendar_year(book: &ValidBook<'_>, year: u32) -> i32
     requires { year ≤ book.now.years }
     ensures value { result ≡ book.now.first_year +ℤ pos year }
@@ -135,7 +138,8 @@ fn sums(book: &ValidBook<'_>, station: &Station, present: &[usize], year: u32) -
     (amount, steepness)
 }
 
-/// Returns the waves of year `year` if `is_asked` (it is needed for the requested minutes), else none.
+/// Returns the waves of year `year` if `is_asked`, which says that the year is needed for the requested
+/// minutes, and otherwise no waves.
 ///
 /// # Errors
 /// [`AllocError`] if memory runs out.
@@ -160,7 +164,7 @@ pub fn waves_if_asked(
     }
 }
 
-/// Returns the waves of a year within the limits, without those of no amplitude.
+/// Returns the waves of a year within the limits, without the constituents that have no amplitude.
 fn year_waves(
     alloc: Global,
     book: &ValidBook<'_>,
@@ -221,7 +225,7 @@ fn place_in_table(book: &ValidBook<'_>, year: u32, k: usize) -> usize
     k * book.get().years as usize + year as usize
 }
 
-/// Returns the speed of constituent `k`, in units of the circle a minute.
+/// Returns the speed of constituent `k`, in units of 1/600,000,000 degree a minute.
 pub fn speed(book: &ValidBook<'_>, k: usize) -> u64
     requires place { k < length book.now.constituents }
     ensures value { pos result ≡ speed_of book.now k }

@@ -109,14 +109,16 @@ impl StationCurve {
         StationCurve::of_station(alloc, &book, station, all_minutes(&book))
     }
 
-    /// Returns the curve of the station with index `station` for the minutes from `first` to `last`, which
-    /// are of the book's years or the first one after them.
+    /// Returns the curve of the station with index `station` for the minutes from `first` to `last`,
+    /// which are in the book's years or the first minute after them.
     ///
-    /// A year that is more than an hour from these minutes has no waves, so the curve has no other minutes.
-    /// It is made faster than the curve of all minutes.
+    /// A year that is more than an hour from these minutes has no waves, so the curve has no other
+    /// minutes. It is made faster than the curve of all minutes.
     ///
     /// # Errors
-    /// As of [`StationCurve::new`]: each year of the book counts.
+    /// [`CurveFault::Hydraulic`] for a hydraulic current; otherwise the fault of the first year of the
+    /// book beyond a limit, in which [`CurveFault::TooLarge`] precedes [`CurveFault::TooSteep`];
+    /// [`CurveFault::NoMemory`] if memory runs out.
     pub fn over(
         alloc: Global,
         book: &Book,
@@ -189,36 +191,38 @@ impl StationCurve {
         }
     }
 
-    /// Returns the first minute that has a level: for all minutes that of the book's years.
+    /// Returns the first minute that has a level. For a curve of all minutes this is the first minute of
+    /// the book's years.
     pub fn first(&self) -> i64
         ensures { result ≡ self.now.first }
     {
         self.minutes.first
     }
 
-    /// Returns the last minute that has a level: for all minutes the first one after the book's years.
+    /// Returns the last minute that has a level. For a curve of all minutes this is the first minute
+    /// after the book's years.
     pub fn last(&self) -> i64
         ensures { result ≡ self.now.last }
     {
         self.minutes.last
     }
 
-    /// Returns the first year of the book.
+    /// Returns the first calendar year for which the curve's book has constants.
     pub fn first_year(&self) -> i32
         ensures { result ≡ self.now.book.first_year }
     {
         self.first_year
     }
 
-    /// Returns the number of years of the book.
+    /// Returns the number of years for which the curve's book has constants.
     pub fn years(&self) -> u32
         ensures { result ≡ self.now.book.years }
     {
         self.years.len() as u32
     }
 
-    /// Returns the sums over the waves of year `year`, counted from 0: 0 if the year is more than an hour from
-    /// the curve's minutes.
+    /// Returns the four sums (`amount`, `steep`, `near`, `far`) over the waves of the year with index
+    /// `year`, counted from 0: all are 0 if the year is more than an hour from the curve's minutes.
     pub fn sums(&self, year: u32) -> Sums
         requires { year < self.now.book.years }
         ensures value { result ≡ sums_for self.now year }
@@ -227,15 +231,16 @@ impl StationCurve {
         self.years[year as usize].sums
     }
 
-    /// Does nothing; its contract shows a proof that the station is within the limits, and the minutes are of
-    /// the book's years.
+    /// Does nothing. Its contract says that the station is within the limits, and that the minutes are
+    /// in the book's years.
     pub fn limits_hold(&self)
         ensures { IsPrediction self.now }
     {
         let _first_year = self.first_year;
     }
 
-    /// Returns the level at minute `m`, from [`first`](StationCurve::first) to [`last`](StationCurve::last).
+    /// Returns the level at minute `m`, in billionths of a millionth of the unit, times
+    /// [`TOTAL_WEIGHT`]. `m` is from [`first`](StationCurve::first) to [`last`](StationCurve::last).
     pub fn level(&self, m: i64) -> i128
         requires { IsPredicted self.now m }
         ensures value { result ≡ predicted_level self.now.book self.now.station m }
@@ -251,7 +256,8 @@ impl StationCurve {
         }
     }
 
-    /// Returns the slope at minute `m`, from [`first`](StationCurve::first) to [`last`](StationCurve::last).
+    /// Returns the slope at minute `m`: the change of the level in a minute, times the units of a
+    /// radian. `m` is from [`first`](StationCurve::first) to [`last`](StationCurve::last).
     pub fn slope(&self, m: i64) -> i128
         requires { IsPredicted self.now m }
         ensures value { result ≡ predicted_slope self.now.book self.now.station m }
@@ -270,9 +276,9 @@ impl StationCurve {
         }
     }
 
-    /// Returns an approximation of [`level`](StationCurve::level) at minute `m`, within
-    /// [`level_error`](StationCurve::level_error) of it. It is faster than the level: by the approximate
-    /// sine outside blends, and exact in a blend.
+    /// Returns the level at minute `m` to within [`level_error`](StationCurve::level_error). It is
+    /// faster than [`level`](StationCurve::level): outside new-year blends it uses the approximate sine;
+    /// inside them it is exact.
     #[inline(always)]
     pub fn approximate_level(&self, m: i64) -> i128
         requires { IsPredicted self.now m }
@@ -286,9 +292,9 @@ impl StationCurve {
         }
     }
 
-    /// Returns an approximation of [`slope`](StationCurve::slope) at minute `m`, within
-    /// [`slope_error`](StationCurve::slope_error) of it. It is faster than the slope: by the approximate
-    /// sine outside blends, and exact in a blend.
+    /// Returns the slope at minute `m` to within [`slope_error`](StationCurve::slope_error). It is
+    /// faster than [`slope`](StationCurve::slope): outside new-year blends it uses the approximate sine;
+    /// inside them it is exact.
     #[inline(always)]
     pub fn approximate_slope(&self, m: i64) -> i128
         requires { IsPredicted self.now m }
@@ -302,7 +308,8 @@ impl StationCurve {
         }
     }
 
-    /// Returns the most that an approximate level differs from the level, in the level's unit.
+    /// Returns the most that an approximate level differs from the level, in billionths of a millionth
+    /// of the unit, times [`TOTAL_WEIGHT`].
     pub fn level_error(&self) -> i128
         ensures value { result ≡ pos (level_error_of self.now) }
         ensures size { unsigned_abs result ≤ 2 * 10 ^ 24 }
@@ -310,7 +317,8 @@ impl StationCurve {
         error_of(self.greatest.amount)
     }
 
-    /// Returns the most that an approximate slope differs from the slope, in the slope's unit.
+    /// Returns the most that an approximate slope differs from the slope, in the unit of
+    /// [`slope`](StationCurve::slope).
     pub fn slope_error(&self) -> i128
         ensures value { result ≡ pos (slope_error_of self.now) }
         ensures size { unsigned_abs result ≤ 2 * 10 ^ 32 }
@@ -328,8 +336,8 @@ impl StationCurve {
         rounded(self.level(m), TOTAL_WEIGHT as u64 * 1_000_000_000) as i64
     }
 
-    /// Returns the stretch of the minutes from `m` to `m + n`, both included: the plain part of one year,
-    /// or across one new year. Both are minutes of the curve, and `n` is at most
+    /// Returns which years the minutes from `m` to `m + n`, both included, are in: the plain part of one
+    /// year, or both sides of one new year. Both are minutes of the curve, and `n` is at most
     /// [`LONGEST_SPAN`](year_blend::LONGEST_SPAN).
     #[inline(always)]
     pub fn stretch(&self, m: i64, n: u32) -> Stretch
@@ -371,8 +379,8 @@ impl StationCurve {
         }
     }
 
-    /// Returns the likely year of the minutes from `first` to `last`, if they are all at least an hour
-    /// from both its ends.
+    /// Returns the likely year of the minutes from `first` to `last`, or `None` unless they are all at
+    /// least an hour from both its ends.
     #[inline(always)]
     fn year_around(&self, first: i64, last: i64) -> Option<u32>
         requires first { IsPredicted self.now first }

@@ -7,10 +7,10 @@ use harmonics_book::Units;
 use std::alloc::{AllocError, AllocFailed};
 use thiserror::Error;
 
-/// The reason why a station has no curve.
+/// The reason why a station has no curve: it can't be predicted.
 #[derive(Clone, Copy, Debug, PartialEq, Eq, Error)]
 pub enum CurveFault {
-    /// The unit is `knots^2`.
+    /// The station's unit is `knots^2`: it is a hydraulic current.
     #[error("a hydraulic current")]
     Hydraulic,
     /// The sizes of the amplitudes sum to more than 1,000,000,000 millionths in the calendar year `year`,
@@ -47,7 +47,7 @@ impl<T: Drop> From<AllocFailed<T>> for CurveFault {
     }
 }
 
-/// Returns true if `units` is that of a hydraulic current, whose speed is the square root of the
+/// Returns true if `units` is the unit of a hydraulic current, whose speed is the square root of the
 /// predicted value.
 pub fn is_hydraulic(units: Units) -> bool
     ensures { result ≡ is_hydraulic units }

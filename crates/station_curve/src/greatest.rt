@@ -6,12 +6,13 @@ ghost use Rattle.station_curve.specs.Errors.{greatest_of};
 
 use crate::years::Year;
 
-/// The greatest sums of any year: 0 if there is no year.
+/// The greatest sums over a station's waves in any year: 0 if there is no year.
 #[derive(Clone, Copy)]
 pub struct Greatest {
     /// The sum of the sizes of the amplitudes, in millionths of the station's unit.
     pub amount: i128,
-    /// The sum of each size times the speed.
+    /// The sum of the sizes of the amplitudes times the speeds, in millionths times units of the circle
+    /// a minute.
     pub steepness: i128,
 }
 

@@ -21,7 +21,7 @@ pub fn worked_waves()
     ensures steepest { falls_of 180 (small_wave ∷ []) ≡ pos (3 * 10 ^ 23) }
 {}
 
-/// Proves examples of stations that have a curve, and of each fault.
+/// Proves examples of stations that have a curve, and of each reason why a station has none.
 pub fn worked_limits()
     ensures steepest { curve_of (small_book (pos 300000000) (pos 0)) (small_station (pos 333333333) Feet)
         ≡ Ok (prediction_of (small_book (pos 300000000) (pos 0)) (small_station (pos 333333333) Feet)) }
@@ -35,8 +35,8 @@ pub fn worked_limits()
         ≡ Err Hydraulic }
 {}
 
-/// Proves which of three years are needed for minutes from an hour after a new year to an hour before the
-/// next one, and for minutes from one later or to one earlier.
+/// Proves which of three years are needed for minutes from an hour after a new year to an hour before
+/// the next one, and for the same minutes with one more at the end or at the beginning.
 pub fn worked_reach()
     ensures hour_after { is_touched pier_book (pos 15778140) (pos 16305060) 0 ≡ true }
     ensures between { is_touched pier_book (pos 15778140) (pos 16305060) 1 ≡ true }
@@ -81,7 +81,7 @@ pub fn worked_slopes()
     ensures harbour_2001 { predicted_slope harbour_book harbour (pos 16390080) ≡ pos 802828425453686744053872844800000 }
 {}
 
-/// Proves the sums of one wave, of no wave, and of the two waves of a year.
+/// Proves the four sums over the waves of a year, for one wave, for no wave, and for two waves.
 pub fn worked_sums()
     ensures one_wave { sums_of (small_wave ∷ [])
         ≡ record { amount = pos 1000000; steep = pos (3 * 10 ^ 14); near = pos 8727001000000; far = pos 2618100300000000000000 } }

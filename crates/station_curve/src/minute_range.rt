@@ -1,4 +1,4 @@
-//! The minutes for which a curve is requested.
+//! The minutes that a curve must have.
 
 ghost use Rattle.std.specs.Prelude.{◌≡◌, ◌^◌, ◌≤◌, ◌&&◌, pos, ◌+ℤ◌, int_le, unsigned_abs};
 ghost use Rattle.year_blend.specs.Years.{year_start_of};
@@ -8,7 +8,7 @@ use crate::years::HOUR;
 use harmonics_book::ValidBook;
 use year_blend::year_start;
 
-/// The minutes from `first` to `last` for which a curve is requested.
+/// The minutes from `first` to `last`, both included, that a curve must have.
 #[derive(Clone, Copy, Debug)]
 pub struct MinuteRange {
     pub first: i64,
@@ -34,7 +34,7 @@ fn is_within_hour(minute: i64, other: i64) -> bool
     minute <= other + HOUR
 }
 
-/// Returns all minutes of a book's years, and the first one after them.
+/// Returns the range of all minutes of a book's years, with the first minute after them.
 pub fn all_minutes(book: &ValidBook<'_>) -> MinuteRange
     ensures first { result.first ≡ year_start_of book.now.first_year }
     ensures last { result.last ≡ year_start_of (book.now.first_year +ℤ pos book.now.years) }

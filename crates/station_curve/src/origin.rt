@@ -1,4 +1,4 @@
-//! The origin of a curve, for contracts alone.
+//! The origin of a curve, for contracts only.
 
 ghost use Rattle.std.specs.Prelude.{◌≡◌};
 ghost use Rattle.std.specs.Borrow.{ftrue};
@@ -8,7 +8,7 @@ ghost use Rattle.harmonics_book.specs.declared.book.Station.{Station};
 use harmonics_book::{Book, Station};
 use std::marker::Model;
 
-/// A harmonics file and a station of it, for contracts alone. It allocates and copies nothing.
+/// A harmonics file and a station of it, for contracts only. It allocates and copies nothing.
 #[derive(Drop)]
 pub struct Origin {
     pub ghost book: { Book },

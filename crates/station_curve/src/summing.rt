@@ -15,7 +15,8 @@ const HEIGHT_UNIT: i128 = 1 << 15;
 /// The unit of an approximate fall, in a fall's unit.
 const FALL_UNIT: i128 = 1 << 24;
 
-/// Returns the sum of the waves' heights, `minutes` after an hour before the year.
+/// Returns the sum of the waves' heights, `minutes` after an hour before the year, in billionths of a
+/// millionth of the unit.
 pub fn heights(waves: &[Wave], minutes: u64) -> i64
     requires time { minutes ≤ 600000 }
     requires amount { amount_of waves.now ≤ 10 ^ 9 }
@@ -29,7 +30,8 @@ pub fn heights(waves: &[Wave], minutes: u64) -> i64
     sum
 }
 
-/// Returns the sum of the waves' falls, `minutes` after an hour before the year.
+/// Returns the sum of the waves' falls (minus the slope of each), `minutes` after an hour before the
+/// year, in billionths of a millionth a minute times the units of a radian.
 pub fn falls(waves: &[Wave], minutes: u64) -> i128
     requires time { minutes ≤ 600000 }
     requires steepness { steepness_of waves.now ≤ 10 ^ 17 }
@@ -59,8 +61,8 @@ pub fn approximate_heights(waves: &[Wave], minutes: u64) -> i64
     sum
 }
 
-/// Returns the sum of the waves' approximate falls, `minutes` after an hour before the year, in 2^24 of a
-/// fall's unit.
+/// Returns the sum of the waves' approximate falls (minus the slope of each), `minutes` after an hour
+/// before the year, in 2^24 of a fall's unit.
 #[inline(never)]
 pub fn approximate_falls(waves: &[Wave], minutes: u64) -> i64
     requires time { minutes ≤ 600000 }
@@ -93,7 +95,7 @@ pub fn in_fall_units(falls: i64) -> i128
     FALL_UNIT * i128::from(falls)
 }
 
-/// Returns the mean level `datum`, in millionths, in billionths of a millionth.
+/// Returns the mean level `datum`, given in millionths, in billionths of a millionth.
 pub fn mean_level(datum: i64) -> i128
     requires { unsigned_abs datum ≤ 10 ^ 10 }
     ensures value { result ≡ pos (10 ^ 9) *ℤ datum }

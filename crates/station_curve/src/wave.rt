@@ -75,8 +75,8 @@ impl Wave {
         self.by_amplitude(binary_angle_sine(self.binary_angle_ahead(minutes)))
     }
 
-    /// Returns the wave's fall, `minutes` after an hour before the year: its part of the slope with the
-    /// other sign.
+    /// Returns the wave's fall, `minutes` after an hour before the year: minus its part of the slope, in
+    /// billionths of a millionth a minute times the units of a radian.
     pub fn fall(&self, minutes: u64) -> i128
         requires { minutes ≤ 600000 }
         ensures value { result ≡ fall_at minutes self.now }
@@ -86,7 +86,8 @@ impl Wave {
         self.by_steepness(binary_angle_sine(self.binary_angle_after(minutes)))
     }
 
-    /// Returns the approximate height of the wave, in 2^15 billionths of a millionth.
+    /// Returns the approximate height of the wave, `minutes` after an hour before the year, in 2^15
+    /// billionths of a millionth.
     pub fn approximate_height(&self, minutes: u64) -> i64
         requires { minutes ≤ 600000 }
         ensures value { result ≡ approximate_height_at minutes self.now }
@@ -95,7 +96,8 @@ impl Wave {
         self.by_amplitude(approximate_sine(self.binary_angle_ahead(minutes)))
     }
 
-    /// Returns the approximate fall of the wave, in 2^24 of a fall's unit.
+    /// Returns the approximate fall of the wave (minus its part of the slope), `minutes` after an hour
+    /// before the year, in 2^24 of a fall's unit.
     pub fn approximate_fall(&self, minutes: u64) -> i64
         requires { minutes ≤ 600000 }
         ensures value { result ≡ approximate_fall_at minutes self.now }
@@ -104,7 +106,7 @@ impl Wave {
         self.factor * approximate_sine(self.binary_angle_after(minutes))
     }
 
-    /// Returns the wave's part of each sum of its year.
+    /// Returns what the wave adds to each sum of its year.
     pub fn sums(&self) -> Sums
         ensures amount { result.amount ≡ pos (unsigned_abs self.now.amplitude) }
         ensures steep { result.steep ≡ pos (unsigned_abs self.now.amplitude * self.now.speed) }

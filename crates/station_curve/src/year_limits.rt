@@ -10,8 +10,9 @@ ghost use Rattle.station_curve.specs.Workings.YearLimits.{factors_of};
 use crate::constants::{MOST_AMOUNT, MOST_STEEPNESS, speed};
 use harmonics_book::{Station, ValidBook};
 
-/// Returns true if each year of the book is within the limits, which is tested by the greatest node factor of
-/// each constituent. False says nothing. `present` are the indices of the constituents with an amplitude.
+/// Returns true if each year of the book is proved to be within the limits by the greatest node factor
+/// of each constituent. False doesn't mean that a year exceeds them. `present` are the indices of the
+/// constituents with an amplitude.
 pub fn are_years_within(book: &ValidBook<'_>, station: &Station, present: &[usize]) -> bool
     requires station { IsStation (length book.now.constituents) station.now }
     requires present { present.now ≡ present_in book.now station.now }

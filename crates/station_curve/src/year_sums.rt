@@ -13,16 +13,18 @@ pub struct Sums {
     /// The sum of the sizes of the amplitudes, in millionths of the station's unit. The level of the year
     /// differs from the mean one by at most 10^9 times this sum.
     pub amount: i128,
-    /// The sum of each size times the speed. The slope is at most 10^9 times this sum in size.
+    /// The sum of the sizes of the amplitudes times the speeds. The slope is at most 10^9 times this sum
+    /// in size.
     pub steep: i128,
-    /// The sum of each size times the sine's step over a minute: the most that the level changes in a
-    /// minute.
+    /// The sum of the sizes of the amplitudes times the sine's greatest change in a minute: the most
+    /// that the level changes in a minute.
     pub near: i128,
-    /// The sum of each size times the speed times that step: the most that the slope changes in a minute.
+    /// The sum of the sizes of the amplitudes times the speed times the sine's greatest change in a
+    /// minute: the most that the slope changes in a minute.
     pub far: i128,
 }
 
-/// Returns the sums over `waves`, those of one year.
+/// Returns the sums over `waves`, the waves of one year.
 pub fn sums_of_waves(waves: &[Wave]) -> Sums
     requires amount { amount_of waves.now ≤ 10 ^ 9 }
     requires steepness { steepness_of waves.now ≤ 10 ^ 17 }

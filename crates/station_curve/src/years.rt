@@ -16,18 +16,18 @@ use harmonics_book::{Station, ValidBook};
 use std::alloc::Global;
 use year_blend::year_start;
 
-/// Half the minutes of a blend.
+/// Half the length of a blend at a new year, in minutes.
 pub const HOUR: i64 = 60;
 
-/// The waves of one year.
+/// A year of a station, with its waves.
 #[derive(Drop)]
 pub struct Year {
-    /// The first minute of the year.
+    /// The first minute of the year, since 1970-01-01T00:00Z.
     pub start: i64,
-    /// The first minute of the next year.
+    /// The first minute of the next year, since 1970-01-01T00:00Z.
     pub end: i64,
     pub waves: Vec<Wave>,
-    /// The sums over the waves.
+    /// The sums over the waves of the year.
     pub sums: Sums,
 }
 
@@ -87,7 +87,7 @@ pub fn years_of(
 }
 
 /// Returns year `year`, counted from 0, with its waves, if it is within the limits; `present` are the
-/// indices of the constituents with an amplitude. If `is_within`, no year exceeds a limit.
+/// indices of the constituents with an amplitude. `is_within` says that no year exceeds a limit.
 ///
 /// # Errors
 /// The limit that the year exceeds; [`CurveFault::NoMemory`] if memory runs out.
@@ -128,10 +128,10 @@ fn year_of(
     })
 }
 
-/// Checks that year `year` is within the limits, unless `is_within` says so already.
+/// Checks that year `year` is within the limits, unless `is_within` says that no year exceeds one.
 ///
 /// # Errors
-/// As of [`check_year`].
+/// [`CurveFault::TooLarge`] or [`CurveFault::TooSteep`] if the year exceeds a limit.
 fn check_unless(
     is_within: bool,
     book: &ValidBook<'_>,

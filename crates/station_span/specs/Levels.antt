@@ -9,14 +9,16 @@ use Rattle.tide_fault.specs.declared.refusal.Refusal.{Refusal}
 use Rattle.tide_fault.specs.declared.refusal.Refusal.TheVariants.{LevelNotHere}
 use Rattle.station_span.specs.Sites.{Site}
 
--- a station has a level at each minute only if its highs and lows have the same offsets
+-- the step of the level: the station has one at each minute only if its highs and lows have the same
+-- offsets
 abbrev pub level_in : Basis → Result (Unit {0}) Refusal
 level_in basis = if is_equal basis then Ok tt else Err LevelNotHere
 
--- the station's level at a minute: the reference's at the minute that the offset moves there, scaled
+-- the station's level at a minute, in millionths: the reference's level at the minute that the offset
+-- moves there, scaled
 abbrev pub level_at : Book → Site → ℤ → ℤ
 level_at book site minute = scaled site.basis.high (predicted_millionths book site.station (minute -ℤ site.basis.high.add))
 
--- the station's level rises at a minute
+-- the station's level rises at a minute: the slope there is above 0
 abbrev pub is_rising_at : Book → Site → ℤ → Bool
 is_rising_at book site minute = int_lt (pos 0) (predicted_slope book site.station (minute -ℤ site.basis.high.add))

@@ -16,18 +16,19 @@ use Rattle.station_span.specs.declared.reach.Reach.TheVariants.{Highest}
 use Rattle.station_span.specs.Levels.{level_in}
 use Rattle.station_span.specs.Sites.{Site, site_in}
 
--- the station of a name with a span of it for a highest water: one with a level at each minute
+-- the station of a name with a span for a highest water, if it has a level at each minute, or the first
+-- refusal
 unfoldable pub highest_site : Book → List Offsets → List ℕ → Asked → Result Site Refusal
 highest_site book table name asked = do
   site ← site_in Highest book table name asked
   level ← level_in site.basis
   Ok site
 
--- the level of the reference, in its own unit and against no mark
+-- the curve of the reference's level, unscaled and with a mark of 0
 abbrev pub level_curve : Book → Site → Meaning
 level_curve book site = predicted_mark Second book site.station (pos 1000000) (pos 0) (pos 0) true
 
--- the reference's minute that the offset moves to the span's first one
+-- the reference's minute that the offset moves to the first minute of the span
 abbrev pub first_source : Site → Asked → ℤ
 first_source site asked = asked.begin -ℤ site.basis.high.add
 
@@ -35,11 +36,12 @@ first_source site asked = asked.begin -ℤ site.basis.high.add
 abbrev pub minute_count : Asked → ℕ
 minute_count asked = unsigned_abs (asked.end -ℤ asked.begin)
 
--- the highest water of the reference's minutes that the offset moves into the span, with its cells
+-- the highest water among the minutes of the reference that the offset moves into the span, with its
+-- cells
 unfoldable pub highest_of : Book → Site → Asked → Peak
 highest_of book site asked = peak_of (level_curve book site) (first_source site asked) (minute_count asked)
 
--- the verdict on a highest water of the span that anybody wrote
+-- the verdict on a highest water of the span, however it was made
 unfoldable pub highest_verdict : Book → Site → Asked → Peak → PeakVerdict
 highest_verdict book site asked peak =
     peak_verdict (level_curve book site) (first_source site asked) (minute_count asked) peak

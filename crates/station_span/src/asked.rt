@@ -1,12 +1,12 @@
-//! A span of a station, and perhaps a mark.
+//! A span of a station, with an optional mark.
 
-/// The span and the mark of a request about a station.
+/// The span and the optional mark of a request about a station.
 #[derive(Clone, Copy)]
 pub struct Asked {
-    /// The first minute, since 1970-01-01T00:00Z.
+    /// The first minute of the span, since 1970-01-01T00:00Z.
     pub begin: i64,
-    /// The minute after the last one.
+    /// The end of the span, since 1970-01-01T00:00Z. It isn't part of the span.
     pub end: i64,
-    /// The level whose crossings are listed, in millionths of the station's unit.
+    /// The level whose crossings are listed, in millionths of the station's unit, or `None` if none are.
     pub mark: Option<i64>,
 }

@@ -13,7 +13,8 @@ use harmonics_book::Units;
 use rate_bound::{MarkCurve, TurnCurve, Version};
 use station_table::Basis;
 
-/// Returns the curve of high and low waters, or of maximum floods and ebbs.
+/// Returns the curve whose sign changes are the high and low waters of `found`'s reference, or a
+/// current's maximum floods and ebbs, with the rates of `version`.
 pub fn turn_curve<'a>(found: &'a FoundStation, version: Version) -> TurnCurve<'a>
     ensures meaning { (⟦<TurnCurve<'a> as Curve>⟧.state result).facts.meaning ≡ turn_meaning version found.now.curve }
     ensures fresh { (⟦<TurnCurve<'a> as Curve>⟧.state result).count ≡ 0 }
@@ -21,7 +22,8 @@ pub fn turn_curve<'a>(found: &'a FoundStation, version: Version) -> TurnCurve<'a
     TurnCurve::new(&found.curve, version)
 }
 
-/// Returns the curve of a current's slacks, if they are listed.
+/// Returns the curve whose sign changes are a current's slack waters, with the rates of `version`, or
+/// `None` if the station's slack waters aren't listed.
 pub fn slack_curve<'a>(found: &'a FoundStation, version: Version) -> Option<MarkCurve<'a>>
     ensures meaning { option_map (λ curve. (⟦<MarkCurve<'a> as Curve>⟧.state curve).facts.meaning) result
         ≡ tide_slack version (tide_of_found found.now) }
@@ -36,7 +38,8 @@ pub fn slack_curve<'a>(found: &'a FoundStation, version: Version) -> Option<Mark
     Some(MarkCurve::new(&found.curve, version, times, plus, 0, true))
 }
 
-/// Returns the curve of the crossings of the mark, if there is one.
+/// Returns the curve whose sign changes are the crossings of the mark, with the rates of `version`, or
+/// `None` if the request has no mark.
 pub fn mark_curve<'a>(found: &'a FoundStation, version: Version) -> Option<MarkCurve<'a>>
     ensures meaning { option_map (λ curve. (⟦<MarkCurve<'a> as Curve>⟧.state curve).facts.meaning) result
         ≡ tide_mark version (tide_of_found found.now) found.now.asked.mark }
@@ -51,8 +54,8 @@ pub fn mark_curve<'a>(found: &'a FoundStation, version: Version) -> Option<MarkC
     }
 }
 
-// Returns true if slacks are listed: those of a current whose slacks have offsets of their own, or
-// whose highs and lows have the same offsets.
+/// Returns true if slack waters are listed: for a current if its slack waters have separate offsets, or
+/// if its highs and lows have the same offsets.
 fn asks_slack(units: Units, basis: &Basis) -> bool
     ensures { result ≡ asks_slack units basis.now }
 {
@@ -62,7 +65,7 @@ fn asks_slack(units: Units, basis: &Basis) -> bool
     }
 }
 
-// Returns the factor from the reference's level to a slack's, in millionths.
+/// Returns the factor from the reference's level to a slack's, in millionths.
 fn slack_times(basis: &Basis) -> i64
     ensures { result ≡ slack_times basis.now }
 {
@@ -73,7 +76,7 @@ fn slack_times(basis: &Basis) -> i64
     }
 }
 
-// Returns the millionths of the unit that are added to the scaled level of a slack.
+/// Returns the millionths of the unit that are added to the scaled level of a slack.
 fn slack_plus(basis: &Basis) -> i64
     ensures { result ≡ slack_plus basis.now }
 {

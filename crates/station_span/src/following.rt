@@ -32,13 +32,15 @@ use tide_fault::Refusal;
 pub struct FoundEvents {
     pub units: Units,
     pub events: Events,
+    /// The number of cells of all tracks over the evaluated minutes of the reference.
     pub cells: u64,
 }
 
 /// Returns the events of the station of `stations` that `request` names, over its span.
 ///
 /// # Errors
-/// The first [`Refusal`] in the order of [`find_station`](crate::find_station).
+/// The first [`Refusal`] in this order: the station, its unit, the span, the bounds on its constants,
+/// the mark. If memory runs out, [`Refusal::NoMemory`] is returned in place of any other result.
 pub fn list_station(
     alloc: Global,
     stations: &StationData<'_>,
@@ -53,8 +55,8 @@ pub fn list_station(
     Ok(find_events(alloc, &found)?)
 }
 
-/// Returns the events of the station `found` over its span. The station was found for
-/// [`Reach::Events`].
+/// Returns the events of the station `found` over its span. `found` is a result of
+/// [`find_station`](crate::find_station) for [`Reach::Events`].
 ///
 /// # Examples
 /// ```
@@ -78,7 +80,7 @@ pub fn find_events(alloc: Global, found: &FoundStation) -> Result<FoundEvents, A
     })
 }
 
-// Returns all events that `merge` has left.
+/// Returns all remaining events of `merge`.
 fn merged_events<'a>(
     alloc: Global,
     merge: &mut Merge<TurnCurve<'a>, MarkCurve<'a>>,
@@ -93,7 +95,7 @@ fn merged_events<'a>(
     Ok(Events::from_vec(events))
 }
 
-// Returns the station's events, from the events `merged` of its reference.
+/// Returns the station's events, made from the events `merged` of its reference.
 fn shifted_events(alloc: Global, merged: Events, found: &FoundStation) -> Result<Events, AllocError>
     requires reach { found.now.reach ≡ Reach.Events }
     requires merged { AreReferences found.now merged }
@@ -113,9 +115,8 @@ fn shifted_events(alloc: Global, merged: Events, found: &FoundStation) -> Result
 }
 
 /// Returns a merge of the reference's events over its minutes, which yields one event at a time and
-/// doesn't allocate. The station was found for [`Reach::Events`].
-///
-/// If the station has no offsets, these are its own events.
+/// doesn't allocate. If the station has no offsets, these are its events. `found` is a result of
+/// [`find_station`](crate::find_station) for [`Reach::Events`].
 pub fn merge_of<'a>(found: &'a FoundStation) -> Merge<TurnCurve<'a>, MarkCurve<'a>>
     requires { found.now.reach ≡ Reach.Events }
     ensures left { AreReferences found.now result.left }
@@ -126,8 +127,8 @@ pub fn merge_of<'a>(found: &'a FoundStation) -> Merge<TurnCurve<'a>, MarkCurve<'
     Merge::new(turn_search(found), slack_search(found), mark_search(found))
 }
 
-/// Returns the search for the reference's high and low waters, or maximum floods and ebbs. It
-/// evaluates the curve at most once a cell and once more.
+/// Returns the search for the reference's high and low waters, or a current's maximum floods and ebbs.
+/// It evaluates the curve at most once per cell, plus once.
 pub fn turn_search<'a>(found: &'a FoundStation) -> Search<TurnCurve<'a>>
     requires { found.now.reach ≡ Reach.Events }
     ensures at { result.at ≡ found.now.span.begin }
@@ -141,8 +142,8 @@ pub fn turn_search<'a>(found: &'a FoundStation) -> Search<TurnCurve<'a>>
     )
 }
 
-/// Returns the search for a current's slacks, if they are listed. It evaluates the curve at most
-/// once a cell and once more.
+/// Returns the search for a current's slack waters, or `None` if the station's slack waters aren't
+/// listed. It evaluates the curve at most once per cell, plus once.
 pub fn slack_search<'a>(found: &'a FoundStation) -> Option<Search<MarkCurve<'a>>>
     requires { found.now.reach ≡ Reach.Events }
     ensures at { ForSome result (λ search. search.at ≡ found.now.span.begin) }
@@ -152,8 +153,8 @@ pub fn slack_search<'a>(found: &'a FoundStation) -> Option<Search<MarkCurve<'a>>
     search_if(slack_curve(found, Version::Second), &found.span)
 }
 
-/// Returns the search for the crossings of the mark, if there is one. It evaluates the curve at
-/// most once a cell and once more.
+/// Returns the search for the minutes at which the level crosses the mark, or `None` if the request has
+/// no mark. It evaluates the curve at most once per cell, plus once.
 pub fn mark_search<'a>(found: &'a FoundStation) -> Option<Search<MarkCurve<'a>>>
     requires { found.now.reach ≡ Reach.Events }
     ensures at { ForSome result (λ search. search.at ≡ found.now.span.begin) }
@@ -163,7 +164,7 @@ pub fn mark_search<'a>(found: &'a FoundStation) -> Option<Search<MarkCurve<'a>>>
     search_if(mark_curve(found, Version::Second), &found.span)
 }
 
-// Returns the search of `curve`, if there is one.
+/// Returns the search for the cells of `curve`, or `None` if there is no curve.
 fn search_if<C: Curve>(curve: Option<C>, span: &Span) -> Option<Search<C>>
     requires { ForSome curve (λ c. IsFreshOver span.now (C.state c)) }
     ensures at { ForSome result (λ search. search.at ≡ span.now.begin) }

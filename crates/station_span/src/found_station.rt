@@ -12,22 +12,21 @@ use harmonics_book::Units;
 use station_curve::StationCurve;
 use station_table::Basis;
 
-/// A station that was found, with a span of it for which a request has an answer.
-///
-/// Its curve has the minutes of `span` alone.
+/// A station that was found by its name, with a span over which a request about it has an answer. Its
+/// curve has only the minutes of `span`.
 #[derive(Drop)]
 pub struct FoundStation {
-    /// The offsets from the reference.
+    /// The station's offsets from its reference.
     pub basis: Basis,
-    /// The unit of the reference.
+    /// The unit of the reference's levels.
     pub units: Units,
-    /// The curve of the reference.
+    /// The curve of the reference's level and slope.
     pub curve: StationCurve,
     /// The purpose for which the reference's minutes were chosen.
     pub reach: Reach,
-    /// The span and the mark of the request, by the station's own minutes.
+    /// The span and the mark of the request, in the station's minutes and levels, not the reference's.
     pub asked: Asked,
-    /// The reference's minutes that are evaluated.
+    /// The minutes of the reference that are evaluated.
     pub span: Span,
     pub ghost unit: { units ≡ curve.station.units },
     pub ghost valid: { IsValid reach curve.book asked basis curve.station curve },

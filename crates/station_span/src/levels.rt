@@ -15,7 +15,7 @@ use crate::station::earlier;
 use event_list::scaled;
 use tide_fault::Refusal;
 
-/// Returns `Ok` if the station has a level at each minute: its highs and lows have the same
+/// Returns `Ok` if the station has a level at each minute, because its highs and lows have the same
 /// offsets.
 ///
 /// # Errors
@@ -36,7 +36,7 @@ pub fn check_level(found: &FoundStation) -> Result<(), Refusal>
 }
 
 /// Returns the station's level at `minute`, in millionths of its unit: the reference's level at the
-/// minute that the offset moves to `minute`, scaled. Doesn't allocate.
+/// minute that the offset moves to `minute`, scaled. It doesn't allocate.
 pub fn level_at(found: &FoundStation, minute: i64) -> i64
     requires { IsLooked found.now minute }
     ensures { result ≡ level_at found.now.curve.book (site_of found.now) minute }
@@ -45,7 +45,8 @@ pub fn level_at(found: &FoundStation, minute: i64) -> i64
     scaled(&found.basis.high, level)
 }
 
-/// Returns true if the station's level at `minute` rises: its slope is above 0. Doesn't allocate.
+/// Returns true if the station's level at `minute` rises: the slope there is above 0. It doesn't
+/// allocate.
 pub fn is_rising(found: &FoundStation, minute: i64) -> bool
     requires { IsLooked found.now minute }
     ensures { result ≡ is_rising_at found.now.curve.book (site_of found.now) minute }
@@ -53,7 +54,7 @@ pub fn is_rising(found: &FoundStation, minute: i64) -> bool
     found.curve.slope(source(found, minute)) > 0
 }
 
-/// Returns the reference's minute that the offset moves to the station's `minute`.
+/// Returns the reference's minute that the station's offset moves to `minute`.
 pub fn source(found: &FoundStation, minute: i64) -> i64
     requires { IsLooked found.now minute }
     ensures exact { result ≡ source_of (tide_of_found found.now) minute }
@@ -62,7 +63,7 @@ pub fn source(found: &FoundStation, minute: i64) -> i64
     earlier(minute, found.basis.high.add)
 }
 
-/// Levels of a station twice as high and of one half as high as its reference.
+/// Proves levels of a station twice as high and of a station half as high as its reference.
 #[tactic(auto, unfolding(crate::specs::Levels::level_in, decimal_text::specs::Rounding::rounded_of))]
 pub fn worked_levels()
     ensures twice { scaled (record { add = pos 30; times = pos 2000000; plus = pos 500000 }) (pos 1000000) ≡ pos 2500000 }

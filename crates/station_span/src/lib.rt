@@ -1,13 +1,13 @@
-//! A span of a station: the station that a name means, and its curves.
+//! A span of a station: the station that has a given name, and its curves.
 //!
-//! [`StationData`] has the stations that can be requested, and a [`StationRequest`] requests a span
-//! of one. [`find_station`] goes the way of every such request: the name, the unit, the span, the
-//! bounds on the constants and the mark, and returns the first refusal. [`find_level`] requires
-//! levels too, and [`find_reference`] takes no span. A station that was found has curves ([`turn_curve`], [`slack_curve`],
-//! [`mark_curve`]), events ([`find_events`], or one at a time by [`merge_of`]), levels
-//! ([`level_at`], [`is_rising`]) and a highest water ([`find_highest`], [`judge_highest`]).
-//! `specs/Sites.antt` has the order of the refusals, and `specs/Following.antt` the curves that are
-//! followed.
+//! [`StationData`] has the stations that can be requested, and a [`StationRequest`] is a request about a
+//! span of one of them. [`find_station`] takes the steps of every such request (the name, the unit, the
+//! span, the bounds on the constants and the mark) and returns the first refusal. [`find_level`] also
+//! requires a level at each minute, and [`find_reference`] takes no span. A station that was found has
+//! curves ([`turn_curve`], [`slack_curve`], [`mark_curve`]), events ([`find_events`], or one at a time
+//! by [`merge_of`]), levels ([`level_at`], [`is_rising`]) and a highest water ([`find_highest`],
+//! [`judge_highest`]). `specs/Sites.antt` has the order of the refusals, and `specs/Following.antt` the
+//! curves of the requested tracks.
 #![tactic(auto)]
 
 mod asked;

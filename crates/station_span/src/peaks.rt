@@ -20,11 +20,12 @@ use rate_bound::MarkCurve;
 use std::alloc::{AllocError, Global};
 use tide_fault::Refusal;
 
-/// Returns the station of `stations` that `request` names, with its span, for its highest water.
+/// Returns the station of `stations` that `request` names, with its span, prepared for a search for its
+/// highest water.
 ///
 /// # Errors
-/// The first [`Refusal`] in this order: the station, its unit, the span, the bounds on its
-/// constants, the mark, a level at each minute.
+/// The first [`Refusal`] in this order: the station, its unit, the span, the bounds on its constants,
+/// the mark, a level at each minute.
 ///
 /// # Examples
 /// ```
@@ -52,8 +53,8 @@ pub fn find_level(
     Ok(found)
 }
 
-/// Returns the highest water of the reference's minutes that the offset moves into the span, with
-/// the cells that show it.
+/// Returns the highest water among the minutes of the reference that the offset moves into the span,
+/// with the cells that show it.
 pub fn find_highest(alloc: Global, found: &FoundStation) -> Result<Peak, AllocError>
     requires { HasPeak found.now }
     ensures exact { IfOk result (λ peak. peak ≡ highest_of found.now.curve.book (site_of found.now) found.now.asked) }
@@ -68,7 +69,8 @@ pub fn find_highest(alloc: Global, found: &FoundStation) -> Result<Peak, AllocEr
     Ok(peak)
 }
 
-/// Returns the reference's minute of the highest water, without making its cells.
+/// Returns the minute of the reference's highest water among the minutes that the offset moves into the
+/// span. It makes no cells.
 pub fn highest_minute(found: &FoundStation) -> i64
     requires { HasPeak found.now }
     ensures exact { result ≡ (highest_of found.now.curve.book (site_of found.now) found.now.asked).at }
@@ -77,9 +79,9 @@ pub fn highest_minute(found: &FoundStation) -> i64
     highest_point(&mut level_curve(found), found.span.begin, found.span.end).minute
 }
 
-/// Returns the verdict on `peak` as the highest water of the reference's minutes that the offset
-/// moves into the span. Its value is below 10^37 in size, and it has fewer than 2^32 cells. Doesn't
-/// allocate.
+/// Returns the verdict on `peak` as the highest water among the minutes of the reference that the offset
+/// moves into the span. The value of `peak` is below 10^37 in size, and it has fewer than 2^32 cells. It
+/// doesn't allocate.
 pub fn judge_highest(found: &FoundStation, peak: &Peak) -> PeakVerdict
     requires peak { HasPeak found.now }
     requires size { unsigned_abs peak.now.value < 10 ^ 37 }
@@ -114,7 +116,7 @@ fn later(minute: i64, add: i32) -> i64
     minute + i64::from(add)
 }
 
-// Returns the curve of the reference's level, whose greatest value is the highest water.
+/// Returns the curve of the reference's level; its greatest value is the highest water.
 fn level_curve<'a>(found: &'a FoundStation) -> MarkCurve<'a>
     ensures meaning { (⟦<MarkCurve<'a> as Curve>⟧.state result).facts.meaning ≡ tide_levels (tide_of_found found.now) }
     ensures fresh { (⟦<MarkCurve<'a> as Curve>⟧.state result).count ≡ 0 }

@@ -5,8 +5,9 @@
 pub enum Reach {
     /// Events: the minutes whose events the offsets can move into the span.
     Events,
-    /// Levels: the minutes that the offset moves to the span's.
+    /// Levels: the minutes that the offset moves to minutes of the span.
     Levels,
-    /// The highest water: the minutes that the offset moves into the span, which has at least one.
+    /// The highest water: the minutes that the offset moves into the span. The span has at least one
+    /// minute.
     Highest,
 }

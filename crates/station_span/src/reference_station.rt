@@ -21,10 +21,11 @@ pub struct ReferenceStation<'a> {
     pub curve: StationCurve,
 }
 
-/// Returns the reference of the station `name` of `stations`.
+/// Returns the reference station of the station `name` of `stations`, with its curve for all minutes.
 ///
 /// # Errors
-/// The first [`Refusal`] in this order: the station, its unit, the bounds on its constants.
+/// The first [`Refusal`] in this order: the station, its unit, the bounds on its constants. If memory
+/// runs out, [`Refusal::NoMemory`] is returned in place of any other result.
 #[tactic(auto, unfolding(crate::specs::Sites::station_in))]
 pub fn find_reference<'a>(
     alloc: Global,

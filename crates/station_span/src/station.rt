@@ -62,12 +62,12 @@ use year_blend::year_start;
 /// The greatest number of minutes of a span.
 const SPAN_LIMIT: i64 = 5_270_400;
 
-/// Returns the station of `stations` that `request` names, with its span and its mark, for the
-/// purpose `reach`.
+/// Returns the station of `stations` that `request` names, with its span and its mark, for the purpose
+/// `reach`.
 ///
 /// # Errors
-/// The first [`Refusal`] in this order: the station, its unit, the span, the bounds on its
-/// constants, the mark. [`Refusal::NoMemory`] may be returned in place of any result.
+/// The first [`Refusal`] in this order: the station, its unit, the span, the bounds on its constants,
+/// the mark. If memory runs out, [`Refusal::NoMemory`] is returned in place of any other result.
 ///
 /// # Examples
 /// ```
@@ -100,11 +100,11 @@ pub fn find_station(
     find_at(alloc, book, reach, basis, station, request)
 }
 
-/// Returns the station `name` of `stations`: its reference in the book and its offsets.
+/// Returns the basis of the station `name` of `stations`: its reference in the book and its offsets.
 ///
 /// # Errors
-/// [`Refusal::NoStation`] if neither the book nor the table has the name, and
-/// [`Refusal::NoReference`] if the book lacks the reference of its row.
+/// [`Refusal::NoStation`] if neither the book nor the table has the name, and [`Refusal::NoReference`]
+/// if the book doesn't have the reference of the table's row.
 pub fn find_basis(stations: &StationData<'_>, name: &Text) -> Result<Basis, Refusal>
     ensures exact { result ≡ basis_from (basis_of stations.now.book stations.now.table name.now) }
     ensures valid { IfOk result (IsBasis (length stations.now.book.stations)) }
@@ -119,8 +119,8 @@ pub fn find_basis(stations: &StationData<'_>, name: &Text) -> Result<Basis, Refu
     }
 }
 
-// Returns the station with the offsets `basis` from the reference `station`, with the span of
-// `request`.
+/// Returns the station with the offsets `basis` from the reference `station`, with the span of
+/// `request`.
 #[tactic(auto, unfolding(crate::specs::Sites::site_at))]
 fn find_at(
     alloc: Global,
@@ -152,7 +152,7 @@ fn find_at(
     })
 }
 
-/// Returns the station at index `place` of `book`.
+/// Returns the station at index `place` of `book`'s list.
 pub fn station_at(book: &Book, place: u32) -> &Station
     requires { place < length book.now.stations }
     ensures { slice_get book.now.stations place ≡ Some result.now }
@@ -160,7 +160,7 @@ pub fn station_at(book: &Book, place: u32) -> &Station
     &book.stations.as_slice()[place as usize]
 }
 
-/// Returns `units`, if they are units of levels.
+/// Returns `units` if they are units of levels.
 ///
 /// # Errors
 /// [`Refusal::Hydraulic`] if they are knots squared.
@@ -177,7 +177,8 @@ pub fn level_units(units: Units) -> Result<Units, Refusal>
     }
 }
 
-// Returns the minutes of the reference that are evaluated, if the harmonics file has them.
+/// Returns the minutes of the reference that are evaluated, or the refusal if the harmonics file doesn't
+/// have them.
 #[tactic(auto, unfolding(crate::specs::Sites::span_in))]
 fn span_looked_at(
     book: &ValidBook<'_>,
@@ -208,7 +209,7 @@ fn span_looked_at(
     }
 }
 
-/// Returns true if the span ends before it begins.
+/// Returns true if the span's end is before its beginning.
 fn is_backward(request: &StationRequest<'_>) -> bool
     ensures { result ≡ int_lt request.now.asked.end request.now.asked.begin }
 {
@@ -225,7 +226,7 @@ fn lacks_minute(reach: Reach, request: &StationRequest<'_>) -> bool
     matches!(reach, Reach::Highest) && asked.end <= asked.begin
 }
 
-// Returns the minutes of the reference that are evaluated.
+/// Returns the minutes of the reference that are evaluated.
 fn reached(reach: Reach, basis: &Basis, request: &StationRequest<'_>) -> Span
     requires offsets { HasOffsets basis.now }
     requires forward { request.now.asked.begin ≤ℤ request.now.asked.end }
@@ -252,7 +253,7 @@ fn moved(basis: &Basis, request: &StationRequest<'_>) -> Span
     }
 }
 
-/// Returns the minutes of the reference that the offset of highs moves to the span's.
+/// Returns the minutes of the reference that the offset of highs moves to minutes of the span.
 fn level_span(basis: &Basis, request: &StationRequest<'_>) -> Span
     requires offsets { HasOffsets basis.now }
     requires forward { request.now.asked.begin ≤ℤ request.now.asked.end }
@@ -274,7 +275,7 @@ pub fn earlier(minute: i64, add: i32) -> i64
     minute - i64::from(add)
 }
 
-/// Returns true if all minutes of `span`, and the one after it, are in the file's years or at their
+/// Returns true if all minutes of `span`, and the minute after it, are in the file's years or at their
 /// end.
 fn has_span(book: &ValidBook<'_>, span: &Span) -> bool
     ensures { result ≡ has_span book.now span.now }
@@ -297,7 +298,7 @@ fn first_minute(book: &ValidBook<'_>) -> i64
     year_start(book.get().first_year)
 }
 
-// Returns the minute after the last of the file's years.
+/// Returns the minute after the last of the file's years.
 fn last_minute(book: &ValidBook<'_>) -> i64
     ensures value { result ≡ year_start_of (book.now.first_year +ℤ pos book.now.years) }
     ensures moment { IsMoment result }

@@ -40,11 +40,12 @@ pub fn curve_over(
     }
 }
 
-/// Returns the curve of `station`, which is at index `place` of `book`, for all minutes.
+/// Returns the curve of `station`, which is at index `place` of `book`, for all minutes of the book's
+/// years.
 ///
 /// # Errors
-/// [`Refusal::TooLarge`] or [`Refusal::TooSteep`] if its constants exceed a bound, and
-/// [`Refusal::NoMemory`].
+/// [`Refusal::TooLarge`] or [`Refusal::TooSteep`] if its constants exceed a bound; [`Refusal::NoMemory`]
+/// if memory runs out.
 pub fn whole_curve(
     alloc: Global,
     book: &ValidBook<'_>,

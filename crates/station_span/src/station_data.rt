@@ -7,8 +7,8 @@ use harmonics_book::{Book, ValidBook};
 use station_table::OffsetTable;
 use std::marker::Model;
 
-/// The stations that can be requested, borrowed: those of a valid book of harmonic constants, and
-/// the subordinate stations of a table of offsets beside it. In contracts its value is both.
+/// The stations that can be requested, borrowed: the stations of a valid book of harmonic constants, and
+/// the subordinate stations of a table of offsets. In contracts its value is the book and the table.
 #[derive(Drop)]
 pub struct StationData<'a> {
     book: ValidBook<'a>,
@@ -24,7 +24,8 @@ impl<'a> Model for StationData<'a> {
 }
 
 impl<'a> StationData<'a> {
-    /// Returns the stations of `book`, whose ranges the caller proves, and of `table`.
+    /// Returns the stations of `book` and of `table`; the caller proves that the values of `book` are in
+    /// their ranges.
     pub fn new(book: &'a Book, table: &'a OffsetTable) -> StationData<'a>
         requires { IsBook book.now }
         ensures { result ≡ record { book = book.now; table = table.now } }
@@ -35,14 +36,14 @@ impl<'a> StationData<'a> {
         }
     }
 
-    /// Borrows the book.
+    /// Borrows the book of harmonic constants.
     pub fn book(&self) -> &ValidBook<'a>
         ensures { result.now ≡ self.now.book }
     {
         &self.book
     }
 
-    /// Borrows the table.
+    /// Borrows the table of offsets.
     pub fn table(&self) -> &'a OffsetTable
         ensures { result.now ≡ self.now.table }
     {

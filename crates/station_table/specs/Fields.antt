@@ -53,11 +53,11 @@ name_of field = text_of field >>= name_in
 
 -- ---- numbers
 
--- an empty field has the value `usual`, and any other one is read by the rule
+-- the value of a field: `usual` if it is empty, else the value that the rule reads
 unfoldable pub value_of : ℤ → (List ℕ → Result ℤ OffsetWhy) → List ℕ → Result ℤ OffsetWhy
 value_of usual rule field = text_of field >>= λ text. if length text == 0 then Ok usual else rule text
 
--- z, if it is from `least` to `most`, both included
+-- the number z, or a fault if it isn't from `least` to `most`, both included
 unfoldable pub within : ℤ → ℤ → ℤ → Result ℤ OffsetWhy
 within least most z = if int_lt z least || int_lt most z then Err OutOfRange else Ok z
 
@@ -88,7 +88,7 @@ minutes_of_text text =
     or_bad_number (clock_of (without_leading_sign text))
     >>= λ n. within (negsuc 1439) (pos 1440) (signed (starts_with_minus text) n)
 
--- the decimal, or its fault: a bad form and too many digits are reported before too many places
+-- the decimal's value or its fault; a bad form and too many digits are reported before too many places
 abbrev pub decimal_from : Result ℤ DecimalFault → Result ℤ OffsetWhy
 decimal_from (Ok n) = Ok n
 decimal_from (Err decimals.TooFine) = Err TooFine
@@ -105,10 +105,11 @@ millionths_in least most text = decimal_from (read_of text 6) >>= within least m
 unfoldable pub add_of : List ℕ → Result ℤ OffsetWhy
 add_of field = value_of (pos 0) minutes_of_text field
 
--- the factor on a level, in millionths: 1 for an empty field, and at most 100
+-- the factor of a level, in millionths: 1,000,000 for an empty field, and at most 100,000,000
 unfoldable pub times_of : List ℕ → Result ℤ OffsetWhy
 times_of field = value_of (pos 1000000) (millionths_in (pos 1) (pos 100000000)) field
 
--- the level added to a level, in millionths: 0 for an empty field, and at most 10,000 either way
+-- the height added to a level, in millionths: 0 for an empty field, and at most 10,000,000,000 either
+-- way
 unfoldable pub plus_of : List ℕ → Result ℤ OffsetWhy
 plus_of field = value_of (pos 0) (millionths_in (negsuc 9999999999) (pos 10000000000)) field

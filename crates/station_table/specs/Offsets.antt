@@ -28,7 +28,7 @@ pub record IsTableName (name : List ℕ) : Type 0 where
   pub short : length name ≤ 400
   pub printable : All (λ b. (32 ≤ b) × (b ≢ 127)) name
 
--- a station with valid names and offsets
+-- a row with valid names and offsets
 pub record IsOffsets (o : Offsets) : Type 0 where
   pub name : IsTableName o.name
   pub reference : IsTableName o.reference
@@ -36,7 +36,7 @@ pub record IsOffsets (o : Offsets) : Type 0 where
   pub low : IsOffset o.low
   pub slack : ForSome o.slack IsSlack
 
--- a valid table
+-- a valid table: fewer than 2^32 valid rows
 pub record IsTable (rows : List Offsets) : Type 0 where
   pub few : length rows < 2 ^ 32
   pub each : All IsOffsets rows

@@ -14,7 +14,7 @@ use Rattle.station_table.specs.declared.fault.OffsetWhy.TheVariants.{
 use Rattle.station_table.specs.declared.fault.OffsetFault.{OffsetFault}
 use Rattle.station_table.specs.declared.fault.OffsetFault.TheVariants.{NoMemory, At}
 
--- the number of each reason
+-- the number of each reason in the file format
 abbrev pub number_of : OffsetWhy → ℕ
 number_of BadHeader = 1
 number_of FieldCount = 2

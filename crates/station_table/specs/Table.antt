@@ -49,11 +49,11 @@ abbrev pub columns_of : Header → List (List ℕ)
 columns_of Plain = plain_columns
 columns_of WithSlack = plain_columns ++ codes "flood_add" ∷ codes "ebb_add" ∷ []
 
--- the fields are the names of the header's columns
+-- the fields of a record are the names of the header's columns
 abbrev pub has_columns : Header → List (List ℕ) → Bool
 has_columns header fields = pointwise bytes_eq fields (columns_of header)
 
--- the header that a record is
+-- the header in a record, or the fault of a file without a header
 unfoldable pub header_of : List (List ℕ) → Result Header OffsetFault
 header_of fields =
     if has_columns Plain fields then Ok Plain
@@ -69,7 +69,7 @@ field_of fields column = slice_index_or fields column []
 abbrev pub is_empty : List ℕ → Bool
 is_empty field = length field == 0
 
--- both times of slack water, or none if both fields are empty
+-- both times of slack water, or None if both fields are empty; a fault if only one is
 abbrev pub both_or_none : Bool → Bool → Slack → Result (Option Slack) OffsetWhy
 both_or_none true true slack = Ok None
 both_or_none false false slack = Ok (Some slack)
@@ -110,7 +110,7 @@ offsets_of header fields = do
 
 -- ---- the table
 
--- a row's value, or its fault with the row's number
+-- a row's value, or its fault with the number of the row
 abbrev pub at_row : {A : Type 0} → ℕ → Result A OffsetWhy → Result A OffsetFault
 at_row row (Ok value) = Ok value
 at_row row (Err why) = Err (At row why)
@@ -128,6 +128,6 @@ unfoldable pub table_in : List (List (List ℕ)) → Result (List Offsets) Offse
 table_in [] = Err (At 1 BadHeader)
 table_in (names ∷ rows) = header_of names >>= λ header. rows_from header 2 rows
 
--- the table of a file's bytes, by the records of the crate `csv`
+-- the table of a file's bytes, cut into records as the crate `csv` does
 unfoldable pub table_of : List ℕ → Result (List Offsets) OffsetFault
 table_of bytes = table_in (records default_config (strip_bom bytes))

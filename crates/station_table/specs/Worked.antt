@@ -14,7 +14,7 @@ plain_header = codes "name,reference,high_add,low_add,high_times,low_times,high_
 abbrev pub slack_header : List ℕ
 slack_header = plain_header ++ codes ",flood_add,ebb_add"
 
--- a file with two stations that follow the pier, and one without its reference in the book
+-- a file with two stations whose reference is the pier, and one whose reference isn't in the book
 abbrev pub dock_file : List ℕ
 dock_file =
     plain_header ++ codes "\nDock,Pier,0:30,-0:10,1.1,0.9,0.1,0\nOuter,Pier,0:30,0:30,2,2,0.5,0.5\n"
@@ -56,7 +56,7 @@ gate_row = record {
   slack = Some (record { flood_add = pos 5; ebb_add = negsuc 4 });
 }
 
--- another text for one field, and the fault of the changed row
+-- a change of a row: the index of a field, its new text, and the fault of the changed row
 pub record Change : Type 0 where
   pub column : ℕ
   pub text : List ℕ

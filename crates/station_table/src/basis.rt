@@ -2,17 +2,20 @@
 
 use crate::offset::{Offset, Slack};
 
-/// A station of a book, with the offsets of another station from it. A reference station has the offsets
-/// that change nothing: nothing added, times 1,000,000 millionths.
+/// A station's reference and its offsets: the index of a station of the book, and how the station's
+/// events differ from its reference's. A reference station has the offsets that change nothing: 0 added,
+/// times 1,000,000 millionths.
 #[derive(Clone, Copy)]
 pub struct Basis {
-    /// The index of the station in the book's list.
+    /// The index of the reference station in the book's list.
     pub station: u32,
-    /// The index of the row in the table's list. `None` for a reference station.
+    /// The index of the row in the table's list, or `None` for a reference station.
     pub row: Option<u32>,
+    /// The change from the reference's high waters to the station's.
     pub high: Offset,
+    /// The change from the reference's low waters to the station's.
     pub low: Offset,
-    /// `None` if the table has no times of slack water for the station.
+    /// The minutes added to the times of slack water, or `None` if the table has none for the station.
     pub slack: Option<Slack>,
 }
 
@@ -20,7 +23,7 @@ impl Basis {
     ghost use Rattle.std.specs.Prelude.{◌≡◌, ◌↔◌, None, IsTrue};
     ghost use Rattle.station_table.specs.Bases.{is_equal, is_plain, usual};
 
-    /// Returns true if highs and lows have the same offsets.
+    /// Returns true if the high and the low waters have the same offsets.
     pub fn equal(&self) -> bool
         ensures exact { result ≡ is_equal self.now }
         ensures same { IsTrue result ↔ (self.now.high ≡ self.now.low) }
@@ -28,8 +31,8 @@ impl Basis {
         self.high == self.low
     }
 
-    /// Returns true if each event is the reference's: the offsets change nothing, and there are no times
-    /// of slack water.
+    /// Returns true if the station's events are its reference's, unchanged: the offsets change nothing,
+    /// and there are no times of slack water.
     pub fn plain(&self) -> bool
         ensures exact { result ≡ is_plain self.now }
     {

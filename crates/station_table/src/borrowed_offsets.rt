@@ -16,7 +16,7 @@ use csv::ByteRecord;
 use decimal_text::Text;
 use std::alloc::{AllocError, Global};
 
-/// A row with valid fields. Its names are borrowed from the record.
+/// A valid row of a table of offsets. Its names are borrowed from the record.
 #[derive(Clone, Copy)]
 pub struct BorrowedOffsets<'a> {
     pub name: &'a str,
@@ -29,7 +29,7 @@ pub struct BorrowedOffsets<'a> {
 /// Returns the row of a record.
 ///
 /// # Errors
-/// The first [`OffsetWhy`] from left to right.
+/// The first [`OffsetWhy`] of the fields from left to right.
 #[tactic(auto, unfolding(crate::specs::Table::offsets_of))]
 pub fn row_of(fields: &ByteRecord, header: Header) -> Result<BorrowedOffsets<'_>, OffsetWhy>
     ensures exact { Reads offsets_in (offsets_of header (fields_of fields.now)) result }
@@ -64,7 +64,8 @@ pub fn row_of(fields: &ByteRecord, header: Header) -> Result<BorrowedOffsets<'_>
     })
 }
 
-/// Returns the times of slack water, `None` if both fields are empty or the table has no such columns.
+/// Returns the times of slack water, or `None` if both fields are empty or the table has no such
+/// columns.
 #[tactic(auto, unfolding(crate::specs::Table::slack_of))]
 fn slack(fields: &ByteRecord, header: Header) -> Result<Option<Slack>, OffsetWhy>
     ensures exact { result ≡ slack_of header (fields_of fields.now) }

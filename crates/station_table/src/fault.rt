@@ -2,24 +2,25 @@
 
 use std::alloc::AllocError;
 
-/// The fault of a row. The file format numbers these reasons from 1 (docs/FORMATS.md).
+/// The reason why a row of a table of offsets is bad. The file format numbers these reasons from 1
+/// (docs/FORMATS.md).
 #[derive(Clone, Copy, Debug, PartialEq, Eq)]
 pub enum OffsetWhy {
-    /// The first record is no header, or the file is empty.
+    /// The first record isn't a header, or the file is empty.
     BadHeader,
-    /// The row has another number of fields than the header.
+    /// The row has a different number of fields than the header.
     FieldCount,
-    /// A number isn't of its form.
+    /// A number isn't in the form of its field: a decimal, or hours and minutes.
     BadNumber,
-    /// A number has more than six decimal places.
+    /// A factor or a height has more than six decimal places.
     TooFine,
-    /// A number is out of its range.
+    /// A number isn't in the range of its field.
     OutOfRange,
-    /// A field isn't UTF-8.
+    /// The bytes of a field aren't UTF-8.
     NotUtf8,
     /// A name is empty, longer than 400 bytes, or has a control byte.
     BadName,
-    /// Only one of the times of slack water is given.
+    /// Only one of the two times of slack water is given.
     HalfSlack,
 }
 
@@ -27,7 +28,7 @@ impl OffsetWhy {
     ghost use Rattle.std.specs.Prelude.{◌≡◌};
     ghost use Rattle.station_table.specs.Reasons.{number_of, text_of};
 
-    /// Returns the number of the reason, from 1 to 8.
+    /// Returns the number of the reason in the file format, from 1 to 8.
     pub fn number(self) -> u32
         ensures { result ≡ number_of self }
     {
@@ -43,7 +44,7 @@ impl OffsetWhy {
         }
     }
 
-    /// Returns the printed text of the reason.
+    /// Returns the text of the reason that is printed.
     pub fn text(self) -> &'static str
         ensures { result.now ≡ text_of self }
     {
@@ -60,10 +61,10 @@ impl OffsetWhy {
     }
 }
 
-/// The reason why a file has no table.
+/// The reason why a file couldn't be read as a table of offsets.
 #[derive(Clone, Copy, Debug, PartialEq, Eq)]
 pub enum OffsetFault {
-    /// Out of memory.
+    /// Memory ran out while the table was read.
     NoMemory,
     /// The first row that breaks a rule, and the first reason. Rows are counted from the header, which is
     /// row 1; a file without a header has its fault in row 1.

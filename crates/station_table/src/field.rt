@@ -28,7 +28,7 @@ fn text(field: &[u8]) -> Result<&str, OffsetWhy>
 /// Parses `field` as a name: from 1 to 400 bytes of UTF-8 without control bytes.
 ///
 /// # Errors
-/// [`OffsetWhy::NotUtf8`], else [`OffsetWhy::BadName`].
+/// [`OffsetWhy::NotUtf8`]; otherwise [`OffsetWhy::BadName`].
 #[tactic(auto, unfolding(crate::specs::Fields::name_of, crate::specs::Fields::name_in))]
 pub fn name(field: &[u8]) -> Result<&str, OffsetWhy>
     ensures exact { Reads (λ t. t.now) (name_of field.now) result }
@@ -52,7 +52,7 @@ fn within(least: i64, most: i64, value: i128) -> Result<i64, OffsetWhy>
     Ok(value as i64)
 }
 
-/// Returns the minutes of a clock time with an optional sign, at most a day.
+/// Returns the minutes of a clock time with an optional sign, at most 24 hours either way.
 #[tactic(auto, unfolding(crate::specs::Fields::minutes_of_text))]
 fn minutes(text: &[u8]) -> Result<i32, OffsetWhy>
     ensures exact { result ≡ minutes_of_text text.now }

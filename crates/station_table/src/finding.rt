@@ -12,18 +12,18 @@ use crate::table::OffsetTable;
 use decimal_text::Text;
 use harmonics_book::{Book, ValidBook};
 
-/// The reason why a name has no basis.
+/// The reason why the station of a name couldn't be found.
 #[derive(Clone, Copy, Debug, PartialEq, Eq)]
 pub enum FindFault {
-    /// Neither the book nor the table has the name.
+    /// Neither the book nor the table has a station with the name.
     NoStation,
     /// The book doesn't have the reference station of row `row`, an index of the table's list.
     NoReference { row: u32 },
 }
 
-/// Returns the basis of the station `name`: the first station `name` of the book; else the first row
-/// `name` of the table, over the first station of the book with its reference's name. It doesn't
-/// allocate.
+/// Returns the basis of the station `name`, that is, its reference and its offsets: the first station
+/// `name` of the book; otherwise the first row `name` of the table, with the first station of the book
+/// that has the name of the row's reference. It doesn't allocate.
 ///
 /// # Errors
 /// [`FindFault::NoStation`] if neither the book nor the table has `name`; [`FindFault::NoReference`] if
@@ -95,7 +95,7 @@ fn basis_over(book: &ValidBook<'_>, row: u32, offsets: &Offsets) -> Result<Basis
     }
 }
 
-/// Returns the index of the first station `name`.
+/// Returns the index of the first station called `name`, or `None` if there isn't one.
 fn station_place(book: &Book, name: &Text) -> Option<usize>
     ensures exact { result ≡ station_at book.now name.now }
     ensures place { IfSome result (λ place. place < length book.now.stations) }
@@ -106,7 +106,7 @@ fn station_place(book: &Book, name: &Text) -> Option<usize>
         .position(|station| station.name.as_str() == name.as_str())
 }
 
-/// Returns the index of the first row `name`.
+/// Returns the index of the first row called `name`, or `None` if there isn't one.
 fn row_place(rows: &[Offsets], name: &Text) -> Option<usize>
     ensures exact { result ≡ row_at rows.now name.now }
     ensures place { IfSome result (λ place. place < length rows.now) }

@@ -9,12 +9,12 @@ ghost use Rattle.station_table.specs.Table.{columns_of, has_columns, header_of, 
 use crate::fault::{OffsetFault, OffsetWhy};
 use csv::ByteRecord;
 
-/// The columns of a table.
+/// The columns of a table of offsets.
 #[derive(Clone, Copy)]
 pub enum Header {
-    /// Offsets of highs and lows.
+    /// The columns of a table with only offsets of high and low waters.
     Plain,
-    /// Offsets of highs and lows, and times of slack water.
+    /// The columns of a table with offsets of high and low waters, and with times of slack water.
     WithSlack,
 }
 
@@ -32,7 +32,7 @@ static COLUMNS: [&str; 10] = [
 ];
 
 impl Header {
-    /// Returns the number of columns.
+    /// Returns the number of columns of a table with this header.
     pub fn count(self) -> usize
         ensures { result ≡ length (columns_of self) }
     {
@@ -77,10 +77,10 @@ fn has_columns(fields: &ByteRecord, header: Header) -> bool
     }
 }
 
-/// Parses `fields`, a table's first record, as its header.
+/// Parses `fields`, the first record of a table, as its header.
 ///
 /// # Errors
-/// [`OffsetFault::At`] row 1 if it is no header.
+/// [`OffsetFault::At`] row 1 if it isn't a header.
 #[tactic(auto, unfolding(crate::specs::Table::header_of))]
 pub fn header_of(fields: &ByteRecord) -> Result<Header, OffsetFault>
     ensures { result ≡ header_of (fields_of fields.now) }
@@ -94,7 +94,7 @@ pub fn header_of(fields: &ByteRecord) -> Result<Header, OffsetFault>
     }
 }
 
-/// The fault of a file in which the first record is no header.
+/// The fault of a file in which the first record isn't a header.
 pub const NO_HEADER: OffsetFault = OffsetFault::At {
     row: 1,
     why: OffsetWhy::BadHeader,

@@ -2,7 +2,7 @@
 //!
 //! [`read_offsets`] reads an [`OffsetTable`] from a CSV file: a row for each station, with the minutes
 //! that are added to the times of its high and low waters, and the factors and levels that change their
-//! levels. [`find`] returns the [`Basis`] of a name: its station of a book, and the offsets from it.
+//! levels. [`find`] returns the [`Basis`] of a name: its reference station in a book, and its offsets.
 #![tactic(auto)]
 
 mod basis;

@@ -7,7 +7,7 @@ use crate::offsets::Offsets;
 use std::alloc::{AllocError, Global};
 use std::marker::Model;
 
-/// Subordinate stations in the file's order: fewer than 2^32, with fields in their ranges.
+/// The subordinate stations of a file, in its order: fewer than 2^32, with fields in their ranges.
 #[derive(Drop)]
 pub struct OffsetTable {
     rows: Vec<Offsets>,
@@ -27,7 +27,7 @@ impl Model for OffsetTable {
 }
 
 impl OffsetTable {
-    /// Returns the table without rows. It doesn't allocate.
+    /// Returns a table without rows. It doesn't allocate.
     pub fn new(alloc: Global) -> OffsetTable
         ensures { result ≡ [] }
     {
@@ -46,14 +46,15 @@ impl OffsetTable {
         Ok(())
     }
 
-    /// Does nothing; its contract shows a proof that the rows are fewer than 2^32 and in their ranges.
+    /// Does nothing. Its contract says that there are fewer than 2^32 rows, and that their fields are in
+    /// their ranges.
     pub fn ranges_hold(&self)
         ensures { IsTable self.now }
     {
         let _rows = &self.rows;
     }
 
-    /// Borrows the rows.
+    /// Borrows the rows as a slice.
     pub fn as_slice(&self) -> &[Offsets]
         ensures exact { result.now ≡ self.now }
         ensures valid { IsTable self.now }

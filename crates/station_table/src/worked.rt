@@ -22,7 +22,7 @@ ghost use Rattle.station_table.specs.Worked.{
   changes,
 };
 
-/// Proves the values of some fields, some of which are empty.
+/// Proves which values some fields of a table have, among them empty ones.
 #[tactic(auto, unfolding(crate::proofs::OnLiterals::table_on_literals))]
 pub fn worked_fields()
     ensures greatest_add { add_of (codes "24:00") ≡ Ok (pos 1440) }
@@ -39,7 +39,7 @@ pub fn worked_fields()
     ensures accented { name_of (195 ∷ 169 ∷ []) ≡ Ok (195 ∷ 169 ∷ []) }
 {}
 
-/// Proves the stations of some rows, or the first reason why a row has none.
+/// Proves which stations some rows give, or the first reason why a row is bad.
 #[tactic(auto, unfolding(crate::proofs::OnLiterals::table_on_literals))]
 pub fn worked_rows()
     ensures gate { offsets_of Header.WithSlack gate_fields ≡ Ok gate_row }
@@ -48,7 +48,7 @@ pub fn worked_rows()
     ensures short { offsets_of Header.WithSlack (take 8 gate_fields) ≡ Err OffsetWhy.FieldCount }
 {}
 
-/// Proves the tables of some files, or their first faults.
+/// Proves which tables some files contain, or their first faults.
 #[tactic(auto, unfolding(crate::proofs::OnLiterals::table_on_literals))]
 pub fn worked_tables()
     ensures dock { table_of dock_file ≡ Ok dock_rows }
@@ -60,7 +60,7 @@ pub fn worked_tables()
         ≡ Err (OffsetFault.At 3 OffsetWhy.BadNumber) }
 {}
 
-/// Proves the bases of some names over a book with one station.
+/// Proves which references and offsets some names have, with a book of one station.
 #[tactic(auto, unfolding(crate::specs::Bases::basis_of, crate::specs::Bases::basis_in, crate::specs::Bases::basis_over))]
 pub fn worked_bases()
     ensures reference { basis_of pier_book dock_rows (codes "Pier") ≡ Ok (reference_basis 0) }

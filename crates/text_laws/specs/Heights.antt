@@ -12,7 +12,7 @@ abbrev pub row_at : (ℤ → ℤ) → ℤ → ℤ → ℕ → Row
 row_at level begin step index =
     record { minute = minute_at begin step index; level = level (minute_at begin step index) }
 
--- the rows of a span, one each step
+-- the rows of a span, one at each step
 abbrev pub rows_over : (ℤ → ℤ) → ℤ → ℤ → ℤ → List Row
 rows_over level begin end step =
     map (row_at level begin step) (range_with_len 0 (unsigned_abs (end -ℤ begin) / unsigned_abs step + 1))

@@ -16,14 +16,16 @@ ahead_of (Minutes ahead) = ahead
 abbrev pub minute_of : Local → ℤ
 minute_of local = local.minute -ℤ ahead_of local.label
 
--- two lines of one minute by the clocks of two zones, which differ only in the local time that begins them
+-- two lines of one minute in the local times of two zones, which differ only in the local time that
+-- begins them
 pub record DifferInLabel (zone other : Zone) (line line_there : List ℕ) : Type 0 where
   pub minute : ℤ
   pub rest : List ℕ
   pub here : line ≡ local_text (local_in zone minute) ++ rest
   pub there : line_there ≡ local_text (local_in other minute) ++ rest
 
--- two lines of one minute by the clocks of two zones, which differ only in the local time after `words`
+-- two lines of one minute in the local times of two zones, which differ only in the local time after
+-- `words`
 pub record DifferInLabelAfter (words : List ℕ) (zone other : Zone) (line line_there : List ℕ) : Type 0 where
   pub minute : ℤ
   pub rest : List ℕ

@@ -2,7 +2,7 @@
 use Rattle.std.specs.Prelude.{◌≡◌, ◌≤◌, ◌^◌, ℕ, ℤ, unsigned_abs, List, ◌∷◌, ◌++◌, All, codes}
 use Rattle.std.specs.List.{flat_map, AllZip}
 
--- a line: no byte below 32, and then a LF
+-- a line: bytes of which none is below 32, and then an LF
 pub record IsLine (line : List ℕ) : Type 0 where
   pub bytes : List ℕ
   pub ends : line ≡ bytes ++ codes "\n"
@@ -12,7 +12,7 @@ pub record IsLine (line : List ℕ) : Type 0 where
 abbrev pub IsLevel : ℤ → Type 0
 IsLevel level = unsigned_abs level ≤ 2 ^ 63
 
--- the text of a station's name on a line and of lines that end with their LF
+-- the text of a station's name on a line, and of lines that end with an LF
 abbrev pub listing_of : List ℕ → List (List ℕ) → List ℕ
 listing_of name lines = name ++ codes "\n" ++ flat_map (λ line. line) lines
 

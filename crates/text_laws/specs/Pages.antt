@@ -56,7 +56,7 @@ pub record IsGreatest (days : List ℤ) (day : ℤ) : Type 0 where
   pub among : Contains days day
   pub greatest : All (λ other. other ≤ℤ day) days
 
--- the day that is `index` days after the first one, if it is no later than the last one
+-- the day that is `index` days after the first day, or None if it is later than the last day
 abbrev pub day_until : ℤ → ℤ → ℕ → Option ℤ
 day_until first last index = if int_le (first +ℤ pos index) last then Some (first +ℤ pos index) else None
 
@@ -68,7 +68,7 @@ pub record RunThrough (dates days : List ℤ) : Type 0 where
   pub greatest : IsGreatest dates last
   pub each : (index : ℕ) → slice_get days index ≡ day_until first last index
 
--- events of which none has an earlier local date than one before it
+-- no event has an earlier local date than an event before it in the list
 abbrev pub DatesAscend : Zone → List Event → Type 0
 DatesAscend zone events = AllPairs (λ event later. day_in zone event.minute ≤ℤ day_in zone later.minute) events
 

@@ -14,7 +14,7 @@ use Rattle.station_table.specs.Bases.{basis_of, basis_over, reference_basis}
 abbrev pub station_lines : Book → List Offsets → List (List ℕ)
 station_lines book table = map reference_line book.stations ++ map (subordinate_line book.stations) table
 
--- a name that finds a station of the harmonics file
+-- a request with this name is for a station of the harmonics file
 pub record FindsStation (book : Book) (table : List Offsets) (name : List ℕ) : Type 0 where
   pub index : ℕ
   pub station : Station
@@ -22,7 +22,7 @@ pub record FindsStation (book : Book) (table : List Offsets) (name : List ℕ) :
   pub named : station.name ≡ name
   pub found : basis_of book table name ≡ Ok (reference_basis index)
 
--- a name that finds a row of the table, with its reference or the lack of it
+-- a request with this name is for a row of the table, with its reference or without it
 pub record FindsRow (book : Book) (table : List Offsets) (name : List ℕ) : Type 0 where
   pub index : ℕ
   pub row : Offsets
@@ -41,7 +41,8 @@ pub record HasUnit (book : Book) (row : Offsets) (basis : Basis) : Type 0 where
   pub named : station.name ≡ row.reference
   pub unit : unit_of_row book row ≡ text_of_unit station.units
 
--- a row with a line that has the unit of its reference, or `-` if the harmonics file lacks it
+-- the line of a row has the unit of its reference, or `-` if the harmonics file doesn't have the
+-- reference
 abbrev pub SaysUnit : Book → ℕ → Offsets → Result Basis FindFault → Type 0
 SaysUnit book index row (Ok basis) = HasUnit book row basis
 SaysUnit book index row (Err fault) = (fault ≡ NoReference index) × (unit_of_row book row ≡ codes "-")

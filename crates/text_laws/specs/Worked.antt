@@ -5,11 +5,11 @@ use Rattle.jiff_tz.specs.TzifText.{TypeText}
 use Rattle.zone_time.specs.declared.zone.Zone.{Zone}
 use Rattle.zone_time.specs.declared.zone.Zone.TheVariants.{File}
 
--- an hour ahead of universal time
+-- the type of a clock that is an hour ahead of universal time
 abbrev pub hour_ahead : TypeText
 hour_ahead = record { seconds = pos 3600; dst = No; name = codes "AHEAD" }
 
--- universal time
+-- the type of a clock that shows universal time
 abbrev pub universal : TypeText
 universal = record { seconds = pos 0; dst = No; name = codes "UTC" }
 

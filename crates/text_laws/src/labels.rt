@@ -15,9 +15,10 @@ ghost use Rattle.zone_time.specs.Zones.{local_in};
 
 use zone_time::{Label, Local};
 
-/// Proves that in two zones listings of events and of levels, and the texts of `clock` and `highest`, have
-/// the same minutes in the same order. The lines differ only in their local times, and the label of each
-/// local time determines the minute that it means. A record differs only in its third field.
+/// Proves that in two zones listings of events and of levels, and the texts of the commands `clock` and
+/// `highest`, have the same minutes in the same order. The lines differ only in their local times, and
+/// the label of each local time determines the minute that it means. A record differs only in its third
+/// field.
 pub fn zones_only_label()
     ensures minute { (zone : Zone) (minute : ℤ) → minute_of (local_in zone minute) ≡ minute }
     ensures events { (name : List ℕ) (units : Units) (events : List Event) (zone other : Zone) → All (λ event. IsLevel event.level) events →
@@ -37,8 +38,8 @@ pub fn zones_only_label()
         row_fields name units other row ≡ slice_set (row_fields name units zone row) 2 (time_in other row.minute) }
 {}
 
-/// Returns the minute of universal time that a local time with its label means, since
-/// 1970-01-01T00:00Z.
+/// Returns the minute of universal time, since 1970-01-01T00:00Z, that a local time with its label
+/// means.
 ///
 /// The program doesn't call it.
 pub fn minute_of_local(local: Local) -> i64

@@ -11,11 +11,11 @@ ghost use Rattle.text_laws.specs.Pages.{DatesAscend, IsCalendar};
 ghost use Rattle.text_laws.specs.Worked.{goes_back};
 ghost use Rattle.zone_time.specs.declared.zone.Zone.{Zone};
 
-/// Proves that the calendar of a span has a line for each local date, from the least to the greatest date
-/// of its first minute, its last minute and its events. Each event is listed once, on the line of its local
-/// date, and the events of a line keep their order. All lines together have exactly the events, in their
-/// order unless the clock goes back from one date to the one before. The calendar of an empty span has no
-/// line.
+/// Proves that the calendar of a span has a line for each local date, from the earliest to the latest
+/// date of its first minute, its last minute and its events. Each event is listed once, on the line of
+/// its local date, and the events of a line keep their order. All lines together have exactly the
+/// events, in their order unless the clock goes back from one date to the date before. The calendar of
+/// an empty span has no lines.
 pub fn calendar_shows_each_event_once()
     ensures shown { (name : List ℕ) (units : Units) (events : List Event) (zone : Zone) (begin end : ℤ) → begin <ℤ end
         → All (λ event. IsLevel event.level) events →

@@ -14,9 +14,9 @@ ghost use Rattle.station_table.specs.Worked.{dock_rows};
 ghost use Rattle.text_laws.specs.Stations.{station_lines, FindsRow, FindsStation, SaysUnit};
 
 /// Proves that the list has one line for each station of the harmonics file and then one for each row of
-/// the table. A listed name finds a station or a row: a station's name finds a station of this name, and a
-/// row's name finds a row of this name if the file has no such station. A row's line has the unit of its
-/// reference, or `-`, which is no unit, exactly if the file lacks the reference.
+/// the table. A listed name finds a station or a row: a station's name finds a station of this name, and
+/// a row's name finds a row of this name if the file has no such station. A row's line has the unit of
+/// its reference, or `-`, which isn't a unit, exactly if the file doesn't have the reference.
 pub fn stations_list_what_can_be_requested()
     ensures lines { (book : Book) (table : List Offsets) →
         stations_text_of book table ≡ flat_map (λ line. line) (station_lines book table) }

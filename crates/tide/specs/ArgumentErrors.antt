@@ -1,4 +1,4 @@
--- The arguments of the program, from those of the system, and the end of the program without them (this
+-- The arguments of the program, from the system's, and the end of the program without them (this
 -- project).
 use Rattle.std.specs.Prelude.{◌≡◌, ◌↔◌, ℕ, List, map, drop, codes, Result, Ok, Err, String, string_bytes}
 use Rattle.std.specs.IoError.{error_kind}
@@ -20,7 +20,7 @@ abbrev pub HasWords : {A : Type 0} → Given A → List (List ℕ) → Type 0
 HasWords (Ok arguments) words = words ≡ map string_bytes (drop 1 (into_iter_items arguments))
 HasWords (Err fault) words = ⊥
 
--- There are no arguments: memory ran out, or the system returned a fault, in which case one of them isn't
+-- There are no arguments: memory ran out, or the system returned a fault because an argument isn't
 -- UTF-8.
 abbrev pub LacksWords : {A : Type 0} → Given A → ArgumentError → Type 0
 LacksWords (Ok arguments) why = why ≡ NoMemory

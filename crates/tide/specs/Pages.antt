@@ -1,4 +1,4 @@
--- The pages about the program itself (this project; the options are those of the GNU coding standards).
+-- The pages about the program itself (this project; the options are the GNU coding standards').
 use Rattle.std.specs.Prelude.{◌≡◌, ℕ, Bool, true, false, ◌||◌, if◌then◌else◌, List, [], ◌∷◌, codes, Option, Some, None, Result, Ok}
 use Rattle.std.specs.List.{list_any}
 use Rattle.std.specs.Str.{bytes_eq}
@@ -44,10 +44,10 @@ page_of words =
 abbrev pub page_answer : InfoPage → Result Answer NoAnswer
 page_answer page = Ok (record { text = page_text page; rejected = false; cells = 0 })
 
--- the arguments request no page, and aren't `serve`
+-- the arguments request neither a page nor `serve`
 abbrev pub AsksAnswer : List (List ℕ) → Type 0
 AsksAnswer words = (page_of words ≡ None) × (asks_to_serve words ≡ false)
 
--- the arguments request no page, and are `serve`
+-- the arguments request no page, and their command is `serve`
 abbrev pub AsksService : List (List ℕ) → Type 0
 AsksService words = (page_of words ≡ None) × (asks_to_serve words ≡ true)

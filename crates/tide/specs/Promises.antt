@@ -1,4 +1,4 @@
--- The promise of the program, over objects of any kind (this project).
+-- The contract of the program, over objects of any kind (this project).
 use Rattle.std.specs.Prelude.{◌≡◌, ◌⊎◌, ℕ, Bool, List, [], ◌∷◌, IsSome, IfSome}
 use Rattle.ical_sheet.specs.Calendars.{ical_sheet}
 use Rattle.report_sheets.specs.Listings.{first_sheet}
@@ -47,8 +47,8 @@ abbrev pub world_states : {F D O E K : Type 0} → (F → FilesState) → (D →
     → WorldStates F D O E K
 world_states files door out err clock = record { files = files; door = door; out = out; err = err; clock = clock }
 
--- The arguments request a page or an answer, or serve. A page is written without allocating and touches
--- nothing else, an answer doesn't touch the port, and serving doesn't touch `out`.
+-- The arguments request a page or an answer, or serve. A page is written without allocating and uses
+-- nothing else, an answer doesn't use the port, and serving doesn't use `out`.
 pub record RespondsAs {F D O E K : Type 0} (s : WorldStates F D O E K) (sheets : List SheetMeaning)
     (words : List (List ℕ)) (status : Status)
     (before after : World F D O E K) : Type 0 where
@@ -65,7 +65,8 @@ pub record RespondsAs {F D O E K : Type 0} (s : WorldStates F D O E K) (sheets :
 
 -- ---- The program's arguments
 
--- There are no arguments: one line on standard error and the status say why, and nothing else is touched.
+-- There are no arguments: one line on standard error and the exit status say why, and nothing else is
+-- used.
 pub record RefusesAs {F D O E K : Type 0} (s : WorldStates F D O E K) (why : ArgumentError) (status : Status)
     (before after : World F D O E K)
     : Type 0 where
@@ -77,8 +78,8 @@ pub record RefusesAs {F D O E K : Type 0} (s : WorldStates F D O E K) (why : Arg
   pub same_out : after.out ≡ before.out
   pub same_clock : after.clock ≡ before.clock
 
--- The program responds to its arguments, with its own sheets for a report; or there are no arguments, or no
--- memory for the sheets.
+-- The program responds to its arguments, with the program's sheets for a report; or there are no
+-- arguments, or no memory for the sheets.
 abbrev pub AnswersArguments : {F D O E K A : Type 0} → WorldStates F D O E K → Given A → Status → World F D O E K → World F D O E K → Type 0
 AnswersArguments s arguments status before after =
     ((words : List (List ℕ)) × HasWords arguments words × RespondsAs s program_sheets words status before after)
@@ -101,8 +102,8 @@ pub record IsFresh {F D O E K : Type 0} (s : WorldStates F D O E K) (w : World F
   pub clock_read : (s.clock w.clock).asked ≡ 0
   pub clock_faults : (s.clock w.clock).faults ≡ 0
 
--- There are objects of these types, fresh before and as they are after, over which the program responds to
--- its arguments. The two outputs are those over the streams that were passed.
+-- There are objects of these types, fresh before the run and in these states after it, over which the
+-- program responds to its arguments. The two outputs are the ones over the streams that were passed.
 abbrev pub AnswersOver : {F D O E K A : Type 0} → WorldStates F D O E K → (O → Type 0) → (E → Type 0) → Given A → Status → Type 0
 AnswersOver {F} {D} {O} {E} {K} s is_out is_err arguments status =
     (before : World F D O E K) × (after : World F D O E K) × IsFresh s before × is_out before.out × is_err before.err

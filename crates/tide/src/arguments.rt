@@ -13,19 +13,20 @@ use std::io::{self, ErrorKind};
 use tide_edge::Sink;
 use tide_fault::Status;
 
-/// A reason for which the program has no arguments.
+/// The reason why the program has no arguments.
 #[derive(Clone, Copy, PartialEq, Eq)]
 pub enum ArgumentError {
-    /// One of them isn't UTF-8.
+    /// An argument isn't UTF-8.
     NotText,
     /// Memory ran out.
     NoMemory,
 }
 
-/// Returns the arguments after the program's name, from those of the system.
+/// Returns the arguments after the program's name, from the system's `arguments`.
 ///
 /// # Errors
-/// [`ArgumentError::NotText`] if one isn't UTF-8, and [`ArgumentError::NoMemory`] if memory runs out.
+/// [`ArgumentError::NotText`] if an argument isn't UTF-8, and [`ArgumentError::NoMemory`] if memory runs
+/// out.
 pub fn words_from(alloc: Global, arguments: io::Result<Args>) -> Result<Words, ArgumentError>
     ensures words { IfOk result (HasWords arguments) }
     ensures refused { IfErr result (LacksWords arguments) }
@@ -36,7 +37,7 @@ pub fn words_from(alloc: Global, arguments: io::Result<Args>) -> Result<Words, A
     }
 }
 
-// Returns the reason for which the system has no arguments.
+/// Returns the reason why the system has no arguments.
 fn why_of(kind: ErrorKind) -> ArgumentError
     ensures { (result ≡ ArgumentError.NoMemory) ↔ (kind ≡ ErrorKind.OutOfMemory) }
 {
@@ -58,7 +59,7 @@ pub fn words_of(alloc: Global, mut arguments: Args) -> Result<Words, AllocError>
     Ok(Words::from_vec(words))
 }
 
-/// Writes the line of the reason `why`, and returns its exit status.
+/// Writes the line of the reason `why` to `err`, and returns its exit status.
 pub fn report_argument_error<E: Sink>(why: ArgumentError, err: &mut E) -> Status
     ensures status { result ≡ status_of why }
     ensures line { (failed : Bool) × Wrote (E.state err.old) (E.state err.new) failed (line_of why) }

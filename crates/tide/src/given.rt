@@ -11,9 +11,8 @@ use std::io;
 use tide_edge::{Clock, Door, Files, Sink};
 use tide_fault::Status;
 
-/// Responds to `arguments`, with the program's sheets for a report, over the objects that are
-/// passed and no others; or writes to `err` the reason for which there are no arguments. Returns
-/// the exit status, 0 to 8.
+/// Responds to `arguments`, with the program's sheets for a report, over only the objects that are
+/// passed; or, if there are no arguments, writes the reason to `err`. Returns the exit status, 0 to 8.
 pub fn respond_to<F: Files, D: Door, O: Sink, E: Sink, K: Clock>(
     alloc: Global,
     arguments: io::Result<Args>,

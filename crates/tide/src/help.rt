@@ -82,8 +82,7 @@ impl InfoPage {
 }
 
 /// Returns the page that the arguments `words` request: help if any of them is `-h` or `--help`,
-/// and otherwise the version if the first is `-V` or `--version`. Returns `None` for all other
-/// arguments.
+/// otherwise the version if the first is `-V` or `--version`, and `None` for all other arguments.
 pub fn page_asked(words: &Words) -> Option<InfoPage>
     ensures { result ≡ page_of words.now }
 {

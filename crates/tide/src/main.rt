@@ -1,4 +1,4 @@
-//! The program: its arguments, files, streams, clock and port are those of the machine.
+//! The program, with the arguments, files, streams, clock and port of the machine.
 #![tactic(auto)]
 
 mod arguments;

@@ -18,9 +18,9 @@ use tide_fault::Status;
 use tide_server::serve;
 
 /// Writes the page that the arguments `words` request, or serves if their command is `serve`, or
-/// otherwise answers them, over the objects that are passed and no others; `sheets` are those of a
-/// report. Returns the exit status, 0 to 8. A page doesn't touch files, port or clock and doesn't
-/// allocate; an answer doesn't touch the port, and serving doesn't touch `out`.
+/// otherwise answers them, over only the objects that are passed; `sheets` are the sheets of a report.
+/// Returns the exit status, 0 to 8. A page doesn't use files, port or clock and doesn't allocate; an
+/// answer doesn't use the port, and serving doesn't use `out`.
 pub fn respond<F: Files, D: Door, O: Sink, E: Sink, K: Clock>(
     alloc: Global,
     words: &Words,

@@ -1,4 +1,4 @@
--- The answer to a request over harmonic constants and a table of offsets (this project).
+-- The answer to a request with harmonic constants and a table of offsets (this project).
 use Rattle.std.specs.Prelude.{
   ℕ,
   ◌+◌,
@@ -96,7 +96,7 @@ use Rattle.station_span.specs.Peaks.{highest_of, highest_site, highest_verdict}
 use Rattle.station_span.specs.Sites.{Site, site_in, station_in}
 use Rattle.tide_answer.specs.Trials.{trial_of}
 
--- an answer without a count of cells
+-- an answer with this text, 0 cells and no rejection
 abbrev pub text_alone : List ℕ → Answer
 text_alone text = record { text = text; rejected = false; cells = 0 }
 
@@ -104,7 +104,7 @@ text_alone text = record { text = text; rejected = false; cells = 0 }
 abbrev pub text_of_events : Book → Site → Asked → List ℕ → Answer
 text_of_events book site asked text = record { text = text; rejected = false; cells = cells_of book site asked }
 
--- the answer that accepts a certificate: the line `Accepted`, and what follows it
+-- the answer that accepts a certificate: the line `Accepted`, and the text after it
 abbrev pub text_accepted : List ℕ → Answer
 text_accepted shown = text_alone (codes "Accepted\n" ++ shown)
 
@@ -129,7 +129,7 @@ on_calendar book table name asked zone = do
 
 -- ---- certificates
 
--- the certificate of a station's events: the cells of version 2
+-- the certificate of a station's events, with the cells of version 2
 abbrev pub certificate_by : Book → Site → List ℕ → Asked → Certificate
 certificate_by book site name asked = record {
   version = 2;
@@ -155,7 +155,8 @@ certificate_from (Err fault) = Err (refusal_of_cert fault)
 abbrev pub version_of : Certificate → Version
 version_of cert = if cert.version == 1 then First else Second
 
--- the answer to a certificate: if it is valid, `Accepted` and the events of its own station, span and mark
+-- the answer to the check of a certificate: if it is valid, `Accepted` and the events of the
+-- certificate's station, span and mark, else the rejection
 abbrev pub judged : Book → Site → Certificate → Zone → Option Rejection → Answer
 judged book site cert zone None =
     text_accepted (plain_events_of cert.station site.station.units (events_of book site (asked_by_certificate cert)) zone)
@@ -171,25 +172,25 @@ checked book table bytes zone = do
 
 -- ---- levels
 
--- the number of rows of a span, one each step, the end included
+-- the number of rows of a span, one at each step, the end included if a step leads to it
 abbrev pub row_count : ℤ → ℤ → ℤ → ℕ
 row_count begin end step = unsigned_abs (end -ℤ begin) / unsigned_abs step + 1
 
--- the greatest number of rows of a list
+-- the greatest number of rows of a listing of heights
 abbrev pub row_limit : ℕ
 row_limit = 100000
 
--- the step of the rows: there aren't too many
+-- the step of the rows: there are at most 100,000
 unfoldable pub rows_in : ℤ → ℤ → ℤ → Result (Unit {0}) Refusal
 rows_in begin end step =
     if nat_lt row_limit (row_count begin end step) then Err (TooManyRows (pos (row_count begin end step))) else Ok tt
 
--- the row at an index
+-- the row of heights at an index
 abbrev pub row_at : Book → Site → ℤ → ℤ → ℕ → Row
 row_at book site begin step place =
     let minute = begin +ℤ (step *ℤ pos place) in record { minute = minute; level = level_at book site minute }
 
--- the rows of a span
+-- the rows of heights of a span
 abbrev pub rows_of : Book → Site → ℤ → ℤ → ℤ → List Row
 rows_of book site begin end step = map (row_at book site begin step) (range_with_len 0 (row_count begin end step))
 
@@ -201,7 +202,8 @@ heights book table name asked step layout zone = do
   few ← rows_in asked.begin asked.end step
   Ok (text_alone (heights_text layout name site.station.units (rows_of book site asked.begin asked.end step) zone))
 
--- the answer of `clock`: the level and its direction at a minute, and the events of the day from there on
+-- the answer of `clock`: the level at a minute and whether it rises, and the events of the 1,440 minutes
+-- from there on
 unfoldable pub on_clock : Book → List Offsets → List ℕ → ℤ → Zone → Result Answer Refusal
 on_clock book table name now zone = do
   site ← site_in Events book table name (asked_from_minute now)
@@ -234,7 +236,7 @@ peak_certified book table name asked = do
   site ← highest_site book table name asked
   Ok (text_alone (peak_text (peak_certificate_by book site name asked)))
 
--- the refusal of bytes that are no text of a certificate of a highest water
+-- the refusal of bytes that aren't the text of a certificate of a highest water
 abbrev pub refusal_of_peak : PeakFault → Refusal
 refusal_of_peak peak.NoMemory = NoMemory
 refusal_of_peak (peak.NotACertificate line) = NotACertificate line
@@ -244,8 +246,8 @@ abbrev pub peak_from : Result PeakCertificate PeakFault → Result PeakCertifica
 peak_from (Ok cert) = Ok cert
 peak_from (Err fault) = Err (refusal_of_peak fault)
 
--- the answer to a certificate of a highest water: if it is valid, `Accepted` and this highest water in
--- universal time
+-- the answer to the check of a certificate of a highest water: if it is valid, `Accepted` and this
+-- highest water in universal time, else the rejection
 abbrev pub peak_judged : Book → Site → PeakCertificate → PeakVerdict → Answer
 peak_judged book site cert Accepted = text_accepted (highest_text_at book site cert.station cert.peak.at Utc)
 peak_judged book site cert verdict = text_rejected (verdict_line verdict)
@@ -272,12 +274,13 @@ station_about book table name = do
 
 -- ---- every request
 
--- the refusal of a question without the station, the span or the seed that its command needs, which no question
--- that was read lacks, and of a question whose command has no answer here
+-- the refusal of a question without the station, the span or the seed that its command needs, and of a
+-- question for a command that has no answer here; each question that was read from text has what its
+-- command needs
 abbrev pub refusal_of_incomplete : Refusal
 refusal_of_incomplete = NoStation
 
--- a part of a request that a command needs
+-- a value that a command needs, or the refusal if it is missing
 abbrev pub named_by : {A : Type 0} → Option A → Result A Refusal
 named_by said = ok_or said refusal_of_incomplete
 
@@ -294,7 +297,7 @@ asks_name question next = do
   name ← named_by question.station
   next name
 
--- the events of a request, for a report
+-- the events that a question requests, for a report
 unfoldable pub listed : Book → List Offsets → Question → Result Listed Refusal
 listed book table question = do
   name ← named_by question.station
@@ -302,7 +305,7 @@ listed book table question = do
   site ← site_in Events book table name asked
   Ok (record { name = name; units = site.station.units; events = events_of book site asked })
 
--- the answer of a command that reads no file, by its seed; all others need a station
+-- the answer of a command that reads no file, from its seed; all other commands need a station
 abbrev pub text_from : Command → Option ℕ → Result Answer Refusal
 text_from Sample (Some seed) = Ok (text_alone (sample_of seed))
 text_from Trial (Some seed) = trial_of seed >>= λ text. Ok (text_alone text)
@@ -312,7 +315,7 @@ text_from _ _ = Err refusal_of_incomplete
 unfoldable pub answered_without_files : Question → Result Answer Refusal
 answered_without_files question = text_from question.command question.seed
 
--- the answer of a command that needs a span; all others have none here
+-- the answer of a command that needs a span; other commands have no answer here
 abbrev pub text_over : Command → Book → List Offsets → Question → Zone → List ℕ → Asked → Result Answer Refusal
 text_over Predict book table question zone name asked = predicted book table name asked question.layout zone
 text_over Certify book table question zone name asked = certified book table name asked
@@ -322,7 +325,7 @@ text_over Highest book table question zone name asked = highest book table name 
 text_over Peak book table question zone name asked = peak_certified book table name asked
 text_over _ book table question zone name asked = Err refusal_of_incomplete
 
--- the answer of a command
+-- the answer of a command to a question
 abbrev pub text_by : Command → Book → List Offsets → Question → Given → Result Answer Refusal
 text_by Check book table question given = checked book table given.certificate given.zone
 text_by PeakCheck book table question given = peak_checked book table given.certificate

@@ -11,7 +11,7 @@ unfoldable pub asked_by_question : Question → Option Asked
 asked_by_question question =
     option_and_then (λ begin. option_map (λ end. record { begin = begin; end = end; mark = question.mark }) question.end) question.begin
 
--- the 1,440 minutes from a minute on
+-- the request for the 1,440 minutes from a minute on, without a mark
 abbrev pub asked_from_minute : ℤ → Asked
 asked_from_minute now = record { begin = now; end = now +ℤ pos 1440; mark = None }
 

@@ -1,5 +1,5 @@
--- The laws of certificates: what is certified is accepted and short, and what is accepted is short and has
--- exactly the events of its own station, span and mark (this project).
+-- The laws of certificates: a certificate that `certify` returns is accepted and short, and one that
+-- `check` accepts is short and has exactly the events of its station, span and mark (this project).
 use Rattle.std.specs.Prelude.{◌≡◌, ◌<◌, ℕ, false, List, ◌++◌, length, codes, Option, Some, None, Result, Ok}
 use Rattle.std.specs.Option.{ForSome}
 use Rattle.cert_text.specs.declared.certificate.Certificate.{Certificate}
@@ -52,8 +52,8 @@ abbrev pub CertifiesInShort : Type 0
 CertifiesInShort = (book : Book) (table : List Offsets) (name : List ℕ) (asked : Asked) (certificate : Answer) →
     IsBook book → IsTable table → IsAskable asked → certified book table name asked ≡ Ok certificate → length certificate.text < 333000000
 
--- the events in a track's cells are those of the plain list, which evaluates every minute of the span; no
--- track is present without its curve
+-- the events in a track's cells are the events found by looking at every minute of the span; no track is
+-- present without its curve
 abbrev pub ListsTrack : Span → Option Meaning → Option (List Cell) → Type 0
 ListsTrack span (Some curve) (Some cells) = cell_events span.begin cells ≡ events_over span curve
 ListsTrack span None None = Unit {0}
@@ -66,8 +66,8 @@ pub record ListsEvents (span : Span) (curves : Followed) (tracks : Tracks) : Typ
   pub slack : ListsTrack span curves.slack tracks.slack
   pub mark : ListsTrack span curves.mark tracks.mark
 
--- the bytes are a certificate's text; its tracks have every event of the curves of its own station, span
--- and mark and no other, and the answer lists what the prediction for them lists
+-- the bytes are a certificate's text; its tracks have exactly the events of the curves of the
+-- certificate's station, span and mark, and the answer lists what `predict` lists for them
 pub record IsTrueCertificate (book : Book) (table : List Offsets) (bytes : List ℕ) (zone : Zone) (answer : Answer) : Type 0 where
   pub certificate : Certificate
   pub site : Site
@@ -77,13 +77,13 @@ pub record IsTrueCertificate (book : Book) (table : List Offsets) (bytes : List 
       (followed book site (asked_by_certificate certificate)) certificate.tracks
   pub listing : AcceptsListing (predicted book table certificate.station (asked_by_certificate certificate) Plain zone) answer
 
--- every accepted certificate is true, whoever wrote it
+-- every accepted certificate is true, however it was made
 abbrev pub AcceptsOnlyWhatIsTrue : Type 0
 AcceptsOnlyWhatIsTrue = (book : Book) (table : List Offsets) (bytes : List ℕ) (zone : Zone) (answer : Answer) →
     IsBook book → IsTable table → checked book table bytes zone ≡ Ok answer → answer.rejected ≡ false
     → IsTrueCertificate book table bytes zone answer
 
--- every accepted certificate has fewer than 333,000,000 bytes, whoever wrote it
+-- every accepted certificate has fewer than 333,000,000 bytes, however it was made
 abbrev pub AcceptsOnlyInShort : Type 0
 AcceptsOnlyInShort = (book : Book) (table : List Offsets) (bytes : List ℕ) (zone : Zone) (answer : Answer) →
     IsBook book → IsTable table → checked book table bytes zone ≡ Ok answer → answer.rejected ≡ false → length bytes < 333000000

@@ -1,5 +1,5 @@
--- The laws of certificates of a highest water: what is certified is accepted and short, and what is
--- accepted is the highest water of its own station and span (this project).
+-- The laws of certificates of a highest water: a certificate that `peak` returns is accepted and short,
+-- and one that `peakcheck` accepts has the highest water of its station and span (this project).
 use Rattle.std.specs.Prelude.{◌≡◌, ◌<◌, ℕ, ℤ, pos, ◌+ℤ◌, ◌*ℤ◌, ◌≤ℤ◌, ◌<ℤ◌, false, List, length, Ok}
 use Rattle.harmonics_book.specs.declared.book.Book.{Book}
 use Rattle.harmonics_book.specs.Books.{IsBook}
@@ -26,8 +26,8 @@ pub record IsMovedInto (site : Site) (asked : Asked) (m : ℤ) : Type 0 where
   pub from : asked.begin ≤ℤ (m +ℤ site.basis.high.add)
   pub before : (m +ℤ site.basis.high.add) <ℤ asked.end
 
--- the first of the reference's minutes moved into the span that have their greatest level; and the
--- station's own level is nowhere in the span higher than where this minute is moved to
+-- the first of the reference's minutes moved into the span that have the greatest level; and no level of
+-- the station in the span is higher than the one at the minute to which it is moved
 pub record IsHighestWater (book : Book) (site : Site) (asked : Asked) (at : ℤ) : Type 0 where
   pub inside : IsMovedInto site asked at
   pub greatest : (m : ℤ) → IsMovedInto site asked m → predicted_level book site.station m ≤ℤ predicted_level book site.station at
@@ -64,9 +64,8 @@ PeakCertifiesInShort = (book : Book) (table : List Offsets) (name : List ℕ) (a
     IsBook book → IsTable table → IsAskable asked → peak_certified book table name asked ≡ Ok certificate
     → length certificate.text < 10542000
 
--- the bytes are the text of a certificate whose minute has the highest water of its own station and span,
--- and whose value is a million times the reference's level there; and the answer is what `highest` prints
--- for them
+-- the bytes are the text of a certificate; its minute has the highest water of its station and span, its
+-- value is a million times the reference's level there, and the answer is what `highest` prints for them
 pub record IsTruePeak (book : Book) (table : List Offsets) (bytes : List ℕ) (answer : Answer) : Type 0 where
   pub certificate : PeakCertificate
   pub site : Site
@@ -76,12 +75,12 @@ pub record IsTruePeak (book : Book) (table : List Offsets) (bytes : List ℕ) (a
   pub value : certificate.peak.value ≡ pos 1000000 *ℤ predicted_level book site.station certificate.peak.at
   pub listing : AcceptsListing (highest book table certificate.station (asked_by_peak_certificate certificate) Utc) answer
 
--- every accepted certificate is true, whoever wrote it
+-- every accepted certificate of a highest water is true, however it was made
 abbrev pub AcceptsOnlyTruePeaks : Type 0
 AcceptsOnlyTruePeaks = (book : Book) (table : List Offsets) (bytes : List ℕ) (answer : Answer) →
     IsBook book → IsTable table → peak_checked book table bytes ≡ Ok answer → answer.rejected ≡ false → IsTruePeak book table bytes answer
 
--- every accepted certificate has fewer than 10,542,000 bytes, whoever wrote it
+-- every accepted certificate of a highest water has fewer than 10,542,000 bytes, however it was made
 abbrev pub AcceptsOnlyPeaksInShort : Type 0
 AcceptsOnlyPeaksInShort = (book : Book) (table : List Offsets) (bytes : List ℕ) (answer : Answer) →
     IsBook book → IsTable table → peak_checked book table bytes ≡ Ok answer → answer.rejected ≡ false → length bytes < 10542000

@@ -1,4 +1,4 @@
--- Answers that are written as they are found (this project).
+-- Answers that are streamed: written while they are computed (this project).
 use Rattle.std.specs.Prelude.{◌≡◌, ℕ, ◌<◌, Bool, true, false, ◌&&◌, if◌then◌else◌, List, length, take, Some, None, Result, Ok, Err}
 use Rattle.decimal_text.specs.Expected.{◌>>=◌}
 use Rattle.harmonics_book.specs.declared.book.Book.{Book}
@@ -23,7 +23,7 @@ use Rattle.tide_answer.specs.Answers.{answered, named_by}
 use Rattle.tide_answer.specs.Asking.{asked_by_question}
 use Rattle.station_span.specs.Sites.{site_in}
 
--- the commands whose answers can be written as they are found
+-- the commands whose answers can be streamed
 abbrev pub can_stream : Command → Bool
 can_stream Predict = true
 can_stream Certify = true
@@ -44,7 +44,7 @@ abbrev pub streams_by : Basis → Layout → Zone → Bool
 streams_by basis layout zone =
     is_plain basis && (is_plain_layout layout && (if is_zone_file zone then false else true))
 
--- the answer if it is streamed, or the first refusal
+-- the prepared answer if it is streamed, or the first refusal
 unfoldable pub prepared : Book → List Offsets → Question → Given → Result Ready Refusal
 prepared book table question given = do
   answer ← answered book table question given
@@ -53,7 +53,7 @@ prepared book table question given = do
   site ← site_in Events book table name asked
   Ok (record { stream = if streams_by site.basis question.layout given.zone then Some answer else None })
 
--- the text of an answer is written whole, or its first bytes, and nothing after a write that failed
+-- the whole text of an answer is written, or its first bytes, and nothing after a failed write
 abbrev pub Streams : SinkState → SinkState → Answer → Result ℕ WriteFailed → Type 0
 Streams before after answer (Ok cells) = (cells ≡ answer.cells) × (after ≡ put answer.text before)
 Streams before after answer (Err fault) =

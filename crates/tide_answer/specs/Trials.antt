@@ -1,4 +1,4 @@
--- A trial of the predictor over a sample file (this project).
+-- A trial of the predictor with a sample file (this project).
 use Rattle.std.specs.Prelude.{
   ℕ,
   ◌+◌,
@@ -63,8 +63,8 @@ abbrev pub accepted_if : Option Rejection → ℕ
 accepted_if None = 1
 accepted_if (Some rejection) = 0
 
--- the counts: the minutes of all tracks, each over the minutes that are evaluated; the events; the cells,
--- and the quiet ones among them; and the certificates that are accepted
+-- the counts of a station: the minutes of all tracks, each over the evaluated minutes; the events; the
+-- cells, and the quiet ones among them; and the certificates that are accepted
 unfoldable pub tally_by : Span → Tracks → List Event → Option Rejection → Tally
 tally_by span tracks events rejection = record {
   minutes = span_minutes span * length (tracks_in tracks);
@@ -89,7 +89,7 @@ station_tally book name = do
 
 -- ---- the sums over stations
 
--- the counts of some stations and of one more
+-- the sum of the counts of some stations and of another station
 unfoldable pub plus : Tally → Tally → Tally
 plus sum one = record {
   minutes = sum.minutes + one.minutes;
@@ -103,7 +103,7 @@ plus sum one = record {
 abbrev pub nothing : Tally
 nothing = record { minutes = 0; events = 0; cells = 0; quiet = 0; accepted = 0 }
 
--- the counts of one station after the other on a sum; a refusal at any of them ends it
+-- the counts of stations, one after the other, added to a sum; a refusal at any of them is the result
 unfoldable pub tally_on : Book → Tally → List Station → Result Tally Refusal
 tally_on book sum [] = Ok sum
 tally_on book sum (station ∷ stations) = do
@@ -116,7 +116,7 @@ tally_on book sum (station ∷ stations) = do
 abbrev pub station_count : ℕ
 station_count = 40
 
--- the harmonic constants of the made file, or the refusal if it is not of its form
+-- the harmonic constants of the made file, or the refusal if it can't be read as a book
 abbrev pub book_from : Result Book At → Result Book Refusal
 book_from (Ok book) = Ok book
 book_from (Err fault) = Err (BadSample fault.line fault.why)

@@ -1,4 +1,4 @@
-//! The answer of `about`: the facts of a station.
+//! The answer of the command `about`: the facts about a station.
 
 ghost use Rattle.std.specs.Prelude.{◌≡◌, IfErr};
 ghost use Rattle.decimal_text.specs.Expected.{ReturnsUnless};
@@ -14,8 +14,8 @@ use station_span::{StationData, find_reference};
 use std::alloc::Global;
 use tide_fault::Refusal;
 
-/// Returns the answer of `about` for the station `name`: its reference, its unit, the number of its
-/// constituents, and a bound of the difference between its slope and the steps of its levels.
+/// Returns the answer of the command `about` for the station `name`: its reference, its unit, the number
+/// of its constituents, and a bound on the difference between its slope and the steps of its levels.
 ///
 /// # Errors
 /// The first [`Refusal`] in this order: the station, its unit, the bounds on its constants.

@@ -14,11 +14,11 @@ use question::{Command, ValidQuestion};
 use std::alloc::Global;
 use tide_fault::Refusal;
 
-/// Returns the answer to a request whose command reads no file.
+/// Returns the answer to a request for a command that reads no file.
 ///
 /// # Errors
-/// The first [`Refusal`] in the order of `specs/Answers.antt`. [`Refusal::NoMemory`] may be
-/// returned in place of any result.
+/// The first [`Refusal`] in the order of `specs/Answers.antt`. If memory runs out, [`Refusal::NoMemory`]
+/// is returned in place of any other result.
 #[tactic(auto, unfolding(crate::specs::Answers::answered_without_files))]
 pub fn answer_alone(alloc: Global, question: &ValidQuestion<'_>) -> Result<Answer, Refusal>
     ensures exact { ReturnsUnless refusal_is_out_of_memory (answered_without_files question.now) result }
@@ -32,7 +32,7 @@ pub fn answer_alone(alloc: Global, question: &ValidQuestion<'_>) -> Result<Answe
     }
 }
 
-// Returns the lines of the trial of `seed`.
+/// Returns the lines of the trial of `seed`.
 fn trial_answer(alloc: Global, seed: u64) -> Result<Answer, Refusal>
     ensures exact { ReturnsUnless refusal_is_out_of_memory (text_from Command.Trial (Some seed)) result }
     ensures printable { IfErr result (IsPrintableRefusal []) }

@@ -1,4 +1,4 @@
-//! The answer of `calendar`: the events of a station, date by date.
+//! The answer of the command `calendar`: the events of a station, date by date.
 
 ghost use Rattle.std.specs.Prelude.{IfErr};
 ghost use Rattle.decimal_text.specs.Expected.{ReturnsUnless};
@@ -12,10 +12,11 @@ use std::alloc::Global;
 use tide_fault::Refusal;
 use zone_time::ZoneClock;
 
-/// Returns the calendar of the events that `request` requests, by the clock of `zone`.
+/// Returns the calendar of the requested events, in the local time of `zone`.
 ///
 /// # Errors
-/// The first [`Refusal`] in the order of `predict`.
+/// The first [`Refusal`] in this order: the station, its unit, the span, the bounds on its constants,
+/// the mark.
 #[tactic(auto, unfolding(crate::specs::Answers::on_calendar))]
 pub fn list_days(
     alloc: Global,

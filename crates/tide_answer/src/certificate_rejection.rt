@@ -13,9 +13,9 @@ use rate_bound::Version;
 use station_cells::{Rejection, rejection_over};
 use station_span::{FoundStation, mark_curve, slack_curve, turn_curve};
 
-/// Returns the first fault of the tracks of `cert`, by the rules of its version, or `None` if they
-/// are right: first whether the slack track is present exactly if it is required, and then the
-/// cells of each track. Doesn't allocate.
+/// Returns the first fault of the tracks of `cert`, by the rules of its version, or `None` if they are
+/// right. It checks first whether the slack track is present exactly if it is required, and then the
+/// cells of each track. It doesn't allocate.
 pub fn find_rejection(found: &FoundStation, cert: &Certificate) -> Option<Rejection>
     requires reach { found.now.reach ≡ Reach.Events }
     requires same { found.now.asked ≡ asked_by_certificate cert.now }

@@ -1,4 +1,4 @@
-//! A certificate that is written as its cells are found. None of these functions allocates.
+//! A certificate that is written while its cells are found. None of these functions allocates.
 
 ghost use Rattle.std.specs.Prelude.{◌≡◌, ◌<◌, ◌≤◌, ◌^◌, ◌++◌, length, IfOk};
 ghost use Rattle.cert_text.specs.Certificates.{IsStationName};
@@ -18,10 +18,11 @@ use station_cells::{Sent, send, send_if_followed, send_name, send_track};
 use station_span::{FoundStation, mark_search, slack_search, turn_search};
 use tide_edge::{Sink, WriteFailed};
 
-/// Writes the certificate of the curves of `found` over its span, by the rules of version 2.
+/// Writes the certificate of the events of `found` over its span, by the rules of version 2, while its
+/// cells are found.
 ///
 /// # Errors
-/// [`WriteFailed`] if the sink fails: then it holds a prefix of the text.
+/// [`WriteFailed`] if the sink fails: then it has a prefix of the text.
 pub fn send_certificate<S: Sink>(
     out: &mut S,
     found: &FoundStation,
@@ -39,7 +40,7 @@ pub fn send_certificate<S: Sink>(
     send(out, sent, "done\n")
 }
 
-// Writes the lines before the tracks.
+/// Writes the lines before the tracks.
 fn send_head<S: Sink>(out: &mut S, name: &Text, found: &FoundStation) -> Result<Sent, WriteFailed>
     requires name { length name.now ≤ 400 }
     requires moments { AreMoments found.now.asked }
@@ -53,7 +54,7 @@ fn send_head<S: Sink>(out: &mut S, name: &Text, found: &FoundStation) -> Result<
     send(out, sent, lines.as_str())
 }
 
-// Writes the tracks of all curves that are followed.
+/// Writes the tracks of all curves of the station.
 fn send_tracks<S: Sink>(out: &mut S, sent: Sent, found: &FoundStation) -> Result<Sent, WriteFailed>
     requires reach { found.now.reach ≡ Reach.Events }
     requires cells { HasCells (tracks_of found.now.curve.book (site_of found.now) found.now.asked) }
@@ -69,7 +70,7 @@ fn send_tracks<S: Sink>(out: &mut S, sent: Sent, found: &FoundStation) -> Result
     send_if_followed(out, sent, TrackName::Mark, mark_search(found))
 }
 
-// Returns the lines of the span and of the mark.
+/// Returns the lines of the span and of the mark.
 fn span_lines(found: &FoundStation) -> ArrayString<72>
     requires { AreMoments found.now.asked }
     ensures { result.bytes ≡ ended (begin_line_of found.now.asked.begin) ++ ended (end_line_of found.now.asked.end)

@@ -1,4 +1,4 @@
-//! The answer of `certify`: the certificate of a station's events.
+//! The answer of the command `certify`: the certificate of a station's events.
 
 ghost use Rattle.std.specs.Prelude.{◌≡◌, IfErr, IfOk};
 ghost use Rattle.decimal_text.specs.Expected.{ReturnsUnless};
@@ -16,11 +16,11 @@ use station_span::{Reach, StationData, StationRequest, find_station};
 use std::alloc::{AllocError, Global};
 use tide_fault::Refusal;
 
-/// Returns the certificate of the events that `request` requests, by the rules of version 2.
+/// Returns the certificate of the requested events, by the rules of version 2.
 ///
 /// # Errors
-/// The first [`Refusal`] in this order: the station, its unit, the span, the bounds on its
-/// constants, the mark.
+/// The first [`Refusal`] in this order: the station, its unit, the span, the bounds on its constants,
+/// the mark.
 #[tactic(auto, unfolding(crate::specs::Answers::certified))]
 pub fn certify(
     alloc: Global,
@@ -44,7 +44,7 @@ pub fn certify(
     })
 }
 
-// Returns the certificate of version 2 that answers `request` with the cells `tracks`.
+/// Returns the certificate of version 2 that answers `request` with the cells `tracks`.
 pub fn certificate_of(
     request: &StationRequest<'_>,
     tracks: Tracks,

@@ -1,4 +1,4 @@
-//! The answer of `check`: the check of a certificate.
+//! The answer of the command `check`: the check of a certificate.
 
 ghost use Rattle.std.specs.Prelude.{◌≡◌, ◌≤◌, length, All, None, IfOk, IfErr};
 ghost use Rattle.cert_text.specs.Certificates.{IsCertificate};
@@ -28,12 +28,13 @@ use std::alloc::{AllocError, Global};
 use tide_fault::Refusal;
 use zone_time::ZoneClock;
 
-/// Checks the certificate whose text is `bytes`. The answer is `Accepted` and the events of the
-/// certificate's own span by the clock of `zone`, or the line of the first fault of its tracks.
+/// Returns the result of checking the certificate with the text `bytes`. If it is valid, the answer is
+/// `Accepted` and the events of the certificate's span in the local time of `zone`; otherwise it is the
+/// line of the first fault of its tracks.
 ///
 /// # Errors
-/// The first [`Refusal`]: [`Refusal::NotACertificate`], and then those of the certificate's own
-/// station, span and mark, in the order of `predict`.
+/// The first [`Refusal`]: [`Refusal::NotACertificate`], and then, for the station, the span and the mark
+/// of the certificate: the station, its unit, the span, the bounds on its constants, the mark.
 #[tactic(auto, unfolding(crate::specs::Answers::checked))]
 pub fn check(
     alloc: Global,
@@ -50,7 +51,7 @@ pub fn check(
     judge(alloc, stations, &cert, zone)
 }
 
-/// Checks the certificate `cert`.
+/// Returns the result of checking the certificate `cert`.
 fn judge(
     alloc: Global,
     stations: &StationData<'_>,
@@ -70,7 +71,7 @@ fn judge(
     }
 }
 
-// Returns the events of the cells of a valid certificate, which are all events of its span.
+/// Returns the events of the cells of a valid certificate, which are all events of its span.
 fn accept(
     alloc: Global,
     found: &FoundStation,

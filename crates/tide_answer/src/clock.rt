@@ -1,4 +1,4 @@
-//! The answer of `clock`: the level now, and the events of the next day.
+//! The answer of the command `clock`: the present level, and the events of the next 24 hours.
 
 ghost use Rattle.std.specs.Prelude.{◌≡◌, pos, negsuc, ◌≤ℤ◌, IfErr};
 ghost use Rattle.decimal_text.specs.Expected.{ReturnsUnless};
@@ -17,13 +17,13 @@ use std::alloc::Global;
 use tide_fault::Refusal;
 use zone_time::{MINUTES_OF_DAY, ZoneClock};
 
-/// Returns the answer of `clock` at minute `now` for the station `name`: the level, whether it
-/// rises, and the events of the 1,440 minutes from `now` on. `now` is in minutes since
+/// Returns the answer of the command `clock` for the station `name` at minute `now`: the level, whether
+/// it rises, and the events of the 1,440 minutes from `now` on. `now` is in minutes since
 /// 1970-01-01T00:00Z, from -10,000,000,000 to 10,000,000,000.
 ///
 /// # Errors
-/// The first [`Refusal`] in the order of `predict`, and then that of a station without a level at
-/// each minute.
+/// The first [`Refusal`] in this order: the station, its unit, the span, the bounds on its constants, a
+/// level at each minute.
 #[tactic(auto, unfolding(crate::specs::Answers::on_clock))]
 pub fn clock_answer(
     alloc: Global,
@@ -60,7 +60,7 @@ pub fn clock_answer(
     })
 }
 
-// Returns the request about the station `name` over the 1,440 minutes from `now` on.
+/// Returns the request about the station `name` over the 1,440 minutes from `now` on.
 fn day_from<'a>(name: &'a Text, now: i64) -> StationRequest<'a>
     requires earliest { negsuc 9999999999 ≤ℤ now }
     requires latest { now ≤ℤ pos 10000000000 }

@@ -32,15 +32,14 @@ use std::alloc::Global;
 use tide_fault::Refusal;
 use zone_time::ZoneClock;
 
-/// Returns the answer to `question` over the harmonic constants `book` and the offsets `table`,
-/// with the zone, the certificate and the present minute of `given`. A request to report, whose
-/// events [`station_events`](crate::station_events) returns, or to serve is refused as one without a
-/// station.
+/// Returns the answer to `question` with the harmonic constants `book` and the offsets `table`, and with
+/// the zone, the certificate and the present minute of `given`. The commands `report` (see
+/// [`station_events`](crate::station_events)) and `serve` are refused like a request without a station.
 ///
 /// # Errors
-/// The first [`Refusal`] in this order, as `specs/Answers.antt` defines it: a certificate's form,
-/// the station, its unit, the span, the bounds on its constants, the mark, a level at each minute,
-/// the number of rows. [`Refusal::NoMemory`] may be returned in place of any result.
+/// The first [`Refusal`] in this order, as `specs/Answers.antt` defines it: the format of a certificate,
+/// the station, its unit, the span, the bounds on its constants, the mark, a level at each minute, the
+/// number of rows. If memory runs out, [`Refusal::NoMemory`] is returned in place of any other result.
 ///
 /// # Examples
 /// ```
@@ -81,10 +80,11 @@ pub fn answer(
     answer_valid(alloc, &stations, &question, given.view())
 }
 
-/// Returns the answer to the valid `question` over `stations`, as [`answer`] does, from borrowed inputs.
+/// Returns the answer to the valid `question` about `stations`, like [`answer`], from borrowed inputs.
 ///
 /// # Errors
-/// As [`answer`].
+/// The first [`Refusal`] in the order of `specs/Answers.antt`. If memory runs out, [`Refusal::NoMemory`]
+/// is returned in place of any other result.
 #[tactic(auto, unfolding(crate::specs::Answers::answered, crate::specs::Answers::asks_name))]
 pub fn answer_valid(
     alloc: Global,
@@ -116,7 +116,7 @@ pub fn answer_valid(
     }
 }
 
-/// Returns the answer to `question`, whose command needs a station and a span.
+/// Returns the answer to `question`; its command needs a station and a span.
 fn answer_over_span(
     alloc: Global,
     stations: &StationData<'_>,
@@ -157,7 +157,7 @@ fn answer_request(
     }
 }
 
-/// Returns the answer to `stations`.
+/// Returns the answer to the command `stations`.
 fn answer_stations(alloc: Global, stations: &StationData<'_>) -> Result<Answer, Refusal>
     ensures exact { IfOk result (λ answer. answer ≡ text_alone (stations_text_of stations.now.book stations.now.table)) }
     ensures memory { IfErr result (λ refusal. refusal ≡ Refusal.NoMemory) }

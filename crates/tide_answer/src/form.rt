@@ -1,10 +1,10 @@
 //! The forms of an answer that is streamed.
 
-/// The form of an answer that is written as it is found.
+/// The form of an answer that is written while it is computed.
 #[derive(Clone, Copy)]
 pub enum Form {
-    /// The station's name and the line of each event.
+    /// A listing: the station's name and the line of each event.
     Listing,
-    /// The certificate of the events.
+    /// A certificate of the events.
     Certificate,
 }

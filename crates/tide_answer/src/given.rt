@@ -1,20 +1,20 @@
-//! The inputs of an answer besides the request, the harmonic constants and the offsets.
+//! The inputs of an answer other than the request, the harmonic constants and the offsets.
 
 use decimal_text::Bytes;
 use zone_time::Zone;
 
-/// The inputs of a [`Given`], borrowed, in the same ranges.
+/// The inputs of an answer other than the request, the harmonic constants and the offsets, borrowed.
 #[derive(Clone, Copy)]
 pub struct GivenView<'a> {
     /// The zone of the local times in the answer.
     pub zone: &'a Zone,
-    /// The text of a certificate.
+    /// The text of a certificate, at most 400,000,000 bytes.
     pub certificate: &'a [u8],
-    /// The present minute.
+    /// The present minute, since 1970-01-01T00:00Z, from -10,000,000,000 to 10,000,000,000.
     pub now: i64,
 }
 
-/// The inputs of an answer besides the request, the harmonic constants and the offsets.
+/// The inputs of an answer other than the request, the harmonic constants and the offsets.
 #[derive(Drop)]
 pub struct Given {
     /// The zone of the local times in the answer.
@@ -29,7 +29,7 @@ impl Given {
     ghost use Rattle.std.specs.Prelude.{◌≡◌};
     ghost use Rattle.tide_answer.specs.Givens.{given_seen};
 
-    /// Returns these inputs borrowed.
+    /// Borrows the inputs.
     pub fn view(&self) -> GivenView<'_>
         ensures { given_seen result ≡ self.entry.now }
     {

@@ -1,4 +1,4 @@
-//! The answer of `heights`: the levels of a station in a span, one each step.
+//! The answer of the command `heights`: the levels of a station in a span at even steps of time.
 
 ghost use Rattle.std.specs.Prelude.{◌≡◌, ◌≤◌, ◌+ℤ◌, ◌*ℤ◌, ◌-ℤ◌, pos, negsuc, [], All, unsigned_abs, Ok, Err, IfOk, IfErr, OnOk};
 ghost use Rattle.decimal_text.specs.Expected.{ReturnsUnless};
@@ -21,13 +21,12 @@ use zone_time::ZoneClock;
 /// The greatest number of rows of a list.
 const ROW_LIMIT: u64 = 100_000;
 
-/// Returns the levels of the station of `request`, one each `step` minutes from the begin of the
-/// span up to its end, which has a row if the steps lead there. `step` is 1 to 44,640.
+/// Returns the levels of the requested station, one every `step` minutes from the beginning of the span
+/// to its end, which is listed if the steps lead to it. `step` is from 1 to 44,640.
 ///
 /// # Errors
-/// The first [`Refusal`] in the order of `predict`, then that of a
-/// station without a level at each minute, and then [`Refusal::TooManyRows`] for more than 100,000
-/// rows.
+/// The first [`Refusal`] in this order: the station, its unit, the span, the bounds on its constants,
+/// the mark, a level at each minute, and [`Refusal::TooManyRows`] for more than 100,000 rows.
 #[tactic(auto, unfolding(crate::specs::Answers::heights))]
 pub fn list_heights(
     alloc: Global,
@@ -129,7 +128,7 @@ fn minute_at(begin: i64, step: i64, place: u64) -> i64
     begin + minutes_to(step, place)
 }
 
-/// Returns the minutes from the begin to the row at index `place`.
+/// Returns the minutes from the beginning of the span to the row at index `place`.
 fn minutes_to(step: i64, place: u64) -> i64
     requires step { IsStep step }
     requires place { place ≤ row_limit }
@@ -139,7 +138,7 @@ fn minutes_to(step: i64, place: u64) -> i64
     step * place as i64
 }
 
-/// The number of rows of some spans: the end has a row if the steps lead there.
+/// Proves the number of rows of some spans: the end has a row if the steps lead to it.
 #[tactic(auto, unfolding(crate::specs::Answers::rows_in))]
 pub fn worked_rows()
     ensures empty_span { row_count (pos 0) (pos 0) (pos 60) ≡ 1 }

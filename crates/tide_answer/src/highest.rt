@@ -1,4 +1,4 @@
-//! The answers of `highest` and `peak`: the highest water of a station over a span, and its
+//! The answers of the commands `highest` and `peak`: the highest water of a station over a span, and its
 //! certificate.
 
 ghost use Rattle.std.specs.Prelude.{◌≡◌, IfErr, IfOk};
@@ -23,12 +23,12 @@ use std::alloc::{AllocError, Global};
 use tide_fault::Refusal;
 use zone_time::ZoneClock;
 
-/// Returns the highest water of the station of `request` among the minutes of its span, by the clock
-/// of `zone`.
+/// Returns the listing of the highest water of the requested station over its span, in the local time of
+/// `zone`.
 ///
 /// # Errors
-/// The first [`Refusal`] in this order: the station, its unit, the span, the bounds on its
-/// constants, the mark, a level at each minute.
+/// The first [`Refusal`] in this order: the station, its unit, the span, the bounds on its constants,
+/// the mark, a level at each minute.
 #[tactic(auto, unfolding(crate::specs::Answers::highest))]
 pub fn highest_answer(
     alloc: Global,
@@ -46,8 +46,8 @@ pub fn highest_answer(
     Ok(text_alone(text))
 }
 
-/// Returns the listing of a highest water: the station's name, and the minute and the level to
-/// which the offset moves the reference's minute `at`.
+/// Returns the listing of a highest water: the station's name, and the minute and the level that the
+/// offset makes of the reference's at minute `at`.
 pub fn highest_text_at(
     alloc: Global,
     found: &FoundStation,
@@ -64,11 +64,11 @@ pub fn highest_text_at(
     highest_text(alloc, name, found.units, minute, level, zone.zone())
 }
 
-/// Returns the certificate of the highest water of the station of `request` among the minutes of its
-/// span.
+/// Returns the certificate of the highest water of the requested station over its span.
 ///
 /// # Errors
-/// The first [`Refusal`] in the order of `highest`.
+/// The first [`Refusal`] in this order: the station, its unit, the span, the bounds on its constants,
+/// the mark, a level at each minute.
 #[tactic(auto, unfolding(crate::specs::Answers::peak_certified))]
 pub fn certify_peak(
     alloc: Global,

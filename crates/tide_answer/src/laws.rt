@@ -4,23 +4,25 @@ ghost use Rattle.tide_answer.specs.Laws.{AcceptsWhatIsCertified, AcceptsOnlyInSh
 
 use cert_text::{certificates_are_short, certificates_have_one_text, readings_go_by_the_grammar};
 
-/// `check` accepts what `certify` returned, with the listing of the same station, span and mark.
+/// Proves that the command `check` accepts what `certify` returned, with the listing of the same
+/// station, span and mark.
 pub fn certified_is_accepted()
     ensures { AcceptsWhatIsCertified }
 {
     readings_go_by_the_grammar();
 }
 
-/// A certificate that `certify` returns has fewer than 333,000,000 bytes, so it can be read again.
+/// Proves that a certificate that the command `certify` returns has fewer than 333,000,000 bytes, so it
+/// can be read again.
 pub fn certified_is_short()
     ensures { CertifiesInShort }
 {
     certificates_are_short();
 }
 
-/// A certificate that `check` accepts is true, whoever wrote it: its tracks have every event of the
-/// curves of its station, span and mark and no other, and the answer lists what `predict` lists for
-/// them.
+/// Proves that a certificate that the command `check` accepts is true, however it was made: its tracks
+/// have exactly the events of the curves of its station, span and mark, and the answer lists what
+/// `predict` lists for them.
 pub fn accepted_is_true()
     ensures { AcceptsOnlyWhatIsTrue }
 {
@@ -28,7 +30,8 @@ pub fn accepted_is_true()
     readings_go_by_the_grammar();
 }
 
-/// A certificate that `check` accepts has fewer than 333,000,000 bytes, whoever wrote it.
+/// Proves that a certificate that the command `check` accepts has fewer than 333,000,000 bytes, however
+/// it was made.
 pub fn accepted_is_short()
     ensures { AcceptsOnlyInShort }
 {

@@ -1,10 +1,10 @@
 //! Requests and their answers.
 //!
-//! [`answer`] answers a [`Question`](question::Question) over harmonic constants and a table of
-//! offsets: with a text, or with the first [`Refusal`] in a fixed order. [`answer_alone`] answers
-//! one that names no file, and [`station_events`] returns the events for a report. [`prepare`] and
-//! [`answer_into`] write a listing or a certificate as it is found, without allocating for it. The
-//! crates above read the files and the arguments and write the text.
+//! [`answer`] answers a [`Question`](question::Question) with harmonic constants and a table of offsets:
+//! it returns a text, or the first [`Refusal`] in a fixed order. [`answer_alone`] answers a question
+//! that names no file, and [`station_events`] returns the events for a report. [`prepare`] and
+//! [`answer_into`] write a listing or a certificate while it is computed, without allocating. The crates
+//! above read the files and the arguments and write the text.
 #![tactic(auto)]
 
 mod about;

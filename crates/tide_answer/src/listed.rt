@@ -21,22 +21,23 @@ use station_table::OffsetTable;
 use std::alloc::Global;
 use tide_fault::Refusal;
 
-/// The events of a station over a span.
+/// The events of a station over a span, for a report.
 #[derive(Drop)]
 pub struct Listed {
-    /// The name in the request.
+    /// The station's name as in the request.
     pub name: Text,
-    /// The unit of the levels.
+    /// The unit of the events' levels.
     pub units: Units,
     pub events: Events,
 }
 
-/// Returns the events of the station, span and mark of `question`. Each event has a word in the
-/// unit and a minute that the clock of any zone can show, and the name has no control characters.
+/// Returns the events of the station, span and mark of `question`. Each event has a
+/// [`word`](event_text::word) in the unit, and a minute that the clock of any zone can show; the name
+/// has no control characters.
 ///
 /// # Errors
-/// The first [`Refusal`] in the order of `specs/Answers.antt`, which is that of `predict`.
-/// [`Refusal::NoMemory`] may be returned in place of any result.
+/// The first [`Refusal`] in this order: the station, its unit, the span, the bounds on its constants,
+/// the mark. If memory runs out, [`Refusal::NoMemory`] is returned in place of any other result.
 ///
 /// # Examples
 /// ```

@@ -1,4 +1,4 @@
-//! A listing that is written as its events are found. None of these functions allocates.
+//! A listing that is written while its events are found. None of these functions allocates.
 
 ghost use Rattle.std.specs.Prelude.{◌≡◌, ◌+◌, ◌*◌, ◌<◌, ◌≤◌, ◌^◌, length, All, OnOk};
 ghost use Rattle.std.specs.List.{flat_map};
@@ -17,10 +17,10 @@ use station_cells::{LineBuffer, Sent, send_name};
 use tide_edge::{Sink, WriteFailed};
 use zone_time::ZoneClock;
 
-/// Writes the line of each event that `merge` has left.
+/// Writes the line of each remaining event of `merge`.
 ///
 /// # Errors
-/// [`WriteFailed`] if the sink fails: then it holds a prefix of the lines.
+/// [`WriteFailed`] if the sink fails: then it has a prefix of the lines.
 pub fn send_events<'a, S: Sink>(
     out: &mut S,
     sent: Sent,
@@ -53,10 +53,10 @@ fn line_of(units: Units, event: &Event, zone: &ZoneClock<'_>) -> ArrayString<96>
     line
 }
 
-/// Writes the station's `name`, and the line of each event that `merge` has left.
+/// Writes the station's `name`, and the line of each remaining event of `merge`.
 ///
 /// # Errors
-/// [`WriteFailed`] if the sink fails: then it holds a prefix of the listing.
+/// [`WriteFailed`] if the sink fails: then it has a prefix of the listing.
 #[tactic(auto, unfolding(listing::specs::Listings::plain_events_of))]
 pub fn send_listing<'a, S: Sink>(
     out: &mut S,

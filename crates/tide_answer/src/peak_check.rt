@@ -1,4 +1,4 @@
-//! The answer of `peakcheck`: the check of a certificate of a highest water.
+//! The answer of the command `peakcheck`: the check of a certificate of a highest water.
 
 ghost use Rattle.std.specs.Prelude.{◌≡◌, ◌<◌, ◌≤◌, ◌^◌, length, [], IfErr, IfOk};
 ghost use Rattle.decimal_text.specs.Expected.{ReturnsUnless};
@@ -25,13 +25,13 @@ use std::alloc::{AllocError, Global};
 use tide_fault::Refusal;
 use zone_time::Zone;
 
-/// Checks the certificate of a highest water whose text is `bytes`. The answer is `Accepted` and
-/// the highest water of the certificate's own span in universal time, or the line of the first
-/// fault.
+/// Returns the result of checking the certificate of a highest water with the text `bytes`. If it is
+/// valid, the answer is `Accepted` and the highest water of the certificate's span in universal time;
+/// otherwise it is the line of the first fault.
 ///
 /// # Errors
-/// The first [`Refusal`]: [`Refusal::NotACertificate`], and then those of the certificate's own
-/// station and span, in the order of `highest`.
+/// The first [`Refusal`]: [`Refusal::NotACertificate`], and then, for the station and the span of the
+/// certificate: the station, its unit, the span, the bounds on its constants, a level at each minute.
 #[tactic(auto, unfolding(crate::specs::Answers::peak_checked))]
 pub fn check_peak_text(
     alloc: Global,
@@ -46,7 +46,7 @@ pub fn check_peak_text(
     judge_peak(alloc, stations, &cert)
 }
 
-/// Reads the certificate whose text is `bytes`.
+/// Returns the certificate with the text `bytes`.
 fn peak_in(alloc: Global, bytes: &[u8]) -> Result<PeakCertificate, Refusal>
     requires { length bytes.now ≤ MOST_BYTES }
     ensures exact { ReturnsUnless refusal_is_out_of_memory (peak_from (peak_of bytes.now)) result }
@@ -62,7 +62,7 @@ fn peak_in(alloc: Global, bytes: &[u8]) -> Result<PeakCertificate, Refusal>
     }
 }
 
-/// Checks the certificate `cert`.
+/// Returns the result of checking the certificate `cert`.
 #[tactic(auto, unfolding(crate::specs::Workings::Peaks::peak_judged_in))]
 fn judge_peak(
     alloc: Global,

@@ -1,4 +1,4 @@
-//! The answer of `predict`: the events of a station over a span.
+//! The answer of the command `predict`: the events of a station over a span.
 
 ghost use Rattle.std.specs.Prelude.{IfErr};
 ghost use Rattle.decimal_text.specs.Expected.{ReturnsUnless};
@@ -13,11 +13,11 @@ use std::alloc::Global;
 use tide_fault::Refusal;
 use zone_time::ZoneClock;
 
-/// Returns the listing of the events that `request` requests, in `layout` and by the clock of `zone`.
+/// Returns the listing of the requested events, in `layout` and in the local time of `zone`.
 ///
 /// # Errors
-/// The first [`Refusal`] in this order: the station, its unit, the span, the bounds on its
-/// constants, the mark.
+/// The first [`Refusal`] in this order: the station, its unit, the span, the bounds on its constants,
+/// the mark.
 #[tactic(auto, unfolding(crate::specs::Answers::predicted))]
 pub fn predict(
     alloc: Global,

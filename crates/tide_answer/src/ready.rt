@@ -23,15 +23,15 @@ use tide_edge::{Sink, WriteFailed};
 use tide_fault::Refusal;
 use zone_time::Zone;
 
-/// The source of the answer to a request, if this answer can be written as it is found.
+/// The prepared source of an answer, which can be streamed: written while it is computed.
 #[derive(Drop)]
 pub struct Ready {
     stream: Option<Stream>,
 }
 
 impl Ready {
-    /// Returns true if the answer is streamed: the station has no offsets, the layout is text, and
-    /// the zone isn't a file.
+    /// Returns true if the answer is streamed: the station has no offsets, the layout is text, and the
+    /// zone isn't a file.
     pub fn streams(&self) -> bool
         ensures { result ≡ is_some self.now.stream }
     {
@@ -39,11 +39,12 @@ impl Ready {
     }
 }
 
-/// Finds the source of the answer to a request to predict or to certify, from which
-/// [`answer_into`](crate::answer_into) writes it.
+/// Returns the prepared source of the answer to a request to predict or to certify, from which
+/// [`answer_into`](crate::answer_into) writes the answer.
 ///
 /// # Errors
-/// The first [`Refusal`] in the order of [`answer`](crate::answer).
+/// The first [`Refusal`] in this order: the station, its unit, the span, the bounds on its constants,
+/// the mark. If memory runs out, [`Refusal::NoMemory`] is returned in place of any other result.
 pub fn prepare(
     alloc: Global,
     book: &Book,
@@ -63,7 +64,7 @@ pub fn prepare(
     find_ready(alloc, &stations, &question, given)
 }
 
-/// Finds the source of the answer to a request whose form is checked.
+/// Returns the prepared source of the answer to a valid request.
 #[tactic(auto, unfolding(crate::specs::Streams::prepared))]
 fn find_ready(
     alloc: Global,
@@ -92,12 +93,12 @@ fn find_ready(
     }
 }
 
-/// Writes the text of an answer that is streamed, and returns the number of its cells. Doesn't
+/// Writes the text of an answer that is streamed, and returns the number of its cells. It doesn't
 /// allocate.
 ///
 /// # Errors
-/// [`WriteFailed`] if a write failed: exactly the first `sent` bytes were written, and nothing
-/// after that.
+/// [`WriteFailed`] if a write failed: exactly the first `sent` bytes were written, and nothing after
+/// that.
 pub fn answer_into<S: Sink>(ready: &Ready, out: &mut S) -> Result<u64, WriteFailed>
     requires { IsSome ready.now.stream }
     ensures { ForSome ready.now.stream (λ answer. Streams (S.state out.old) (S.state out.new) answer result) }
@@ -108,15 +109,15 @@ pub fn answer_into<S: Sink>(ready: &Ready, out: &mut S) -> Result<u64, WriteFail
     }
 }
 
-/// Returns true if the answers of `command` can be written as they are found. [`Ready::streams`]
-/// says which of them are.
+/// Returns true if answers of `command` can be streamed. Whether a given answer is, [`Ready::streams`]
+/// says.
 pub fn can_stream(command: Command) -> bool
     ensures { result ≡ can_stream command }
 {
     matches!(command, Command::Predict | Command::Certify)
 }
 
-/// Returns the form of the answers of `command`, which can be streamed.
+/// Returns the form of the answers of `command`; they can be streamed.
 fn form_of(command: Command) -> Form
     ensures { result ≡ form_of command }
 {
@@ -126,7 +127,7 @@ fn form_of(command: Command) -> Form
     }
 }
 
-// Returns the zone, if the answer is streamed.
+/// Returns the zone if the answer is streamed, and otherwise `None`.
 fn streamed_zone(basis: &Basis, layout: Layout, zone: &Zone) -> Option<Zone>
     ensures { result ≡ (if streams_by basis.now layout zone.now then Some zone.now else None) }
 {

@@ -16,18 +16,18 @@ use question::ValidQuestion;
 use station_span::{Asked, StationRequest};
 use tide_fault::Refusal;
 
-/// Returns the refusal of a question that lacks a value that its command needs.
+/// Returns the refusal of a question that doesn't have a value that its command needs.
 pub fn refusal_of_incomplete() -> Refusal
     ensures { result ≡ refusal_of_incomplete }
 {
     Refusal::NoStation
 }
 
-/// Returns the station's name, the span and the mark of `question`. A command that needs them has
-/// them.
+/// Returns the station's name, the span and the mark of `question`. A question whose command needs them
+/// has them.
 ///
 /// # Errors
-/// [`refusal_of_incomplete`] if it lacks the station or the span.
+/// [`refusal_of_incomplete`] if the station or the span is missing.
 #[tactic(auto, unfolding(crate::specs::Workings::Requests::named_span))]
 pub fn station_request<'a>(question: &ValidQuestion<'a>) -> Result<StationRequest<'a>, Refusal>
     ensures exact { result ≡ named_span question.now }
@@ -39,7 +39,10 @@ pub fn station_request<'a>(question: &ValidQuestion<'a>) -> Result<StationReques
     Ok(StationRequest::new(name, asked))
 }
 
-/// Returns the station's name. A command that needs one has it.
+/// Returns the station's name in `question`. A question whose command needs it has it.
+///
+/// # Errors
+/// [`refusal_of_incomplete`] if the name is missing.
 pub fn station_named<'a>(question: &ValidQuestion<'a>) -> Result<&'a Text, Refusal>
     ensures found { IfOk result (λ name. named_by question.now.station ≡ Ok name.now) }
     ensures missing { IfErr result (λ refusal. named_by question.now.station ≡ Err refusal) }
@@ -51,7 +54,7 @@ pub fn station_named<'a>(question: &ValidQuestion<'a>) -> Result<&'a Text, Refus
     }
 }
 
-/// Returns the span and the mark.
+/// Returns the span and the mark of `question`.
 #[tactic(auto, unfolding(crate::specs::Asking::asked_by_question))]
 fn span_named(question: &ValidQuestion<'_>) -> Result<Asked, Refusal>
     ensures exact { result ≡ named_by (asked_by_question question.now) }
@@ -70,7 +73,7 @@ fn span_named(question: &ValidQuestion<'_>) -> Result<Asked, Refusal>
     }
 }
 
-/// Returns the station's name, the span and the mark of the certificate `cert`.
+/// Returns the request of the certificate `cert`: its station's name, its span and its mark.
 pub fn request_of_certificate<'a>(cert: &'a Certificate) -> StationRequest<'a>
     requires { IsCertificate cert.now }
     ensures { result ≡ record { name = cert.now.station; asked = asked_by_certificate cert.now } }
@@ -83,7 +86,7 @@ pub fn request_of_certificate<'a>(cert: &'a Certificate) -> StationRequest<'a>
     StationRequest::new(&cert.station, asked)
 }
 
-/// Returns the station's name and the span of `cert`, a certificate of a highest water.
+/// Returns the request of `cert`, a certificate of a highest water: its station's name and its span.
 pub fn request_of_peak_certificate<'a>(cert: &'a PeakCertificate) -> StationRequest<'a>
     requires { IsPeakCertificate cert.now }
     ensures { result ≡ record { name = cert.now.station; asked = asked_by_peak_certificate cert.now } }

@@ -1,4 +1,4 @@
-//! The answer of `sample`: a harmonics file made from a seed.
+//! The answer of the command `sample`: a harmonics file made from a seed.
 
 ghost use Rattle.std.specs.Prelude.{◌≡◌, IfOk};
 ghost use Rattle.sample_tides.specs.File.{sample_of};
@@ -8,7 +8,8 @@ use crate::text::{Answer, text_alone};
 use sample_tides::sample;
 use std::alloc::{AllocError, Global};
 
-/// Returns the harmonics file of made-up constants that `seed` determines.
+/// Returns the answer of the command `sample`: the harmonics file of made-up constants that `seed`
+/// determines.
 pub fn sample_answer(alloc: Global, seed: u64) -> Result<Answer, AllocError>
     ensures { IfOk result (λ answer. answer ≡ text_alone (sample_of seed)) }
 {

@@ -1,4 +1,4 @@
-//! An answer that is written as it is found.
+//! An answer that is written while it is computed.
 
 ghost use Rattle.std.specs.Prelude.{◌≡◌};
 ghost use Rattle.tide_answer.specs.Streams.{Streams};
@@ -13,8 +13,8 @@ use std::marker::Model;
 use tide_edge::{Sink, WriteFailed};
 use zone_time::Zone;
 
-/// An answer that is written as it is found, by the curve of a station that it owns. Contracts see
-/// it as the answer.
+/// An answer that is written while it is computed. It owns the curve of its station. In contracts its
+/// value is the answer.
 #[derive(Drop)]
 pub struct Stream {
     form: Form,
@@ -48,11 +48,11 @@ impl Stream {
         }
     }
 
-    /// Writes the answer's text, and returns the number of its cells. Doesn't allocate.
+    /// Writes the answer's text, and returns the number of its cells. It doesn't allocate.
     ///
     /// # Errors
-    /// [`WriteFailed`] if a write failed: exactly the first `sent` bytes were written, and nothing
-    /// after that.
+    /// [`WriteFailed`] if a write failed: exactly the first `sent` bytes were written, and nothing after
+    /// that.
     pub fn write<S: Sink>(&self, out: &mut S) -> Result<u64, WriteFailed>
         ensures { Streams (S.state out.old) (S.state out.new) self.now result }
     {
@@ -63,7 +63,7 @@ impl Stream {
     }
 }
 
-/// Writes a listing.
+/// Writes a listing while it is computed.
 fn write_listing<S: Sink>(
     out: &mut S,
     found: &FoundStation,
@@ -78,7 +78,7 @@ fn write_listing<S: Sink>(
     Ok(merge.cells())
 }
 
-/// Writes a certificate.
+/// Writes a certificate while it is computed.
 fn write_certificate<S: Sink>(
     out: &mut S,
     found: &FoundStation,

@@ -27,22 +27,23 @@ use event_list::Span;
 use station_cells::{Rejection, cell_count};
 use std::alloc::{AllocError, Global};
 
-/// The counts of a trial at one station, or their sums over stations.
+/// The counts of a trial at one station, or their sums over several stations.
 #[derive(Clone, Copy)]
 pub struct Tally {
-    /// The minutes of all tracks.
+    /// The number of minutes of all tracks together.
     pub minutes: u128,
+    /// The number of events that were predicted.
     pub events: u128,
-    /// The cells of all tracks.
+    /// The number of cells of all tracks together.
     pub cells: u128,
-    /// The cells of several minutes without an event.
+    /// The number of cells of several minutes without an event.
     pub quiet: u128,
-    /// The certificates that the check accepts.
+    /// The number of certificates that the check accepts.
     pub accepted: u128,
 }
 
 impl Tally {
-    /// Returns the counts of no station.
+    /// Returns the counts of no station, which are 0.
     pub fn nothing() -> Tally
         ensures { result ≡ nothing }
     {
@@ -55,7 +56,7 @@ impl Tally {
         }
     }
 
-    /// Returns these counts plus those of `one` station.
+    /// Returns the sums of these counts and the counts of `one` station.
     #[tactic(auto, unfolding(crate::specs::Trials::plus))]
     pub fn plus(self, one: Tally) -> Tally
         requires sum { IsUpTo (2 ^ 100) self }
@@ -71,8 +72,8 @@ impl Tally {
         }
     }
 
-    /// Returns the counts of `tracks` over `span`, of their `events`, and of the `rejection` of the
-    /// check, if any.
+    /// Returns the counts of one station, from its `tracks` over `span`, their `events`, and the check's
+    /// `rejection`, or `None` if the check accepts.
     #[tactic(auto, unfolding(crate::specs::Trials::tally_by))]
     pub fn of(span: &Span, tracks: &Tracks, events: &Events, rejection: Option<Rejection>) -> Tally
         requires in_range { IsSpanInRange span.now }
@@ -158,7 +159,7 @@ fn quiet_one(cell: Cell) -> u64
     }
 }
 
-// Returns 1 if there is no rejection, and 0 otherwise.
+/// Returns 1 if there is no rejection, and 0 otherwise.
 fn accepted_count(rejection: Option<Rejection>) -> u128
     ensures exact { result ≡ accepted_if rejection }
     ensures count_bound { result ≤ 1 }
@@ -169,7 +170,7 @@ fn accepted_count(rejection: Option<Rejection>) -> u128
     }
 }
 
-/// Returns the lines of the trial of `seed` with the counts `sum`.
+/// Returns the lines that the command `trial` prints for `seed` with the counts `sum`.
 #[tactic(auto, unfolding(crate::specs::Trials::trial_text))]
 pub fn tally_text(alloc: Global, seed: u64, sum: Tally) -> Result<Bytes, AllocError>
     requires { IsUpTo (2 ^ 100) sum }

@@ -11,8 +11,8 @@ use station_cells::tracks_over;
 use station_span::{FoundStation, mark_curve, slack_curve, turn_curve};
 use std::alloc::{AllocError, Global};
 
-/// Returns the cells of each curve that is followed, over the reference's minutes that are
-/// evaluated.
+/// Returns the cells of each of the station's requested tracks, over the evaluated minutes of the
+/// reference.
 pub fn find_tracks(alloc: Global, found: &FoundStation) -> Result<Tracks, AllocError>
     requires { found.now.reach ≡ Reach.Events }
     ensures { IfOk result (λ tracks. tracks ≡ tracks_of found.now.curve.book (site_of found.now) found.now.asked) }

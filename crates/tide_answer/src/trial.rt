@@ -1,4 +1,4 @@
-//! The answer of `trial`: a trial of the predictor over a file made from a seed.
+//! The answer of the command `trial`: a trial of the predictor with a file made from a seed.
 
 ghost use Rattle.std.specs.Prelude.{◌≡◌, ◌<◌, ◌≤◌, ◌^◌, [], length, take, IfErr, IfOk};
 ghost use Rattle.decimal_text.specs.Expected.{ReturnsUnless};
@@ -32,11 +32,11 @@ const SPAN: Asked = Asked {
     mark: None,
 };
 
-/// Predicts, certifies and checks at the first forty stations of the file that `seed` determines,
-/// and returns the lines of the counts.
+/// Predicts, certifies and checks at the first forty stations of the file that `seed` determines, and
+/// returns the lines of the counts.
 ///
 /// # Errors
-/// [`Refusal::BadSample`] if the file isn't of its form, and the first [`Refusal`] of a station.
+/// [`Refusal::BadSample`] if the file can't be read as a book, and the first [`Refusal`] of a station.
 #[tactic(auto, unfolding(crate::specs::Trials::trial_of))]
 pub fn try_sample(alloc: Global, seed: u64) -> Result<Bytes, Refusal>
     ensures exact { ReturnsUnless refusal_is_out_of_memory (trial_of seed) result }
@@ -77,8 +77,8 @@ fn first_stations(book: &Book) -> &[Station]
     }
 }
 
-// Returns the sums of the counts over `tried`. Nothing else is kept from one station to the
-// next.
+/// Returns the sums of the counts over the stations `tried`. Nothing else is kept from one station to the
+/// next.
 fn tally_stations(
     alloc: Global,
     stations: &StationData<'_>,
@@ -98,7 +98,7 @@ fn tally_stations(
     Ok(sum)
 }
 
-// Predicts, certifies and checks at the station `name`, and returns the counts.
+/// Predicts, certifies and checks at the station `name`, and returns the counts.
 #[tactic(auto, unfolding(crate::specs::Trials::station_tally))]
 fn tally_station(alloc: Global, stations: &StationData<'_>, name: &Text) -> Result<Tally, Refusal>
     requires { stations.now.table ≡ [] }

@@ -1,4 +1,4 @@
--- The answer to a command line over files and a clock, with the sheets of a report (this project).
+-- The answer to a command line with files and a clock, and with the sheets of a report (this project).
 use Rattle.std.specs.Prelude.{
   ℕ,
   ℤ,
@@ -52,17 +52,17 @@ use Rattle.tide_edge.specs.Whole.{Allowance, no_file}
 
 -- ---- The arguments
 
--- a result with a fault of the arguments as one with a fault of the run
+-- the result of reading arguments, with its fault as a fault of the run
 abbrev pub ask_from : {A : Type 0} → Result A AskFault → Result A Fault
 ask_from (Ok value) = Ok value
 ask_from (Err fault) = Err (Ask fault)
 
--- a result with a refusal as one with a fault of the run
+-- the result of a step, with its refusal as a fault of the run
 abbrev pub refused_from : {A : Type 0} → Result A Refusal → Result A Fault
 refused_from (Ok value) = Ok value
 refused_from (Err refusal) = Err (Refused refusal)
 
--- the request of a command line; no run answers `serve`
+-- the request of a command line, which mustn't be for `serve`
 abbrev pub question_in : List (List ℕ) → Result Question AskFault
 question_in words = if asks_to_serve words then Err UnknownCommand else question_of (pairs_of words)
 
@@ -74,7 +74,8 @@ wanted_by question = unwrap_or question.sheets []
 abbrev pub word_at : List (List ℕ) → ℕ → List ℕ
 word_at wanted place = unwrap_or (slice_get wanted place) []
 
--- the step of the sheets: each requested word is a sheet's, or the first that isn't is the fault
+-- the step of the sheets: each requested word must be the word of a sheet, or the first that isn't is
+-- the fault
 abbrev pub found_in : List (List ℕ) → Option ℕ → Result (Unit {0}) Fault
 found_in wanted None = Ok tt
 found_in wanted (Some place) = Err (NoSheet (word_at wanted place))
@@ -90,7 +91,7 @@ question_of_words sheets words = do
 abbrev pub NamesFile : Result Question Fault → Type 0
 NamesFile asked = IsOkAnd asked (λ question. IsSome question.file)
 
--- the request names files that can all be read
+-- the request names files that exist and can be read
 abbrev pub HasFiles : Folders → Result Question Fault → Type 0
 HasFiles folders asked = IsOkAnd asked (λ question. IsSomeAnd question.file (λ name. IsOk (files_in folders question name)))
 
@@ -102,11 +103,11 @@ reads_clock Clock = true
 reads_clock Report = true
 reads_clock _ = false
 
--- the minute for a command: the present one if it reads the clock, and 0 otherwise
+-- the minute for a command: the present minute if the command reads the clock, and 0 otherwise
 abbrev pub minute_for : Command → ℤ → ℤ
 minute_for command minute = if reads_clock command then minute else pos 0
 
--- the inputs of an answer besides the request, the harmonic constants and the offsets
+-- the inputs of an answer other than the request, the harmonic constants and the offsets
 abbrev pub given_with : Materials → ℤ → Given
 given_with read now = record { zone = read.zone; certificate = read.certificate; now = now }
 
@@ -120,7 +121,7 @@ ReadsClock asked = IsOkAnd asked (λ question. IsTrue (reads_clock question.comm
 abbrev pub question_allowed : Question → Allowance
 question_allowed question = option_map_or (λ name. files_allowed question) question.file no_file
 
--- the bytes that may be read for a command line; none if it is no request
+-- the bytes that may be read for a command line; none if it isn't a request
 abbrev pub allowed_by : Result Question Fault → Allowance
 allowed_by (Ok question) = question_allowed question
 allowed_by (Err fault) = no_file
@@ -136,18 +137,18 @@ is_report _ = false
 abbrev pub head_of : Listed → ℤ → Head
 head_of listed now = record { name = listed.name; units = listed.units; now = now }
 
--- a report: the pages of the requested sheets, of the station's events
+-- the answer of `report`: the pages of the requested sheets, with the station's events
 unfoldable pub reported : List SheetMeaning → Book → List Offsets → Question → ℤ → Result Answer Refusal
 reported sheets book table question now = do
   events ← listed book table question
   Ok (text_alone (pages_of sheets (wanted_by question) (head_of events now) events.events))
 
--- the answer over harmonic constants and a table: a report, or one without sheets
+-- the answer with harmonic constants and a table: a report, or an answer without sheets
 abbrev pub answered_over_book : Bool → List SheetMeaning → Book → List Offsets → Question → Given → Result Answer Refusal
 answered_over_book true sheets book table question given = reported sheets book table question given.now
 answered_over_book false sheets book table question given = answered book table question given
 
--- the answer over the files; the harmonics file has the name
+-- the answer with the files; the harmonics file has this name
 unfoldable pub answered_over_file : List SheetMeaning → Folders → ℤ → Question → List ℕ → Result Answer NoAnswer
 answered_over_file sheets folders minute question name = do
   read ← files_in folders question name
@@ -160,12 +161,12 @@ abbrev pub answered_over_optional_file : List SheetMeaning → Folders → ℤ �
 answered_over_optional_file sheets folders minute question None = faulty (refused_from (answered_without_files question))
 answered_over_optional_file sheets folders minute question (Some name) = answered_over_file sheets folders minute question name
 
--- the answer to a command line, for which each file is read from a folder of its own
+-- the answer to a command line; each file is read from a separate folder
 unfoldable pub answer_from : List SheetMeaning → Folders → ℤ → List (List ℕ) → Result Answer NoAnswer
 answer_from sheets folders minute words = do
   question ← faulty (question_of_words sheets words)
   answered_over_optional_file sheets folders minute question question.file
 
--- the answer to a command line over a folder of files and the present minute
+-- the answer to a command line with a folder of files and the present minute
 abbrev pub answer_of : List SheetMeaning → Folder → ℤ → List (List ℕ) → Result Answer NoAnswer
 answer_of sheets folder = answer_from sheets (λ slot. folder)

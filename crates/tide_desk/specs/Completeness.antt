@@ -1,5 +1,5 @@
--- Over files, a clock and outputs that don't fail a run ends by its answer, with the whole text, or out of
--- memory (this project).
+-- A run over files, a clock and outputs that don't fail ends with its answer, with the whole text
+-- written, or out of memory (this project).
 use Rattle.std.specs.Prelude.{◌≡◌, ◌⊎◌, ℕ, ℤ, Bool, false, IsTrue, if◌then◌else◌, List, Some, None, Result, Ok, Err}
 use Rattle.cert_text.specs.declared.certificate.Certificate.{Certificate}
 use Rattle.cert_text.specs.Readings.{certificate_of}
@@ -40,18 +40,18 @@ use Rattle.tide_desk.specs.Shown.{answer_by}
 
 -- ---- Objects that don't fail
 
--- the folder of the files
+-- the folder of the files, for observable objects
 abbrev pub folder_held : {F O E K : Type 0} → States F O E K → Objects F O E K → Folder
 folder_held s o = (s.files o.files).store.folder
 
--- the answer to a command line over the contents of the objects
+-- the answer to a command line with the contents of observable objects
 abbrev pub answer_held : {F O E K : Type 0} → States F O E K → List SheetMeaning → List (List ℕ) → Objects F O E K
     → Result Answer NoAnswer
 answer_held s sheets words o = answer_of sheets (folder_held s o) (next_minute (s.clock o.clock)) words
 
 -- The files are observable and steady; the clock is observable and has not failed, if the command line
--- reads it; and no write of the answer has failed. (A count of faults that is saturated counts as one that
--- rose.)
+-- reads it; and no write of the answer has failed. (A saturated count of faults counts as one that
+-- grew.)
 pub record NothingFailed {F O E K : Type 0} (s : States F O E K) (sheets : List SheetMeaning) (words : List (List ℕ))
     (before after : Objects F O E K) : Type 0 where
   pub observable : IsTrue (s.files before.files).store.is_observable
@@ -61,13 +61,13 @@ pub record NothingFailed {F O E K : Type 0} (s : States F O E K) (sheets : List 
 
 -- ---- The end of a run over objects that don't fail
 
--- the status of an answer, or of the reason for which there is none
+-- the status of an answer, or of the reason why there is none
 abbrev pub status_with : Result Answer NoAnswer → Status
 status_with (Ok answer) = if answer.rejected then Rejected else Done
 status_with (Err none) = status_of none
 
--- the status is that of the answer, and the output the whole text; or there is no answer, and the line says
--- why
+-- the status is the answer's, and the output is the whole text; or there is no answer, and the line on
+-- `err` gives the reason
 pub record EndsWhole {F O E K : Type 0} (s : States F O E K) (expected : Result Answer NoAnswer) (status : Status)
     (before after : Objects F O E K) : Type 0 where
   pub ends : status ≡ status_with expected
@@ -79,17 +79,17 @@ pub record RanOut {F O E K : Type 0} (status : Status) (before after : Objects F
   pub ends : status ≡ NoMemory
   pub unwritten : after.out ≡ before.out
 
--- A run over objects that don't fail ends by the answer to its command line, or out of memory: with a fault
--- of reading only if a file that the command line names is missing, and never with a fault of writing.
+-- A run over objects that don't fail ends with the answer to its command line, or out of memory: with a
+-- read fault only if a file that the command line names is missing, and never with a write fault.
 abbrev pub EndsByItsAnswer : {F O E K : Type 0} → States F O E K → Type 0
 EndsByItsAnswer {F} {O} {E} {K} s = (sheets : List SheetMeaning) (words : List (List ℕ)) (status : Status)
     (before after : Objects F O E K) →
     AnswersAs s sheets words status before after → NothingFailed s sheets words before after →
     EndsWhole s (answer_held s sheets words before) status before after ⊎ RanOut status before after
 
--- A run over objects of any kind, the machine's too, ends by the bytes that were read of the opened files
--- and the minute that the clock returned, unless a write of the answer has failed. So it ends with a fault
--- of reading only if the clock or a file wasn't read whole.
+-- A run over objects of any kind, the machine's too, ends with the answer for the bytes that were read
+-- of the opened files and the minute that the clock returned, unless a write of the answer has failed.
+-- So it ends with a read fault only if the clock couldn't be read or a file couldn't be read to its end.
 abbrev pub EndsByWhatCame : {F O E K : Type 0} → States F O E K → Type 0
 EndsByWhatCame {F} {O} {E} {K} s = (sheets : List SheetMeaning) (words : List (List ℕ)) (status : Status) (before after : Objects F O E K)
     (answers : AnswersAs s sheets words status before after) → ¬ (Rose (s.out before.out).faults (s.out after.out).faults) →
@@ -98,9 +98,9 @@ EndsByWhatCame {F} {O} {E} {K} s = (sheets : List SheetMeaning) (words : List (L
 
 -- ---- A request that nothing refuses
 
--- The command line is a request whose files are all present, within their limits and of their form, and
--- over their contents it has this answer: its station is found and has a curve, its span is in the file's
--- years, and no bound is exceeded.
+-- The command line is a request whose files are all present, within their limits and in their formats,
+-- and with their contents it has this answer: its station is found and has a curve, its span is in the
+-- file's years, and no bound is exceeded.
 pub record HasAnswer (sheets : List SheetMeaning) (folder : Folder) (minute : ℤ) (words : List (List ℕ)) (answer : Answer)
     : Type 0 where
   pub question : Question
@@ -119,8 +119,9 @@ pub record WroteAll {F O E K : Type 0} (s : States F O E K) (answer : Answer) (s
   pub text : s.out after.out ≡ put answer.text (s.out before.out)
   pub silent : after.err ≡ before.err
 
--- A request that nothing refuses is done with the whole text, or out of memory, over steady files that hold
--- what the command line names, within their limits, and with a clock and outputs that don't fail.
+-- A request that nothing refuses ends with its whole text written, or out of memory, if the files are
+-- steady, have the contents that the command line names, and are within their limits, and if the clock
+-- and the outputs don't fail.
 abbrev pub IsComplete : {F O E K : Type 0} → States F O E K → Type 0
 IsComplete {F} {O} {E} {K} s = (sheets : List SheetMeaning) (words : List (List ℕ)) (status : Status) (before after : Objects F O E K)
     (answer : Answer) →
@@ -130,16 +131,16 @@ IsComplete {F} {O} {E} {K} s = (sheets : List SheetMeaning) (words : List (List 
 
 -- ---- A valid certificate
 
--- the run is done with an answer of this kind, or out of memory
+-- the run is done with an answer that meets the condition, or out of memory
 abbrev pub EndsAccepting : {F O E K : Type 0} → States F O E K → (Answer → Type 0) → Status → Objects F O E K → Objects F O E K
     → Type 0
 EndsAccepting s accepts status before after =
     ((answer : Answer) × accepts answer × (status ≡ Done) × (s.out after.out ≡ put answer.text (s.out before.out)))
     ⊎ RanOut status before after
 
--- The text is a certificate's, and nothing refuses a request for its own station, span and mark. Its slack
--- track is present exactly if it is required, and each of its tracks is accepted by its curve over the
--- minutes of the reference.
+-- The text is a certificate's, and nothing refuses a request for the certificate's station, span and
+-- mark. Its slack track is present exactly if it is required, and the curve of each track accepts its
+-- cells over the minutes of the reference.
 pub record IsValid (book : Book) (table : List Offsets) (text : List ℕ) : Type 0 where
   pub certificate : Certificate
   pub site : Site
@@ -148,8 +149,8 @@ pub record IsValid (book : Book) (table : List Offsets) (text : List ℕ) : Type
   pub accepted : rejection_of (followed_by (version_of certificate) book site certificate.mark)
       (widened_of site.basis certificate.begin certificate.end) certificate.tracks ≡ None
 
--- The text is a certificate of a highest water, nothing refuses a request for its own station and span, and
--- the level's curve accepts it.
+-- The text is a certificate of a highest water, nothing refuses a request for the certificate's station
+-- and span, and the level's curve accepts it.
 pub record IsValidPeak (book : Book) (table : List Offsets) (text : List ℕ) : Type 0 where
   pub certificate : PeakCertificate
   pub site : Site
@@ -175,8 +176,8 @@ pub record HoldsFiles (folder : Folder) (question : Question) (book : Book) (tab
   pub offsets : table_named folder question.offsets ≡ Ok table
   pub certificate : certificate_named folder question.certificate ≡ Ok text
 
--- A check of a valid certificate over objects that don't fail is done and accepts it with the listing of
--- its own station, span and mark, or runs out of memory.
+-- A check of a valid certificate over objects that don't fail accepts it, with the listing of the
+-- certificate's station, span and mark, or runs out of memory.
 abbrev pub AcceptsValid : {F O E K : Type 0} → States F O E K → Type 0
 AcceptsValid {F} {O} {E} {K} s = (sheets : List SheetMeaning) (words : List (List ℕ)) (check : Question) (book : Book)
     (table : List Offsets) (text : List ℕ) (zone : Zone) (status : Status) (before after : Objects F O E K) →
@@ -185,8 +186,8 @@ AcceptsValid {F} {O} {E} {K} s = (sheets : List SheetMeaning) (words : List (Lis
     IsValid book table text → AnswersAs s sheets words status before after → NothingFailed s sheets words before after →
     EndsAccepting s (IsTrueAnswer sheets (folder_held s before) check) status before after
 
--- A check of a valid certificate of a highest water over objects that don't fail is done and accepts it
--- with the highest water, or runs out of memory.
+-- A check of a valid certificate of a highest water over objects that don't fail accepts it, with the
+-- highest water, or runs out of memory.
 abbrev pub AcceptsValidPeaks : {F O E K : Type 0} → States F O E K → Type 0
 AcceptsValidPeaks {F} {O} {E} {K} s = (sheets : List SheetMeaning) (words : List (List ℕ)) (check : Question) (book : Book)
     (table : List Offsets) (text : List ℕ) (status : Status) (before after : Objects F O E K) →

@@ -1,4 +1,4 @@
--- The promise of a run over objects in memory (this project).
+-- The contract of a run over objects in memory (this project).
 use Rattle.std.specs.Prelude.{◌≡◌, ◌⊎◌, ℕ, List, [], IsTrue, Result}
 use Rattle.named_files.specs.declared.no_answer.NoAnswer.{NoAnswer}
 use Rattle.report_sheets.specs.Sheets.{SheetMeaning}
@@ -16,19 +16,19 @@ pub record Held : Type 0 where
   pub err : HeldSink
   pub clock : HeldClock
 
--- the states of its files and its clock
+-- the states of the files and the clock in memory
 abbrev pub sources_in : Held → Sources
 sources_in held = sources (files_state held.files) (clock_state held.clock)
 
--- the states of its outputs
+-- the states of the outputs in memory
 abbrev pub outputs_in : Held → Outputs
 outputs_in held = outputs (sink_state held.out) (sink_state held.err)
 
--- the answer to a command line over its files and its minute
+-- the answer to a command line with the files and the minute in memory
 abbrev pub answer_in : List SheetMeaning → Held → List (List ℕ) → Result Answer NoAnswer
 answer_in sheets held words = answer_of sheets (folder_of held.files.files) held.clock.minute words
 
--- the promise of a run over observable files, for files in memory
+-- the clause of a run over observable files, for files in memory
 abbrev pub EndsAsPromised : List SheetMeaning → List (List ℕ) → Status → Held → Held → Type 0
 EndsAsPromised sheets words status before after =
     IsTrue (files_state before.files).store.is_observable
@@ -36,8 +36,8 @@ EndsAsPromised sheets words status before after =
     → IsFirm (ReadsClock (question_of_words sheets words)) (sources_in before) (sources_in after) ⊎ (¬ (status ≡ ReadFault))
     → EndsAs (answer_in sheets before words) status (outputs_in before) (outputs_in after)
 
--- In memory the premises hold: any status but a fault of reading is that of the answer, and if a run is
--- done or rejects a certificate, a sink that was empty holds exactly the answer's text.
+-- In memory the premises hold: any status other than a read fault is the answer's, and if a run is done
+-- or rejects a certificate, a sink that was empty contains exactly the answer's text.
 abbrev pub MemoryHoldsTheAnswer : Type 0
 MemoryHoldsTheAnswer = (sheets : List SheetMeaning) (words : List (List ℕ)) (status : Status) (before after : Held) →
     before.out.taken ≡ [] → EndsAsPromised sheets words status before after → ¬ (status ≡ ReadFault) →

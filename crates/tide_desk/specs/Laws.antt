@@ -1,5 +1,5 @@
--- The laws of certificates over files and command lines: `check` accepts what `certify` returned, and what
--- `check` accepts is true (this project).
+-- The laws of certificates with files and command lines: `check` accepts what `certify` returned, and
+-- what `check` accepts is true (this project).
 use Rattle.std.specs.Prelude.{◌≡◌, ℕ, ℤ, false, List, ◌++◌, codes, Option, Some, None, IsSomeAnd, Ok}
 use Rattle.cert_text.specs.declared.certificate.Certificate.{Certificate}
 use Rattle.harmonics_book.specs.declared.book.Book.{Book}
@@ -19,7 +19,7 @@ use Rattle.tide_edge.specs.FileStates.{Folder}
 
 -- ---- the requests
 
--- the command line is this request, with these sheets, and the request is for the command
+-- the command line is this request for the command, and the sheets have the words that it names
 pub record Asks (sheets : List SheetMeaning) (words : List (List ℕ)) (command : Command) (question : Question) : Type 0 where
   pub asked : question_of_words sheets words ≡ Ok question
   pub is : question.command ≡ command
@@ -50,7 +50,7 @@ subject_in certificate = record {
   mark = certificate.mark;
 }
 
--- a request to `predict` for the listing of a subject as text, over the files and in the zone of a check
+-- a request to `predict` that lists a subject as text, with the files and in the zone of a check
 pub record AsksListing (check : Question) (subject : Subject) (question : Question) : Type 0 where
   pub command : question.command ≡ Predict
   pub files : NameSameFiles question check
@@ -60,17 +60,17 @@ pub record AsksListing (check : Question) (subject : Subject) (question : Questi
 
 -- ---- the contents of files
 
--- both requests name a file of constants, and their constants are the same, each under its own name
+-- both requests name a file of constants, and the constants under both names are the same
 abbrev pub HaveSameBook : Folder → Folder → Option (List ℕ) → Option (List ℕ) → Type 0
 HaveSameBook before after named other =
     IsSomeAnd other (λ there. IsSomeAnd named (λ here. book_named after there ≡ book_named before here))
 
--- the file of a name has this text
+-- the file with a name has this text
 abbrev pub Holds : Folder → Option (List ℕ) → List ℕ → Type 0
 Holds folder named text = IsSomeAnd named (λ name. folder name ≡ Some text)
 
--- a check has, under its own names, the constants and the table that the run which certified had under its
--- names, with no table as a table without a row; and the text is its certificate
+-- the files that a check names have the same constants and table as the files that a run of `certify`
+-- named, and the text as the certificate; no table counts as a table without rows
 pub record HoldsCertificate (before after : Folder) (certify check : Question) (text : List ℕ) : Type 0 where
   pub file : HaveSameBook before after certify.file check.file
   pub offsets : table_named after check.offsets ≡ table_named before certify.offsets
@@ -78,9 +78,9 @@ pub record HoldsCertificate (before after : Folder) (certify check : Question) (
 
 -- ---- the answers
 
--- the answer is the line `Accepted`, and then the answer over the same folder to each request of a kind: to
--- any command line that is one, at any minute, and to a request without a command line, which names no
--- certificate
+-- the answer is the line `Accepted`, and then the answer, with the same folder, to each request that
+-- meets the condition: to any command line that is one, at any minute, and to a request without a
+-- command line, which names no certificate
 pub record AcceptsWith (sheets : List SheetMeaning) (folder : Folder) (asks : Question → Type 0) (answer : Answer) : Type 0 where
   pub shown : Answer
   pub text : answer ≡ text_alone (codes "Accepted\n" ++ shown.text)
@@ -94,8 +94,8 @@ pub record AcceptsWith (sheets : List SheetMeaning) (folder : Folder) (asks : Qu
 abbrev pub AcceptsWithListing : List SheetMeaning → Folder → Question → Subject → Answer → Type 0
 AcceptsWithListing sheets folder check subject = AcceptsWith sheets folder (AsksListing check subject)
 
--- the answer of `certify` is accepted, with the listing of its station, span and mark, by each later check,
--- in any folder, that has the same constants and table and the answer's text as its certificate
+-- the answer of `certify` is accepted, with the listing of its station, span and mark, by each later
+-- check, in any folder, that has the same constants and table, and the answer's text as its certificate
 abbrev pub AcceptsWhatCertifyAnswers : Type 0
 AcceptsWhatCertifyAnswers = (sheets : List SheetMeaning) (before after : Folder) (minute later : ℤ)
     (words more : List (List ℕ)) (certify check : Question) (certificate : Answer) (zone : Zone) →
@@ -105,8 +105,8 @@ AcceptsWhatCertifyAnswers = (sheets : List SheetMeaning) (before after : Folder)
     (answer : Answer) × (answer_of sheets after later more ≡ Ok answer)
     × AcceptsWithListing sheets after check (subject_of certify) answer
 
--- over the file, the table and the zone that the check names, the text under its certificate's name is a
--- true certificate, and the answer has the listing of this certificate's own station, span and mark
+-- with the file, the table and the zone that the check names, the text under its certificate's name is a
+-- true certificate, and the answer has the listing of the certificate's station, span and mark
 pub record IsTrueAnswer (sheets : List SheetMeaning) (folder : Folder) (check : Question) (answer : Answer) : Type 0 where
   pub book : Book
   pub table : List Offsets
@@ -119,7 +119,7 @@ pub record IsTrueAnswer (sheets : List SheetMeaning) (folder : Folder) (check : 
   pub is_true : IsTrueCertificate book table text zone answer
   pub listing : AcceptsWithListing sheets folder check (subject_in is_true.certificate) answer
 
--- every certificate that `check` accepts is true, whoever wrote it
+-- every certificate that `check` accepts is true, however it was made
 abbrev pub AcceptsOnlyTrueCertificates : Type 0
 AcceptsOnlyTrueCertificates = (sheets : List SheetMeaning) (folder : Folder) (minute : ℤ) (words : List (List ℕ))
     (check : Question) (answer : Answer) →

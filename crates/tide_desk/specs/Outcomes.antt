@@ -1,4 +1,4 @@
--- The end of a run, and what it has written, by the expected answer (this project).
+-- The end of a run, and what it has written, for an expected answer (this project).
 use Rattle.std.specs.Prelude.{
   ◌≡◌,
   ℕ,
@@ -36,7 +36,7 @@ abbrev pub is_write_fault : Status → Bool
 is_write_fault WriteFault = true
 is_write_fault _ = false
 
--- a status other than out of memory and a fault of reading
+-- a status other than out of memory and a read fault
 abbrev pub is_settled : Status → Bool
 is_settled NoMemory = false
 is_settled ReadFault = false
@@ -44,12 +44,12 @@ is_settled _ = true
 
 -- ---- The end of a run
 
--- there is no answer, and the status is that of the reason
+-- there is no answer, and the status is the reason's
 abbrev pub IsRefused : Result Answer NoAnswer → Status → Type 0
 IsRefused expected status = IsErrAnd expected (λ none. status_of none ≡ status)
 
--- A status fits the expected answer: an answer is done, or rejected, or can't be written; a refusal has its
--- own status; out of memory says nothing.
+-- A status fits the expected answer: an answer is done, or rejected, or can't be written; a refusal has
+-- its status; out of memory fits any answer.
 abbrev pub Says : Result Answer NoAnswer → Status → Type 0
 Says expected Done = IsOkAnd expected (λ answer. answer.rejected ≡ false)
 Says expected Rejected = IsOkAnd expected (λ answer. answer.rejected ≡ true)
@@ -57,7 +57,7 @@ Says expected WriteFault = IsOkAnd expected (λ answer. Unit {0})
 Says expected NoMemory = Unit {0}
 Says expected status = IsRefused expected status
 
--- the text of an answer; none without an answer
+-- the text of an answer; no text without an answer
 abbrev pub text_with : Result Answer NoAnswer → List ℕ
 text_with (Ok answer) = answer.text
 text_with (Err none) = []
@@ -69,7 +69,7 @@ output_with expected Rejected = text_with expected
 output_with expected WriteFault = text_with expected
 output_with expected _ = []
 
--- the line of the reason; none with an answer
+-- the line of the reason why there is no answer; no line with an answer
 abbrev pub refusal_line : Result Answer NoAnswer → List ℕ
 refusal_line (Ok answer) = []
 refusal_line (Err none) = line_of none
@@ -91,7 +91,7 @@ pub record Outputs : Type 0 where
 abbrev pub outputs : SinkState → SinkState → Outputs
 outputs out err = record { out = out; err = err }
 
--- The run ends as with this answer: its status fits the answer, and the texts of this status were written.
+-- The run ends with this answer: its status fits the answer, and the texts for this status were written.
 pub record EndsAs (expected : Result Answer NoAnswer) (status : Status) (before after : Outputs) : Type 0 where
   pub says : Says expected status
   pub output : Wrote before.out after.out (is_write_fault status) (output_with expected status)
@@ -114,9 +114,8 @@ pub record IsFirm (asks : Type 0) (before after : Sources) : Type 0 where
   pub files : IsTrue before.files.store.is_steady
   pub clock : ¬ (asks × Rose before.clock.faults after.clock.faults)
 
--- Reading has failed exactly if the files or the clock have, one of them and once. The files were read
--- within an allowance. The clock was read once or not at all, and only if it is needed and no file has
--- failed.
+-- Reading has failed exactly if one of the files and the clock has failed, once. The files were read
+-- within an allowance. The clock was read at most once, and only if it is needed and no file has failed.
 pub record WentOn (has_failed : Bool) (asks : Type 0) (allowed : Allowance) (before after : Sources) : Type 0 where
   pub files : Bool
   pub clock : Bool
@@ -131,14 +130,14 @@ pub record WentOn (has_failed : Bool) (asks : Type 0) (allowed : Allowance) (bef
 
 -- ---- The whole objects
 
--- after a refusal, a fault of reading or out of memory an output is unchanged: nothing was written
+-- an output is unchanged after a refusal, a read fault or out of memory: nothing was written
 abbrev pub IsUntouched : {A : Type 0} → Status → A → A → Type 0
 IsUntouched Done before after = Unit {0}
 IsUntouched Rejected before after = Unit {0}
 IsUntouched WriteFault before after = Unit {0}
 IsUntouched _ before after = after ≡ before
 
--- after an answer that was written an output is unchanged: no line was written
+-- an output is unchanged after an answer that was written: no line was written
 abbrev pub IsSilent : {A : Type 0} → Status → A → A → Type 0
 IsSilent Done before after = after ≡ before
 IsSilent Rejected before after = after ≡ before

@@ -1,4 +1,4 @@
--- A certificate that one run writes and the next one checks (this project).
+-- A certificate that one run writes and the next run checks (this project).
 use Rattle.std.specs.Prelude.{◌≡◌, ℕ, IsTrue, List, [], Some, Ok}
 use Rattle.harmonics_book.specs.declared.book.Book.{Book}
 use Rattle.named_files.specs.declared.materials.Materials.{Materials}
@@ -34,9 +34,9 @@ pub record IsDone {F O E K : Type 0} (s : States F O E K) (sheets : List SheetMe
   pub observable : IsTrue (s.files before.files).store.is_observable
   pub empty : (s.out before.out).taken ≡ []
 
--- A check over objects that don't fail, whose certificate is, byte for byte, what a done run of `certify`
--- left in its output, with the same constants and table, is done and accepts it with the listing, or runs
--- out of memory.
+-- A check over objects that don't fail accepts a certificate that is, byte for byte, what a run of
+-- `certify` that was done has written, with the same constants and table, and lists its events; or it
+-- runs out of memory.
 abbrev pub ChecksWhatWasCertified : {F O E K G P D L : Type 0} → States F O E K → States G P D L → Type 0
 ChecksWhatWasCertified {F} {O} {E} {K} {G} {P} {D} {L} s t = (sheets : List SheetMeaning) (words more : List (List ℕ))
     (certify check : Question) (zone : Zone) (before after : Objects F O E K) (status : Status) (first last : Objects G P D L) →
@@ -46,8 +46,8 @@ ChecksWhatWasCertified {F} {O} {E} {K} {G} {P} {D} {L} s t = (sheets : List Shee
     zone_named (folder_held t first) check.zone ≡ Ok zone →
     EndsAccepting t (AcceptsWithListing sheets (folder_held t first) check (subject_of certify)) status first last
 
--- A `peakcheck` over objects that don't fail, whose certificate is what a done run of `peak` left, is done
--- and accepts it with the highest water, or runs out of memory.
+-- A `peakcheck` over objects that don't fail accepts a certificate that is what a run of `peak` that was
+-- done has written, and prints the highest water; or it runs out of memory.
 abbrev pub ChecksWhatPeakCertified : {F O E K G P D L : Type 0} → States F O E K → States G P D L → Type 0
 ChecksWhatPeakCertified {F} {O} {E} {K} {G} {P} {D} {L} s t = (sheets : List SheetMeaning) (words more : List (List ℕ))
     (peak check : Question) (before after : Objects F O E K) (status : Status) (first last : Objects G P D L) →
@@ -58,8 +58,8 @@ ChecksWhatPeakCertified {F} {O} {E} {K} {G} {P} {D} {L} s t = (sheets : List She
 
 -- ---- By the bytes that were read, over objects of any kind
 
--- The bytes that were read for a request are all its files, within their limits and of their form, and
--- these are their contents.
+-- The bytes that were read for a request are all bytes of its files, within their limits and in their
+-- formats, and these are their contents.
 pub record CameAs (sheets : List SheetMeaning) (words : List (List ℕ)) (question : Question) (openings : List Opening) (read : Materials)
     : Type 0 where
   pub name : List ℕ
@@ -76,15 +76,15 @@ pub record IsPassedOn (first second : Materials) (written : List ℕ) : Type 0 w
 abbrev pub subject_over : List ℕ → Asked → Subject
 subject_over name asked = record { station = Some name; begin = Some asked.begin; end = Some asked.end; mark = asked.mark }
 
--- the answer is the line `Accepted`, and the listing of a subject over constants and a table, in a zone
+-- the answer is the line `Accepted`, and the listing of a subject with constants and a table, in a zone
 pub record AcceptsSubject (book : Book) (table : List Offsets) (zone : Zone) (subject : Subject) (answer : Answer) : Type 0 where
   pub name : List ℕ
   pub asked : Asked
   pub about : subject ≡ subject_over name asked
   pub listing : AcceptsListing (predicted book table name asked Plain zone) answer
 
--- A check that read, as its certificate, what a done run of `certify` left in its output, with the
--- constants and the table that both read, is done and accepts it with the listing, or runs out of memory,
+-- A check accepts a certificate that it read if it is what a run of `certify` that was done has written,
+-- and both runs read the same constants and table, and lists its events; or it runs out of memory,
 -- unless a write of its answer has failed.
 abbrev pub ChecksWhatCame : {F O E K G P D L : Type 0} → States F O E K → States G P D L → Type 0
 ChecksWhatCame {F} {O} {E} {K} {G} {P} {D} {L} s t = (sheets : List SheetMeaning) (words more : List (List ℕ)) (certify check : Question)
@@ -95,7 +95,7 @@ ChecksWhatCame {F} {O} {E} {K} {G} {P} {D} {L} s t = (sheets : List SheetMeaning
     ¬ (Rose (t.out first.out).faults (t.out last.out).faults) →
     EndsAccepting t (AcceptsSubject one.book one.table two.zone (subject_of certify)) status first last
 
--- the answer is the line `Accepted`, and the highest water of a subject over constants and a table, in
+-- the answer is the line `Accepted`, and the highest water of a subject with constants and a table, in
 -- universal time
 pub record AcceptsPeakOf (book : Book) (table : List Offsets) (subject : Subject) (answer : Answer) : Type 0 where
   pub name : List ℕ
@@ -103,8 +103,9 @@ pub record AcceptsPeakOf (book : Book) (table : List Offsets) (subject : Subject
   pub about : subject ≡ subject_over name asked
   pub highest : AcceptsListing (highest_water book table name asked Utc) answer
 
--- A `peakcheck` that read, as its certificate, what a done run of `peak` left in its output, is done and
--- accepts it with the highest water, or runs out of memory, unless a write of its answer has failed.
+-- A `peakcheck` accepts a certificate that it read if it is what a run of `peak` that was done has
+-- written, and prints the highest water; or it runs out of memory, unless a write of its answer has
+-- failed.
 abbrev pub ChecksPeakThatCame : {F O E K G P D L : Type 0} → States F O E K → States G P D L → Type 0
 ChecksPeakThatCame {F} {O} {E} {K} {G} {P} {D} {L} s t = (sheets : List SheetMeaning) (words more : List (List ℕ)) (peak check : Question)
     (before after : Objects F O E K) (status : Status) (first last : Objects G P D L) (one two : Materials)

@@ -1,5 +1,5 @@
--- The laws of certificates of a highest water over files and command lines: `peakcheck` accepts what `peak`
--- returned, and what `peakcheck` accepts is true (this project).
+-- The laws of certificates of a highest water with files and command lines: `peakcheck` accepts what
+-- `peak` returned, and what `peakcheck` accepts is true (this project).
 use Rattle.std.specs.Prelude.{◌≡◌, ℕ, ℤ, false, List, Some, None, IsSomeAnd, Ok}
 use Rattle.harmonics_book.specs.declared.book.Book.{Book}
 use Rattle.peak_text.specs.declared.certificate.PeakCertificate.{PeakCertificate}
@@ -26,7 +26,7 @@ subject_of_peak certificate = record {
   mark = None;
 }
 
--- a request to `highest` for a subject, over the files of a check and in universal time
+-- a request to `highest` for a subject, with the files of a check and in universal time
 pub record AsksHighest (check : Question) (subject : Subject) (question : Question) : Type 0 where
   pub command : question.command ≡ Highest
   pub files : NameSameFiles question check
@@ -39,8 +39,8 @@ pub record AsksHighest (check : Question) (subject : Subject) (question : Questi
 abbrev pub AcceptsWithHighest : List SheetMeaning → Folder → Question → Subject → Answer → Type 0
 AcceptsWithHighest sheets folder check subject = AcceptsWith sheets folder (AsksHighest check subject)
 
--- the answer of `peak` is accepted, with the highest water of its station and span, by each later check, in
--- any folder, that has the same constants and table and the answer's text as its certificate
+-- the answer of `peak` is accepted, with the highest water of its station and span, by each later check,
+-- in any folder, that has the same constants and table, and the answer's text as its certificate
 abbrev pub AcceptsWhatPeakAnswers : Type 0
 AcceptsWhatPeakAnswers = (sheets : List SheetMeaning) (before after : Folder) (minute later : ℤ)
     (words more : List (List ℕ)) (peak check : Question) (certificate : Answer) →
@@ -49,8 +49,8 @@ AcceptsWhatPeakAnswers = (sheets : List SheetMeaning) (before after : Folder) (m
     (answer : Answer) × (answer_of sheets after later more ≡ Ok answer)
     × AcceptsWithHighest sheets after check (subject_of peak) answer
 
--- over the file and the table that the check names, the text under its certificate's name is a true
--- certificate, and the answer has the highest water of this certificate's own station and span
+-- with the file and the table that the check names, the text under its certificate's name is a true
+-- certificate, and the answer has the highest water of the certificate's station and span
 pub record IsTruePeakAnswer (sheets : List SheetMeaning) (folder : Folder) (check : Question) (answer : Answer) : Type 0 where
   pub book : Book
   pub table : List Offsets
@@ -61,7 +61,7 @@ pub record IsTruePeakAnswer (sheets : List SheetMeaning) (folder : Folder) (chec
   pub is_true : IsTruePeak book table text answer
   pub reported : AcceptsWithHighest sheets folder check (subject_of_peak is_true.certificate) answer
 
--- every certificate that `peakcheck` accepts is true, whoever wrote it
+-- every certificate that `peakcheck` accepts is true, however it was made
 abbrev pub AcceptsOnlyTruePeaks : Type 0
 AcceptsOnlyTruePeaks = (sheets : List SheetMeaning) (folder : Folder) (minute : ℤ) (words : List (List ℕ))
     (check : Question) (answer : Answer) →

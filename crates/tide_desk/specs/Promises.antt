@@ -1,4 +1,4 @@
--- The promise of a run, over objects of any kind (this project).
+-- The contract of a run, over objects of any kind (this project).
 use Rattle.std.specs.Prelude.{◌≡◌, ◌⊎◌, ℕ, ℤ, List, IsTrue, Ok}
 use Rattle.report_sheets.specs.Sheets.{SheetMeaning}
 use Rattle.named_files.specs.NoAnswers.{is_read_fault}

@@ -1,5 +1,5 @@
--- The answer to a command line by the openings of its files and the minute that the clock returned (this
--- project).
+-- The answer to a command line, from the openings of its files and the minute that the clock returned
+-- (this project).
 use Rattle.std.specs.Prelude.{◌≡◌, ℕ, ℤ, pos, if◌then◌else◌, List, [], ◌++◌, length, map, Option, Some, None, Result, Ok, Err, slice_get}
 use Rattle.decimal_text.specs.Expected.{◌>>=◌}
 use Rattle.question.specs.declared.command.Command.{Command}
@@ -23,16 +23,16 @@ use Rattle.tide_desk.specs.Outcomes.{EndsAs, Outputs, Sources}
 
 -- ---- The answer, if the clock may fail
 
--- the minute that a clock returned, or the reason if it failed
+-- the minute that a clock returned, or the reason why there is no answer if it failed
 abbrev pub minute_given : Option ℤ → Result ℤ NoAnswer
 minute_given None = Err Unread
 minute_given (Some minute) = Ok minute
 
--- the minute for a command: 0 if it doesn't read the clock
+-- the minute for a command, from what the clock returned: 0 if the command doesn't read the clock
 abbrev pub minute_read : Command → Option ℤ → Result ℤ NoAnswer
 minute_read command given = if reads_clock command then minute_given given else Ok (pos 0)
 
--- the answer over files whose clock, which is read after them, may have failed
+-- the answer with the files, if the clock, which is read after them, may have failed
 unfoldable pub shown_over : List SheetMeaning → Folders → Option ℤ → Question → List ℕ → Result Answer NoAnswer
 shown_over sheets folders given question name = do
   read ← files_in folders question name
@@ -45,7 +45,7 @@ abbrev pub shown_by : List SheetMeaning → Folders → Option ℤ → Question 
 shown_by sheets folders given question None = faulty (refused_from (answered_without_files question))
 shown_by sheets folders given question (Some name) = shown_over sheets folders given question name
 
--- the answer to a command line, for which each file is read from a folder of its own
+-- the answer to a command line; each file is read from a separate folder
 unfoldable pub answer_shown : List SheetMeaning → Folders → Option ℤ → List (List ℕ) → Result Answer NoAnswer
 answer_shown sheets folders given words = do
   question ← faulty (question_of_words sheets words)
@@ -53,7 +53,8 @@ answer_shown sheets folders given words = do
 
 -- ---- The openings and the minute
 
--- the names of a request's files in their order, up to the file that is the reason
+-- the names of a request's files in their order, up to the file that is the reason why there is no
+-- answer
 abbrev pub names_by : Question → Option (List ℕ) → Option Slot → List (List ℕ)
 names_by question None why = []
 names_by question (Some name) why = names_to name question why
@@ -72,14 +73,14 @@ folders_by (Err fault) openings = λ slot name. None
 abbrev pub given_between : ClockState → ClockState → Option ℤ
 given_between before after = slice_get after.given (length before.given)
 
--- the answer to a command line by the openings and by what the clock returned between two states
+-- the answer to a command line, from the openings and from what the clock returned between two states
 abbrev pub answer_by : List SheetMeaning → List (List ℕ) → List Opening → ClockState → ClockState → Result Answer NoAnswer
 answer_by sheets words openings before after =
     answer_shown sheets (folders_by (question_of_words sheets words) openings) (given_between before after) words
 
--- A run ends by the answer to its command line by what it opened and what the clock returned. It opened the
--- first of the files that the command line names, in their order, each once; and unless memory ran out,
--- none after the one that is the reason.
+-- A run ends with the answer to its command line, from what it opened and what the clock returned. It
+-- opened the first of the files that the command line names, in their order, each once; and unless
+-- memory ran out, none after the one that is the reason.
 pub record EndsAsShown (sheets : List SheetMeaning) (words : List (List ℕ)) (before after : Sources) (status : Status)
     (unwritten written : Outputs) : Type 0 where
   pub openings : List Opening

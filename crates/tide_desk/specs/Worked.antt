@@ -1,5 +1,5 @@
--- A run in memory worked out by hand: its files hold constants under the name `f`, and no call on them
--- fails (this project).
+-- An example of a run in memory: its files have constants under the name `f`, and no call on them fails
+-- (this project).
 use Rattle.std.specs.Prelude.{ℕ, pos, List, [], ◌∷◌, codes}
 use Rattle.harmonics_text.specs.Worked.{file_of, pier_lines}
 use Rattle.tide_edge.specs.Calls.{HeldCalls}
@@ -7,11 +7,11 @@ use Rattle.tide_edge.specs.FileStates.{no_openings}
 use Rattle.tide_edge.specs.Memory.{HeldClock, HeldFiles, HeldSink, clock_state, files_state, sink_state}
 use Rattle.tide_desk.specs.Promises.{Objects, States, objects, states}
 
--- no call was made, and none is to fail
+-- the counts before any call, none of which is to fail
 abbrev pub no_calls : HeldCalls
 no_calls = record { fails = []; made = 0; faults = 0 }
 
--- the files
+-- the files of the example
 abbrev pub pier_files : HeldFiles
 pier_files = record {
   files = record { name = codes "f"; bytes = file_of pier_lines } ∷ [];
@@ -21,7 +21,7 @@ pier_files = record {
   calls = no_calls;
 }
 
--- an output
+-- an output in memory, empty
 abbrev pub empty_sink : HeldSink
 empty_sink = record { taken = []; most = 10; room = 1000; calls = no_calls }
 
@@ -33,10 +33,10 @@ pier_clock = record { minute = pos 15791220; given = []; calls = no_calls }
 abbrev pub in_memory : States HeldFiles HeldSink HeldSink HeldClock
 in_memory = states files_state sink_state sink_state clock_state
 
--- the objects of the run
+-- the objects of the example
 abbrev pub pier : Objects HeldFiles HeldSink HeldSink HeldClock
 pier = objects pier_files empty_sink empty_sink pier_clock
 
--- its command line
+-- the command line of the example
 abbrev pub pier_words : List (List ℕ)
 pier_words = codes "stations" ∷ codes "file=f" ∷ []

@@ -1,4 +1,4 @@
-//! The answer to a command line, or the first reason for which there is none.
+//! The answer to a command line, or the first reason why there is none.
 
 ghost use Rattle.std.specs.Prelude.{◌≡◌, ℤ, Bool, false, IsTrue, None, Ok, IsOk, IfOk, IfErr, OnErr, if◌then◌else◌, map};
 ghost use Rattle.decimal_text.specs.Expected.{ReturnsUnless};
@@ -45,12 +45,12 @@ use tide_answer::{Given, StationData, answer_alone};
 use tide_edge::{Clock, Files};
 use tide_fault::{Fault, Refusal};
 
-/// Returns the answer to the arguments `words`, which is ready to be written. Files are opened and
-/// the clock is read as [`run`](crate::run) says.
+/// Returns the answer to the arguments `words`, ready to be written. The files are opened in their
+/// order, and the clock is read after them, for the commands `clock` and `report` only.
 ///
 /// # Errors
-/// The first reason in this order: the command line, a sheet that doesn't exist, the files, the
-/// clock, and then the refusals of the request over the files.
+/// The first reason in this order: the command line, a sheet that doesn't exist, the files, the clock,
+/// and then the refusals of the request with the files.
 pub fn answer_words<F: Files, K: Clock>(
     alloc: Global,
     words: &Words,
@@ -96,7 +96,7 @@ pub fn answer_words<F: Files, K: Clock>(
     }
 }
 
-// Returns the answer to a request that names no file.
+/// Returns the answer to a request that names no file.
 fn answer_without(alloc: Global, question: &ValidQuestion<'_>) -> Result<Reply, NoAnswer>
     ensures exact { ReturnsUnless is_out_of_memory (faulty (refused_from (answered_without_files question.now))) result }
     ensures printable { IfErr result IsPrintable }
@@ -108,8 +108,7 @@ fn answer_without(alloc: Global, question: &ValidQuestion<'_>) -> Result<Reply, 
     }
 }
 
-// Returns the answer to a request whose harmonics file is `name`. The clock is read after the
-// files.
+/// Returns the answer to a request with the harmonics file `name`. The clock is read after the files.
 fn answer_over<F: Files, K: Clock>(
     alloc: Global,
     question: &ValidQuestion<'_>,
@@ -149,7 +148,7 @@ fn answer_over<F: Files, K: Clock>(
     }
 }
 
-// Returns the present minute if the command needs it, and 0 otherwise.
+/// Returns the present minute if the command needs it, and 0 otherwise.
 fn read_minute<K: Clock>(clock: &mut K, question: &ValidQuestion<'_>) -> Result<i64, NoAnswer>
     ensures own { (IsTrue (reads_clock question.now.command) → IsTrue (K.state clock.old).is_observable)
         → IfOk result (λ now. now ≡ minute_for question.now.command (next_minute (K.state clock.old))) }
@@ -178,7 +177,7 @@ fn reads_clock(command: Command) -> bool
     matches!(command, Command::Clock | Command::Report)
 }
 
-// Returns the answer over the contents `read` of the files, at the present minute `now`.
+/// Returns the answer with the contents `read` of the files, at the present minute `now`.
 fn answer_with(
     alloc: Global,
     read: Materials,
@@ -212,7 +211,7 @@ fn answer_with(
     refused_over(replied, table)
 }
 
-// Returns the answer from `replied` for a command line whose table is `table`.
+/// Returns the answer of `replied` to a command line; `table` is the table of offsets that was read.
 fn refused_over(replied: Result<Body, Refusal>, table: OffsetTable) -> Result<Reply, NoAnswer>
     requires valid { IfOk replied IsReply }
     requires printable { IfErr replied (IsPrintableRefusal table) }

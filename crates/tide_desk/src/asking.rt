@@ -17,7 +17,7 @@ use tide_fault::{Fault, Refusal};
 /// Returns the request of the arguments `words`. Each sheet that it names is one of `sheets`.
 ///
 /// # Errors
-/// [`Fault::Ask`] if the arguments are no request, and [`Fault::NoSheet`] for the first named sheet
+/// [`Fault::Ask`] if the arguments aren't a request, and [`Fault::NoSheet`] for the first named sheet
 /// that isn't one of `sheets`.
 #[tactic(auto, unfolding(crate::specs::Answers::question_of_words))]
 pub fn read_words(
@@ -33,7 +33,7 @@ pub fn read_words(
     check_found(&question.sheets, sheets).and(Ok(question))
 }
 
-/// Returns the request of the arguments `words`, whose command isn't `serve`.
+/// Returns the request of the arguments `words`; their command isn't `serve`.
 fn question_in_words(alloc: Global, words: &Words) -> Result<Question, AskFault>
     ensures exact { ReturnsUnless ask_is_out_of_memory (question_in words.now) result }
     ensures asked { IfOk result IsAsked }
@@ -45,7 +45,7 @@ fn question_in_words(alloc: Global, words: &Words) -> Result<Question, AskFault>
     read_question(alloc, &pairs)
 }
 
-// Returns `Ok` if each word in `wanted` is that of one of `sheets`.
+/// Returns `Ok` if each word in `wanted` is the word of one of `sheets`.
 fn check_found(wanted: &Option<Words>, sheets: &Vec<Box<dyn Sheet>>) -> Result<(), Fault>
     ensures exact { let wanted = unwrap_or wanted.now [] in
         ReturnsUnless is_out_of_memory (found_in wanted (missing_of (map meaning sheets.now.items) wanted)) result }
@@ -60,7 +60,7 @@ fn check_found(wanted: &Option<Words>, sheets: &Vec<Box<dyn Sheet>>) -> Result<(
     }
 }
 
-// Returns the fault of the word at index `place` of `wanted`, which no sheet has.
+/// Returns the fault of the word at index `place` of `wanted`; no sheet has this word.
 fn unknown(wanted: &Words, place: usize) -> Fault
     requires { place < length wanted.now }
     ensures exact { Excused (is_out_of_memory result) (found_in wanted.now (Some place)) result }

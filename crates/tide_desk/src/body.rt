@@ -5,8 +5,8 @@ use tide_answer::{Answer, Ready};
 /// The source from which an answer is written.
 #[derive(Drop)]
 pub enum Body {
-    /// A text in memory.
+    /// An answer in memory.
     Text(Answer),
-    /// A station's curve, whose answer is written as it is found.
+    /// A prepared answer, which is written while it is computed.
     Stream(Ready),
 }

@@ -4,8 +4,8 @@ ghost use Rattle.tide_desk.specs.Laws.{AcceptsWhatCertifyAnswers, AcceptsOnlyTru
 
 use tide_answer::{accepted_is_true, certified_is_accepted, certified_is_short};
 
-/// `check` accepts the answer of `certify`, put into a file, with the listing that `predict`
-/// prints.
+/// Proves that the command `check` accepts the answer of `certify`, put into a file, with the listing
+/// that `predict` prints.
 pub fn what_certify_answers_is_accepted()
     ensures { AcceptsWhatCertifyAnswers }
 {
@@ -13,9 +13,9 @@ pub fn what_certify_answers_is_accepted()
     certified_is_short();
 }
 
-/// A certificate that `check` accepts is true, whoever wrote it: its tracks have every event of the
-/// curves of its station, span and mark and no other, and the answer lists what `predict` prints
-/// for them.
+/// Proves that a certificate that the command `check` accepts is true, however it was made: its tracks
+/// have exactly the events of the curves of its station, span and mark, and the answer lists what
+/// `predict` prints for them.
 pub fn what_check_accepts_is_true()
     ensures { AcceptsOnlyTrueCertificates }
 {

@@ -15,13 +15,13 @@ use std::alloc::Global;
 use tide_edge::{Clock, Files, Sink};
 use tide_fault::Status;
 
-/// Answers the arguments `words`: writes the whole answer to `out`, or one line with the reason for
-/// which there is none to `err`, and returns the exit status, 0 to 8. A failed write to `err`
-/// doesn't change the status, and nothing is tried again after a failure.
+/// Answers the arguments `words`: writes the whole answer to `out`, or one line with the reason why
+/// there is none to `err`, and returns the exit status, 0 to 8. A failed write to `err` doesn't change
+/// the status, and nothing is tried again after a failure.
 ///
-/// The files that the arguments name are opened in their order, each once and none after one that
-/// has no answer. Together at most their limits and a piece of 65,536 bytes for each are read. The
-/// clock is read once, after all files, and for the commands `clock` and `report` alone.
+/// The files that the arguments name are opened in their order, each once, and none after a fault.
+/// Together at most the sum of their limits, plus 65,536 bytes for each file, is read. The clock is read
+/// once, after all files, and only for the commands `clock` and `report`.
 ///
 /// A report has the pages of those `sheets` whose words are requested, in the order of `sheets`. A
 /// requested word that no sheet has is refused before any file is opened.
@@ -61,7 +61,7 @@ pub fn run<F: Files, O: Sink, E: Sink, K: Clock>(
     }
 }
 
-// Writes `reply` to `out`, or one line to `err` if that fails, and returns the exit status.
+/// Writes `reply` to `out`, or one line to `err` if that fails, and returns the exit status.
 fn write_reply<O: Sink, E: Sink>(reply: &Reply, out: &mut O, err: &mut E) -> Status
     ensures ends { EndsAs (Ok reply.now) result
         (outputs (O.state out.old) (E.state err.old)) (outputs (O.state out.new) (E.state err.new)) }
@@ -75,7 +75,7 @@ fn write_reply<O: Sink, E: Sink>(reply: &Reply, out: &mut O, err: &mut E) -> Sta
     }
 }
 
-// Returns the status of an answer that was written.
+/// Returns the status of an answer that was written.
 fn judged(rejected: bool) -> Status
     ensures { result ≡ (if rejected then Status.Rejected else Status.Done) }
 {

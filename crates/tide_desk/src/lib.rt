@@ -1,8 +1,8 @@
 //! Runs: arguments, files, a clock and the sheets of a report in, text and an exit status out.
 //!
-//! [`run`] does all that the program does except serving. It reads the arguments and the files that
-//! they name, and writes either the whole answer to `out` or one line to `err`. It reaches files,
-//! clock and outputs through the objects that are passed to it alone.
+//! [`run`] does all that the program does except serving. It reads the arguments and the files that they
+//! name, and writes either the whole answer to `out` or one line to `err`. It uses files, clock and
+//! outputs only through the objects that are passed to it.
 #![tactic(auto)]
 
 mod answering;

@@ -1,4 +1,4 @@
-//! Laws of a certificate that one run writes and the next one checks.
+//! Laws of a certificate that one run writes and the next run checks.
 
 ghost use Rattle.tide_desk.specs.PassedOn.{ChecksPeakThatCame, ChecksWhatCame, ChecksWhatWasCertified, ChecksWhatPeakCertified};
 ghost use Rattle.tide_desk.specs.Promises.{states};
@@ -8,10 +8,10 @@ use crate::peak_laws::what_peak_answers_is_accepted;
 use tide_answer::{certified_is_accepted, peak_certified_is_accepted};
 use tide_edge::{Clock, Files, Sink};
 
-/// `check` accepts what a run of `certify` that was done left in its output, with the listing, or
-/// runs out of memory, over objects that don't fail. The two runs may have objects of different
-/// kinds. Over objects of any kind this holds of the bytes that the second run read, unless a write
-/// of its answer failed.
+/// Proves that, over objects that don't fail, the command `check` accepts what a run of `certify` that
+/// was done has written, with the listing, or runs out of memory. The two runs may have objects of
+/// different kinds. Over objects of any kind this holds for the bytes that the second run read, unless a
+/// write of its answer failed.
 pub fn what_was_certified_is_checked<F, O, E, K, G, P, D, L>()
 where
     F: Files,
@@ -29,9 +29,9 @@ where
     certified_is_accepted();
 }
 
-/// `peakcheck` accepts what a run of `peak` that was done left in its output, with the highest
-/// water, or runs out of memory, over objects that don't fail; and over objects of any kind by the
-/// bytes that it read.
+/// Proves that, over objects that don't fail, the command `peakcheck` accepts what a run of `peak` that
+/// was done has written, with the highest water, or runs out of memory. Over objects of any kind this
+/// holds for the bytes that the second run read.
 pub fn what_peak_certified_is_checked<F, O, E, K, G, P, D, L>()
 where
     F: Files,

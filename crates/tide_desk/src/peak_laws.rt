@@ -4,8 +4,8 @@ ghost use Rattle.tide_desk.specs.PeakLaws.{AcceptsOnlyTruePeaks, AcceptsWhatPeak
 
 use tide_answer::{accepted_peak_is_true, peak_certified_is_accepted, peak_certified_is_short};
 
-/// `peakcheck` accepts the answer of `peak`, put into a file, with what `highest` prints in
-/// universal time.
+/// Proves that the command `peakcheck` accepts the answer of `peak`, put into a file, with what
+/// `highest` prints in universal time.
 pub fn what_peak_answers_is_accepted()
     ensures { AcceptsWhatPeakAnswers }
 {
@@ -13,9 +13,9 @@ pub fn what_peak_answers_is_accepted()
     peak_certified_is_short();
 }
 
-/// A certificate that `peakcheck` accepts is true, whoever wrote it: its minute is that of the
-/// highest water of its station and span, its value is the reference's level there, and the answer
-/// is what `highest` prints for them in universal time.
+/// Proves that a certificate that the command `peakcheck` accepts is true, however it was made: its
+/// minute is the minute of the highest water of its station and span, its value is the reference's level
+/// there, and the answer is what `highest` prints for them in universal time.
 pub fn what_peakcheck_accepts_is_true()
     ensures { AcceptsOnlyTruePeaks }
 {

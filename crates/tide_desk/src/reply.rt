@@ -10,8 +10,8 @@ use std::marker::Model;
 use tide_answer::{Answer, Ready, answer_into};
 use tide_edge::{Sink, WriteFailed, write_all};
 
-/// An answer that can be written, from a text in memory or as it is found. Contracts see it as the
-/// answer.
+/// An answer that can be written, from a text in memory or while it is computed. In contracts its value
+/// is the answer.
 #[derive(Drop)]
 pub struct Reply {
     body: Body,
@@ -29,7 +29,7 @@ impl Model for Reply {
 }
 
 impl Reply {
-    /// Returns the answer as a text in memory.
+    /// Returns the answer `answer`, a text in memory, ready to be written.
     pub fn made(answer: Answer) -> Reply
         ensures { result ≡ answer }
     {
@@ -38,7 +38,7 @@ impl Reply {
         }
     }
 
-    /// Returns the answer that is written from `body`.
+    /// Returns the answer with the source `body`, ready to be written.
     pub fn of(body: Body) -> Reply
         requires { IsReply body }
         ensures { result ≡ answer_in body }
@@ -46,8 +46,8 @@ impl Reply {
         Reply { body }
     }
 
-    /// Writes the text, and returns true if it rejects a certificate. Doesn't allocate if the text
-    /// is written as it is found.
+    /// Writes the answer's text, and returns true if it rejects a certificate. It doesn't allocate if
+    /// the text is written while it is computed.
     ///
     /// # Errors
     /// [`WriteFailed`] if a write failed. Nothing was written after it.
@@ -71,7 +71,7 @@ fn write_text<O: Sink>(answer: &Answer, out: &mut O) -> Result<bool, WriteFailed
     Ok(answer.rejected)
 }
 
-// Writes an answer as it is found. It rejects nothing.
+/// Writes an answer while it is computed. It rejects nothing.
 fn write_stream<O: Sink>(ready: &Ready, out: &mut O) -> Result<bool, WriteFailed>
     requires { Streamed ready.now }
     ensures wrote { ForSome ready.now.stream (λ answer. Wrote (O.state out.old) (O.state out.new) (is_err result) answer.text) }

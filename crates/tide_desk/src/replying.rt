@@ -1,4 +1,4 @@
-//! The source of the answer to a request over files that were read.
+//! The source of the answer to a request with the files that were read.
 
 ghost use Rattle.std.specs.Prelude.{◌≡◌, ◌&&◌, IfOk, IfErr, map};
 ghost use Rattle.decimal_text.specs.Expected.{ReturnsUnless};
@@ -18,9 +18,9 @@ use tide_answer::{Given, StationData, answer, can_stream, prepare};
 use tide_fault::Refusal;
 use zone_time::Zone;
 
-/// Returns the source of the answer to `question` over `stations`: of a report of the sheets that it
-/// requests, or otherwise of the text of [`answer`](tide_answer::answer). The answer is streamed
-/// exactly if the request allows it and the prepared source does; its text is made only otherwise.
+/// Returns the source of the answer to `question` about `stations`: for the command `report` the pages
+/// of the requested sheets, and otherwise the text of [`answer`](tide_answer::answer). The answer is
+/// streamed exactly if both the request and the prepared source allow it; otherwise its text is made.
 ///
 /// # Errors
 /// The first [`Refusal`] in the order of [`answer`](tide_answer::answer).
@@ -54,7 +54,7 @@ fn is_report(command: Command) -> bool
     matches!(command, Command::Report)
 }
 
-// Returns the source of the answer to a request that isn't for a report.
+/// Returns the source of the answer to a request that isn't for a report.
 fn body_for(
     alloc: Global,
     stations: &StationData<'_>,
@@ -83,14 +83,14 @@ fn body_for(
     Ok(Body::Text(answer(alloc, book, table, question, given)?))
 }
 
-// Returns true if the answer is streamed at a station without offsets.
+/// Returns true if the answer is streamed for a station without offsets.
 fn may_stream(question: &Question, zone: &Zone) -> bool
     ensures { result ≡ may_stream question.now zone.now }
 {
     can_stream(question.command) && question.layout == Layout::Plain && !is_zone_file(zone)
 }
 
-/// Returns true if `zone` is that of a file.
+/// Returns true if `zone` is a zone file's.
 fn is_zone_file(zone: &Zone) -> bool
     ensures { result ≡ is_zone_file zone.now }
 {

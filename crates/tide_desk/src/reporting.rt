@@ -16,11 +16,12 @@ use std::alloc::{AllocError, Global};
 use tide_answer::{Answer, Given, Listed, StationData, station_events};
 use tide_fault::Refusal;
 
-/// Returns the pages of the sheets that `question` requests, of the events of its station, span and
-/// mark. Their head has the present minute.
+/// Returns the pages of the sheets that `question` requests, with the events of its station, span and
+/// mark. The head of each page has the present minute.
 ///
 /// # Errors
-/// The first [`Refusal`] in the order of `predict`.
+/// The first [`Refusal`] in this order: the station, its unit, the span, the bounds on its constants,
+/// the mark.
 #[tactic(auto, unfolding(crate::specs::Answers::reported))]
 pub fn report(
     alloc: Global,
@@ -45,7 +46,7 @@ pub fn report(
     })
 }
 
-// Returns the pages of the sheets in `wanted`, and none if there is no list of sheets.
+/// Returns the pages of the sheets in `wanted`, or no pages if there is no list of sheets.
 fn pages(
     alloc: Global,
     listed: Listed,

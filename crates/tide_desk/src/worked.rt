@@ -14,14 +14,15 @@ ghost use Rattle.tide_desk.specs.Worked.{in_memory, pier, pier_words};
 
 use harmonics_text::worked_files;
 
-/// The present minute that commands use.
+/// Proves examples of the minute for which a command is answered: the present one if it reads the clock,
+/// and otherwise 0.
 pub fn worked_minutes()
     ensures clock { minute_for Command.Clock (pos 7) ≡ pos 7 }
     ensures report { minute_for Command.Report (pos 7) ≡ pos 7 }
     ensures no_clock { minute_for Command.Heights (pos 7) ≡ pos 0 }
 {}
 
-/// The fault of the first word that no sheet has, if the arguments themselves are in order.
+/// Proves the fault of the first word that no sheet has, in arguments that have no other fault.
 #[tactic(auto, unfolding(crate::specs::Answers::question_of_words, report_sheets::specs::Pages::missing_of, question::specs::Questions::question_of, question::specs::Questions::with_items, question::specs::Questions::with_item, question::specs::Forms::some_text, question::specs::Forms::sheets_of))]
 pub fn worked_sheets()
     ensures no_sheet { found_in (codes "first" ∷ []) (missing_of [] (codes "first" ∷ [])) ≡ Err (Fault.NoSheet (codes "first")) }
@@ -33,7 +34,8 @@ pub fn worked_sheets()
         ≡ Err (Fault.Ask (AskFault.BadValue 2)) }
 {}
 
-/// A run in memory that lists the stations of a small file: it has an answer, and nothing failed.
+/// Proves that a run in memory that lists the stations of a small file has an answer and that nothing
+/// failed.
 pub fn worked_runs()
     ensures answer { HasAnswer [] (folder_held in_memory pier) (pos 15791220) pier_words (text_alone (codes "Ref feet Pier\n")) }
     ensures nothing_failed { NothingFailed in_memory [] pier_words pier pier }

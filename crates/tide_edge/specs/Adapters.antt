@@ -1,4 +1,5 @@
--- What the adapters own of the machine, and how its known bytes constrain their results (this project).
+-- The streams and files of the machine that adapters own, and how their known bytes constrain the
+-- results of calls (this project).
 use Rattle.std.specs.Prelude.{ℕ, ◌≤◌, List, [], length, take, Option, Some, None, Result, Ok, Err}
 use Rattle.std.specs.Io.KnownBytes.{Appends}
 use Rattle.std.specs.declared.fd.AsRawFd as AsRawFd
@@ -14,8 +15,8 @@ use Rattle.tide_edge.specs.declared.host_sink.HostSink.{HostSink}
 abbrev pub writer_of : {W : Type 0} → HostSink W → W
 writer_of sink = sink.writer
 
--- Known contents grow by the bytes that a write accepted; after a failed write by a prefix of the piece,
--- since the writer may have accepted bytes that it couldn't flush.
+-- The known contents of a writer grow by the bytes that a write accepted; after a failed write they grow
+-- by a prefix of the piece, since the writer may have accepted bytes that it couldn't flush.
 abbrev pub WritesThrough : Option (List ℕ) → Option (List ℕ) → Result ℕ Failed → List ℕ → Type 0
 WritesThrough before after (Ok count) piece = Appends before after (take count piece)
 WritesThrough before after (Err failed) piece = (count : ℕ) × (count ≤ length piece) × Appends before after (take count piece)

@@ -10,11 +10,11 @@ pub record HeldCalls : Type 0 where
   pub made : ℕ
   pub faults : ℕ
 
--- the next call is to fail; calls are counted from 1
+-- the next call is one of those that are to fail; calls are counted from 1
 abbrev pub is_to_fail : HeldCalls → Bool
 is_to_fail calls = list_any (λ n. n == counted calls.made) calls.fails
 
--- the counts after one more call, which failed or didn't
+-- the counts after another call, which failed if the first argument is true
 abbrev pub after_call : Bool → HeldCalls → HeldCalls
 after_call failed calls = record {
   fails = calls.fails;

@@ -8,8 +8,8 @@ pub record IsClockMinute (minute : ℤ) : Type 0 where
   pub least : negsuc 9999999999 ≤ℤ minute
   pub most : minute ≤ℤ pos 10000000000
 
--- A clock: whether its minutes are observable beforehand; the minute of each reading by its number, which
--- is meaningful only then; the minutes returned so far, in order; the number of readings; and the number
+-- A clock: whether its future minutes are observable; the minute of each reading by its number, which is
+-- meaningful only then; the minutes returned until now, in order; the number of readings; and the number
 -- of failures. Both counts saturate at the greatest `u64`.
 pub record ClockState : Type 0 where
   pub is_observable : Bool

@@ -30,13 +30,13 @@ use Rattle.std.specs.Option.{option_map}
 use Rattle.tide_edge.specs.declared.failed.Failed.{Failed}
 use Rattle.tide_edge.specs.Faults.{counted, counted_if, faults_after}
 
--- the contents of the file of each name, if there is one
+-- the contents of the file of each name, or None if there is no such file
 abbrev pub Folder : Type 0
 Folder = List ℕ → Option (List ℕ)
 
--- The part that no call changes: whether the contents are observable, the files by their names, and
--- whether the files are steady, so that opening and reading an existing one doesn't fail. If the contents
--- aren't observable, folder and steadiness are meaningless.
+-- The part of the state of files that no call changes: whether the contents are observable, the files by
+-- their names, and whether the files are steady, so that opening and reading an existing one doesn't
+-- fail. If the contents aren't observable, folder and steadiness are meaningless.
 pub record Store : Type 0 where
   pub is_observable : Bool
   pub folder : Folder
@@ -57,7 +57,7 @@ pub record Opening : Type 0 where
   pub bytes : List ℕ
   pub is_ended : Bool
 
--- all calls of `open` in order: all but the last, and the last
+-- all calls of `open` in order, in two parts: all but the last, and the last
 pub record Openings : Type 0 where
   pub earlier : List Opening
   pub latest : Option Opening
@@ -93,9 +93,9 @@ opening_after_read count room opening = record opening {
 abbrev pub openings_after_read : ℕ → List ℕ → Openings → Openings
 openings_after_read count room o = record o { latest = option_map (opening_after_read count room) o.latest }
 
--- Files: the store; the unread bytes of the open file, none if no file is open, meaningful only if the
--- store is observable; the openings with the bytes read; the counts of calls; and the number of failures,
--- which saturates too.
+-- Files: the part that no call changes; the unread bytes of the open file, none if no file is open,
+-- meaningful only if the contents are observable; the openings with the bytes read; the counts of calls;
+-- and the number of failures, which saturates too.
 pub record FilesState : Type 0 where
   pub store : Store
   pub rest : List ℕ
@@ -103,11 +103,11 @@ pub record FilesState : Type 0 where
   pub reads : Reads
   pub faults : ℕ
 
--- n + more, at most the greatest `u64`
+-- n + more, or the greatest `u64` if the sum exceeds it
 abbrev pub counted_up : ℕ → ℕ → ℕ
 counted_up more n = min (n + more) (2 ^ 64 - 1)
 
--- the counts after one more `open`
+-- the counts after another `open`
 abbrev pub one_opening : Reads → Reads
 one_opening reads = record reads { opens = counted reads.opens }
 
@@ -118,7 +118,7 @@ one_reading count reads = record reads {
   bytes = counted_up count reads.bytes;
 }
 
--- the unread bytes after `open`: the whole file, or none if it failed
+-- the unread bytes after `open`: the whole file, or none if the call failed
 abbrev pub begun : {T : Type 0} → Result T Failed → Option (List ℕ) → List ℕ
 begun (Ok opened) file = unwrap_or file []
 begun (Err failed) file = []
@@ -132,7 +132,7 @@ files_after_open result name s = record s {
   faults = faults_after (is_err result) s.faults;
 }
 
--- the files after `read`; `room` is the room as the call left it
+-- the files after `read`; `room` is the caller's buffer after the call
 abbrev pub files_after_read : Result ℕ Failed → List ℕ → FilesState → FilesState
 files_after_read (Ok count) room s = record s {
   rest = (if s.store.is_observable then drop count s.rest else s.rest);

@@ -64,7 +64,7 @@ pub record HeldFiles : Type 0 where
   pub reads : Reads
   pub calls : HeldCalls
 
--- the contents by name; the first file of a name counts
+-- the contents of files by name; of two files with the same name the first counts
 abbrev pub folder_of : List NamedFile → List ℕ → Option (List ℕ)
 folder_of files name = option_map (λ file. file.bytes) (find (λ file. bytes_eq file.name name) files)
 
@@ -92,11 +92,11 @@ after_open held name = record {
   calls = after_call (is_none (found held name)) held.calls;
 }
 
--- the number of bytes that the next `read` copies to a room of length `room`: 0 if it fails
+-- the number of bytes that the next `read` copies to a buffer of length `room`: 0 if it fails
 abbrev pub read_count : HeldFiles → ℕ → ℕ
 read_count held room = (if is_to_fail held.calls then 0 else min room (length held.rest))
 
--- the files after `read` with a room of length `room`; `filled` is the room after the call
+-- the files after `read` with a buffer of length `room`; `filled` is the buffer after the call
 abbrev pub after_read : HeldFiles → ℕ → List ℕ → HeldFiles
 after_read held room filled = record {
   files = held.files;
@@ -117,7 +117,7 @@ pub record HeldSink : Type 0 where
 abbrev pub sink_state : HeldSink → SinkState
 sink_state held = record { taken = held.taken; faults = held.calls.faults }
 
--- the next `write` fails: it is to fail, or the room is used up
+-- the next `write` fails: it is one of the calls that are to fail, or the room is used up
 abbrev pub is_refused : HeldSink → Bool
 is_refused held = is_to_fail held.calls || (length held.taken == held.room)
 
@@ -135,9 +135,10 @@ after_write held piece = record {
   calls = after_call (is_refused held) held.calls;
 }
 
--- A door in memory: its port; the bytes of each connection; the waiting requests in their pieces; the
--- unread pieces of the open connection; the replies; the bytes that these may still grow by; the calls
--- without `close`, with the failures of `listen` and `next`; and the failures of `read` and `write`.
+-- A door in memory: the part that is always observable; the bytes of each connection; the waiting
+-- requests in their pieces; the unread pieces of the open connection; the replies; the number of bytes
+-- that they may still grow by; the calls, not counting `close`, with the failures of `listen` and
+-- `next`; and the failures of `read` and `write`.
 pub record HeldDoor : Type 0 where
   pub doorway : Doorway
   pub connections : Connections
@@ -152,7 +153,7 @@ pub record HeldDoor : Type 0 where
 abbrev pub are_pieces : List (List ℕ) → Bool
 are_pieces pieces = list_all (λ piece. nat_lt 0 (length piece)) pieces
 
--- the observable state of a door in memory: each `read` reads bytes of one piece
+-- the observable state of a door in memory: each `read` returns bytes of one piece only
 abbrev pub door_state : HeldDoor → DoorState
 door_state held = record {
   is_observable = true;
@@ -199,20 +200,20 @@ after_taking held = record {
   line_faults = held.line_faults;
 }
 
--- the calls after one of `read` or `write`, whose failures are counted apart
+-- the calls after a call of `read` or `write`, whose failures are counted separately
 abbrev pub after_line_call : HeldCalls → HeldCalls
 after_line_call calls = record { fails = calls.fails; made = counted calls.made; faults = calls.faults }
 
--- the number of bytes that the next `read` copies of the first unread piece to a room of length `room`: 0
--- if it fails
+-- the number of bytes that the next `read` copies of the first unread piece to a buffer of length
+-- `room`: 0 if it fails
 abbrev pub line_count : HeldDoor → ℕ → ℕ
 line_count held room = (if is_to_fail held.calls then 0 else min room (length (first_or_empty held.coming)))
 
--- the result of a `read` with a room of length `room`
+-- the result of a `read` with a buffer of length `room`
 abbrev pub line_read : HeldDoor → ℕ → Result ℕ Failed
 line_read held room = answer (is_to_fail held.calls) (line_count held room)
 
--- the door after `read` with a room of length `room`; `filled` is the room after the call
+-- the door after `read` with a buffer of length `room`; `filled` is the buffer after the call
 abbrev pub after_line_read : HeldDoor → ℕ → List ℕ → HeldDoor
 after_line_read held room filled = record {
   doorway = held.doorway;
@@ -225,7 +226,7 @@ after_line_read held room filled = record {
   line_faults = faults_after (is_to_fail held.calls) held.line_faults;
 }
 
--- the next `write` fails: it is to fail, or the room is used up
+-- the next `write` fails: it is one of the calls that are to fail, or the room is used up
 abbrev pub is_shut : HeldDoor → Bool
 is_shut held = is_to_fail held.calls || (held.room == 0)
 
@@ -263,7 +264,7 @@ after_close held = record {
   line_faults = held.line_faults;
 }
 
--- a clock that always shows one minute, and the minutes returned so far
+-- a clock that always shows one minute, and the minutes returned until now
 pub record HeldClock : Type 0 where
   pub minute : ℤ
   pub given : List ℤ
@@ -279,7 +280,7 @@ clock_state held = record {
   faults = held.calls.faults;
 }
 
--- the clock after one reading
+-- the clock after another reading
 abbrev pub after_minute : HeldClock → HeldClock
 after_minute held = record {
   minute = held.minute;

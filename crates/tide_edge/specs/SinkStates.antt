@@ -3,13 +3,13 @@ use Rattle.std.specs.Prelude.{◌≡◌, ℕ, ◌<◌, Bool, true, false, List, 
 use Rattle.tide_edge.specs.declared.failed.Failed.{Failed}
 use Rattle.tide_edge.specs.Faults.{counted}
 
--- the bytes that calls reported as accepted, and the number of failed calls, which saturates at the
--- greatest `u64`
+-- the bytes that a sink's calls reported as accepted, and the number of failed calls, which saturates at
+-- the greatest `u64`
 pub record SinkState : Type 0 where
   pub taken : List ℕ
   pub faults : ℕ
 
--- the sink with `bytes` appended to those accepted
+-- the sink with `bytes` appended to the accepted ones
 abbrev pub put : List ℕ → SinkState → SinkState
 put bytes s = record s { taken = s.taken ++ bytes }
 
@@ -22,13 +22,13 @@ abbrev pub sink_after_write : Result ℕ Failed → List ℕ → SinkState → S
 sink_after_write (Ok count) piece s = put (take count piece) s
 sink_after_write (Err failed) piece s = sink_failed s
 
--- A text was written: all of it was accepted; or one write failed, nothing was written after it, and a
--- proper prefix was accepted.
+-- The effect of writing a text: all of it was accepted; or one write failed, nothing was written after
+-- it, and a proper prefix was accepted.
 abbrev pub Wrote : SinkState → SinkState → Bool → List ℕ → Type 0
 Wrote before after false text = after ≡ put text before
 Wrote before after true text = (count : ℕ) × (count < length text) × (after ≡ sink_failed (put (take count text) before))
 
--- two texts were written in turn, whether the first was accepted whole or not
+-- the effect of writing two texts one after the other, whether or not the first was wholly accepted
 abbrev pub WroteBoth : SinkState → SinkState → List ℕ → List ℕ → Type 0
 WroteBoth before after first second =
     (between : SinkState) × (failed also_failed : Bool) × Wrote before between failed first × Wrote between after also_failed second

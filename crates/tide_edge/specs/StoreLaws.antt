@@ -1,22 +1,22 @@
--- The bytes read after each opening are of the file that it opened, if the files are observable (this
+-- The bytes read after each opening belong to the file that it opened, if the files are observable (this
 -- project).
 use Rattle.std.specs.Prelude.{◌≡◌, ◌↔◌, ℕ, if◌then◌else◌, IsTrue, IsSome, IfSome, IfOk, OnOk, All, List, [], ◌++◌, take, Result, unwrap_or}
 use Rattle.tide_edge.specs.declared.failed.Failed.{Failed}
 use Rattle.tide_edge.specs.FileStates.{Folder, FilesState, Opening, files_after_open, files_after_read, no_openings}
 
--- the contents of the file that was opened; none if no file was
+-- the contents of the file that an opening opened; none if it opened no file
 abbrev pub content_of : Folder → Opening → List ℕ
 content_of folder o = if o.is_open then unwrap_or (folder o.name) [] else []
 
--- The bytes read are a prefix of the file's, `left` is the rest of them, and it is empty if the end was
--- found; the file that was opened is in the folder.
+-- The bytes read after an opening are a prefix of the file's bytes, `left` is the rest of them, and
+-- `left` is empty if the end was found; the file that was opened is in the folder.
 pub record IsReadOf (folder : Folder) (left : List ℕ) (o : Opening) : Type 0 where
   pub prefix : content_of folder o ≡ o.bytes ++ left
   pub whole : IsTrue o.is_ended → left ≡ []
   pub exists : IsTrue o.is_open → IsSome (folder o.name)
 
--- each opening is of the store, and the unread bytes of the state are the rest of the latest opening's
--- file
+-- the bytes read after each opening are a prefix of its file, and the unread bytes of the state are the
+-- rest of the latest opening's file
 pub record AreOfStore (s : FilesState) : Type 0 where
   pub earlier : All (λ o. (left : List ℕ) × IsReadOf s.store.folder left o) s.openings.earlier
   pub latest : IfSome s.openings.latest (λ o. IsReadOf s.store.folder s.rest o)

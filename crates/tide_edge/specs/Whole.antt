@@ -29,30 +29,30 @@ use Rattle.tide_edge.specs.declared.read_all_fault.ReadAllFault.{ReadAllFault}
 use Rattle.tide_edge.specs.declared.read_all_fault.ReadAllFault.TheVariants.{Failed, TooLong, NoMemory}
 use Rattle.tide_edge.specs.declared.piece.TheConstants.{PIECE}
 
--- the expected result for the contents of a file, if there is one: its bytes, if there are at most
--- `limit`
+-- the expected result of reading a whole file with these contents, if it exists: its bytes if there are
+-- at most `limit`
 abbrev pub whole : ℕ → Option (List ℕ) → Result (List ℕ) ReadAllFault
 whole limit None = Err Failed
 whole limit (Some bytes) = (if nat_le (length bytes) limit then Ok bytes else Err TooLong)
 
--- The contents as far as an opening shows them: the bytes read, if their end was found or more than
--- `limit` came. Otherwise the file couldn't be opened or read, which counts as no file.
+-- The contents that an opening shows: the bytes read, if their end was found or they are more than
+-- `limit`. Otherwise the file couldn't be opened or read, which counts as no file.
 abbrev pub as_came : ℕ → Opening → Option (List ℕ)
 as_came limit opening =
     if opening.is_open && (opening.is_ended || nat_lt limit (length opening.bytes)) then Some opening.bytes else None
 
--- one more file was opened, and more than `limit` bytes were read of it
+-- another file was opened, and more than `limit` bytes were read of it
 abbrev pub HasPassed : ℕ → Openings → Openings → Type 0
 HasPassed limit before after =
     (opening : Opening) × (after ≡ record { earlier = openings_of before; latest = Some opening }) × (limit < length opening.bytes)
 
--- the cause of each error
+-- the cause of each fault of reading a whole file
 abbrev pub source_of : ReadAllFault → Source
 source_of Failed = outside
 source_of TooLong = given
 source_of NoMemory = memory
 
--- the most files that may be opened, and the most bytes that may be read of them
+-- the most files that a call may open, and the most bytes that it may read of them
 pub record Allowance : Type 0 where
   pub files : ℕ
   pub bytes : ℕ
@@ -61,7 +61,7 @@ pub record Allowance : Type 0 where
 abbrev pub no_file : Allowance
 no_file = record { files = 0; bytes = 0 }
 
--- the allowance of one file of at most `limit` bytes, and one piece past the limit
+-- the allowance of opening one file and reading at most `limit` bytes and a piece of 65,536 bytes
 abbrev pub one_file : ℕ → Allowance
 one_file limit = record { files = 1; bytes = limit + PIECE }
 
@@ -69,9 +69,9 @@ one_file limit = record { files = 1; bytes = limit + PIECE }
 abbrev pub both : Allowance → Allowance → Allowance
 both first second = record { files = first.files + second.files; bytes = first.bytes + second.bytes }
 
--- Files were read within an allowance: at most its files were opened, at most as many ends found, and at
--- most its bytes read. The count of faults is one more if a call failed, else unchanged. The contents are
--- unchanged.
+-- Files were read within an allowance: no more files were opened and no more ends found than it has
+-- files, and no more bytes read than it has. The count of faults is one more if a call failed, else
+-- unchanged. The contents are unchanged.
 pub record ReadWithin (allowed : Allowance) (failed : Bool) (before after : FilesState) : Type 0 where
   pub store : after.store ≡ before.store
   pub opens : after.reads.opens ≤ before.reads.opens + allowed.files
@@ -79,13 +79,13 @@ pub record ReadWithin (allowed : Allowance) (failed : Bool) (before after : File
   pub bytes : after.reads.bytes ≤ before.reads.bytes + allowed.bytes
   pub faults : after.faults ≡ faults_after failed before.faults
 
--- a result is out of memory
+-- a result is the error that memory ran out
 abbrev pub IsOutOfMemory : {T E : Type 0} → (E → Source) → Result T E → Type 0
 IsOutOfMemory source (Ok value) = ⊥
 IsOutOfMemory source (Err fault) = source fault ≡ memory
 
--- One file `name` was opened, and the result is the expected one for the bytes read of it; or it was out
--- of memory before that.
+-- One file `name` was opened, and the result is the expected one for the bytes read of it; or memory ran
+-- out before that.
 abbrev pub OpenedOnce : {T E : Type 0} → (E → Source) → (Option (List ℕ) → Result T E) → ℕ → List ℕ → Openings → Openings → Result T E
     → Type 0
 OpenedOnce source expected limit name before after result =

@@ -6,8 +6,8 @@ use crate::count::one_more;
 use crate::failed::Failed;
 use std::marker::Model;
 
-/// The number of calls made, the numbers of those that fail on purpose, and the number that have failed.
-/// Both counts saturate at the greatest `u64`.
+/// The number of calls made, the numbers of the calls that fail on purpose, and the number of calls that
+/// have failed. Both counts saturate at the greatest `u64`.
 #[derive(Drop)]
 pub(crate) struct Calls {
     fails: Vec<u64>,
@@ -39,7 +39,7 @@ impl Calls {
         }
     }
 
-    /// Counts one more call.
+    /// Counts a call.
     ///
     /// # Errors
     /// [`Failed`] if the call's number is in `fails`.
@@ -53,7 +53,7 @@ impl Calls {
         Ok(())
     }
 
-    /// Counts one more call, and returns true if its number is in `fails`. It counts no failure.
+    /// Counts a call, and returns true if its number is in `fails`. It counts no failure.
     pub(crate) fn is_next_to_fail(&mut self) -> bool
         ensures answer { result ≡ is_to_fail self.old }
         ensures after { self.new ≡ record self.old { made = counted self.old.made } }
@@ -62,7 +62,7 @@ impl Calls {
         self.fails.contains(&self.made)
     }
 
-    /// Counts a failure of the call that was counted last, and returns it.
+    /// Counts a failure of the latest call, and returns it.
     pub(crate) fn fail(&mut self) -> Failed
         ensures { self.new ≡ record self.old { faults = counted self.old.faults } }
     {

@@ -7,8 +7,8 @@ use crate::failed::Failed;
 
 /// A clock that shows the present minute.
 ///
-/// In contracts the state of a clock has the minutes that it has returned, and says whether those still
-/// to come are observable. No call changes the minutes to come.
+/// In contracts the state of a clock has the minutes that it has returned, and says whether its future
+/// minutes are observable. No call changes the future minutes.
 pub trait Clock {
     ghost state: { Self → ClockState };
 

@@ -7,7 +7,7 @@ use crate::failed::Failed;
 use ghost_log::Log;
 use std::marker::Model;
 
-/// One connection: the bytes that came, and whether their end was found; the bytes of its reply that were
+/// One connection: the bytes received, and whether their end was found; the bytes of its reply that were
 /// accepted; and whether a read or a write of it has failed.
 #[derive(Drop)]
 pub(crate) struct OneConnection {

@@ -1,4 +1,4 @@
-//! Listening ports whose connections are served one after the other.
+//! Listening ports, which serve one connection after the other.
 
 ghost use Rattle.std.specs.Prelude.{◌≡◌, ◌↔◌, ◌<◌, ◌≤◌, false, IsTrue, [], length, take, None, IfOk};
 ghost use Rattle.std.specs.List.{concat};
@@ -15,11 +15,11 @@ ghost use Rattle.tide_edge.specs.Doors.{
 
 use crate::failed::Failed;
 
-/// A listening port: it accepts connections one after the other, reads the request of the open one and
-/// writes its reply.
+/// A listening port: it accepts connections one after the other, reads the request of the open
+/// connection and writes its reply.
 ///
-/// In contracts the state of a door has the bytes read and written over each connection, the state of its
-/// port, and whether the waiting requests and the replies are observable.
+/// In contracts the state of a door has the bytes read and written over each connection, the state of
+/// its port, and whether the waiting requests and the replies are observable.
 pub trait Door {
     ghost state: { Self → DoorState };
 

@@ -2,7 +2,7 @@
 
 use thiserror::Error;
 
-/// A failed call on files, a sink, a clock or a door. The object's count of faults is one more after it;
+/// A failed call on files, a sink, a clock or a door. The call adds 1 to the object's count of faults;
 /// the reason isn't kept.
 #[derive(Clone, Copy, Debug, PartialEq, Eq, Error)]
 #[error("a call on files, a sink, a clock or a door failed")]

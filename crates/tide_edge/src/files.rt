@@ -14,7 +14,7 @@ use decimal_text::Text;
 pub trait Files {
     ghost state: { Self → FilesState };
 
-    /// Opens the file `name` at its first byte, in place of the one that was open.
+    /// Opens the file `name` at its first byte. The file that was open before is closed.
     ///
     /// # Errors
     /// [`Failed`] if the file can't be opened; then no file is open. If the files are steady, it fails

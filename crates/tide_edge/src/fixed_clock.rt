@@ -10,7 +10,7 @@ use ghost_log::Log;
 use std::marker::Model;
 use std::slice;
 
-/// A clock that always shows the same minute, which is observable.
+/// A clock that always shows the same minute; its future minutes are observable.
 #[derive(Drop)]
 pub struct FixedClock {
     minute: i64,
@@ -30,8 +30,8 @@ impl Model for FixedClock {
 }
 
 impl FixedClock {
-    /// Returns a clock that shows `minute`, in minutes since 1970-01-01T00:00Z. The calls whose numbers,
-    /// counted from 1, are in `fails` fail.
+    /// Returns a clock that shows `minute`, in minutes since 1970-01-01T00:00Z. The calls with a number
+    /// in `fails`, counted from 1, fail.
     pub fn new(minute: i64, fails: Vec<u64>) -> FixedClock
         requires { IsClockMinute minute }
         ensures { result ≡ record {

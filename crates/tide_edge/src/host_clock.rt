@@ -14,7 +14,7 @@ use std::{rt, slice};
 
 const LAST_MINUTE: u64 = 10_000_000_000;
 
-/// The system clock. Only the minutes that it has returned are observable, not those to come.
+/// The system clock. The minutes that it has returned are observable, its future minutes aren't.
 ///
 /// It fails for times before 1970, which the system can't represent, and after minute 10,000,000,000
 /// since 1970-01-01T00:00Z.
@@ -27,7 +27,7 @@ pub struct HostClock<R: rt::Clock + Drop> {
 }
 
 impl<R: rt::Clock + Drop> HostClock<R> {
-    /// Returns the clock of `system`.
+    /// Returns the system clock of `system`.
     pub fn new(system: R) -> HostClock<R>
         ensures given { (⟦<HostClock<R> as Clock>⟧.state result).given ≡ [] }
         ensures faults { (⟦<HostClock<R> as Clock>⟧.state result).faults ≡ 0 }

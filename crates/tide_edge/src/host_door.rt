@@ -15,11 +15,11 @@ use std::io::{self, ErrorKind};
 use std::net::{Ipv4Addr, Net, OpenListener, TcpListener};
 use std::rt;
 
-/// The most connections in a row that may have failed before they are accepted.
+/// The most connections in a row that are skipped because they failed before they were accepted.
 const GONE_IN_A_ROW: u32 = u32::MAX;
 
-/// Linux's numbers of the errors of a connection that `ErrorKind` has no variant of its own for: ENONET,
-/// EPROTO, ENOPROTOOPT, EOPNOTSUPP and EHOSTDOWN.
+/// Linux's numbers of the errors of a connection for which `ErrorKind` has no variant: ENONET, EPROTO,
+/// ENOPROTOOPT, EOPNOTSUPP and EHOSTDOWN.
 const CONNECTION_ERRORS: [i32; 5] = [64, 71, 92, 95, 112];
 
 /// A TCP port of the machine, at 127.0.0.1 only. The bytes read and written over each connection are
@@ -43,7 +43,7 @@ pub struct HostDoor<R: Net + rt::Clock + Drop> {
 impl<R: Net + rt::Clock + Drop> HostDoor<R> {
     ghost use Rattle.tide_edge.specs.Doors.{no_connections, not_listening};
 
-    /// Returns a door that doesn't listen yet.
+    /// Returns a door of `system` that doesn't listen yet.
     pub fn new(system: R) -> HostDoor<R>
         ensures doorway { (⟦<HostDoor<R> as Door>⟧.state result).doorway ≡ not_listening }
         ensures connections { (⟦<HostDoor<R> as Door>⟧.state result).connections ≡ no_connections }
@@ -143,7 +143,7 @@ impl<R: Net + rt::Clock + Drop> Door for HostDoor<R> {
     }
 }
 
-// Accepts the next connection, skipping those that failed before they were accepted.
+/// Accepts the next connection, skipping those that failed before they were accepted.
 fn take_next<L: OpenListener>(listener: &L) -> io::Result<L::Stream> {
     for _ in 0..GONE_IN_A_ROW {
         match listener.accept() {
@@ -155,7 +155,7 @@ fn take_next<L: OpenListener>(listener: &L) -> io::Result<L::Stream> {
     Err(io::Error::from(ErrorKind::ConnectionAborted))
 }
 
-// Returns true if `fault`, an error of accepting, is of that one connection, as accept(2) lists them.
+/// Returns true if `fault`, an error of accepting, is of that one connection, as accept(2) lists them.
 fn is_of_connection(fault: &io::Error) -> bool {
     let is_named = matches!(
         fault.kind(),

@@ -13,8 +13,8 @@ use crate::reads::Reads;
 use decimal_text::Text;
 use std::{fs, rt};
 
-/// The files of the file system, by their paths. What was opened and read is observable, the contents
-/// aren't.
+/// The files of the file system, by their paths. The calls of `open` and the bytes read are observable,
+/// the contents aren't.
 ///
 /// `open` fails for a path that can't be opened, and `read` for one that can't be read, such as a
 /// directory. A file is closed once its end was read.
@@ -30,7 +30,7 @@ pub struct HostFiles<R: rt::Files + Drop> {
 impl<R: rt::Files + Drop> HostFiles<R> {
     ghost use Rattle.tide_edge.specs.Adapters.{file_of};
 
-    /// Returns the files of `system`, none of them open.
+    /// Returns the file system of `system`, with no file open.
     pub fn new(system: R) -> HostFiles<R>
         ensures none_open { file_of result ≡ None }
         ensures openings { (⟦<HostFiles<R> as Files>⟧.state result).openings ≡ no_openings }

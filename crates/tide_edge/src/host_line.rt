@@ -17,13 +17,13 @@ const REPLY_SECONDS: u64 = 60;
 /// The seconds that a peer has after its reply to close its side of the connection.
 const FAREWELL_SECONDS: u64 = 2;
 
-/// The shortest timeout of a socket, in milliseconds: a timeout of 0 means that it waits without limit.
+/// The shortest timeout of a socket, in milliseconds. A timeout of 0 would wait without limit.
 const SHORTEST_WAIT_MILLISECONDS: u64 = 1;
 
 /// The most calls on a connection within a deadline: more than there is time for.
 const TRIES: u32 = u32::MAX;
 
-/// The time when waiting ends. It is absent if the clock couldn't be read, and then no time is left.
+/// The time when waiting ends. It is absent if the clock couldn't be read; then no time is left.
 #[derive(Clone, Copy)]
 struct Deadline {
     end: Option<Instant>,
@@ -37,7 +37,7 @@ impl Deadline {
         }
     }
 
-    // Returns the time left until the deadline, at least the shortest timeout of a socket.
+    /// Returns the time left until the deadline, at least the shortest timeout of a socket.
     fn left(self, clock: &impl rt::Clock) -> io::Result<Duration> {
         let now = Instant::now(clock)?;
         let shortest = Duration::from_millis(SHORTEST_WAIT_MILLISECONDS);
@@ -49,7 +49,7 @@ impl Deadline {
 }
 
 /// An accepted connection. It waits for its peer until one deadline for the whole request or reply, by a
-/// clock that never goes back, and repeats calls that a signal interrupted.
+/// monotonic clock, and repeats calls that a signal interrupted.
 #[derive(Drop)]
 pub(crate) struct HostLine<S: OpenStream + Read + Write + Drop> {
     stream: S,
@@ -90,7 +90,7 @@ impl<S: OpenStream + Read + Write + Drop> HostLine<S> {
         write_in_time(&mut self.stream, self.deadline, clock, piece)
     }
 
-    /// Shuts down the writing side, and reads what the peer still sends until its end: a system that
+    /// Shuts down the writing side, and reads until the end of what the peer still sends: a system that
     /// closes a connection with unread bytes may drop the reply on its way (RFC 9112, section 9.6).
     pub(crate) fn part(&mut self, clock: &impl rt::Clock) {
         if self.stream.shutdown(Shutdown::Write).is_err() {
@@ -107,7 +107,7 @@ impl<S: OpenStream + Read + Write + Drop> HostLine<S> {
     }
 }
 
-// Reads into the first bytes of `room` before the deadline, and returns the count: 0 at the end.
+/// Reads into the first bytes of `room` before the deadline, and returns the count: 0 at the end.
 fn read_in_time<S: OpenStream + Read>(
     stream: &mut S,
     deadline: Deadline,
@@ -127,7 +127,7 @@ fn read_in_time<S: OpenStream + Read>(
     Err(io::Error::from(ErrorKind::Interrupted))
 }
 
-// Writes the first bytes of `piece` before the deadline, and returns their count.
+/// Writes the first bytes of `piece` before the deadline, and returns their count.
 fn write_in_time<S: OpenStream + Write>(
     stream: &mut S,
     deadline: Deadline,

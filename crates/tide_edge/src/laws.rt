@@ -28,8 +28,8 @@ pub fn fixed_clock_is_observable()
     ensures { (c : HeldClock) → ⟦<FixedClock as Clock>⟧.state c ≡ clock_state c }
 {}
 
-/// Proves that the waiting requests and the replies of a door in memory are observable, and that it keeps
-/// pieces.
+/// Proves that the waiting requests and the replies of a door in memory are observable, and that a read
+/// of it returns bytes of one piece only.
 pub fn memory_door_is_observable()
     ensures { (d : HeldDoor) → ⟦<MemoryDoor as Door>⟧.state d ≡ door_state d }
 {}

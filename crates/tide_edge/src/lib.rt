@@ -1,10 +1,9 @@
-//! The outside of the program: files, sinks of bytes, the clock, and the door that connections come
-//! through.
+//! The outside of the program: files, sinks of bytes, the clock, and the door that accepts connections.
 //!
-//! Each is a trait with an observable implementation in memory and one over the machine, whose results
-//! are tied by contracts to the bytes of the system below it. [`pass_file`] passes the bytes of a file to a
-//! [`Receiver`] as they are read, [`read_all`] reads a whole file, and [`write_all`] writes all of its
-//! bytes, over any implementation.
+//! Each is a trait with an observable implementation in memory and one over the machine, which contracts
+//! tie to the bytes of the system below it. [`pass_file`] passes the bytes of a file to a [`Receiver`]
+//! while they are read, [`read_all`] reads a whole file, and [`write_all`] writes all of its bytes, over
+//! any implementation.
 #![tactic(auto)]
 
 mod calls;

@@ -35,7 +35,7 @@ use std::alloc::{AllocError, Global};
 use std::collections::VecDeque;
 use std::marker::Model;
 
-/// A door in memory, whose waiting requests and replies are observable.
+/// A door in memory: its waiting requests and its replies are observable.
 #[derive(Drop)]
 pub struct MemoryDoor {
     doorway: Doorway,
@@ -75,9 +75,9 @@ impl Model for MemoryDoor {
 impl MemoryDoor {
     ghost use Rattle.tide_edge.specs.Doors.{no_connections, not_listening};
 
-    /// Returns a door at which `requests` wait, each in pieces that come one by one; no piece is empty.
-    /// All replies together have at most `room` bytes. The calls whose numbers are in `fails` fail,
-    /// counted from 1 without those of `close`, and so does a write if `room` is used up.
+    /// Returns a door at which `requests` wait, each as the pieces in which it arrives; no piece is
+    /// empty. All replies together have at most `room` bytes. The calls with a number in `fails`,
+    /// counted from 1 without calls of `close`, fail, and so does a write if `room` is used up.
     ///
     /// It allocates the memory for all replies here, and none later.
     ///

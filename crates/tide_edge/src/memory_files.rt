@@ -17,7 +17,7 @@ use crate::rest::rest_from;
 use decimal_text::Text;
 use std::marker::Model;
 
-/// Files in memory, whose contents are observable. They are steady if none of their calls is to fail.
+/// Files in memory: their contents are observable. They are steady if none of their calls is to fail.
 #[derive(Drop)]
 pub struct MemoryFiles {
     files: Vec<NamedFile>,
@@ -45,8 +45,8 @@ impl Model for MemoryFiles {
 }
 
 impl MemoryFiles {
-    /// Returns files in memory, none of them open. If two have the same name, the first is found. The
-    /// calls of `open` and `read` whose numbers, counted from 1, are in `fails` fail.
+    /// Returns the files in memory `files`, none of them open. If two have the same name, the first is
+    /// used. The calls of `open` and `read` with a number in `fails`, counted from 1, fail.
     pub fn new(files: Vec<NamedFile>, fails: Vec<u64>) -> MemoryFiles
         ensures { result ≡ record {
           files = files.items;
@@ -109,7 +109,7 @@ impl Files for MemoryFiles {
     }
 }
 
-/// Returns the index of the first file `name`.
+/// Returns the index of the first file called `name`, or `None` if there isn't one.
 fn place_of(files: &[NamedFile], name: &Text) -> Option<usize>
     ensures { folder_of files.now name.now ≡ option_map (bytes_at files.now) result }
 {

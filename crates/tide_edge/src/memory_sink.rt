@@ -30,7 +30,7 @@ impl Model for MemorySink {
 
 impl MemorySink {
     /// Returns an empty sink that accepts at most `most` bytes a call and `room` bytes in all. The calls
-    /// whose numbers, counted from 1, are in `fails` fail, and so does each call if `room` is used up.
+    /// with a number in `fails`, counted from 1, fail, and so does each call if `room` is used up.
     ///
     /// It allocates `room` bytes here, and none later.
     ///
@@ -58,7 +58,7 @@ impl MemorySink {
         })
     }
 
-    /// Borrows the bytes accepted so far.
+    /// Borrows the bytes accepted until now.
     pub fn bytes(&self) -> &[u8]
         ensures { result.now ≡ self.now.taken }
     {

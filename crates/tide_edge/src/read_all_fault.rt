@@ -6,16 +6,16 @@ use crate::failed::Failed as CallFailed;
 use std::alloc::AllocError;
 use thiserror::Error;
 
-/// The reason why a file wasn't read whole.
+/// The reason why a whole file couldn't be read.
 #[derive(Clone, Copy, Debug, PartialEq, Eq, Error)]
 pub enum ReadAllFault {
     /// Opening or reading the file failed.
     #[error("the file can't be read")]
     Failed,
-    /// The file has more bytes than the limit.
+    /// The file has more bytes than the limit that the caller gave.
     #[error("the file is too long")]
     TooLong,
-    /// Out of memory for the file's bytes.
+    /// Memory for the file's bytes ran out.
     #[error("no memory for the file")]
     NoMemory,
 }

@@ -12,14 +12,13 @@ use crate::receiver::Receiver;
 use decimal_text::{Bytes, Text};
 use std::alloc::{AllocError, Global};
 
-/// Returns all bytes of the file `name`, if there are at most `limit`. The file is opened at most once,
-/// its end is found at most once, and at most 65,536 bytes past `limit` are read of it, whatever the
-/// result.
+/// Returns all bytes of the file `name` if there are at most `limit`. The file is opened at most once,
+/// its end is found at most once, and at most 65,536 bytes past `limit` are read, whatever the result.
 ///
 /// # Errors
 /// [`ReadAllFault::Failed`] if opening or reading fails, which is exactly if the count of faults of
 /// `files` grows by one, and if the files are steady only if there is no file `name`;
-/// [`ReadAllFault::TooLong`] exactly if more than `limit` bytes came; [`ReadAllFault::NoMemory`] if
+/// [`ReadAllFault::TooLong`] exactly if more than `limit` bytes were read; [`ReadAllFault::NoMemory`] if
 /// memory runs out.
 pub fn read_all<F: Files>(
     alloc: Global,
@@ -43,11 +42,13 @@ pub fn read_all<F: Files>(
     }
 }
 
-/// Passes all bytes of the file `name` to `receiver`, which has taken none, if there are at most `limit`.
-/// Of a longer file it takes at most `limit` bytes. The file is read as by [`read_all`].
+/// Passes all bytes of the file `name` to `receiver`, which has received none before, if there are at
+/// most `limit`. Of a longer file, `receiver` gets at most `limit` bytes. The file is opened at most
+/// once, and at most 65,536 bytes past `limit` are read.
 ///
 /// # Errors
-/// As [`read_all`].
+/// [`ReadAllFault::Failed`] if opening or reading fails; [`ReadAllFault::TooLong`] if more than `limit`
+/// bytes were read; [`ReadAllFault::NoMemory`] if memory runs out.
 pub fn pass_file<F: Files, R: Receiver>(
     alloc: Global,
     files: &mut F,
@@ -73,8 +74,8 @@ pub fn pass_file<F: Files, R: Receiver>(
     }
 }
 
-/// Passes the rest of the open file to `receiver`, in pieces of at most the length of `room`, if at most
-/// `limit` bytes are left.
+/// Passes the unread bytes of the open file to `receiver`, in pieces of at most the length of `room`, if
+/// at most `limit` bytes are unread.
 fn pass_rest<F: Files, R: Receiver>(
     files: &mut F,
     room: &mut [u8],
@@ -108,7 +109,7 @@ fn pass_rest<F: Files, R: Receiver>(
     }
 }
 
-/// The bytes of a file, which are kept.
+/// A receiver that keeps the bytes of a file.
 #[derive(Drop)]
 struct Kept {
     bytes: Vec<u8>,

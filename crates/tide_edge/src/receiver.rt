@@ -1,19 +1,19 @@
-//! What takes the bytes of a file as they are read.
+//! Receivers of a file's bytes.
 
 ghost use Rattle.std.specs.Prelude.{◌≡◌, ◌+◌, ◌≤◌, ◌++◌, ℕ, List, length, OnOk};
 
 use std::alloc::AllocError;
 
-/// What takes the bytes of a file as they are read, such as a list or a parser.
+/// An object that receives the bytes of a file while it is read, such as a list or a parser.
 ///
-/// In contracts it has the bytes that it took, and the greatest number that it can take. No call changes
-/// this number.
+/// In contracts its state has the bytes that it received, and the greatest number that it can receive.
+/// No call changes this number.
 pub trait Receiver {
     ghost taken: { Self → List ℕ };
 
     ghost most: { Self → ℕ };
 
-    /// Takes `piece`, the next bytes of the file.
+    /// Receives `piece`, the next bytes of the file.
     ///
     /// # Errors
     /// [`AllocError`] if memory runs out.

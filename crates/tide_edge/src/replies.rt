@@ -45,7 +45,7 @@ impl Replies {
         })
     }
 
-    /// Begins one more reply.
+    /// Begins another reply.
     pub(crate) fn begin(&mut self)
         requires { 0 < self.old.more }
         ensures { self.new ≡ record {

@@ -7,7 +7,7 @@ use crate::failed::Failed;
 
 /// A sink that accepts bytes, such as standard output.
 ///
-/// In contracts the state of a sink has the bytes that its calls reported as accepted.
+/// In contracts the state of a sink has all bytes that it has accepted.
 pub trait Sink {
     ghost state: { Self → SinkState };
 

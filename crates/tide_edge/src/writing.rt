@@ -7,11 +7,11 @@ use crate::rest::rest_from;
 use crate::sink::Sink;
 use thiserror::Error;
 
-/// A write failed before all bytes were accepted.
+/// The error of a write that failed before all bytes were accepted.
 #[derive(Clone, Copy, Debug, PartialEq, Eq, Error)]
 #[error("a write failed after {sent} bytes")]
 pub struct WriteFailed {
-    /// The number of bytes that were accepted, from the first on.
+    /// The number of bytes that were accepted before the failure.
     pub sent: u64,
 }
 

@@ -1,4 +1,4 @@
--- The exit status and the line of each reason for which there is no answer (this project).
+-- The exit status and the line of each reason why there is no answer (this project).
 use Rattle.std.specs.Prelude.{ℕ, ℤ, ◌<◌, Bool, true, false, List, [], ◌++◌, length, codes, decimal, slice_get}
 use Rattle.std.specs.Option.{option_map_or}
 use Rattle.std.specs.Fmt.{signed_decimal}
@@ -48,22 +48,22 @@ use Rattle.tide_fault.specs.declared.status.Status.TheVariants as status
 
 -- ---- statuses
 
--- the status for a command line or query that is no request
+-- the exit status for a command line or query that isn't a request
 abbrev pub status_of_ask : AskFault → Status
 status_of_ask ask.NoMemory = status.NoMemory
 status_of_ask _ = status.Words
 
--- the status for a file of harmonic constants that is not of its form
+-- the exit status for a file of harmonic constants that can't be read as a book
 abbrev pub status_of_form : BookFault → Status
 status_of_form form.NoMemory = status.NoMemory
 status_of_form (form.At line why) = status.FileRefused
 
--- the status for a table of subordinate stations that is not of its form
+-- the exit status for a table of subordinate stations that can't be read
 abbrev pub status_of_table : OffsetFault → Status
 status_of_table table.NoMemory = status.NoMemory
 status_of_table (table.At row why) = status.FileRefused
 
--- the status for a refusal over files that were read
+-- the exit status for a refusal after the files were read
 abbrev pub status_of_refusal : Refusal → Status
 status_of_refusal NoMemory = status.NoMemory
 status_of_refusal (NotACertificate line) = status.FileRefused
@@ -81,7 +81,7 @@ status_of_refusal MarkNotHere = status.Refused
 status_of_refusal LevelNotHere = status.Refused
 status_of_refusal (TooManyRows rows) = status.Limit
 
--- the status for a fault
+-- the exit status for a fault
 abbrev pub status_of : Fault → Status
 status_of (Ask fault) = status_of_ask fault
 status_of (NoSheet word) = status.Refused
@@ -93,18 +93,18 @@ status_of (Refused refusal) = status_of_refusal refusal
 
 -- ---- lines
 
--- the name of a file in lines
+-- the word for a file in the lines that report faults
 abbrev pub slot_name : Slot → List ℕ
 slot_name slots.File = codes "file"
 slot_name slots.Offsets = codes "offsets"
 slot_name slots.Zone = codes "zone"
 slot_name slots.Certificate = codes "certificate"
 
--- the line for a pair by its number, counted from 1
+-- the line about an item by its number, counted from 1
 abbrev pub pair_line : ℕ → List ℕ → List ℕ
 pair_line pair what = codes "words: pair " ++ decimal pair ++ what
 
--- the line for a command line or query that is no request
+-- the line for a command line or query that isn't a request
 unfoldable pub ask_line : AskFault → List ℕ
 ask_line ask.NoMemory = codes "no memory\n"
 ask_line ask.NoCommand = codes "words: no command\n"
@@ -115,22 +115,22 @@ ask_line (ask.RepeatedKey pair) = pair_line pair (codes " repeats a key\n")
 ask_line (ask.BadValue pair) = pair_line pair (codes " has a bad value\n")
 ask_line (ask.MissingKey key) = codes "words: " ++ name_of key ++ codes " is missing\n"
 
--- the line for a line of a harmonics file, with the reason and its number
+-- the line for a bad line of a harmonics file, with its number, the reason and the reason's number
 abbrev pub file_line : ℕ → Why → List ℕ
 file_line line why =
     (codes "file: line " ++ decimal line ++ codes ": ") ++ text_of why ++ (codes " (" ++ decimal (number_of why) ++ codes ")\n")
 
--- the line for a file of harmonic constants that is not of its form
+-- the line for a file of harmonic constants that can't be read as a book
 unfoldable pub form_line : BookFault → List ℕ
 form_line form.NoMemory = codes "no memory\n"
 form_line (form.At line why) = file_line line why
 
--- the line for a row of a table, with the reason and its number
+-- the line for a bad row of a table, with its number, the reason and the reason's number
 abbrev pub row_line : ℕ → OffsetWhy → List ℕ
 row_line row why =
     (codes "offsets: row " ++ decimal row ++ codes ": ") ++ text_of_row why ++ (codes " (" ++ decimal (number_of_row why) ++ codes ")\n")
 
--- the line for a table of subordinate stations that is not of its form
+-- the line for a table of subordinate stations that can't be read
 unfoldable pub table_line : OffsetFault → List ℕ
 table_line table.NoMemory = codes "no memory\n"
 table_line (table.At row why) = row_line row why
@@ -148,7 +148,7 @@ abbrev pub years_line : ℤ → ℤ → List ℕ
 years_line first last =
     codes "refused: out of years: file has " ++ moment_text first ++ codes " to " ++ moment_text last ++ codes "\n"
 
--- the line of a refusal; the rows are those of the table
+-- the line of a refusal; the list has the rows of the table that was read
 unfoldable pub refusal_line : List TableRow → Refusal → List ℕ
 refusal_line rows NoMemory = codes "no memory\n"
 refusal_line rows (NotACertificate line) = codes "certificate: line " ++ decimal line ++ codes "\n"
@@ -166,7 +166,7 @@ refusal_line rows MarkNotHere = codes "refused: mark not here\n"
 refusal_line rows LevelNotHere = codes "refused: level not here\n"
 refusal_line rows (TooManyRows count) = codes "limit: " ++ signed_decimal count ++ codes " rows\n"
 
--- the line of a fault
+-- the line of a fault; the list has the rows of the table that was read
 unfoldable pub line_of : List TableRow → Fault → List ℕ
 line_of rows (Ask fault) = ask_line fault
 line_of rows (NoSheet word) = naming_line (codes "refused: no sheet ") word
@@ -176,8 +176,8 @@ line_of rows (Offsets fault) = table_line fault
 line_of rows BadZone = codes "zone: bad zone file\n"
 line_of rows (Refused refusal) = refusal_line rows refusal
 
--- a refusal with a line that can be printed: its moments are in the years 1 to 9999, and its row is an index of
--- the table
+-- a refusal with a line that can be printed: its moments are in the years 1 to 9999, and its row is an
+-- index into the table
 abbrev pub IsPrintableRefusal : List TableRow → Refusal → Type 0
 IsPrintableRefusal rows (OutOfYears first last) = IsMoment first × IsMoment last
 IsPrintableRefusal rows (NoReference place) = place < length rows
@@ -190,7 +190,7 @@ IsPrintable rows _ = Unit {0}
 
 -- ---- out of memory, and faults of the crates below
 
--- true if memory ran out
+-- a refusal is that memory ran out
 abbrev pub refusal_is_out_of_memory : Refusal → Bool
 refusal_is_out_of_memory NoMemory = true
 refusal_is_out_of_memory _ = false
@@ -200,21 +200,21 @@ abbrev pub is_memory : Status → Bool
 is_memory status.NoMemory = true
 is_memory _ = false
 
--- true if memory ran out
+-- a fault is that memory ran out
 abbrev pub is_out_of_memory : Fault → Bool
 is_out_of_memory fault = is_memory (status_of fault)
 
--- the refusal of bytes that are no certificate's text
+-- the refusal of bytes that aren't the text of a certificate
 abbrev pub refusal_of_cert : CertFault → Refusal
 refusal_of_cert cert.NoMemory = NoMemory
 refusal_of_cert (cert.NotACertificate line) = NotACertificate line
 
--- the refusal of a name that finds no station
+-- the refusal of a name for which no station is found
 abbrev pub refusal_of_find : FindFault → Refusal
 refusal_of_find find.NoStation = NoStation
 refusal_of_find (find.NoReference row) = NoReference row
 
--- the refusal of a station for which no curve can be made
+-- the refusal of a station that has no curve
 abbrev pub refusal_of_curve : CurveFault → Refusal
 refusal_of_curve curve.NoMemory = NoMemory
 refusal_of_curve curve.Hydraulic = Hydraulic

@@ -13,7 +13,7 @@ use Rattle.tide_fault.specs.declared.status.Status.TheVariants.{
   NoMemory,
 }
 
--- the exit status of the program
+-- the number of an exit status
 abbrev pub number_of : Status → ℕ
 number_of Done = 0
 number_of Rejected = 1

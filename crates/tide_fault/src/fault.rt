@@ -1,4 +1,4 @@
-//! Faults: the reasons for which a request has no answer.
+//! Faults: the reasons why a request has no answer.
 
 ghost use Rattle.std.specs.Prelude.{◌≡◌};
 ghost use Rattle.tide_fault.specs.Faults.{status_of, status_of_ask, status_of_form, status_of_table, status_of_refusal};
@@ -11,27 +11,26 @@ use harmonics_text::BookFault;
 use question::AskFault;
 use station_table::OffsetFault;
 
-/// A reason for which a request has no answer. The variants are in the order in which they are
-/// found.
+/// The reason why a request has no answer. The variants are in the order in which they are found.
 #[derive(Drop)]
 pub enum Fault {
-    /// The command line, or a query, is no request.
+    /// The command line or query isn't a request.
     Ask(AskFault),
     /// A report has no sheet named `word`.
     NoSheet { word: Text },
-    /// A file has more bytes than are read.
+    /// A file has more bytes than the program reads.
     TooLong(Slot),
-    /// The file of harmonic constants is not of its form.
+    /// The file of harmonic constants has a bad line, or memory ran out.
     Book(BookFault),
-    /// The table of subordinate stations is not of its form.
+    /// The table of subordinate stations has a bad row, or memory ran out.
     Offsets(OffsetFault),
-    /// The time zone's file is not of its form.
+    /// The time zone's file isn't a zone file, or its rule contradicts its table.
     BadZone,
-    /// The files were read, and the request has no answer over them.
+    /// The files were read, and the request has no answer with their contents.
     Refused(Refusal),
 }
 
-/// Returns the status of a run that ends with `fault`. Doesn't allocate.
+/// Returns the exit status of a run that ends with `fault`. It doesn't allocate.
 pub fn fault_status(fault: &Fault) -> Status
     ensures { result ≡ status_of fault.now }
 {
@@ -46,7 +45,7 @@ pub fn fault_status(fault: &Fault) -> Status
     }
 }
 
-/// Returns the status for a command line or query that is no request.
+/// Returns the exit status for a command line or query that isn't a request.
 fn ask_status(fault: AskFault) -> Status
     ensures { result ≡ status_of_ask fault }
 {
@@ -56,7 +55,7 @@ fn ask_status(fault: AskFault) -> Status
     }
 }
 
-/// Returns the status for a file of harmonic constants that is not of its form.
+/// Returns the exit status for a file of harmonic constants that can't be read as a book.
 fn form_status(fault: BookFault) -> Status
     ensures { result ≡ status_of_form fault }
 {
@@ -66,7 +65,7 @@ fn form_status(fault: BookFault) -> Status
     }
 }
 
-/// Returns the status for a table of subordinate stations that is not of its form.
+/// Returns the exit status for a table of subordinate stations that can't be read.
 fn table_status(fault: OffsetFault) -> Status
     ensures { result ≡ status_of_table fault }
 {
@@ -76,7 +75,7 @@ fn table_status(fault: OffsetFault) -> Status
     }
 }
 
-/// Returns the status for `refusal`.
+/// Returns the exit status for `refusal`.
 fn refusal_status(refusal: Refusal) -> Status
     ensures { result ≡ status_of_refusal refusal }
 {

@@ -29,10 +29,9 @@ use station_table::{OffsetFault, OffsetTable, OffsetWhy};
 use std::alloc::{AllocError, Global};
 use zone_time::write_moment;
 
-/// Returns the line that reports `fault`, with its LF. `table` is the table of subordinate
-/// stations, which names the reference of [`NoReference`](Refusal::NoReference): its row is an
-/// index into `table`. The moments of [`OutOfYears`](Refusal::OutOfYears) are in the years 1 to
-/// 9999.
+/// Returns the line that reports `fault`, with its LF. `table` is the table of subordinate stations that
+/// was read: the row of [`NoReference`](Refusal::NoReference) is an index into it. The moments of
+/// [`OutOfYears`](Refusal::OutOfYears) are in the years 1 to 9999.
 pub fn fault_line(alloc: Global, fault: &Fault, table: &OffsetTable) -> Result<Bytes, AllocError>
     requires { IsPrintable table.now fault.now }
     ensures { IfOk result (λ line. line ≡ line_of table.now fault.now) }
@@ -57,7 +56,7 @@ fn fault_text(alloc: Global, fault: &Fault, table: &OffsetTable) -> Result<Strin
     }
 }
 
-/// Returns the line for a command line or query that is no request.
+/// Returns the line for a command line or query that isn't a request.
 #[tactic(auto, unfolding(crate::specs::Faults::ask_line))]
 fn ask_text(alloc: Global, fault: AskFault) -> Result<String, AllocError>
     ensures { IfOk result (λ text. string_bytes text ≡ ask_line fault) }
@@ -85,7 +84,7 @@ fn missing_text(alloc: Global, key: Key) -> Result<String, AllocError>
     Ok(text)
 }
 
-/// Returns the line for a file that has more bytes than are read.
+/// Returns the line for a file that has more bytes than the program reads.
 fn long_text(alloc: Global, slot: Slot) -> Result<String, AllocError>
     ensures { IfOk result (λ text. string_bytes text ≡ slot_name slot ++ codes ": too long\n") }
 {
@@ -94,7 +93,7 @@ fn long_text(alloc: Global, slot: Slot) -> Result<String, AllocError>
     Ok(text)
 }
 
-/// Returns the line for a file of harmonic constants that is not of its form.
+/// Returns the line for a file of harmonic constants that can't be read as a book.
 #[tactic(auto, unfolding(crate::specs::Faults::form_line))]
 fn form_text(alloc: Global, fault: BookFault) -> Result<String, AllocError>
     ensures { IfOk result (λ text. string_bytes text ≡ form_line fault) }
@@ -117,7 +116,7 @@ fn file_text(alloc: Global, line: u32, why: Why) -> Result<String, AllocError>
     Ok(text)
 }
 
-/// Returns the line for a table of subordinate stations that is not of its form.
+/// Returns the line for a table of subordinate stations that can't be read.
 #[tactic(auto, unfolding(crate::specs::Faults::table_line))]
 fn table_text(alloc: Global, fault: OffsetFault) -> Result<String, AllocError>
     ensures { IfOk result (λ text. string_bytes text ≡ table_line fault) }
@@ -186,8 +185,8 @@ fn named_text(alloc: Global, what: &str, name: &str) -> Result<String, AllocErro
     Ok(text)
 }
 
-/// Returns the line for a span outside the file's years, from minute `first` up to minute `last`,
-/// which isn't part of them; both since 1970-01-01T00:00Z.
+/// Returns the line for a span outside the file's years, which are the minutes from `first` up to but
+/// not including `last`, both since 1970-01-01T00:00Z.
 fn years_text(alloc: Global, first: i64, last: i64) -> Result<String, AllocError>
     requires first { IsMoment first }
     requires last { IsMoment last }

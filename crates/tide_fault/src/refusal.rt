@@ -6,45 +6,44 @@ use station_curve::CurveFault;
 use station_table::FindFault;
 use std::alloc::AllocError;
 
-/// A reason for which a request has no answer over the harmonics file and the table that were read.
+/// The reason why a request has no answer with the harmonics file and the table that were read.
 #[derive(Clone, Copy, Debug)]
 pub enum Refusal {
-    /// Memory ran out.
+    /// Memory ran out while the request was answered.
     NoMemory,
-    /// The bytes aren't a certificate. `line`, counted from 1, is the first line that no certificate could
-    /// have there.
+    /// The bytes aren't a certificate. `line`, counted from 1, is the first line such that no
+    /// certificate begins with the lines up to it.
     NotACertificate { line: u32 },
-    /// The file made from a seed is not of the form: `line`, counted from 1, is the first that
-    /// breaks the rule `why`.
+    /// The file made from a seed can't be read as a book: `line`, counted from 1, is the first line that
+    /// breaks a rule, and `why` the first reason.
     BadSample { line: u32, why: Why },
-    /// Neither the harmonics file nor the table has a station of the name.
+    /// Neither the harmonics file nor the table has a station with the requested name.
     NoStation,
-    /// The harmonics file doesn't have the reference station of the row at index `row` of the
-    /// table.
+    /// The harmonics file doesn't have the reference station of the table's row at index `row`.
     NoReference { row: u32 },
     /// The station is a hydraulic current: its speed is the square root of the sum of its
     /// constituents.
     Hydraulic,
-    /// The span ends before it begins.
+    /// The span's end is before its beginning.
     BackwardSpan,
-    /// The request is for the highest water of a span without a minute.
+    /// The request is for the highest water of a span without any minute.
     EmptySpan,
-    /// The span isn't within the file's years. `first` is their first minute and `last` the minute
-    /// after their last, since 1970-01-01T00:00Z.
+    /// The span isn't within the file's years. `first` is the first minute of these years and `last` the
+    /// minute after their last, since 1970-01-01T00:00Z.
     OutOfYears { first: i64, last: i64 },
-    /// The sizes of the amplitudes of the station's constituents add up to more than their bound; `year` is
-    /// the first such year.
+    /// In a year the sizes of the amplitudes of the station's constituents sum to more than
+    /// 1,000,000,000 millionths; `year` is the first such year.
     TooLarge { year: i32 },
-    /// The sizes of the amplitudes times the speeds of the station's constituents add up to more than their
-    /// bound; `year` is the first such year.
+    /// In a year the sizes of the amplitudes times the speeds of the station's constituents sum to more
+    /// than 10^17; `year` is the first such year.
     TooSteep { year: i32 },
-    /// The span has `minutes`, which are too many.
+    /// The span has `minutes` minutes, more than the program answers.
     SpanTooLong { minutes: i64 },
     /// The request has a mark, and the station's highs and lows have different offsets.
     MarkNotHere,
     /// The request is for a level, and the station's highs and lows have different offsets.
     LevelNotHere,
-    /// The request is for `rows` heights, more than a list may have.
+    /// The request is for `rows` heights, more than the program lists.
     TooManyRows { rows: i64 },
 }
 

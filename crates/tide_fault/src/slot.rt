@@ -2,23 +2,23 @@
 
 ghost use Rattle.std.specs.Prelude.{◌≡◌, ◌≤◌, length};
 
-/// The purpose for which a named file is read.
+/// The purpose for which a named file is read: the kind of file that it should be.
 #[derive(Clone, Copy, PartialEq, Eq)]
 pub enum Slot {
-    /// The harmonic constants.
+    /// The file of harmonic constants.
     File,
-    /// The table of subordinate stations.
+    /// The file of the table of subordinate stations.
     Offsets,
-    /// A time zone.
+    /// The file of a time zone.
     Zone,
-    /// A certificate.
+    /// The file of a certificate.
     Certificate,
 }
 
 impl Slot {
     ghost use Rattle.tide_fault.specs.Faults.{slot_name};
 
-    /// Returns the name of the file in the lines that report faults.
+    /// Returns the word for the file in the lines that report faults.
     pub fn text(self) -> &'static str
         ensures { result.now ≡ slot_name self }
     {

@@ -2,33 +2,33 @@
 
 ghost use Rattle.std.specs.Prelude.{◌≡◌};
 
-/// The end of a run. Its number is the exit status of the program.
+/// The result of a run. Its number is the exit status of the program.
 #[derive(Clone, Copy, Debug, PartialEq, Eq)]
 pub enum Status {
-    /// The answer was written whole.
+    /// The whole answer was written.
     Done,
-    /// A certificate isn't valid.
+    /// The certificate was checked, and isn't valid.
     Rejected,
-    /// The command line is no request.
+    /// The command line isn't a request.
     Words,
-    /// A file is too long, or is not of its form.
+    /// A file is too long, or isn't in its format.
     FileRefused,
-    /// The request has no answer.
+    /// The request has no answer with the files that were read.
     Refused,
-    /// A bound on numbers is exceeded.
+    /// A number exceeds its bound, such as the length of the span.
     Limit,
-    /// A file, or the clock, could not be read.
+    /// A file or the clock couldn't be read.
     ReadFault,
-    /// The answer could not be written.
+    /// Writing the answer failed.
     WriteFault,
-    /// Memory ran out.
+    /// Memory ran out before the answer was written.
     NoMemory,
 }
 
 impl Status {
     ghost use Rattle.tide_fault.specs.Statuses.{number_of};
 
-    /// Returns the exit status, 0 to 8.
+    /// Returns the exit status of the program as a number, 0 to 8.
     pub fn number(&self) -> u8
         ensures { result ≡ number_of self.now }
     {

@@ -9,7 +9,7 @@ ghost use Rattle.tide_fault.specs.declared.slot.Slot.{Slot};
 ghost use Rattle.tide_fault.specs.declared.status.Status.{Status};
 ghost use Rattle.tide_fault.specs.Faults.{line_of, status_of};
 
-/// Proves examples of lines without a number, and of statuses.
+/// Proves examples of the lines and the exit statuses of faults.
 #[tactic(auto, unfolding(crate::specs::Faults::line_of, crate::specs::Faults::ask_line, crate::specs::Faults::refusal_line))]
 pub fn worked_lines()
     ensures no_command { line_of [] (Fault.Ask AskFault.NoCommand) ≡ codes "words: no command\n" }

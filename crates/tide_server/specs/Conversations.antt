@@ -1,5 +1,5 @@
--- The bytes of each connection of a server: those that were read, the reply to them, and the minute of the
--- reply (this project).
+-- The bytes of each connection of a server: the bytes that were read, the reply to them, and the minute
+-- of the reply (this project).
 use Rattle.std.specs.Prelude.{
   ◌≡◌,
   ◌⊎◌,
@@ -33,8 +33,9 @@ use Rattle.tide_server.specs.Serving.{Answers, Exchange, IsEnough, has_byte}
 
 -- ---- One connection
 
--- The connection was read until its bytes determined the reply, its end was found, or a read failed, and not
--- much further: at a point at most one piece before the end, the bytes didn't determine it.
+-- The connection was read until its bytes determined the reply, its end was found, or a read failed, and
+-- not much further: at some point at most one piece before the end, the bytes didn't determine the
+-- reply.
 pub record IsReadEnough (c : Connection) : Type 0 where
   pub before : ℕ
   pub waits : ¬ (IsEnough (take before c.came))
@@ -42,10 +43,11 @@ pub record IsReadEnough (c : Connection) : Type 0 where
   pub until : (c.is_ended ≡ true) ⊎ ((c.read_failed ≡ true) ⊎ IsEnough c.came)
 
 -- the clock is read for a connection that has a byte and of which no read failed, and for no other
+-- connection
 abbrev pub reads_clock : Connection → Bool
 reads_clock c = not c.read_failed && has_byte c.came
 
--- an answer was sent whole, or a proper prefix of one if a write failed
+-- an answer was sent whole, or a proper prefix of it if a write failed
 abbrev pub IsSent : Bool → (List ℕ → Type 0) → List ℕ → Type 0
 IsSent false answers sent = answers sent
 IsSent true answers sent = (rest : List ℕ) × ¬ (rest ≡ []) × answers (sent ++ rest)

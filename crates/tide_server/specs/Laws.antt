@@ -1,4 +1,4 @@
--- The promise of a server over objects in memory (this project).
+-- The contract of a server over objects in memory (this project).
 use Rattle.std.specs.Prelude.{◌≡◌, ◌⊎◌, ◌<◌, ◌-◌, ◌^◌, ℕ, suc, ℤ, Bool, true, false, All, List, [], ◌∷◌, ◌++◌, length, map}
 use Rattle.std.specs.List.{concat}
 use Rattle.tide_edge.specs.Faults.{faults_after}
@@ -46,9 +46,9 @@ is_left [] = false
 is_left (request ∷ more) = true
 
 -- The requests that waited were accepted in their order, and each has a reply; but after a read fault of
--- the clock the last one accepted was left: it has a byte, and its reply is empty. Unless a read or write
--- has failed, each reply answers its request. Those that don't are at most as many as the count of such
--- faults rose by, unless this count is saturated.
+-- the clock the last one accepted was left without a reply: it has a byte, and its reply is empty.
+-- Unless a read or write has failed, each reply answers its request. The replies that don't are at most
+-- as many as the count of such faults grew by, unless this count is saturated.
 pub record HasAnswered (served_data : ServedData) (has_failed : Bool) (before after : InMemory) : Type 0 where
   pub requests : List (List (List ℕ))
   pub replies : List (List ℕ)

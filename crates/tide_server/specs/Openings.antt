@@ -1,4 +1,4 @@
--- The data that a server serves, and its end (this project).
+-- The data that a server serves, and how a server ends (this project).
 use Rattle.std.specs.Prelude.{
   ◌≡◌,
   ◌⊎◌,
@@ -61,7 +61,7 @@ asks_another (word ∷ words) = not (asks_to_serve (word ∷ words))
 abbrev pub service_in : List (List ℕ) → Result Question AskFault
 service_in words = if asks_another words then Err UnknownCommand else question_of (pairs_of words)
 
--- a result with a fault of the arguments as one with a fault of the server
+-- the result of reading arguments, with its fault as a fault of the server
 abbrev pub service_from : Result Question AskFault → Result Question Fault
 service_from (Ok question) = Ok question
 service_from (Err fault) = Err (Ask fault)
@@ -79,18 +79,18 @@ served_data_named folders question name = do
   table ← table_named (folders slots.Offsets) question.offsets
   Ok (record { book = book; table = table; port = question.port })
 
--- the data of a request, which has to name a file
+-- the data of a request, which must name a file
 abbrev pub served_data_by : Folders → Question → Option (List ℕ) → Result ServedData NoAnswer
 served_data_by folders question None = Err (Faulty (Ask (MissingKey keys.File)))
 served_data_by folders question (Some name) = served_data_named folders question name
 
--- the data that the arguments name, for which each file is read from a folder of its own
+-- the data that the arguments name; each file is read from a separate folder
 unfoldable pub served_data_from : Folders → List (List ℕ) → Result ServedData NoAnswer
 served_data_from folders words = do
   question ← faulty (service_of words)
   served_data_by folders question question.file
 
--- the data that the arguments name, over one folder
+-- the data that the arguments name, with one folder
 abbrev pub served_data_of : Folder → List (List ℕ) → Result ServedData NoAnswer
 served_data_of folder words = served_data_from (λ slot. folder) words
 
@@ -105,15 +105,15 @@ files_asked (Err fault) = no_file
 abbrev pub notice_of : ℕ → List ℕ
 notice_of port = codes "http://127.0.0.1:" ++ decimal port ++ codes "/\n"
 
--- this line, if the server listens
+-- the line of the port, if the server listens
 abbrev pub notice_at : ℕ → Doorway → List ℕ
 notice_at port door = if door.listens then notice_of port else []
 
--- the status and the line of a reason, or that memory ran out
+-- the status and the line of a reason, or memory ran out
 abbrev pub IsSaid : NoAnswer → Status → List ℕ → Type 0
 IsSaid why status line = ((status ≡ status_of why) × (line ≡ line_of why)) ⊎ ((status ≡ NoMemory) × (line ≡ codes "no memory\n"))
 
--- a command other than `serve` is refused by its own status and line, also if memory runs out
+-- a command other than `serve` is refused with its status and line, even if memory runs out
 abbrev pub RefusesCommand : Status → SinkState → SinkState → Type 0
 RefusesCommand status before after =
     (status ≡ Words) × (failed : Bool) × Wrote before after failed (codes "words: unknown command\n")
@@ -131,9 +131,8 @@ pub record ServerStates : Type 0 where
 abbrev pub server_states : FilesState → DoorState → SinkState → ClockState → ServerStates
 server_states files door err clock = record { files = files; door = door; err = err; clock = clock }
 
--- No connection was served, since there is no data: `why` is the expected reason; out of memory says
--- nothing, nor does a fault of reading if the files aren't steady. The port was not listened to, and the
--- clock not read.
+-- No connection was served, since there is no data: `why` is the expected reason, unless memory ran out,
+-- or reading failed and the files aren't steady. The port was not listened to, and the clock not read.
 pub record IsRefused (firm : Type 0) (expected : Result ServedData NoAnswer) (status : Status) (before after : ServerStates) : Type 0 where
   pub why : NoAnswer
   pub excused : Excuses (source_of why) firm expected why
@@ -148,9 +147,9 @@ abbrev pub end_line : Status → List ℕ
 end_line Done = []
 end_line _ = codes "read fault\n"
 
--- The port was listened to, and connections were served until their end or a fault: the bytes of each, for
--- any port and clock, and the requests that were answered, if port and clock are observable. The first line
--- written is that of the port.
+-- The server listened at the port, and served connections until there were no more or until a fault: the
+-- record has the bytes of each connection, for any port and clock, and the requests that were answered,
+-- if port and clock are observable. The first line written names the port.
 pub record HasListened (served_data : ServedData) (status : Status) (before after : ServerStates) : Type 0 where
   pub asked : after.door.doorway.port ≡ Some served_data.port
   pub ends : (status ≡ Done) ⊎ (status ≡ ReadFault)
@@ -159,7 +158,7 @@ pub record HasListened (served_data : ServedData) (status : Status) (before afte
       → Served served_data (is_read_fault status) (exchange before.door before.clock) (exchange after.door after.clock)
   pub wrote : WroteBoth before.err after.err (notice_at served_data.port after.door.doorway) (end_line status)
 
--- the server was refused, or has listened for the expected data
+-- the server was refused, or has listened and served the expected data
 abbrev pub EndsAs : Type 0 → Result ServedData NoAnswer → Status → ServerStates → ServerStates → Type 0
 EndsAs firm expected status before after =
     IsRefused firm expected status before after
@@ -167,9 +166,9 @@ EndsAs firm expected status before after =
 
 -- ---- The source of a fault of reading
 
--- A server ends with a fault of reading exactly if the files, the clock or the port has failed, one of them
--- and once: its count is one more, and the others are unchanged; the files only if the port wasn't listened
--- to. Whether port and clock are observable is unchanged.
+-- A server ends with a read fault exactly if one of the files, the clock and the port has failed, once:
+-- its count is one more, and the others are unchanged; the files only if the server hasn't listened.
+-- Whether port and clock are observable is unchanged.
 pub record EndedBy (has_failed : Bool) (before after : ServerStates) : Type 0 where
   pub files : Bool
   pub clock : Bool
@@ -186,6 +185,6 @@ pub record EndedBy (has_failed : Bool) (before after : ServerStates) : Type 0 wh
 
 -- ---- The whole objects
 
--- the port wasn't listened to, or no connection was accepted
+-- the server hasn't listened, or no connection was accepted
 abbrev pub TookNone : Doorway → Type 0
 TookNone door = (door.port ≡ None) ⊎ (door.taken ≡ 0)

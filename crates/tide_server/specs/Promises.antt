@@ -1,4 +1,4 @@
--- The promise of a server, over objects of any kind (this project).
+-- The contract of a server, over objects of any kind (this project).
 use Rattle.std.specs.Prelude.{◌≡◌, ℕ, Bool, false, List, IsTrue, IsOk, None}
 use Rattle.named_files.specs.NoAnswers.{is_read_fault}
 use Rattle.tide_edge.specs.Clocks.{ClockState}

@@ -1,4 +1,4 @@
--- The reply to a request, over harmonic constants, a table of offsets and the present minute (this
+-- The reply to a request, with harmonic constants, a table of offsets and the present minute (this
 -- project).
 use Rattle.std.specs.Prelude.{◌≡◌, ℕ, ℤ, Bool, List, [], codes, is_some, Result, Ok, Err}
 use Rattle.harmonics_book.specs.declared.book.Book.{Book}
@@ -36,20 +36,21 @@ zone_of words.Utc = Utc
 zone_of (words.Fixed minutes) = Fixed minutes
 zone_of (words.Named name) = Utc
 
--- the inputs of the answer besides the harmonic constants and the offsets; the body is the certificate
+-- the inputs of the answer other than the harmonic constants and the offsets; the body is the
+-- certificate
 abbrev pub given_with : Question → Asking → ℤ → Given
 given_with question asking minute = record { zone = zone_of question.zone; certificate = asking.body; now = minute }
 
--- the reply with the line of a fault
+-- the reply with the line of a fault; if the Bool is true, without its body
 abbrev pub fault_reply : Code → List Offsets → Fault → Bool → List ℕ
 fault_reply code table fault bodiless = response code (codes "text/plain") [] (line_of table fault) bodiless
 
--- the reply with an answer, which a rejected certificate has too, or with a refusal
+-- the reply with an answer, also one that rejects a certificate, or with a refusal
 unfoldable pub answer_reply : List Offsets → Layout → Result Answer Refusal → Bool → List ℕ
 answer_reply table layout (Ok answer) bodiless = response code.Success (media_type_of layout) [] answer.text bodiless
 answer_reply table layout (Err refusal) bodiless = fault_reply code.Unprocessable table (Refused refusal) bodiless
 
--- the reply to a query that is a request, or to one that isn't
+-- the reply to a query that is a request, or to one that isn't a request
 unfoldable pub question_reply : Book → List Offsets → ℤ → Asking → Result Question AskFault → List ℕ
 question_reply book table minute asking (Ok question) =
     answer_reply table question.layout (answered book table question (given_with question asking minute)) asking.bodiless
@@ -59,11 +60,11 @@ question_reply book table minute asking (Err fault) = fault_reply code.BadReques
 unfoldable pub asking_reply : Book → List Offsets → ℤ → Asking → List ℕ
 asking_reply book table minute asking = question_reply book table minute asking (question_of (pairs_of asking))
 
--- the reply to a request by its row
+-- the reply to a request, from its row
 abbrev pub reply_of : Book → List Offsets → ℤ → ReplyRow → List ℕ
 reply_of book table minute (rejects rejection bodiless) = rejection_of rejection bodiless
 reply_of book table minute (asks asking) = asking_reply book table minute asking
 
--- the reply to the whole of a request
+-- the reply to a whole request
 abbrev pub IsReply : Book → List Offsets → ℤ → List ℕ → List ℕ → Type 0
 IsReply book table minute request reply = (row : ReplyRow) × IsRow request row × (reply ≡ reply_of book table minute row)

@@ -36,12 +36,12 @@ use Rattle.http_rows.specs.Rows.{ReplyRow, IsRow, is_settled}
 
 -- ---- One connection
 
--- the reply that replaces another if memory runs out; a fixed one needs no memory
+-- the reply 503, which replaces another if memory runs out; a fixed reply needs no memory
 abbrev pub IsUnavailable : List ℕ → List ℕ → Type 0
 IsUnavailable request reply = (row : ReplyRow) × IsRow request row × (fixed_of row ≡ None) × (reply ≡ unavailable_of row)
 
--- the answer to a connection's bytes: nothing if there are none, and otherwise the reply to them or the one
--- that replaces it
+-- the answer to a connection's bytes: no bytes if there are none, and otherwise the reply to them or the
+-- reply 503
 abbrev pub Answers : ServedData → ℤ → List ℕ → List ℕ → Type 0
 Answers served_data minute [] reply = reply ≡ []
 Answers served_data minute (b ∷ bytes) reply =
@@ -59,14 +59,14 @@ abbrev pub has_byte : List ℕ → Bool
 has_byte [] = false
 has_byte (b ∷ bytes) = true
 
--- the clock is read for a connection that has a byte, and for no other; if a read or write failed, it may
--- or may not have been
+-- the clock is read for a connection that has a byte, and for no other; if a read or write failed,
+-- either is possible
 abbrev pub AsksUnlessCut : Bool → List ℕ → Bool → Type 0
 AsksUnlessCut false bytes is_asked = is_asked ≡ has_byte bytes
 AsksUnlessCut true bytes is_asked = Unit {0}
 
--- a connection: the pieces that were sent, its reply, whether a read or write failed, and whether the clock
--- was read for it
+-- a connection: the pieces that the client sent, its reply, whether a read or write failed, and whether
+-- the clock was read for it
 pub record Conversation : Type 0 where
   pub request : List (List ℕ)
   pub reply : List ℕ
@@ -80,7 +80,7 @@ pub record IsHeld (served_data : ServedData) (minute : ℤ) (c : Conversation) :
 
 -- ---- One after the other
 
--- the clock after a connection, for which it returned its next minute once or not at all
+-- the clock after a connection, for which it was read once or not at all
 abbrev pub clock_with : Bool → ClockState → ClockState
 clock_with is_asked clock = if is_asked then clock_after (Ok (next_minute clock)) clock else clock
 
@@ -100,12 +100,12 @@ AreHeld served_data clock (c ∷ more) = IsHeld served_data (next_minute clock) 
 
 -- ---- The bytes that are read
 
--- the bytes so far determine the row of their request
+-- the bytes read until now determine the row of their request
 abbrev pub IsEnough : List ℕ → Type 0
 IsEnough request = (row : ReplyRow) × IsRow request row × IsTrue (is_settled row)
 
--- the pieces of a connection that are left: nothing was read after the bytes determined the reply; the
--- bytes before the last read didn't, and this read returned no more than what was left of one piece
+-- the unread pieces of a connection: nothing was read after the bytes determined the reply; the bytes
+-- before the last read didn't determine it, and this read returned no more than the rest of one piece
 pub record IsReadAsNeeded (request left : List (List ℕ)) : Type 0 where
   pub before : ℕ
   pub all : ℕ
@@ -113,7 +113,7 @@ pub record IsReadAsNeeded (request left : List (List ℕ)) : Type 0 where
   pub waits : ¬ (IsEnough (take before (concat request)))
   pub one : all ≤ before + length (first_or_empty (left_after before request))
 
--- the pieces of the last connection that are left; the earlier ones are not described
+-- the unread pieces of the last connection; nothing is said about the earlier ones
 abbrev pub IsLastReadAsNeeded : List (List (List ℕ)) → List (List ℕ) → Type 0
 IsLastReadAsNeeded [] left = Unit {0}
 IsLastReadAsNeeded (request ∷ []) left = IsReadAsNeeded request left
@@ -130,11 +130,11 @@ pub record Exchange : Type 0 where
 abbrev pub exchange : DoorState → ClockState → Exchange
 exchange door clock = record { door = door; clock = clock }
 
--- a count rose by `more`, unless it is saturated
+-- a count grew by `more`, unless it is saturated
 abbrev pub RoseBy : ℕ → ℕ → ℕ → Type 0
 RoseBy more before now = (now ≡ before + more) ⊎ (now ≡ 2 ^ 64 - 1)
 
--- no more connections will come, or the most were accepted
+-- there are no more connections, or the most were accepted
 abbrev pub IsOver : Doorway → Type 0
 IsOver door = (door.is_over ≡ true) ⊎ (door.taken ≡ 2 ^ 64 - 1)
 
@@ -144,16 +144,16 @@ abbrev pub MayLeave : Bool → List (List (List ℕ)) → Type 0
 MayLeave false left = left ≡ []
 MayLeave true left = length left ≤ 1
 
--- the clock at the end: it has failed for the connection that was left, if any
+-- the clock at the end: it has failed for the connection that was left without a reply, if any
 abbrev pub clock_at_end : List (List (List ℕ)) → ClockState → ClockState
 clock_at_end [] clock = clock
 clock_at_end (request ∷ more) clock = clock_failed clock
 
--- Connections were served one after the other, in the order in which they waited, and each has its reply.
--- As many were cut short as the count of failed reads and writes rose by. One was left exactly if the clock
--- has failed, and it has a byte. The clock was read once for each connection that needs it, and for nothing
--- else. If the port keeps the pieces that a client sends, the last connection was read no further than its
--- reply needs.
+-- Connections were served one after the other, in the order in which they waited, and each has its
+-- reply. As many were cut short as the count of failed reads and writes grew by. One was left without a
+-- reply exactly if the clock has failed, and it has a byte. The clock was read once for each connection
+-- that needs it, and for nothing else. If a read of the port returns bytes of only one piece that a
+-- client sent, the last connection was read no further than its reply needs.
 pub record Served (served_data : ServedData) (has_failed : Bool) (before after : Exchange) : Type 0 where
   pub served : List Conversation
   pub left : List (List (List ℕ))

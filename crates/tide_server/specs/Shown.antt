@@ -1,4 +1,4 @@
--- The data of a server by the files that it opened (this project).
+-- The data of a server, from the files that it opened (this project).
 use Rattle.std.specs.Prelude.{◌≡◌, ℕ, List, [], ◌∷◌, ◌++◌, map, Option, Some, None, Result, Ok, Err}
 use Rattle.question.specs.declared.question.Question.{Question}
 use Rattle.tide_edge.specs.FileStates.{Opening, listed, openings_of}
@@ -13,8 +13,8 @@ use Rattle.named_files.specs.Readings.{Folders}
 use Rattle.tide_server.specs.declared.served_data.ServedData.{ServedData}
 use Rattle.tide_server.specs.Openings.{EndsAs, ServerStates, service_of, served_data_from}
 
--- the names of the files of a request to serve, up to the file that is the reason; the harmonics file has
--- the name
+-- the names of the files of a request to serve, up to the file that is the reason why there is no data;
+-- the harmonics file has this name
 abbrev pub served_data_names : List ℕ → Question → Option Slot → List (List ℕ)
 served_data_names name question None = name ∷ listed question.offsets
 served_data_names name question (Some slots.File) = name ∷ []
@@ -37,13 +37,13 @@ abbrev pub folders_by : Result Question Fault → List Opening → Folders
 folders_by (Ok question) openings = folders_shown question openings
 folders_by (Err fault) openings = λ slot name. None
 
--- the data of the arguments by the openings
+-- the data of the arguments, from the openings
 abbrev pub served_data_by_openings : List (List ℕ) → List Opening → Result ServedData NoAnswer
 served_data_by_openings words openings = served_data_from (folders_by (service_of words) openings) words
 
--- A server ends by the data of its arguments by what it opened. It opened the first of the files that the
--- arguments name, in their order, each once; and unless memory ran out, none after the one that is the
--- reason.
+-- A server ends with the data of its arguments, from what it opened. It opened the first of the files
+-- that the arguments name, in their order, each once; and unless memory ran out, none after the one that
+-- is the reason.
 pub record EndsAsShown (words : List (List ℕ)) (status : Status) (before after : ServerStates) : Type 0 where
   pub openings : List Opening
   pub all : openings_of after.files.openings ≡ openings_of before.files.openings ++ openings

@@ -1,5 +1,5 @@
--- A server in memory worked out by hand: its files hold constants under the name `f`, and no call on it
--- fails (this project).
+-- An example of a server in memory: its files have constants under the name `f`, and no call on it fails
+-- (this project).
 use Rattle.std.specs.Prelude.{ℕ, pos, List, [], ◌∷◌, codes}
 use Rattle.harmonics_book.specs.Worked.{pier_book}
 use Rattle.harmonics_text.specs.Worked.{file_of, pier_lines}
@@ -10,11 +10,11 @@ use Rattle.tide_edge.specs.Memory.{HeldClock, HeldDoor, HeldFiles, HeldSink, clo
 use Rattle.tide_server.specs.declared.served_data.ServedData.{ServedData}
 use Rattle.tide_server.specs.Promises.{ServiceStates, Services, service_states, services}
 
--- no call was made, and none is to fail
+-- the counts before any call, none of which is to fail
 abbrev pub no_calls : HeldCalls
 no_calls = record { fails = []; made = 0; faults = 0 }
 
--- the files
+-- the files of the example
 abbrev pub pier_files : HeldFiles
 pier_files = record {
   files = record { name = codes "f"; bytes = file_of pier_lines } ∷ [];
@@ -41,15 +41,15 @@ quiet_door = record {
 abbrev pub in_memory : ServiceStates HeldFiles HeldDoor HeldSink HeldClock
 in_memory = service_states files_state door_state sink_state clock_state
 
--- the objects of the server
+-- the objects of the example
 abbrev pub pier : Services HeldFiles HeldDoor HeldSink HeldClock
 pier = services pier_files quiet_door (record { taken = []; most = 10; room = 1000; calls = no_calls })
     (record { minute = pos 15791220; given = []; calls = no_calls })
 
--- its arguments
+-- the arguments of the example
 abbrev pub pier_words : List (List ℕ)
 pier_words = codes "serve" ∷ codes "file=f" ∷ []
 
--- its data
+-- the data of the example
 abbrev pub pier_data : ServedData
 pier_data = record { book = pier_book; table = []; port = 8080 }

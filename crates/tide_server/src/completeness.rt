@@ -11,13 +11,14 @@ ghost use Rattle.tide_server.specs.Worked.{in_memory, pier, pier_data, pier_word
 use harmonics_text::worked_files;
 use tide_edge::{Clock, Door, Files, Sink};
 
-/// A server that returns is done, or ran out of memory before it listened, over steady files that
-/// hold what the arguments name, within their limits, and with a clock and a port that don't fail.
+/// Proves that a server that returns is done, or ran out of memory before it listened, if the files are
+/// steady, have the contents that the arguments name, and are within their limits, and if the clock and
+/// the port don't fail.
 pub fn servers_are_complete<F: Files, D: Door, E: Sink, K: Clock>()
     ensures { IsComplete (service_states F.state D.state E.state K.state) }
 {}
 
-/// A server in memory: the data that it serves, and that nothing failed.
+/// Proves an example of a server in memory: the data that it serves, and that nothing failed.
 pub fn worked_servers()
     ensures words { service_of pier_words ≡ Ok (record (bare Command.Serve) { file = Some (codes "f") }) }
     ensures served_data { served_data_of (in_memory.files pier.files).store.folder pier_words ≡ Ok pier_data }

@@ -20,8 +20,8 @@ use http_rows::{
 use std::alloc::Global;
 use tide_edge::{Clock, Door, Failed};
 
-/// Serves the open connection and closes it. A failed read or write of the connection ends this
-/// connection alone, and nothing is tried again after one.
+/// Serves the open connection and closes it. A failed read or write ends only this connection; nothing
+/// more is read or written over it.
 ///
 /// # Errors
 /// [`Failed`] if the clock failed.
@@ -42,8 +42,8 @@ pub(crate) fn serve_connection<D: Door, K: Clock>(
     answered
 }
 
-// Reads the open connection until its bytes determine a reply, or to their end, and no further,
-// since a client may wait for its reply before it sends more. Then it replies.
+/// Reads the open connection until its bytes determine a reply, or to their end, and no further, since a
+/// client may wait for its reply before it sends more. Then it replies.
 fn answer_connection<D: Door, K: Clock>(
     alloc: Global,
     served_data: &ValidServedData,
@@ -72,15 +72,15 @@ fn answer_connection<D: Door, K: Clock>(
     }
 }
 
-// Returns true if no more is to be read after a piece of `count` bytes, by the request `row` so
-// far.
+/// Returns true if nothing more is to be read after a piece of `count` bytes; `row` is the row of the
+/// bytes read until now.
 fn ends_reading(count: usize, row: &ReplyRow<'_>) -> bool
     ensures { result ≡ (count == 0 || is_settled (row_seen row.now)) }
 {
     count == 0 || row.is_settled()
 }
 
-// Replies to what was read of a connection, at the present minute.
+/// Replies to the bytes that were read of a connection, at the present minute.
 fn answer_row<D: Door, K: Clock>(
     alloc: Global,
     served_data: &ValidServedData,
@@ -98,7 +98,7 @@ fn answer_row<D: Door, K: Clock>(
     Ok(())
 }
 
-// Sends the reply to a request, or the reply that replaces it if memory runs out.
+/// Sends the reply to a request, or, if memory runs out, the reply 503.
 fn send_reply<D: Door>(
     alloc: Global,
     served_data: &ValidServedData,
@@ -131,7 +131,7 @@ fn send_response<D: Door>(response: &Response, door: &mut D) -> Result<(), Faile
     send(door, body)
 }
 
-/// Sends the fixed reply to a request that is `rejection`.
+/// Sends the fixed reply for `rejection`.
 fn send_rejection<D: Door>(
     rejection: RequestRejection,
     bodiless: bool,
@@ -145,7 +145,7 @@ fn send_rejection<D: Door>(
     send(door, text.as_str().as_bytes())
 }
 
-// Sends the reply that replaces another if memory runs out.
+/// Sends the reply 503, which replaces another if memory runs out.
 fn send_unavailable<D: Door>(bodiless: bool, door: &mut D) -> Result<(), Failed>
     requires { IsTrue (D.state door.old).doorway.is_open }
     ensures { SentBy (is_err result) (unavailable_to bodiless) (D.state door.old) (D.state door.new) }

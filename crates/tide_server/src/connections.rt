@@ -13,7 +13,7 @@ use crate::served_data::ValidServedData;
 use std::alloc::Global;
 use tide_edge::{Clock, Door};
 
-/// Serves one connection after the other, until no more will come or 2^64 - 1 of them were served.
+/// Serves one connection after the other, until there are no more or 2^64 - 1 of them were served.
 ///
 /// # Errors
 /// [`Outage`] if the port or the clock failed.
@@ -46,7 +46,7 @@ pub(crate) fn serve_all<D: Door, K: Clock>(
     Ok(())
 }
 
-// Serves the next connection, and returns true if there was one.
+/// Serves the next connection, and returns true if there was one.
 fn serve_next<D: Door, K: Clock>(
     alloc: Global,
     served_data: &ValidServedData,

@@ -27,11 +27,10 @@ use std::alloc::{AllocError, Global};
 use tide_answer::{Fault, GivenView, Refusal, StationData, answer_valid, fault_line};
 use zone_time::Zone;
 
-/// Returns the reply to the whole of a `request`, over the harmonic constants `book` and the
-/// offsets `table`, at the minute `now` since 1970-01-01T00:00Z. Bytes after the request are
-/// ignored.
+/// Returns the reply to `request`, a whole request, with the harmonic constants `book` and the offsets
+/// `table`, at the minute `now` since 1970-01-01T00:00Z. Bytes after the request are ignored.
 ///
-/// The program doesn't call it: it writes fixed replies without allocating, and makes the others.
+/// The program doesn't call it: it writes fixed replies without allocating, and makes only the others.
 ///
 /// # Errors
 /// [`AllocError`] if memory runs out.
@@ -76,7 +75,7 @@ fn whole_reply(
     asking_reply(alloc, stations, asking, now)?.joined(alloc)
 }
 
-/// Returns the fixed reply to a request that is `rejection`.
+/// Returns the fixed reply for `rejection`.
 fn rejection_reply(
     alloc: Global,
     rejection: RequestRejection,
@@ -180,7 +179,7 @@ fn answer_reply(
     }
 }
 
-/// Returns the inputs of the answer besides the harmonic constants and the offsets. The certificate
+/// Returns the inputs of the answer other than the harmonic constants and the offsets. The certificate
 /// is the body of the request.
 fn given_with<'a>(zone: &'a Zone, body: &'a [u8], now: i64) -> GivenView<'a>
     requires zone { IsZone zone.now }
@@ -210,14 +209,14 @@ fn zone_of(word: &ZoneWord) -> Zone
     }
 }
 
-/// Returns true if `fault` is that memory ran out.
+/// Returns true if `fault` says that memory ran out.
 fn is_out_of_memory(fault: AskFault) -> bool
     ensures { result ≡ is_out_of_memory fault }
 {
     matches!(fault, AskFault::NoMemory)
 }
 
-/// Returns true if `refusal` is that memory ran out.
+/// Returns true if `refusal` says that memory ran out.
 fn refusal_is_out_of_memory(refusal: Refusal) -> bool
     ensures { result ≡ refusal_is_out_of_memory refusal }
 {

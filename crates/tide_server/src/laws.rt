@@ -18,53 +18,55 @@ ghost use Rattle.tide_server.specs.Replies.{IsReply, names_file};
 ghost use Rattle.tide_server.specs.Responses.{fixed_of};
 ghost use Rattle.tide_server.specs.Rows.{ReplyRow, IsRow, is_settled};
 
-/// A request has exactly one meaning, its row.
+/// Proves that each request has exactly one row of the table of statuses.
 pub fn one_row()
     ensures { (request : List ℕ) (a b : ReplyRow) → IsRow request a → IsRow request b → a ≡ b }
 {}
 
-/// The row of a request doesn't change with further bytes, if the bytes so far determine it.
+/// Proves that further bytes don't change the row of a request, if the bytes received until now
+/// determine it.
 pub fn settled_rows_stay()
     ensures { (request more : List ℕ) (row : ReplyRow)
         → IsRow request row → IsTrue (is_settled row) → IsRow (request ++ more) row }
 {}
 
-/// The row of a request is determined by as many bytes as the longest request has.
+/// Proves that the row of a request is determined by as many bytes as the longest request has.
 pub fn long_requests_are_settled()
     ensures { (request : List ℕ) (row : ReplyRow) → IsRow request row → LONGEST ≤ length request → IsTrue (is_settled row) }
 {}
 
-/// A request has exactly one reply.
+/// Proves that each request has exactly one reply.
 pub fn one_reply()
     ensures { (book : Book) (table : List Offsets) (minute : ℤ) (request a b : List ℕ)
         → IsReply book table minute request a → IsReply book table minute request b → a ≡ b }
 {}
 
-/// The reply to a request doesn't change with further bytes, if the bytes so far determine its row.
+/// Proves that further bytes don't change the reply to a request, if the bytes received until now
+/// determine its row.
 pub fn settled_replies_stay()
     ensures { (book : Book) (table : List Offsets) (minute : ℤ) (request more reply : List ℕ) (row : ReplyRow)
         → IsRow request row → IsTrue (is_settled row)
         → IsReply book table minute request reply → IsReply book table minute (request ++ more) reply }
 {}
 
-/// The reply of a fixed row is the same over all harmonic constants.
+/// Proves that the reply of a fixed row of the table of statuses is the same for all harmonic constants.
 pub fn fixed_rows_reply()
     ensures { (book : Book) (table : List Offsets) (minute : ℤ) (request reply : List ℕ) (row : ReplyRow)
         → IsRow request row → fixed_of row ≡ Some reply → IsReply book table minute request reply }
 {}
 
-/// A query never names a zone's file.
+/// Proves that a query never names a zone's file.
 pub fn queries_name_no_file()
     ensures { (command : Option (List ℕ)) (items : List Item) (question : Question)
         → question_of record { origin = Origin.Query; command = command; items = items } ≡ Ok question
         → names_file question.zone ≡ false }
 {}
 
-/// A server over files, a port, a sink and a clock in memory: if [`serve`](crate::serve) has
-/// listened, the port holds a reply for each request that was taken, in their order, each the reply
-/// to the bytes of its request at the clock's minute, unless a read or write failed. If the server
-/// ended with a read fault, this holds for all requests but the last one: if the clock failed for
-/// this one, its reply is empty.
+/// Proves for a server over files, a port, a sink and a clock in memory: if [`serve`](crate::serve) has
+/// listened, the port has a reply for each accepted request, in their order, each the reply to the bytes
+/// of its request at the clock's minute, unless a read or write failed. If the server ended with a read
+/// fault, this holds for all requests except the last one; if the clock failed for that request, its
+/// reply is empty.
 pub fn serve_in_memory()
     ensures { (words : List (List ℕ)) (status : Status) (before after : InMemory)
         → before.door.doorway.port ≡ None → ¬ (after.door.doorway.port ≡ None)

@@ -1,10 +1,10 @@
 //! Tides over HTTP: requests and their replies.
 //!
-//! [`enough`] returns true if the bytes of a request so far determine the reply, and [`reply`]
-//! makes it. [`fixed_reply`] makes the replies that need no prediction, such as to a malformed head
-//! or an unknown path, and [`unavailable_reply`] the one that replaces another if memory runs out;
-//! neither allocates. [`serve`] reads the arguments and the files, listens, and serves one
-//! connection after the other.
+//! [`enough`] returns true if the bytes received of a request determine the reply, and [`reply`] returns
+//! it. [`fixed_reply`] writes the replies that need no prediction, such as to a malformed head or an
+//! unknown path, and [`unavailable_reply`] the reply 503, which replaces another if memory runs out;
+//! neither allocates. [`serve`] reads the arguments and the files, listens, and serves one connection
+//! after the other.
 #![tactic(auto)]
 
 mod completeness;

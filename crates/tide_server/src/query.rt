@@ -51,7 +51,7 @@ fn item_of(alloc: Global, name: &[u8], value: &[u8]) -> Result<Item, AllocError>
     })
 }
 
-/// Returns `encoded`, a name or a value of a query, decoded: `+` is a space, and bytes that are no UTF-8
+/// Returns `encoded`, a name or a value of a query, decoded: `+` is a space, and bytes that aren't UTF-8
 /// become U+FFFD.
 #[tactic(auto, unfolding(crate::specs::Queries::said_by))]
 fn said_by(alloc: Global, encoded: &[u8]) -> Result<Text, AllocError>

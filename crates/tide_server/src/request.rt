@@ -5,8 +5,8 @@ use std::alloc::{AllocError, Global};
 use std::marker::Model;
 use tide_edge::{Door, Failed, PIECE};
 
-/// The bytes of a request so far, in memory that is allocated once for the longest one. Contracts
-/// see it as the bytes.
+/// The bytes received of a request, in memory that is allocated once for the longest request. In
+/// contracts its value is the bytes.
 #[derive(Drop)]
 pub(crate) struct Request {
     bytes: Vec<u8>,
@@ -32,7 +32,7 @@ impl Request {
     ghost use Rattle.tide_edge.specs.Doors.{door_after_read, first_or_empty};
     ghost use Rattle.tide_server.specs.declared.limits.TheConstants.{LONGEST};
 
-    /// Returns a request without a byte, and allocates for the longest one.
+    /// Returns a request without bytes, with memory for the longest request.
     pub(crate) fn new(alloc: Global) -> Result<Request, AllocError>
         ensures { IfOk result (λ request. request ≡ []) }
     {
@@ -42,7 +42,7 @@ impl Request {
         })
     }
 
-    /// Returns the bytes so far.
+    /// Borrows the bytes received.
     pub(crate) fn as_slice(&self) -> &[u8]
         ensures { result.now ≡ self.now }
     {
@@ -56,8 +56,8 @@ impl Request {
         self.bytes.clear();
     }
 
-    /// Reads the next bytes of the open connection, at most a piece, and appends them. Returns
-    /// their number, which is 0 at the end of the connection. Doesn't allocate.
+    /// Reads the next bytes of the open connection, at most a piece, and appends them. Returns their
+    /// number, which is 0 at the end of the connection. It doesn't allocate.
     ///
     /// # Errors
     /// [`Failed`] if the read failed.

@@ -6,7 +6,7 @@ ghost use Rattle.tide_server.specs.Workings.Connections.{SentBy};
 use http_rows::rest_from;
 use tide_edge::{Door, Failed};
 
-/// Sends all of `text` over the open connection. Doesn't allocate.
+/// Sends all of `text` over the open connection. It doesn't allocate.
 ///
 /// # Errors
 /// [`Failed`] if a write failed. Nothing was sent after it.

@@ -8,18 +8,19 @@ use station_table::OffsetTable;
 use std::marker::Model;
 use tide_answer::StationData;
 
-/// The data that a server serves, and its port.
+/// The data that a server serves: harmonic constants and subordinate stations; and its port.
 #[derive(Drop)]
 pub struct ServedData {
-    /// The harmonic constants.
+    /// The harmonic constants that the server answers with.
     pub book: Book,
-    /// The subordinate stations. It has no row if no table is named.
+    /// The subordinate stations. The table has no rows if the arguments name no table.
     pub table: OffsetTable,
     /// The port of 127.0.0.1 at which the server listens.
     pub port: u16,
 }
 
-/// The data of a server, whose harmonic constants are valid. Contracts see it as the data.
+/// The data that a server serves, with harmonic constants that are proved to be valid. In contracts its
+/// value is the data.
 #[derive(Drop)]
 pub struct ValidServedData {
     served_data: ServedData,
@@ -37,7 +38,8 @@ impl Model for ValidServedData {
 }
 
 impl ValidServedData {
-    /// Returns `served_data`, whose harmonic constants are valid.
+    /// Returns `served_data` as valid data; the caller proves that the harmonic constants are in their
+    /// ranges.
     pub fn new(served_data: ServedData) -> ValidServedData
         requires { IsBook served_data.book }
         ensures { result ≡ served_data }
@@ -52,7 +54,7 @@ impl ValidServedData {
         StationData::new(&self.served_data.book, &self.served_data.table)
     }
 
-    /// Returns the port at which the server listens.
+    /// Returns the port of 127.0.0.1 at which the server listens.
     pub fn port(&self) -> u16
         ensures { result ≡ self.now.port }
     {

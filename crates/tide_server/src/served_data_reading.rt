@@ -21,11 +21,11 @@ use std::alloc::Global;
 use tide_edge::Files;
 use tide_fault::Fault;
 
-/// Reads the data that the arguments `words` name, whose command is `serve`: the harmonic constants,
-/// and then the table. Each file is read and its form checked before the next is opened.
+/// Reads the data that the arguments `words` name, with the command `serve`: the harmonic constants, and
+/// then the table. Each file is read and its contents checked before the next is opened.
 ///
 /// # Errors
-/// The first reason: the arguments, the harmonic constants, the table.
+/// The first reason in this order: the arguments, the harmonic constants, the table.
 pub(crate) fn read_served_data<F: Files>(
     alloc: Global,
     words: &Words,
@@ -54,7 +54,7 @@ pub(crate) fn read_served_data<F: Files>(
     }
 }
 
-// Reads the data of a request whose harmonics file is `name`.
+/// Reads the data of a request; its harmonics file is `name`.
 #[tactic(auto, unfolding(crate::specs::Openings::served_data_named))]
 fn read_named<F: Files>(
     alloc: Global,
@@ -85,7 +85,7 @@ fn read_named<F: Files>(
     }
 }
 
-// Returns the request to serve in the arguments `words`.
+/// Returns the request to serve in the arguments `words`.
 #[tactic(auto, unfolding(crate::specs::Openings::service_of))]
 fn read_service(alloc: Global, words: &Words) -> Result<Question, Fault>
     requires { asks_another words.now ≡ false }
@@ -105,7 +105,7 @@ fn service_in_words(alloc: Global, words: &Words) -> Result<Question, AskFault>
     read_question(alloc, &pairs)
 }
 
-/// Returns true if the command of `words` isn't `serve`. Doesn't allocate.
+/// Returns true if the command of `words` isn't `serve`. It doesn't allocate.
 pub(crate) fn names_another(words: &Words) -> bool
     ensures { result ≡ asks_another words.now }
 {

@@ -36,15 +36,15 @@ use std::alloc::Global;
 use tide_edge::{Clock, Door, Files, Sink};
 use tide_fault::Status;
 
-/// Serves the answers over the files that the arguments `words` name, at the port that they name,
-/// of 127.0.0.1: reads arguments and files, allocates for the longest request, listens, and serves
-/// one connection after the other. Returns the exit status, 0 to 8.
+/// Serves answers with the files that the arguments `words` name, at the port of 127.0.0.1 that they
+/// name: reads arguments and files, allocates for the longest request, listens, and serves one
+/// connection after the other. Returns the exit status, 0 to 8.
 ///
-/// It prints to `err` the port at which it listens, and the reason for which it ends if something
-/// failed; a failed write to `err` changes nothing. A failed read or write of a connection ends
-/// this connection alone. The clock is read once for each connection that has a byte, and the reply
-/// is of this minute. If the port keeps the pieces that a client sends apart, the last connection
-/// is read no further than its reply needs.
+/// It prints to `err` the port at which it listens and, if something failed, the reason why it ends; a
+/// failed write to `err` changes nothing. A failed read or write of a connection ends only this
+/// connection. The clock is read once for each connection that has a byte, and the reply is for this
+/// minute. If a read of the port never returns bytes of more than one piece that a client sent, the last
+/// connection is read no further than its reply needs.
 ///
 /// # Examples
 /// ```
@@ -71,7 +71,7 @@ pub fn serve<F: Files, D: Door, E: Sink, K: Clock>(
     serve_words(alloc, words, files, door, err, clock)
 }
 
-// Does the same as [`serve`], with each promise as a clause of its own.
+/// Does the same as [`serve`]; its contract has a separate clause for each property.
 fn serve_words<F: Files, D: Door, E: Sink, K: Clock>(
     alloc: Global,
     words: &Words,
@@ -120,7 +120,7 @@ fn serve_words<F: Files, D: Door, E: Sink, K: Clock>(
     }
 }
 
-// Listens, and serves each connection.
+/// Listens, and serves each connection.
 fn serve_data<D: Door, E: Sink, K: Clock>(
     alloc: Global,
     served_data: &ValidServedData,
@@ -141,7 +141,7 @@ fn serve_data<D: Door, E: Sink, K: Clock>(
     }
 }
 
-// Serves each connection of the port, which is listened to.
+/// Serves each connection of the port; the port is open.
 fn serve_open<D: Door, E: Sink, K: Clock>(
     alloc: Global,
     served_data: &ValidServedData,
@@ -163,7 +163,7 @@ fn serve_open<D: Door, E: Sink, K: Clock>(
     }
 }
 
-// Prints the port at which the server listens.
+/// Prints the port at which the server listens.
 fn report_port<E: Sink>(port: u16, err: &mut E)
     ensures { (failed : Bool) × Wrote (E.state err.old) (E.state err.new) failed (notice_of port) }
 {

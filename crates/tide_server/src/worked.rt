@@ -7,7 +7,7 @@ ghost use Rattle.tide_server.specs.Queries.{items_of, said_by};
 ghost use Rattle.tide_server.specs.Replies.{reply_of};
 ghost use Rattle.http_rows.specs.Rows.{asks};
 
-/// The pairs of a few queries.
+/// Proves which keys and values some web queries give.
 pub fn worked_queries()
     ensures items { items_of (codes "station=Pier+test&&zone=%2B05:30&mark") ≡
         record { key = codes "station"; value = Some (codes "Pier test") }
@@ -17,7 +17,7 @@ pub fn worked_queries()
     ensures no_text { said_by (codes "%FFa") ≡ 239 ∷ 191 ∷ 189 ∷ 97 ∷ [] }
 {}
 
-/// The replies to queries that are no request.
+/// Proves the replies to some web queries that aren't requests.
 pub fn worked_answers()
     ensures none_asked { (book : Book) (table : List Offsets) (minute : ℤ)
         → reply_of book table minute (asks record { path = codes "/clock"; query = codes "zone=UTC"; body = []; bodiless = false })

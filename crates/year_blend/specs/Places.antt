@@ -25,7 +25,7 @@ use Rattle.year_blend.specs.declared.parts.Place.{Place}
 use Rattle.year_blend.specs.declared.parts.Place.TheVariants.{Plain, Blend}
 use Rattle.year_blend.specs.Years.{year_start_of}
 
--- the first year and the number of years that a file can have
+-- the first year, from 2 to 8800, and the number of years, from 1 to 500, that a file can have
 pub record AreYears (first_year : ℤ) (years : ℕ) : Type 0 where
   pub least : pos 2 ≤ℤ first_year
   pub most : first_year ≤ℤ pos 8800
@@ -41,8 +41,8 @@ pub record InDomain (first_year : ℤ) (years : ℕ) (m : ℤ) : Type 0 where
   pub least : year_start_of first_year ≤ℤ m
   pub most : m ≤ℤ year_start_of (first_year +ℤ pos years)
 
--- minute m is in the blend of year `year`: less than an hour from its start, x minutes after it; not for
--- the first year
+-- minute m is in the blend at the start of year `year`: less than an hour from it, and x minutes after
+-- it; the first year has no blend
 pub record IsInBlend (first_year : ℤ) (years : ℕ) (m : ℤ) (year : ℕ) (x : ℤ) : Type 0 where
   pub later : 0 < year
   pub inner : year < years
@@ -50,14 +50,14 @@ pub record IsInBlend (first_year : ℤ) (years : ℕ) (m : ℤ) (year : ℕ) (x 
   pub above : negsuc 59 <ℤ x
   pub below : x <ℤ pos 60
 
--- minute m is in year `year`: from its start to before the next one's; the last year has the domain's
--- last minute too
+-- minute m is in year `year`: from its start up to but not including the next year's start; the last
+-- year also has the domain's last minute
 pub record IsInYear (first_year : ℤ) (years : ℕ) (m : ℤ) (year : ℕ) : Type 0 where
   pub one_of : year < years
   pub begun : start_of first_year year ≤ℤ m
   pub ongoing : (m <ℤ start_of first_year (suc year)) ⊎ ((suc year ≡ years) × (m ≡ start_of first_year years))
 
--- the rule for positions: a minute in no blend is plain, and of the year that contains it
+-- the rule for positions: a minute in no blend is plain, in the year that contains it
 abbrev pub IsPlaceOf : ℤ → ℕ → ℤ → Place → Type 0
 IsPlaceOf first_year years m (Plain year) =
     IsInYear first_year years m year

@@ -6,7 +6,7 @@ use Rattle.std.specs.Prelude.{ℕ, ℤ, pos, negsuc, ◌+ℤ◌, ◌-ℤ◌, ◌
 abbrev pub total_weight : ℕ
 total_weight = 4147200000
 
--- x is a number of minutes from the new year, at most an hour
+-- x is a number of minutes from the new year, from -60 to 60
 pub record IsWithinHourOfNewYear (x : ℤ) : Type 0 where
   pub least : negsuc 59 ≤ℤ x
   pub most : x ≤ℤ pos 60
@@ -17,11 +17,11 @@ square x = x *ℤ x
 abbrev pub cube : ℤ → ℤ
 cube x = x *ℤ square x
 
--- the weight: 2073600000 + 64800000 x - 12000 x^3 + x^5
+-- the weight of the later year, x minutes from the new year: 2073600000 + 64800000 x - 12000 x^3 + x^5
 unfoldable pub weight_of : ℤ → ℤ
 weight_of x =
     ((pos 2073600000 +ℤ (pos 64800000 *ℤ x)) -ℤ (pos 12000 *ℤ cube x)) +ℤ (square x *ℤ cube x)
 
--- the change of the weight a minute: 5 (3600 - x^2)^2
+-- the change of the weight per minute, x minutes from the new year: 5 (3600 - x^2)^2
 unfoldable pub weight_slope_of : ℤ → ℤ
 weight_slope_of x = pos 5 *ℤ square (pos 3600 -ℤ square x)

@@ -19,7 +19,8 @@ pub fn year_lengths()
     ensures most { (y : ℤ) → IsYearInReach y → year_start_of y ≤ℤ pos 3855208320 }
 {}
 
-/// Proves that each minute of the domain has exactly one position.
+/// Proves that each minute of a run of years is in exactly one position: in the plain part of one year,
+/// or in one blend.
 pub fn unique_places()
     ensures some { (first_year : ℤ) (years : ℕ) (m : ℤ) → AreYears first_year years → InDomain first_year years m
         → IsPlaceOf first_year years m (place_of first_year years m) }
@@ -27,8 +28,8 @@ pub fn unique_places()
         → (p : Place) → IsPlaceOf first_year years m p → p ≡ place_of first_year years m }
 {}
 
-/// Proves that the minutes from a plain minute to the end of its year's plain part are plain minutes of
-/// the same year, and that this end isn't before the minute.
+/// Proves that all minutes from a plain minute, one outside the blends at new years, to the end of its
+/// year's plain part are plain minutes of the same year, and that this end isn't before the minute.
 pub fn plain_parts()
     ensures rest { (first_year : ℤ) (years : ℕ) (m later : ℤ) (year : ℕ) → AreYears first_year years → InDomain first_year years m
         → place_of first_year years m ≡ Plain year → m ≤ℤ later → later ≤ℤ plain_end_of first_year years year
@@ -47,7 +48,8 @@ pub fn unique_stretches()
         → (s : Stretch) → IsStretchOf first_year years m n s → s ≡ stretch_of first_year years m n }
 {}
 
-/// Proves bounds on the weight and its slope over a blend, and on the change of each in a minute.
+/// Proves bounds on the weight of the later year in a blend and on its slope, and on the change of each
+/// in a minute.
 pub fn weight_steps()
     ensures weight { (x : ℤ) → IsWithinHourOfNewYear x → (pos 0 ≤ℤ weight_of x) × (weight_of x ≤ℤ pos total_weight) }
     ensures slope { (x : ℤ) → IsWithinHourOfNewYear x → (pos 0 ≤ℤ weight_slope_of x) × (weight_slope_of x ≤ℤ pos 64800000) }
@@ -94,7 +96,7 @@ pub fn worked_rows()
     ensures last_slope { weight_slope_of (pos 60) ≡ pos 0 }
 {}
 
-/// Proves the limit on the length of a stretch.
+/// Proves that a stretch has at most 1,024 minutes.
 pub fn worked_limits()
     ensures minutes { LONGEST_SPAN ≡ 1024 }
 {}

@@ -1,9 +1,9 @@
 //! The years of a file, and the blend from one year to the next.
 //!
-//! Harmonic constants hold for one year. Within an hour of a new year between two years both count, by a
-//! [`weight`] that moves smoothly from the earlier year to the later one. [`place`] returns the year or
-//! the blend of a minute, [`stretch`] the years of consecutive minutes, [`plain_end`] the last minute of a
-//! year outside blends, and [`year_start`] the first minute of a year.
+//! Harmonic constants hold for one year. Within an hour of a new year between two years the constants of
+//! both count: a [`weight`] moves smoothly from the earlier year to the later one. [`place`] returns the
+//! year or the blend of a minute, [`stretch`] the years of consecutive minutes, [`plain_end`] the last
+//! minute of a year outside blends, and [`year_start`] the first minute of a year.
 #![tactic(auto)]
 
 mod finding;

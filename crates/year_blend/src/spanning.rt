@@ -8,7 +8,7 @@ ghost use Rattle.year_blend.specs.Stretches.{IsStretchOf, stretch_of};
 use crate::finding::{place, plain_end};
 use crate::parts::{Place, Stretch};
 
-/// The most minutes of a stretch.
+/// The most minutes of a stretch: the greatest length of consecutive minutes that [`stretch`] accepts.
 pub const LONGEST_SPAN: u32 = 1024;
 
 /// Returns the stretch of the minutes from `m` to `m + n`, both included and of the domain, among `years`

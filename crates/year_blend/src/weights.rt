@@ -3,11 +3,11 @@
 ghost use Rattle.std.specs.Prelude.{◌≡◌, ◌≤◌, pos, ◌-ℤ◌, ◌≤ℤ◌};
 ghost use Rattle.year_blend.specs.Weights.{weight_of, weight_slope_of, total_weight, IsWithinHourOfNewYear};
 
-/// The sum of the weights of both years.
+/// The sum of the weights of the earlier and the later year in a blend.
 pub const TOTAL_WEIGHT: i64 = 4_147_200_000;
 
-/// Returns the weight of the later year `x` minutes from the new year, from 0 to [`TOTAL_WEIGHT`]; `x` is
-/// from -60 to 60.
+/// Returns the weight of the later year in a blend, from 0 to [`TOTAL_WEIGHT`], at `x` minutes from the
+/// new year; `x` is from -60 to 60.
 pub fn weight(x: i64) -> i64
     requires { IsWithinHourOfNewYear x }
     ensures value { result ≡ weight_of x }
@@ -17,8 +17,8 @@ pub fn weight(x: i64) -> i64
     weight_after((x + 60) as u64) as i64
 }
 
-/// Returns the change of the weight a minute, `x` minutes from the new year, from 0 to 64,800,000; `x` is
-/// from -60 to 60.
+/// Returns the change per minute of the weight of the later year in a blend, from 0 to 64,800,000, at
+/// `x` minutes from the new year; `x` is from -60 to 60.
 pub fn weight_slope(x: i64) -> i64
     requires { IsWithinHourOfNewYear x }
     ensures value { result ≡ weight_slope_of x }

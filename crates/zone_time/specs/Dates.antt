@@ -25,7 +25,7 @@ use Rattle.std.specs.Prelude.{
 }
 use Rattle.jiff_core.specs.Calendar.{days_in_month, days_in_year}
 
--- a date of the years from 0 on
+-- a date: year, month and day, in the years from 0 on
 pub record CalendarDate : Type 0 where
   pub year : ℕ
   pub month : ℕ
@@ -49,7 +49,7 @@ date_from_year (suc more) y days =
       | false ↦ date_from_year more (y + 1) (days - days_in_year (pos y))
     ]
 
--- a day number of the years from 0 to 9999, where 1970-01-01 is 0
+-- a day number of the years from 0 to 9999, with 1970-01-01 as 0
 pub record IsDay (day : ℤ) : Type 0 where
   pub first : negsuc 719527 ≤ℤ day
   pub last : day ≤ℤ pos 2932896
@@ -68,6 +68,6 @@ date_text day =
     two_digits ((date_of day).year / 100) ++ two_digits ((date_of day).year % 100)
     ++ codes "-" ++ two_digits (date_of day).month ++ codes "-" ++ two_digits (date_of day).day
 
--- a number of minutes below 6000 as text: hours and minutes
+-- a number of minutes below 6000 as text, hours and minutes, such as `05:30`
 unfoldable pub clock_text : ℕ → List ℕ
 clock_text minutes = two_digits (minutes / 60) ++ codes ":" ++ two_digits (minutes % 60)

@@ -31,7 +31,7 @@ use Rattle.std.specs.Char.{is_ascii_digit}
 use Rattle.jiff_core.specs.Calendar.{days_in_month, days_from_civil}
 use Rattle.zone_time.specs.Dates.{date_text, clock_text}
 
--- a minute of the years from 1 to 9999
+-- a moment, in minutes since 1970-01-01T00:00Z, in the years from 1 to 9999
 pub record IsMoment (m : ℤ) : Type 0 where
   pub first : negsuc 1035593279 ≤ℤ m
   pub last : m ≤ℤ pos 4223371679
@@ -40,15 +40,15 @@ pub record IsMoment (m : ℤ) : Type 0 where
 abbrev pub day_of : ℤ → ℤ
 day_of m = int_div_euclid m (pos 1440)
 
--- the minute of the day
+-- the minute of the day of a moment
 abbrev pub minute_of_day : ℤ → ℕ
 minute_of_day m = unsigned_abs (int_rem_euclid m (pos 1440))
 
--- the text of a moment
+-- the text of a moment, such as `2000-01-10T00:00Z`
 unfoldable pub moment_text : ℤ → List ℕ
 moment_text m = date_text (day_of m) ++ codes "T" ++ clock_text (minute_of_day m) ++ codes "Z"
 
--- a byte matches a byte of a pattern: a digit matches 0 (48), and any other byte itself only
+-- a byte fits a byte of a pattern: a digit fits 0 (48), and any other byte only itself
 abbrev pub fits : ℕ → ℕ → Bool
 fits b wanted = if wanted == 48 then is_ascii_digit b else b == wanted
 
@@ -70,13 +70,13 @@ is_date y m d =
 abbrev pub year_at : List ℕ → ℕ
 year_at text = 100 * pair_at text 0 + pair_at text 2
 
--- the text is of an existing minute
+-- the text is the text of an existing minute
 abbrev pub names_moment : List ℕ → Bool
 names_moment text =
     has_form text && is_date (year_at text) (pair_at text 5) (pair_at text 8)
     && nat_le (pair_at text 11) 23 && nat_le (pair_at text 14) 59
 
--- the moment of a text
+-- the moment that a text writes, or None
 unfoldable pub moment_of : List ℕ → Option ℤ
 moment_of text =
     if names_moment text

@@ -1,5 +1,5 @@
--- Zone files with clocks that are computed elsewhere: New York's, with a table up to 1999, and one without
--- any change.
+-- Zone files with clocks that another program computed: New York's, with a table up to 1999, and one
+-- without any change.
 use Rattle.std.specs.Prelude.{ℕ, ℤ, pos, negsuc, List, [], ◌∷◌, ◌++◌, replicate, codes, Some}
 use Rattle.jiff_tz.specs.declared.info.Dst.TheVariants.{Yes, No}
 use Rattle.jiff_tz.specs.declared.posix.Day.TheVariants.{WeekdayOfMonth}

@@ -47,14 +47,14 @@ use Rattle.jiff_tz.specs.Year.{year_of_nanos}
 
 -- the instant of a rule's day and time of day in a year, in nanoseconds of universal time, by a clock
 -- `ahead` seconds ahead of it: no earlier than the start of the year and no later than its end, and the
--- end of the year if the year lacks the day
+-- end of the year if the year doesn't have the day
 unfoldable pub rule_moment : ℤ → Day × ℤ → ℤ → ℤ
 rule_moment year moment ahead = match_some (rule_day year moment.0) (last_nanosecond year) (λ day.
     clamp_to (first_nanosecond year) (last_nanosecond year) (day *ℤ nanos_per_day +ℤ nanos_of_seconds (moment.1 -ℤ ahead)))
 
--- The daylight saving time of a year: it begins by the clock of standard time and ends by its own. It
--- lasts the whole year if it begins with the year and its end, plus the offset of standard time, is
--- outside the year.
+-- The daylight saving time of a year: it begins by the clock of standard time and ends by the clock of
+-- daylight saving time. It lasts the whole year if it begins with the year and its end, plus the offset
+-- of standard time, is outside the year.
 unfoldable pub daylight_of : DstText → ℤ → ℤ → ℤ × ℤ
 daylight_of dst year standard =
     let start : ℤ = rule_moment year dst.start standard in
@@ -81,9 +81,8 @@ rule_type_by rule (Some dst) nanos =
 unfoldable pub rule_type : TzText → ℤ → TypeText
 rule_type rule second = rule_type_by rule rule.dst (nanos_of_seconds second)
 
--- the seconds by which a clock is ahead of universal time at a second: `ahead` before the rows of a
--- table, then as each row says that is no later than the second, and after the last row as the rule says,
--- if there is one
+-- the seconds by which a clock is ahead of universal time at a second: `ahead` before the first row of a
+-- table, then as the latest row says, and after the last row as the rule says, if there is one
 unfoldable pub ahead_after : Option TzText → ℤ → List TransitionText → ℤ → ℤ
 ahead_after rule ahead [] second = match_some rule ahead (λ found. (rule_type found second).seconds)
 ahead_after rule ahead (row ∷ rows) second =
@@ -98,7 +97,7 @@ unfoldable pub clock_minute : TzifText → ℤ → ℤ
 clock_minute file minute =
     int_div_euclid ((minute *ℤ pos 60) +ℤ seconds_ahead file (minute *ℤ pos 60)) (pos 60)
 
--- two daylight saving flags are the same
+-- two clock types agree on whether they are daylight saving time
 abbrev pub same_flag : Dst → Dst → Bool
 same_flag Yes flag = is_dst flag
 same_flag No flag = not (is_dst flag)

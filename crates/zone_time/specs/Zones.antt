@@ -41,7 +41,7 @@ pub record InZoneYears (minute : ℤ) : Type 0 where
   pub first : negsuc 1035069119 ≤ℤ minute
   pub last : minute ≤ℤ pos 3855733919
 
--- the local time of a clock that shows `shown` at `minute`
+-- the local time of a clock that shows the minute `shown` at `minute`
 abbrev pub local_at : ℤ → ℤ → Local
 local_at minute shown = record { minute = shown; label = Minutes (shown -ℤ minute) }
 
@@ -51,7 +51,7 @@ local_in Utc minute = record { minute = minute; label = labels.Utc }
 local_in (Fixed ahead) minute = record { minute = minute +ℤ ahead; label = Minutes ahead }
 local_in (File file) minute = local_at minute (clock_minute file minute)
 
--- a fault is out of memory
+-- a fault is that memory ran out
 abbrev pub is_out_of_memory : ZoneFault → Bool
 is_out_of_memory NoMemory = true
 is_out_of_memory BadZone = false

@@ -8,6 +8,7 @@ use arrayvec::ArrayString;
 use decimal_text::push_digit;
 use jiff_core::civil::Date;
 
+/// The number of minutes in a day.
 pub const MINUTES_OF_DAY: i64 = 1440;
 
 /// Appends the date of `day`, a day number with 1970-01-01 as 0, as `2000-01-10`. The year is from 0 to
@@ -29,7 +30,7 @@ pub fn write_date<const N: usize>(day: i64, out: &mut ArrayString<N>)
     push_pair(date.day as u32, out);
 }
 
-/// Appends `minutes`, below 6000, as hours and minutes, as `05:30`.
+/// Appends `minutes`, below 6000, as hours and minutes, such as `05:30`.
 #[tactic(auto, unfolding(crate::specs::Dates::clock_text))]
 pub fn write_clock<const N: usize>(minutes: u32, out: &mut ArrayString<N>)
     requires room { array_string_len out.old + 5 ≤ N }
@@ -41,7 +42,7 @@ pub fn write_clock<const N: usize>(minutes: u32, out: &mut ArrayString<N>)
     push_pair(minutes % 60, out);
 }
 
-/// Appends `symbol`, an ASCII character.
+/// Appends `symbol`, an ASCII character, to `out`.
 pub fn push_ascii<const N: usize>(symbol: char, out: &mut ArrayString<N>)
     requires ascii { symbol < 128 }
     requires room { array_string_len out.old + 1 ≤ N }
@@ -60,7 +61,7 @@ fn date_from_day(day: i64) -> Date
     Date::from_days_since_min(days_since_min(day))
 }
 
-// Returns the days from -9999-01-01, from which `jiff` counts, to `day`.
+/// Returns the days from -9999-01-01, from which `jiff` counts, to `day`.
 fn days_since_min(day: i64) -> u32
     requires { IsDay day }
     ensures value { pos result ≡ day +ℤ pos 4371587 }

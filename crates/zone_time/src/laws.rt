@@ -31,8 +31,8 @@ pub fn moments_have_one_text()
         moment_of text ≡ Some m → IsMoment m × (moment_text m ≡ text) }
 {}
 
-/// Proves that at each second a zone file's clock has the offset that `jiff` computes, and that a rule
-/// continues a table exactly if `jiff` finds that the two agree.
+/// Proves that at each second the clock of a zone file has the offset that `jiff` computes, and that a
+/// rule continues a table exactly if `jiff` finds that the two agree.
 pub fn zone_files_go_by_jiff()
     ensures ahead { (zone : Tzif) (second : ℤ) →
         seconds_ahead (tzif_view zone) second ≡ (offset_at zone (nanos_of_seconds second)).seconds }

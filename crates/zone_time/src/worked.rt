@@ -25,7 +25,7 @@ pub fn worked_texts()
     ensures first_leap_day { moment_text (negsuc 1033930765) ≡ codes "0004-02-29T12:34Z" }
 {}
 
-/// Proves the moments of some texts, and that others have none.
+/// Proves the moments that some texts write, and that others write none.
 #[tactic(auto, unfolding(crate::specs::Moments::moment_of, crate::specs::Moments::has_form))]
 pub fn worked_readings()
     ensures usual { moment_of (codes "2000-01-10T00:00Z") ≡ Some (pos 15791040) }
@@ -42,7 +42,7 @@ pub fn worked_readings()
     ensures year_zero { moment_of (codes "0000-12-31T23:59Z") ≡ None }
 {}
 
-/// Proves the texts of labels and local times.
+/// Proves which texts some labels and local times have.
 #[tactic(auto, unfolding(crate::specs::Locals::local_text, crate::specs::Locals::time_text, crate::specs::Locals::label_text, crate::specs::Dates::date_text, crate::specs::Dates::clock_text, crate::specs::Dates::two_digits, crate::specs::Dates::date_of, crate::specs::Dates::date_from_year, crate::specs::Dates::date_from_month))]
 pub fn worked_locals()
     ensures universal { local_text (record { minute = pos 15791400; label = Label.Utc }) ≡ codes "2000-01-10 06:00 UTC" }
@@ -55,7 +55,7 @@ pub fn worked_locals()
 {}
 
 /// Proves local minutes of New York by a table up to 1999 and a rule from then on: the seconds of mean
-/// time are rounded down, a row counts from its own second on, and the rule from the last row on.
+/// time are rounded down, a row counts from its second on, and the rule from the last row on.
 pub fn worked_clocks()
     ensures mean_time { clock_minute (new_york_to (pos 941954400)) (negsuc 63113759) ≡ negsuc 63114056 }
     ensures last_of_mean_time { clock_minute (new_york_to (pos 941954400)) (negsuc 45294180) ≡ negsuc 45294477 }

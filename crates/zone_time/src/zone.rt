@@ -14,14 +14,14 @@ pub enum Zone {
     /// Universal time.
     Utc,
     /// A fixed offset: the minutes by which the clock is ahead of universal time, negative if it is
-    /// behind. Offsets up to 1560 either way have a text.
+    /// slow. Offsets up to 1560 either way have a text.
     Fixed(i32),
-    /// The zone of a zone file, which [`read_zone`](crate::read_zone) reads.
+    /// The zone of a zone file, as read by [`read_zone`](crate::read_zone).
     File(ZoneFile),
 }
 
 impl Zone {
-    /// Returns the clock of the zone. A fixed offset is at most 1560 minutes.
+    /// Returns the clock that shows local times in the zone. A fixed offset is at most 1560 minutes.
     pub fn clock(&self) -> ZoneClock<'_>
         requires { IsZone self.now }
         ensures { result ≡ self.now }
@@ -29,8 +29,8 @@ impl Zone {
         ZoneClock::new(self)
     }
 
-    /// Returns the local time at `minute`, in minutes since 1970-01-01T00:00Z and in the range of
-    /// [`ZoneClock::local`]. A fixed offset is at most 1560 minutes.
+    /// Returns the local time at `minute`, in minutes since 1970-01-01T00:00Z, in the years 2 to 9300 or
+    /// on the day before them. A fixed offset is at most 1560 minutes.
     pub fn local(&self, minute: i64) -> Local
         requires zone { IsZone self.now }
         requires minute { InZoneYears minute }

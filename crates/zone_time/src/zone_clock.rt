@@ -8,8 +8,8 @@ use crate::local::{Label, Local};
 use crate::zone::Zone;
 use std::marker::Model;
 
-/// The clock of a zone, which [`Zone::clock`] makes. If the zone is a fixed offset, it is at most 1560
-/// minutes. In contracts the clock's value is the zone.
+/// The clock of a zone, as returned by [`Zone::clock`]. If the zone is a fixed offset, it is at most
+/// 1560 minutes. In contracts the clock's value is the zone.
 #[derive(Drop)]
 pub struct ZoneClock<'a> {
     zone: &'a Zone,
@@ -35,7 +35,7 @@ impl<'a> ZoneClock<'a> {
         ZoneClock { zone }
     }
 
-    /// Borrows the zone.
+    /// Borrows the zone of the clock.
     pub fn zone(&self) -> &'a Zone
         ensures exact { result.now ≡ self.now }
         ensures zone { IsZone result.now }

@@ -1,14 +1,14 @@
-//! The reasons why bytes are no zone.
+//! The reasons why bytes can't be read as a zone.
 
 use thiserror::Error;
 
-/// The reason why bytes are no zone.
+/// The reason why bytes couldn't be read as a zone file.
 #[derive(Clone, Copy, Debug, PartialEq, Eq, Error)]
 pub enum ZoneFault {
-    /// The bytes are no zone file, or the file's rule contradicts its table.
+    /// The bytes aren't a zone file, or the file's rule contradicts its table.
     #[error("a bad zone file")]
     BadZone,
-    /// Out of memory for the zone.
+    /// Memory ran out while the zone file was read.
     #[error("no memory for the zone")]
     NoMemory,
 }

@@ -48,7 +48,7 @@ impl ZoneFile {
         local_showing(minute, minute_shown(minute, self.ahead(minute)))
     }
 
-    // Returns the seconds by which the clock is ahead of universal time at `minute`.
+    /// Returns the seconds by which the clock is ahead of universal time at `minute`.
     fn ahead(&self, minute: i64) -> i32
         requires { InZoneYears minute }
         ensures value { result ≡ seconds_ahead self.now (minute *ℤ pos 60) }
@@ -59,7 +59,7 @@ impl ZoneFile {
     }
 }
 
-// Returns the instant at which `minute` begins.
+/// Returns the instant at which `minute` begins.
 fn instant(minute: i64) -> Timestamp
     requires { InZoneYears minute }
     ensures { result.nanosecond ≡ nanos_of_seconds (minute *ℤ pos 60) }
@@ -69,7 +69,7 @@ fn instant(minute: i64) -> Timestamp
     }
 }
 
-// Returns the minute shown at `minute` by a clock that is `ahead` seconds ahead.
+/// Returns the minute shown at `minute` by a clock that is `ahead` seconds ahead.
 fn minute_shown(minute: i64, ahead: i32) -> i64
     requires minute { InZoneYears minute }
     requires ahead { IsWithin 93599 ahead }
@@ -80,7 +80,7 @@ fn minute_shown(minute: i64, ahead: i32) -> i64
     second.div_euclid(60)
 }
 
-// Returns the local time of a clock that shows the minute `shown` at `minute`.
+/// Returns the local time of a clock that shows the minute `shown` at `minute`.
 fn local_showing(minute: i64, shown: i64) -> Local
     requires minute { InZoneYears minute }
     requires in_range { IsWithin 1560 (shown -ℤ minute) }

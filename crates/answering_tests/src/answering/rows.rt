@@ -5,7 +5,7 @@ use question::{AskFault, Key};
 use station_table::{OffsetFault, OffsetWhy};
 use tide_answer::Refusal;
 
-// Arguments, separated by '|', and the answer's text or the line of its refusal.
+/// Arguments, separated by '|', and the answer's text or the line of its refusal.
 pub const ANSWERS: &[(&str, &str)] = &[
     (
         "predict|file=f|station=Pier|begin=2000-01-10T00:00Z|end=2000-01-11T00:00Z",
@@ -156,7 +156,7 @@ pub const ANSWERS: &[(&str, &str)] = &[
     ),
 ];
 
-// A certificate, and the answer to it.
+/// A certificate, and the answer to it.
 pub const VERDICTS: &[(&str, &str)] = &[
     (
         "tide certificate 2\nstation Pier\nbegin 2000-01-10T00:00Z\nend 2000-01-10T00:08Z\nmark none\ntrack turn\ns\ns\nq 2\nq 4\ndone\n",
@@ -219,7 +219,7 @@ pub const VERDICTS: &[(&str, &str)] = &[
     ),
 ];
 
-// A certificate of a highest water, and the answer to it.
+/// A certificate of a highest water, and the answer to it.
 pub const PEAK_VERDICTS: &[(&str, &str)] = &[
     (
         "peak certificate 1\nstation Pier\nbegin 2000-01-10T00:00Z\nend 2000-01-10T00:24Z\nat 2000-01-10T00:00Z\n\
@@ -279,7 +279,7 @@ pub const PEAK_VERDICTS: &[(&str, &str)] = &[
     ("tide certificate 2\n", "certificate: line 1\n"),
 ];
 
-// A fault of arguments, its status and its line.
+/// A fault of arguments, its status and its line.
 pub const ASK_FAULTS: &[(AskFault, u8, &str)] = &[
     (AskFault::UnknownCommand, 2, "words: unknown command\n"),
     (AskFault::NotAPair(1), 2, "words: pair 1 is not key=value\n"),
@@ -297,7 +297,7 @@ pub const ASK_FAULTS: &[(AskFault, u8, &str)] = &[
     ),
 ];
 
-// A fault of a harmonics file.
+/// A fault of a harmonics file.
 pub const CUT_SHORT: BookFault = BookFault::At {
     line: 16,
     why: Why::CutShort,
@@ -308,7 +308,7 @@ pub const HALF_SLACK: OffsetFault = OffsetFault::At {
     why: OffsetWhy::HalfSlack,
 };
 
-// A refusal, its status and its line.
+/// A refusal, its status and its line.
 pub const REFUSALS: &[(Refusal, u8, &str)] = &[
     (Refusal::Hydraulic, 4, "refused: hydraulic\n"),
     (
@@ -337,8 +337,8 @@ pub const REFUSALS: &[(Refusal, u8, &str)] = &[
     (Refusal::NoMemory, 8, "no memory\n"),
 ];
 
-// Arguments whose answer is longer than a buffer of 4,096 bytes; then the greatest number of bytes
-// of a write, the write that fails, and the number of bytes sent before it.
+/// Arguments of an answer that is longer than a buffer of 4,096 bytes; then the greatest number of bytes
+/// of a write, the write that fails, and the number of bytes sent before it.
 pub const STREAMS: &[(&str, &[(u64, u64, Option<u64>)])] = &[
     (
         "predict|file=f|station=Pier|begin=2000-01-10T00:00Z|end=2000-02-24T00:00Z",

@@ -16,7 +16,7 @@ use std::process::Abort;
 use std::test::Fail;
 use tide_edge::MemorySink;
 
-// A harbour of ten constituents in the year 2000.
+/// A harbour of ten constituents in the year 2000.
 const FILE: &[u8] =
     b"10\nM2 28.9841042\nS2 30.0000000\nN2 28.4397295\nK1 15.0410686\nO1 13.9430356\n\
     Q1 13.3986609\nP1 14.9589314\nK2 30.0821373\nM4 57.9682084\nMS4 58.9841042\n2000\n1\n\
@@ -36,7 +36,7 @@ const FILE: &[u8] =
     M2 3.1 120.5\nS2 0.9 140\nN2 0.7 100.2\nK1 1.2 200\nO1 0.8 180.4\n\
     Q1 0.15 170\nP1 0.35 198\nK2 0.25 139\nM4 0.12 10\nMS4 0.05 20\n";
 
-// The name of the harbour, of 200 letters in the file and of 400 bytes in an answer.
+/// The name of the harbour, of 200 letters in the file and of 400 bytes in an answer.
 const NAME: &str = "éééééééééééééééééééééééééééééééééééééééé\
     éééééééééééééééééééééééééééééééééééééééé\
     éééééééééééééééééééééééééééééééééééééééé\
@@ -49,7 +49,7 @@ fn harbour(alloc: Global) -> Result<Book, BookFault>
     read_book(alloc, FILE)
 }
 
-// Returns the line of `command` about the year, with `more` arguments.
+/// Returns the line of `command` about the year, with `more` arguments.
 fn line_of(alloc: Global, command: &str, more: &str) -> Result<String, AllocError> {
     let mut line = String::from_str(alloc, command)?;
     line.push_str("|file=f|station=")?;
@@ -58,7 +58,7 @@ fn line_of(alloc: Global, command: &str, more: &str) -> Result<String, AllocErro
     Ok(line)
 }
 
-// Returns a request about the harbour.
+/// Returns a request about the harbour.
 fn harbour_case(alloc: Global, line: &str, certificate: &[u8]) -> Result<Case, Fail>
     ensures book { IfOk result (λ case. IsBook case.book) }
     ensures question { IfOk result (λ case. IsAsked case.question) }
@@ -68,12 +68,12 @@ fn harbour_case(alloc: Global, line: &str, certificate: &[u8]) -> Result<Case, F
     Case::new(alloc, book, OffsetTable::new(alloc), line, certificate)
 }
 
-// Returns the answer's text, or the line of its refusal.
+/// Returns the answer's text, or the line of its refusal.
 fn printed(alloc: Global, line: &str, certificate: &[u8]) -> Result<Bytes, Fail> {
     harbour_case(alloc, line, certificate)?.printed(alloc)
 }
 
-// Returns the text that is written as it is found.
+/// Returns the text of a streamed answer.
 fn streamed(alloc: Global, line: &str) -> Result<MemorySink, Fail> {
     let ready = harbour_case(alloc, line, b"")?.ready(alloc)?;
     let sink = MemorySink::new(alloc, 65_536, 4_000_000, Vec::new(alloc))?;
@@ -86,7 +86,7 @@ const YEAR_AS_CSV: &str = "|begin=2000-01-01T00:00Z|end=2001-01-01T00:00Z|layout
 
 const YEAR_WITH_MARK: &str = "|mark=6|begin=2000-01-01T00:00Z|end=2001-01-01T00:00Z";
 
-// Commands, further arguments, and the number of lines of their answers.
+/// Commands, further arguments, and the number of lines of their answers.
 const LINES: &[(&str, &str, usize)] = &[
     ("heights", YEAR, 8786),
     ("heights", YEAR_AS_CSV, 8786),
@@ -94,7 +94,7 @@ const LINES: &[(&str, &str, usize)] = &[
     ("calendar", YEAR, 367),
 ];
 
-// Returns the answer to `command` about the harbour, with `more` arguments.
+/// Returns the answer to `command` about the harbour, with `more` arguments.
 fn answered(alloc: Global, command: &str, more: &str) -> Result<Bytes, Fail> {
     let line = line_of(alloc, command, more)?;
     printed(alloc, line.as_str(), b"")
@@ -116,7 +116,7 @@ fn a_clock_of_ten_constituents_is_printed(rt: HostRuntime) -> Result<(), Fail> {
     Ok(())
 }
 
-// A subordinate station whose reference, with a name of 400 bytes, no file has.
+/// A subordinate station with a reference, a name of 400 bytes, that no file has.
 const LOST: &[u8] = b"name,reference,high_add,low_add,high_times,low_times,high_plus,low_plus\n\
     Dock,zzzzzzzzzzzzzzzzzzzzzzzzzzzzzzzzzzzzzzzzzzzzzzzzzzzzzzzzzzzzzzzzzzzzzzzzzzzzzzzz\
     zzzzzzzzzzzzzzzzzzzzzzzzzzzzzzzzzzzzzzzzzzzzzzzzzzzzzzzzzzzzzzzzzzzzzzzzzzzzzzzz\
@@ -143,7 +143,7 @@ fn the_longest_reference_is_printed(rt: HostRuntime) -> Result<(), Fail> {
     Ok(())
 }
 
-// Asserts that a year's `certificate` is accepted with the events of its `listing`.
+/// Asserts that a year's `certificate` is accepted with the events of its `listing`.
 fn assert_accepted(
     rt: &impl Abort,
     alloc: Global,
@@ -163,14 +163,14 @@ fn assert_accepted(
     Ok(())
 }
 
-// Asserts that the answer to `command` about the year is streamed as `text`.
+/// Asserts that the answer to `command` about the year is streamed as `text`.
 fn assert_streamed(rt: &impl Abort, alloc: Global, command: &str, text: &[u8]) -> Result<(), Fail> {
     let line = line_of(alloc, command, YEAR_WITH_MARK)?;
     assert_bytes(rt, streamed(alloc, line.as_str())?.bytes(), text, command);
     Ok(())
 }
 
-// A year is predicted, certified and checked, in memory and streamed.
+/// A year is predicted, certified and checked, in memory and streamed.
 #[test]
 fn a_year_of_ten_constituents_is_certified(rt: HostRuntime) -> Result<(), Fail> {
     let alloc = rt.alloc();

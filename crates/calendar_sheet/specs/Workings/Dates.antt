@@ -28,7 +28,7 @@ pages_of zone events first last = map (page_of zone events) (days_through first 
 abbrev pub line_of_page : Zone → Units → CalendarPage → List ℕ
 line_of_page zone units page = date_text page.day ++ flat_map (entry_in zone units) page.events ++ codes "\n"
 
--- a range of days that have a date
+-- a range of day numbers that have a date
 pub record AreDays (first last : ℤ) : Type 0 where
   pub first_day : IsDay first
   pub last_day : IsDay last

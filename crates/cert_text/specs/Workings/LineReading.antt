@@ -40,7 +40,7 @@ use Rattle.cert_text.specs.declared.track_name.TrackName.TheVariants.{Turn, Slac
 use Rattle.cert_text.specs.declared.numbers.TheConstants.{LEVEL_DIGITS}
 use Rattle.cert_text.specs.Lines.{prefix_of}
 
--- what follows the prefix `word` of a line
+-- the part of a line after the prefix `word`
 unfoldable pub after : List ℕ → List ℕ → Option (List ℕ)
 after word line = if bytes_eq (take (length word) line) word then Some (drop (length word) line) else None
 
@@ -48,7 +48,7 @@ after word line = if bytes_eq (take (length word) line) word then Some (drop (le
 unfoldable pub size_of : ℕ → List ℕ → Option ℕ
 size_of most text = if nat_lt 1 (length text) && slice_index text 0 == 48 then None else digits_of most text
 
--- a number below zero by its size
+-- a negative number by its size
 abbrev pub negative : ℕ → Option ℤ
 negative zero = None
 negative (suc n) = Some (negsuc n)
@@ -86,7 +86,7 @@ station_of line = option_and_then named (after (codes "station ") line)
 unfoldable pub moment_after : List ℕ → List ℕ → Option ℤ
 moment_after word line = option_and_then moment_of (after word line)
 
--- a mark, if it is in range
+-- a mark, if it is at most 10,000,000,000 millionths in size
 abbrev pub mark_within : ℤ → Option (Option ℤ)
 mark_within mark = if nat_le (unsigned_abs mark) 10000000000 then Some (Some mark) else None
 
@@ -96,7 +96,7 @@ mark_of line =
     if bytes_eq line (codes "mark none") then Some None
     else option_and_then mark_within (option_and_then (number_of LEVEL_DIGITS) (after (codes "mark ") line))
 
--- a quiet cell of n minutes, if n is in range
+-- a quiet cell of n minutes, if n is from 2 to 1,024
 abbrev pub quiet_for : ℕ → Option Cell
 quiet_for n = if nat_le 2 n && nat_le n MOST_MINUTES then Some (cells.Quiet n) else None
 

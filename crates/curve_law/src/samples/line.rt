@@ -21,7 +21,8 @@ pub struct Line {
 impl Line {
     ghost use Rattle.curve_law.specs.Samples.{line_facts};
 
-    /// Returns the line through `start` at minute 0, not yet evaluated.
+    /// Returns the line that has the value `start` at minute 0; it falls by 1 each minute if `falls`,
+    /// and otherwise rises. It is not yet evaluated.
     pub fn new(start: i64, falls: bool, rate: i64) -> Line
         requires in_range { unsigned_abs start ≤ 10 ^ 12 }
         requires at_least_one { pos 1 ≤ℤ rate }

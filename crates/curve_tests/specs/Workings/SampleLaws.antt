@@ -1,4 +1,4 @@
--- The curve with two tops is lawful.
+-- The curve with two maxima is lawful.
 use Rattle.std.specs.Prelude.{◌≡◌, ℕ, ◌^◌, ◌<◌, ◌≤◌, ℤ, pos, ◌+ℤ◌, ◌-ℤ◌, ◌≤ℤ◌, unsigned_abs, Some}
 use Rattle.std.specs.Int.{int_max}
 use Rattle.std.proofs.Common.{arith}
@@ -7,7 +7,7 @@ use Rattle.curve_law.specs.Meaning.{IsApproximateValue, IsLawful}
 use Rattle.curve_law.specs.CurveStates.{CurveFacts}
 use Rattle.highest_water.specs.Samples.{hill, hills}
 
--- a near value is the value
+-- the facts about that curve: each approximate value is the value
 abbrev pub hills_facts : ℤ → ℤ → ℤ → ℤ → ℤ → CurveFacts
 hills_facts at top other_at other_top rate = record {
   meaning = hills at top other_at other_top rate;

@@ -2,7 +2,8 @@
 use Rattle.std.specs.Prelude.{◌≡◌, ℕ, ◌+◌, ◌*◌, ◌^◌, ◌<◌, ◌≤◌, true, false, ◌⊎◌}
 use Rattle.decimal_text.specs.declared.steps.Steps.{Steps}
 
--- the digits read so far, `count` of them, are the number n; `extra` of them follow the last place
+-- the first `count` digits of the fraction, read as one number, are n; `extra` of them follow the last
+-- decimal place
 pub record DigitsInvariant (places count n : ℕ) (s : Steps) : Type 0 where
   pub extra : ℕ
   pub counted : count + s.left ≡ places + extra

@@ -1,4 +1,4 @@
-//! Each call to files, clock and outputs fails in turn. Expected texts are those of an independent
+//! Each call to files, clock and outputs fails in turn. Expected texts were computed by an independent
 //! program.
 
 use super::*;
@@ -9,12 +9,12 @@ const CERTIFICATE: &str = "tide certificate 2\nstation Pier\nbegin 2000-01-10T00
 const DOCKS: &str = "name,reference,high_add,low_add,high_times,low_times,high_plus,low_plus\n\
     Dock,Pier,0:30,-0:10,1.1,0.9,0.1,0\nOuter,Pier,0:30,0:30,2,2,0.5,0.5\n";
 
-// A time zone's file (RFC 8536): one hour ahead, always.
+/// A time zone's file (RFC 8536): one hour ahead, always.
 const HOUR_AHEAD: &[u8] =
     b"TZif2\0\0\0\0\0\0\0\0\0\0\0\0\0\0\0\0\0\0\0\0\0\0\0\0\0\0\0\0\0\0\0\0\0\0\x01\0\0\0\x01\0\0\0\0\0\0\0\
     TZif2\0\0\0\0\0\0\0\0\0\0\0\0\0\0\0\0\0\0\0\0\0\0\0\0\0\0\0\0\0\0\0\0\0\0\x01\0\0\0\x04\0\0\x0e\x10\0\0CET\0\nCET-1\n";
 
-// Arguments, the number of their calls to the files, and their output.
+/// Arguments, the number of their calls to the files, and their output.
 const WHOLE: &[(&str, u64, &str)] = &[
     (PREDICT, 3, DAY),
     (
@@ -49,7 +49,7 @@ const WHOLE: &[(&str, u64, &str)] = &[
     ),
 ];
 
-// Arguments, the write of `out` that fails, the status, and the line on `err`.
+/// Arguments, the write of `out` that fails, the status, and the line on `err`.
 const LINES: &[(&str, u64, u8, &str)] = &[
     ("predict|x", 0, 2, "words: pair 1 is not key=value\n"),
     (NO_STATION, 0, 4, "refused: no station\n"),
@@ -58,7 +58,7 @@ const LINES: &[(&str, u64, u8, &str)] = &[
     (PREDICT, 1, 7, "write fault\n"),
 ];
 
-// All files of the runs. A write takes at most ten bytes.
+/// All files of the runs. A write takes at most ten bytes.
 const ALL: Case<'static> = Case {
     more: &[
         ("o.csv", Source::Line(DOCKS, 0, "")),
@@ -69,7 +69,7 @@ const ALL: Case<'static> = Case {
     ..CASE
 };
 
-// A run whose call `files` to the files fails, if it makes so many.
+/// A run in which the call with the number `files` to the files fails, if it makes so many.
 fn failing_call(
     &(words, calls, out): &(&'static str, u64, &'static str),
     files: u64,
@@ -100,8 +100,8 @@ fn each_call_of_the_files_may_fail(rt: HostRuntime) -> Result<(), Fail> {
     Ok(())
 }
 
-// Asserts that `out` has a part of `text`: at most ten bytes more than those of the writes `before`,
-// or none if the first write failed.
+/// Asserts that `out` has a part of `text`: at most ten bytes more than the writes `before` it, or none
+/// if the first write failed.
 fn assert_cut(rt: &impl Abort, out: &[u8], text: &[u8], before: Option<usize>, case: &str) {
     assert_holds(rt, out.len() < text.len() && text.starts_with(out), case);
     let is_next = match before {
@@ -111,8 +111,8 @@ fn assert_cut(rt: &impl Abort, out: &[u8], text: &[u8], before: Option<usize>, c
     assert_holds(rt, is_next, case);
 }
 
-// Asserts what a run with a write that fails has left, and returns the number of bytes written
-// before it: None if no write failed.
+/// Asserts what a run with a write that fails has left, and returns the number of bytes written
+/// before it: None if no write failed.
 fn written_in(
     rt: &impl Abort,
     status: u8,
@@ -173,7 +173,7 @@ fn each_write_may_fail(rt: HostRuntime) -> Result<(), Fail> {
     Ok(())
 }
 
-// A run whose line is cut: `err` fails after ten times `taken` bytes of it.
+/// A run with a line that is cut: `err` fails after ten times `taken` bytes of it.
 fn cut_line(
     &(words, out, status, err): &(&'static str, u64, u8, &'static str),
     taken: u8,

@@ -1,5 +1,5 @@
-//! Files beside the harmonic constants, and reports: the first fault in their order. Expected
-//! values are those of an independent program.
+//! Files other than the harmonic constants, and reports: the first fault in their order. Expected values
+//! were computed by an independent program.
 
 use super::{CASE, Case, Fails, NONE, Source};
 use texts_for_tests::PIER;
@@ -27,7 +27,7 @@ const TABLE: &str =
 const SHORT: &str =
     "name,reference,high_add,low_add,high_times,low_times,high_plus,low_plus\nDock,Pier,0:30,-0:10,1.1,0.9,0.1\n";
 
-/// Files beside the harmonic constants: the first fault in their order.
+/// Files other than the harmonic constants: the first fault in their order.
 pub static FILES: [Case<'static>; 12] = [
     Case {
         words: OFFSETS,
@@ -36,7 +36,7 @@ pub static FILES: [Case<'static>; 12] = [
         err: "read fault\n",
         ..CASE
     },
-    // the form of the first file is checked before the table is read
+    // the format of the first file is checked before the table is read
     Case {
         file: Source::Line(PIER, 9, "2"),
         words: OFFSETS,

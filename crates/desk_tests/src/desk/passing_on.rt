@@ -1,4 +1,4 @@
-//! The output of one run as the certificate of the next one. Expected texts are those of an
+//! The output of one run as the certificate of the next one. Expected texts were computed by an
 //! independent program.
 
 use super::*;
@@ -8,7 +8,7 @@ use tide_desk::{
     worked_runs,
 };
 
-// Arguments that certify, arguments that check, and the output of the check.
+/// Arguments that certify, arguments that check, and the output of the check.
 const PASSED_ON: &[(&str, &str, &str)] = &[
     (
         "certify|file=pier.txt|station=Pier|begin=2000-01-10T00:00Z|end=2000-01-10T12:00Z",
@@ -24,7 +24,7 @@ const PASSED_ON: &[(&str, &str, &str)] = &[
     ),
 ];
 
-// Asserts that the output of `certify` is accepted by `check`.
+/// Asserts that the output of `certify` is accepted by `check`.
 fn pass_on(
     rt: &impl Abort,
     alloc: Global,

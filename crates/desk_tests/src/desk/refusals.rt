@@ -1,4 +1,4 @@
-//! Runs that are refused. Expected values are those of an independent program.
+//! Runs that are refused. Expected values were computed by an independent program.
 
 use super::rows::{LATE, NO_STATION, OUT_OF_YEARS};
 use super::{CASE, Case, Source};

@@ -1,4 +1,4 @@
-//! Reports over files, a clock and sinks in memory. Expected values are those of an independent
+//! Reports over files, a clock and sinks in memory. Expected values were computed by an independent
 //! program.
 
 use super::files::{NO_CLOCK, NO_FILE};

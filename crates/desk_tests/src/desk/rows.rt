@@ -1,4 +1,4 @@
-//! The rows of the tests: expected values are those of an independent program.
+//! The rows of the tests. Expected values were computed by an independent program.
 
 use super::{CASE, Case, Source};
 use texts_for_tests::PIER;
@@ -120,14 +120,14 @@ pub static ANSWERS: [Case<'static>; 17] = [
         out: NOW,
         ..CASE
     },
-    // pairs stand in any order
+    // the pairs may be in any order
     Case {
         words: "predict|end=2000-01-11T00:00Z|station=Pier|zone=UTC|begin=2000-01-10T00:00Z|file=pier.txt",
         ..CASE
     },
 ];
 
-/// Arguments over eleven years, the number of bytes and lines of the text, its begin and its end.
+/// Arguments over eleven years, the number of bytes and lines of the text, its beginning and its end.
 pub const LONG_TEXTS: &[(&str, usize, usize, &str, &str)] = &[
     (
         "predict|file=pier.txt|station=Pier|begin=2000-01-01T00:00Z|end=2001-01-01T00:00Z",

@@ -1,4 +1,4 @@
--- The events still to come from one search. No public clause cites this.
+-- The remaining events of one search. No public clause cites this.
 use Rattle.std.specs.Prelude.{◌≡◌, ℕ, ◌+◌, ◌^◌, ◌<◌, true, false, List, [], ◌∷◌, ◌++◌, All, length, Option, Some, None}
 use Rattle.curve_law.specs.declared.event.Event.{Event}
 use Rattle.curve_law.specs.Cells.{event_in, cell_events}
@@ -9,12 +9,12 @@ use Rattle.event_list.specs.declared.leading.Leading.TheVariants.{Turn, Slack, M
 use Rattle.event_list.specs.Order.{comes_before, ordered}
 use Rattle.event_list.specs.Merging.{Merging, Waiting, minute_of, cells_of, waiting, searched, leads}
 
--- the events in the cells that a search has left
+-- the events in the remaining cells of a search
 abbrev pub events_ahead : {C : Type 0} → Option (Looking C) → List Event
 events_ahead None = []
 events_ahead (Some search) = cell_events search.at search.left
 
--- the number of cells that a search has left
+-- the number of remaining cells of a search
 abbrev pub cells_ahead : {C : Type 0} → Option (Looking C) → ℕ
 cells_ahead search = length (cells_of search)
 
@@ -27,7 +27,7 @@ abbrev pub searched_past : {C : Type 0} → List Event → Option (Looking C) �
 searched_past [] search = searched_by search
 searched_past (event ∷ events) search = waiting (Some event) search
 
--- a step returns the first of the cells left, or none if there is none
+-- a step returns the first of the remaining cells, or None if no cell remains
 abbrev pub FindsNext : {C : Type 0} → Option (Looking C) → Option Found → Option (Looking C) → Type 0
 FindsNext old None new =
     (events_ahead old ≡ []) × (cells_ahead old ≡ 0) × (events_ahead new ≡ []) × (cells_ahead new ≡ 0) × (searched_by old ≡ waiting None new)
@@ -35,7 +35,7 @@ FindsNext old (Some found) new =
     (events_ahead old ≡ event_in found.at found.cell ++ events_ahead new) × (cells_ahead old ≡ cells_ahead new + 1)
     × (searched_by old ≡ searched_past (event_in found.at found.cell) new)
 
--- the result is the first event left; if there is none, no cell is left afterwards
+-- the result is the first remaining event; if it is None, no cell remains afterwards
 abbrev pub ReturnsEvent : {C : Type 0} → Option (Looking C) → Option Event → Option (Looking C) → Type 0
 ReturnsEvent old None new = (events_ahead old ≡ []) × (events_ahead new ≡ []) × (cells_ahead new ≡ 0)
 ReturnsEvent old (Some event) new = events_ahead old ≡ event ∷ events_ahead new
@@ -45,7 +45,7 @@ abbrev pub first_of : List Event → Option Event
 first_of [] = None
 first_of (e ∷ es) = Some e
 
--- the event of this track comes before those of the others, or none has one
+-- the first event of this track comes before the others' first events, or no track has an event
 abbrev pub IsLeading : Leading → Option Event → Option Event → Option Event → Type 0
 IsLeading Turn turn slack mark = (leads turn slack ≡ true) × (leads turn mark ≡ true)
 IsLeading Slack turn slack mark = (leads slack turn ≡ true) × (leads slack mark ≡ true)
@@ -56,8 +56,8 @@ unfoldable pub IsAscending : List Event → Type 0
 IsAscending [] = Unit {0}
 IsAscending (e ∷ es) = All (λ d. comes_before d e ≡ false) es × IsAscending es
 
--- one track of a merge: the events left, the state of its search, the number of cells that it has
--- returned so far, and the number of all its cells
+-- one track of a merge: the remaining events, the state of its search, the number of cells that it has
+-- returned until now, and the number of all its cells
 pub record Strand : Type 0 where
   pub left : List Event
   pub waiting : Waiting

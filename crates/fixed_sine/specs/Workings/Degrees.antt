@@ -1,4 +1,4 @@
--- The degrees of the whole circle with slopes and bends in powers of 2, by those of the table (this
+-- The degrees of the whole circle with slopes and bends in powers of 2, made from the table's (this
 -- project).
 use Rattle.std.specs.Prelude.{ℕ, ◌-◌, ◌*◌, ◌^◌, min, ℤ, pos, ◌+ℤ◌, ◌*ℤ◌, ◌≤ℤ◌, unsigned_abs}
 use Rattle.fixed_sine.specs.Circle.{degree}
@@ -12,7 +12,8 @@ bend_at k = unsigned_abs (correction (min k (179 - k)))
 abbrev pub slope_at : ℕ → ℤ
 slope_at k = (pos (4 * degree) *ℤ rise k) +ℤ pos (degree * bend_at k)
 
--- a slope in 2^-64, rounded up, and its decrease per unit in 2^-72, rounded down
+-- a slope in 2^-64, rounded up, and its decrease per unit in 2^-72, rounded down, both made from the
+-- table's
 pub record IsReady (slope bend ready_slope ready_bend : ℤ) : Type 0 where
   pub slope_least : (slope *ℤ pos (2 ^ 64)) ≤ℤ (ready_slope *ℤ pos (4 * degree * degree))
   pub slope_most : (ready_slope *ℤ pos (4 * degree * degree)) ≤ℤ ((slope *ℤ pos (2 ^ 64)) +ℤ pos (4 * degree * degree))

@@ -144,12 +144,12 @@ IsBookParser (parsing.Factors h angles t) = IsHeading h × IsAngles h angles × 
 IsBookParser (parsing.FactorsEnd h angles factors) = IsHeading h × IsAngles h angles × IsFactors h factors
 IsBookParser (parsing.Stations b r) = IsBook b × IsRecord b r
 
--- An error of a function is that of the rule, unless it is out of memory.
+-- An error of a function is the rule's error, unless it is out of memory.
 abbrev pub Fails : {Y : Type 0} → LineFault → Result Y Why → Type 0
 Fails NoMemory rule = Unit {0}
 Fails (Bad why) rule = rule ≡ Err why
 
--- A result of a function, seen by `view`, is that of the rule, unless it is out of memory.
+-- A result of a function, seen by `view`, is the rule's result, unless it is out of memory.
 abbrev pub Follows : {X Y : Type 0} → (X → Y) → Result X LineFault → Result Y Why → Type 0
 Follows view (Ok x) rule = rule ≡ Ok (view x)
 Follows view (Err e) rule = Fails e rule
@@ -185,7 +185,7 @@ after_years cs year text = count_of text >>= λ n. Ok (parsing.Angles (record { 
 unfoldable pub pushed : Scale → List ℤ → List ℕ → Result (List ℤ) Why
 pushed s values token = number_of s token >>= λ n. Ok (values ++ n ∷ [])
 
--- the constituent's index after a line that leaves `left` values to come
+-- the constituent's index after a line that leaves `left` values to be read
 abbrev pub at_place : ℕ → ℕ → ℕ
 at_place left place = if left == 0 then place + 1 else place
 

@@ -47,7 +47,7 @@ pub record IsProgress (p : Progress) : Type 0 where
   pub parser : IsBookParser p.parser
   pub pending : has_lf p.pending ≡ false
 
--- the state before any byte
+-- the state before any byte is read
 abbrev pub nothing_read : Progress
 nothing_read = record { parser = parsing.Count; number = 1; pending = [] }
 
@@ -60,7 +60,7 @@ on_line n (Err why) = Err (record { line = n; why = why })
 abbrev pub held : List ℕ → Result (List ℕ) Why
 held line = if is_comment line then Ok (codes "#") else if is_too_long line then Err LineTooLong else Ok line
 
--- the state with the kept bytes of such a line
+-- the state with the kept bytes of a line that hasn't ended
 unfoldable pub with_pending : BookParser → ℕ → List ℕ → Result Progress At
 with_pending d n line = on_line n (held line) >>= λ begun. Ok (record { parser = d; number = n; pending = begun })
 
@@ -69,7 +69,7 @@ unfoldable pub after_lines : BookParser → ℕ → List (List ℕ) → Result B
 after_lines d n [] = Ok d
 after_lines d n (line ∷ lines) = on_line n (after_line d line) >>= λ e. after_lines e (n + 1) lines
 
--- the state after bytes that begin at the begin of a line
+-- the state after bytes that begin at the beginning of a line
 unfoldable pub with_bytes : BookParser → ℕ → List ℕ → Result Progress At
 with_bytes d n bytes = after_lines d n (ended_lines bytes) >>= λ e. with_pending e (n + length (ended_lines bytes)) (pending_line bytes)
 
@@ -89,7 +89,7 @@ abbrev pub FailsAt : {Y : Type 0} → BookFault → Result Y At → Type 0
 FailsAt NoMemory read = Unit {0}
 FailsAt (faults.At line why) read = read ≡ Err (record { line = line; why = why })
 
--- A result is that of the definition, unless it is out of memory.
+-- A result is the definition's, unless it is out of memory.
 abbrev pub ReturnsAt : {Y : Type 0} → Result Y BookFault → Result Y At → Type 0
 ReturnsAt (Ok y) read = read ≡ Ok y
 ReturnsAt (Err e) read = FailsAt e read
@@ -101,7 +101,7 @@ abbrev pub reached : Progress → Option BookFault → Result Progress BookFault
 reached p None = Ok p
 reached p (Some fault) = Err fault
 
--- the state or fault is that of all bytes so far
+-- the state or fault is the one of all bytes that the reader was fed
 abbrev pub Reads : Result Progress BookFault → List ℕ → Type 0
 Reads progress bytes = ReturnsAt progress (with_bytes parsing.Count 1 bytes)
 

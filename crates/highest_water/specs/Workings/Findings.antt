@@ -10,7 +10,7 @@ use Rattle.highest_water.specs.Peaks.{is_higher}
 abbrev pub under_finding : ℕ → Bool → PeakVerdict
 under_finding number is_under = if is_under then Accepted else NotUnder number
 
--- the verdict on the value of the highest water's own minute
+-- the verdict on the written value of the highest water
 abbrev pub value_finding : ℤ → ℤ → PeakVerdict
 value_finding written computed = if int_eq written computed then Accepted else WrongValue written computed
 

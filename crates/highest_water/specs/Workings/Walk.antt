@@ -15,7 +15,7 @@ use Rattle.highest_water.specs.Covers.{minutes_of, is_under}
 abbrev pub cell_of : Interval → PeakCell
 cell_of piece = if nat_le piece.minutes 1 then Single else Under piece.minutes
 
--- the cells of the pieces that a walk has still to reach, for a highest point
+-- the cells of the pieces that a walk has still to reach, for this highest point
 unfoldable pub cells_ahead : Meaning → Point → Front → List PeakCell
 cells_ahead c highest front = map cell_of (pieces_ahead (is_under c highest.minute highest.value) front)
 
@@ -24,8 +24,8 @@ abbrev pub IsRight : Meaning → Point → ℤ → PeakCell → Type 0
 IsRight c highest a (Under n) = is_under c highest.minute highest.value a n ≡ true
 IsRight c highest a Single = Unit {0}
 
--- a step of a walk: it returns the first of the cells ahead and goes to its end, or returns none if none is
--- ahead
+-- a step of a walk returns the first of the cells ahead and moves to its end, or returns None if no cell
+-- is ahead
 abbrev pub StepsTo : Meaning → Point → Front → Option LocatedCell → Front → Type 0
 StepsTo c highest old None new =
     (old.at.minute ≡ old.end) × (old.waiting ≡ []) × (cells_ahead c highest old ≡ [])
@@ -41,11 +41,11 @@ abbrev pub higher_of : Point → Point → Point
 higher_of highest point =
     if is_higher highest.minute highest.value point.minute point.value then point else highest
 
--- the highest point after one more cell, which begins at a point
+-- the highest point after another cell, which begins at a point
 abbrev pub raised_at : Point → Point → PeakCell → Point
 raised_at highest point (Under n) = highest
 raised_at highest point Single = higher_of highest point
 
--- the highest point after one more cell
+-- the highest point after another cell
 abbrev pub raised_by : Point → LocatedCell → Point
 raised_by highest found = raised_at highest found.at found.cell

@@ -30,7 +30,7 @@ abbrev pub row_seen : ReplyRow → rows.ReplyRow
 row_seen (Rejects rejection bodiless) = rows.rejects rejection bodiless
 row_seen (Asks asking) = rows.asks (asking_seen asking)
 
--- the body of a request that passes the fixed rows is within the limit
+-- the body of a request that the predictor answers is within the limit
 abbrev pub IsAsking : rows.Asking → Type 0
 IsAsking a = length a.body ≤ MOST_BODY
 

@@ -54,7 +54,8 @@ pub record IsPiece (c : Meaning) (values : ℤ → ℤ) (piece : Piece) : Type 0
   pub value : piece.begin.value ≡ values piece.begin.minute
   pub end_value : piece.end.value ≡ values (piece.begin.minute +ℤ pos piece.minutes)
 
--- the pieces from minute `a` on: those up to each of these points, and then of the rest up to the end
+-- the pieces from minute `a` on: the pieces up to each of these points, and then the pieces from the
+-- last point to the end
 unfoldable pub pieces_after : (ℤ → ℕ → Bool) → ℤ → ℤ → List Point → List Interval
 pieces_after test end a [] = pieces_of test a (minutes_to a end)
 pieces_after test end a (p ∷ ps) = pieces_of_block test a (minutes_to a p.minute) ++ pieces_after test end p.minute ps
@@ -71,7 +72,8 @@ ArePieces values end a (p ∷ ps) =
     × ArePieces values end p.minute ps
 
 -- the invariant of a search: the point that it has reached, and the ends of the pieces after it, the
--- nearest first; at most one evaluation a minute is to come, and each pending point is one of them
+-- nearest first; at most one evaluation per remaining minute is still made, and each pending point
+-- counts as one
 pub record SearchInvariant (values : ℤ → ℤ) (s : CurveState) (end : ℤ) (at : Point) (ahead : List Point) : Type 0 where
   pub value : at.value ≡ values at.minute
   pub first : s.facts.meaning.first ≤ℤ at.minute
@@ -79,11 +81,12 @@ pub record SearchInvariant (values : ℤ → ℤ) (s : CurveState) (end : ℤ) (
   pub pieces : ArePieces values end at.minute ahead
   pub few : s.count + minutes_to at.minute end ≤ length ahead + (2 ^ 62 + 2 ^ 61 + 2 ^ 60 + 1)
 
--- the same of the state of a search
+-- the invariant of a search, for the state of a search
 abbrev pub IsFront : (ℤ → ℤ) → CurveState → Front → Type 0
 IsFront values s front = SearchInvariant values s front.end front.at front.waiting
 
--- a piece begins where a search is, isn't halved, and is the first of those ahead; the search goes to its end
+-- the piece begins where the search is, isn't halved, and is the first of the pieces ahead; the search
+-- moves to the piece's end
 pub record IsNext (test : ℤ → ℕ → Bool) (old : Front) (piece : Piece) (new : Front) : Type 0 where
   pub begin : piece.begin ≡ old.at
   pub end : piece.end ≡ new.at

@@ -4,7 +4,7 @@ use Rattle.std.specs.Global.{Vec}
 use Rattle.csv.specs.Writing.{default_writer, fields_written, has_written, writer_pending, writer_setup, writer_under}
 use Rattle.csv.specs.declared.writer.Writer.{Writer}
 
--- the bytes of its vector, and those that still wait to be added to it
+-- the bytes in the writer's vector, and the bytes that are still to be added to it
 abbrev pub written : Writer (Vec ℕ) → List ℕ
 written writer = (writer_under writer).items ++ writer_pending writer
 

@@ -10,7 +10,7 @@ use Rattle.highest_water.specs.declared.peak_cell.PeakCell.TheVariants.{Under, S
 unfoldable pub value_of : List ℕ → Option ℤ
 value_of line = option_and_then (number_of 37) (after (codes "value ") line)
 
--- a cell of n minutes that is under, if n is in range
+-- a cell of n minutes under the highest water, if n is from 2 to 1,024
 abbrev pub under_for : ℕ → Option PeakCell
 under_for n = if nat_le 2 n && nat_le n MOST_MINUTES then Some (Under n) else None
 

@@ -24,7 +24,8 @@ said_by items k = text_after items k None
 abbrev pub read_as : Origin → (k : Key) → List ℕ → Field k
 read_as origin k text = (row_of k).need.field ((row_of k).form origin text)
 
--- the question with the value that a text writes for a key, or the key's default if the text lacks its form
+-- the question with the value that a text writes for a key, or with the key's default if the text isn't
+-- in the form of the key's values
 abbrev pub with_value : Origin → Key → List ℕ → Question → Question
 with_value origin key.File text q = record q { file = read_as origin key.File text }
 with_value origin key.Offsets text q = record q { offsets = read_as origin key.Offsets text }
@@ -40,7 +41,7 @@ with_value origin key.Seed text q = record q { seed = read_as origin key.Seed te
 with_value origin key.Port text q = record q { port = read_as origin key.Port text }
 with_value origin key.Sheets text q = record q { sheets = read_as origin key.Sheets text }
 
--- the expected result is the value that was made, or the fault is excused
+-- the expected result is the question that was made, or the fault is excused
 abbrev pub Makes : {V : Type 0} → Result V AskFault → V → Result (Unit {0}) AskFault → Type 0
 Makes expected made (Ok done) = expected ≡ Ok made
 Makes expected made (Err fault) = Excused (is_out_of_memory fault) expected fault

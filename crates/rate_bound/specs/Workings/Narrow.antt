@@ -46,7 +46,7 @@ approximate-mark times plus mark approximate level error close =
     let raised = pos (10 ^ 6 * total_weight * 10 ^ 9) *ℤ (plus -ℤ mark) in
     rw (same_mark (times *ℤ approximate) (times *ℤ level) raised) (scaled_gap times approximate level error close)
 
--- an approximate level less a mark is within its error
+-- an approximate level less a mark is within its error of the level less the mark
 pub level_close : (version : Version) (c : Prediction) (times plus mark : ℤ) (slack : Bool) (m : ℤ) → IsPrediction c
     → IsMinute (mark_meaning version c times plus mark slack) m
     → IsApproximateValue (mark_meaning version c times plus mark slack) (unsigned_abs times * level_error_of c) m

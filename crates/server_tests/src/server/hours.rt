@@ -1,4 +1,4 @@
-//! A server whose clock goes on, and one whose reply is long.
+//! A server with a clock that advances, and one with a long reply.
 
 use super::coming::Coming;
 use super::serving::{ASKED, NONE, Outcome, assert_done, serve_by, serve_over};
@@ -10,10 +10,10 @@ use std::slice;
 use std::test::Fail;
 use tide_edge::{Clock, Failed};
 
-/// The number of hours that the test's own clock shows, one after the other, before it stops.
+/// The number of hours that the test's clock shows, one after the other, before it stops.
 const HOURS: u64 = 24;
 
-/// An observable clock that goes on by an hour at each reading, from 2000-01-10T03:00Z on.
+/// An observable clock that advances by an hour at each reading, from 2000-01-10T03:00Z on.
 #[derive(Debug, Drop)]
 struct HourClock {
     asked: u64,

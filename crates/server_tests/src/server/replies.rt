@@ -178,14 +178,14 @@ fn table(alloc: Global) -> Result<OffsetTable, OffsetFault> {
     read_offsets(alloc, TABLE)
 }
 
-// Returns the reply to `request` over the pier and its table.
+/// Returns the reply to `request` over the pier and its table.
 fn replied(alloc: Global, request: &str) -> Result<Bytes, Fail> {
     let table = table(alloc)?;
     let book = pier(alloc)?;
     Ok(reply(alloc, &book, &table, request.as_bytes(), NOW)?)
 }
 
-// Returns a response whose body may be absent.
+/// Returns a response with an optional body.
 fn response(
     alloc: Global,
     status: &str,
@@ -205,7 +205,7 @@ fn assert_reply(rt: &impl Abort, alloc: Global, request: &str, expected: &str) -
     Ok(())
 }
 
-// Asserts the reply to `method` of a target: its status, its type, and what is sent of its body.
+/// Asserts the reply to `method` of a target: its status, its type, and what is sent of its body.
 fn assert_target(
     rt: &impl Abort,
     alloc: Global,
@@ -227,7 +227,7 @@ fn targets_are_answered(rt: HostRuntime) -> Result<(), Fail> {
     Ok(())
 }
 
-// Returns a request with a certificate of these cells, and bytes after it.
+/// Returns a request with a certificate of these cells, and bytes after it.
 fn post_of(alloc: Global, cells: &str, behind: &str) -> Result<String, AllocError> {
     let size = CERTIFICATE.len() + cells.len();
     format!(in alloc;

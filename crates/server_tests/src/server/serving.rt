@@ -1,4 +1,4 @@
-//! The server over a port in memory. Expected replies to requests are those of an independent
+//! The server over a port in memory. Expected replies to requests were computed by an independent
 //! program.
 
 ghost use Rattle.std.specs.Prelude.{◌≡◌, IfOk, None};
@@ -228,7 +228,7 @@ fn hostile_requests_are_answered(rt: HostRuntime) -> Result<(), Fail> {
     Ok(())
 }
 
-// Asserts that a head is too large, and that the next request has its reply.
+/// Asserts that a head is too large, and that the next request has its reply.
 fn assert_too_large(rt: &impl Abort, alloc: Global, head: &[u8]) -> Result<(), Fail> {
     let requests = [Coming::Bytes(head), Coming::Whole(LOST)];
     assert_served(rt, alloc, ASKED, &requests, &[FIELDS_TOO_LARGE, NOT_FOUND])
@@ -243,8 +243,8 @@ fn heads_that_are_too_large_are_answered(rt: HostRuntime) -> Result<(), Fail> {
     assert_too_large(&rt, alloc, &head)
 }
 
-/// A call that fails among those of three connections, its name, and the status, the lines and the
-/// replies that follow.
+/// A call that fails during three connections, its name, and the status, the lines and the replies that
+/// follow.
 const FAILING: &[(&str, Fails, Status, &str, &[&str])] = &[
     (
         "call 1 of door",

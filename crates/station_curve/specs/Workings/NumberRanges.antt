@@ -8,8 +8,8 @@ use Rattle.year_blend.specs.Weights.{IsWithinHourOfNewYear}
 use Rattle.station_curve.specs.Curves.{Prediction, is_touched}
 use Rattle.station_curve.specs.Limits.{most_amount, most_steepness}
 
--- the fields of a wave: the product of its amplitude and its speed, and that by its speed in whole 2^9 units,
--- its speed and its phase as fractions of a turn, and its phase plus a quarter of a circle
+-- the fields of a wave: its amplitude times its speed, and times its speed rounded down to a multiple of
+-- 2^9 units; its speed and its phase as fractions of a turn; and its phase plus a quarter of a turn
 pub record IsWave (amplitude : ℤ) (speed : ℕ) (steepness factor : ℤ) (pace : ℕ) (start : ℕ) (ahead : ℕ) : Type 0 where
   pub amount : unsigned_abs amplitude ≤ most_amount
   pub steep : unsigned_abs steepness ≤ most_steepness
@@ -20,7 +20,7 @@ pub record IsWave (amplitude : ℤ) (speed : ℕ) (steepness factor : ℤ) (pace
   pub started : start ≡ binary_angle_of (units_of start)
   pub turned : ahead ≡ (start + 2 ^ 62) % 2 ^ 64
 
--- a minute at which a year's constants are used: at most an hour before or after it
+-- a minute at which a year's constants are used: at most an hour before the year or after it
 pub record IsWithinHourOfYear (first_year : ℤ) (year : ℕ) (m : ℤ) : Type 0 where
   pub least : pos 0 ≤ℤ ((m -ℤ start_of first_year year) +ℤ pos 60)
   pub most : ((m -ℤ start_of first_year year) +ℤ pos 60) ≤ℤ pos 600000
@@ -32,7 +32,7 @@ IsPlaceInRange first_year years m (Blend year x) =
     (0 < year) × (year < years) × IsWithinHourOfYear first_year year m × IsWithinHourOfYear first_year (year - 1) m
     × IsWithinHourOfNewYear x
 
--- a year of a prediction whose constants are used at minute m
+-- a year of a prediction with constants that are used at minute m
 pub record IsUsed (c : Prediction) (year : ℕ) (m : ℤ) : Type 0 where
   pub below : year < c.book.years
   pub hour : IsWithinHourOfYear c.book.first_year year m
@@ -49,7 +49,8 @@ IsPlainYear first_year years m (Some year) =
     (Plain year ≡ place_of first_year years m) × (year < years) × IsWithinHourOfYear first_year year m
 IsPlainYear first_year years m None = (year : ℕ) × (x : ℤ) × (Blend year x ≡ place_of first_year years m)
 
--- the same for a prediction, with what its constants are used for
+-- the year whose plain part contains minute m, and which a prediction uses at m, or None if m is in a
+-- blend
 abbrev pub IsPlainYearOf : Prediction → ℤ → Option ℕ → Type 0
 IsPlainYearOf c m (Some year) = (Plain year ≡ place_of c.book.first_year c.book.years m) × IsUsed c year m
 IsPlainYearOf c m None = IsPlainYear c.book.first_year c.book.years m None

@@ -25,7 +25,7 @@ has_amplitude s k = not (unsigned_abs (slice_index_or s.amplitude k (pos 0)) == 
 abbrev pub present_in : Book → Station → List ℕ
 present_in b s = filter (has_amplitude s) (constituents_of b)
 
--- a year that isn't beyond a limit, for the minutes from `first` to `last`
+-- a year within the limits, with its stored waves for the minutes from `first` to `last`
 pub record IsReadyYear (b : Book) (s : Station) (first last : ℤ) (year : ℕ) (y : Year) : Type 0 where
   pub within : year_fault b s year ≡ None
   pub start : y.start ≡ start_of b.first_year year
@@ -33,7 +33,8 @@ pub record IsReadyYear (b : Book) (s : Station) (first last : ℤ) (year : ℕ) 
   pub waves : y.waves.items ≡ stored_over b s first last year
   pub sums : y.sums ≡ sums_of (waves_over b s first last year)
 
--- the first years, `count` of them, none beyond a limit, for the minutes from `first` to `last`
+-- the first `count` years, all within the limits, with their stored waves for the minutes from `first`
+-- to `last`
 pub record AreReady (b : Book) (s : Station) (first last : ℤ) (count : ℕ) (years : List Year) : Type 0 where
   pub counted : length years ≡ count
   pub waves : (k : ℕ) (d : Year) → k < count → (slice_index_or years k d).waves.items ≡ stored_over b s first last k

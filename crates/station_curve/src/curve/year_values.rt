@@ -58,7 +58,8 @@ impl StationCurve {
         -falls(year.waves.as_slice(), year.minutes_to(m))
     }
 
-    /// Returns the sum of the heights of the waves of year `year`.
+    /// Returns the sum of the heights of the waves of year `year` at minute `m`, in billionths of a
+    /// millionth.
     pub(super) fn year_heights(&self, year: u32, m: i64) -> i64
         requires { IsUsed self.now year m }
         ensures value { result ≡ heights_of (minutes_into self.now.book.first_year year m) (waves_of self.now.book self.now.station year) }

@@ -1,4 +1,4 @@
--- The curves that are followed at a site, at the minutes of its curve.
+-- The curves of a station's tracks, at the minutes of its curve.
 use Rattle.std.specs.Prelude.{◌≡◌, ℕ, ℤ, ◌-ℤ◌, ◌≤ℤ◌, ◌≤◌, unsigned_abs, List, Option}
 use Rattle.std.specs.Option.{ForSome}
 use Rattle.curve_law.specs.declared.event.Event.{Event}
@@ -15,7 +15,7 @@ use Rattle.station_span.specs.Workings.Spans.{HasLevels, IsBeside, IsSpanInRange
 use Rattle.station_span.specs.Workings.TrackMeanings.{tide_slack, tide_mark}
 use Rattle.station_curve.specs.Curves.{IsPredicted, IsPrediction, Prediction}
 
--- the curves that are followed, as those by every constituent of the harmonics file
+-- the curves of a station's tracks, equal to the curves by every constituent of the harmonics file
 unfoldable pub followed_tide : Version → SiteTide → Option ℤ → Followed
 followed_tide version found mark = record {
   turn = turn_meaning version found.curve;
@@ -33,8 +33,8 @@ abbrev pub tide_cells : SiteTide → Asked → ℕ
 tide_cells found asked =
     cell_count (followed_tide Second found asked.mark) (widened_of found.basis asked.begin asked.end)
 
--- a span that the curves can be followed over: it isn't backward or too long, and the curve has the minutes
--- that are evaluated
+-- a span that the curves can be searched over: its end isn't before its beginning, it isn't too long,
+-- and the curve has the evaluated minutes
 pub record IsReady (asked : Asked) (found : SiteTide) : Type 0 where
   pub offsets : HasOffsets found.basis
   pub levels : HasLevels found.units
@@ -47,13 +47,13 @@ pub record IsReady (asked : Asked) (found : SiteTide) : Type 0 where
   pub beside : IsBeside asked.begin asked.end (widened_of found.basis asked.begin asked.end)
   pub mark : ForSome asked.mark (λ level. unsigned_abs level ≤ 10000000000)
 
--- a span whose minutes a curve has
+-- a span all of whose minutes a curve has
 pub record HasMinutes (c : Prediction) (span : Span) : Type 0 where
   pub forward : span.begin ≤ℤ span.end
   pub begins : IsPredicted c span.begin
   pub ends : IsPredicted c span.end
 
--- the events of the reference's curves over the minutes that are evaluated
+-- the events of the reference's curves over the evaluated minutes
 abbrev pub AreMerged : Asked → SiteTide → List Event → Type 0
 AreMerged asked found events =
     let span = widened_of found.basis asked.begin asked.end in

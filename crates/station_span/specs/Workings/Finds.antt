@@ -1,4 +1,4 @@
--- A station that was found, by the definitions of what it is.
+-- A station that was found, in terms of the definitions.
 use Rattle.std.specs.Prelude.{◌≡◌, All, ℤ, ◌-ℤ◌, ◌≤ℤ◌, List, IsTrue, Result, Ok, Err}
 use Rattle.curve_law.specs.declared.event.Event.{Event}
 use Rattle.decimal_text.specs.Expected.{Excused}
@@ -45,7 +45,7 @@ abbrev pub FindsIn : Reach → Book → Asked → Result Site Refusal → Result
 FindsIn reach book asked expected (Ok found) = IsFoundIn reach book asked expected found
 FindsIn reach book asked expected (Err refusal) = Excused (refusal_is_out_of_memory refusal) expected refusal
 
--- a station without a span, whose curve has all minutes
+-- a station without a span was found, with a curve for all minutes
 pub record IsReferenceFound (book : Book) (expected : Result Site Refusal) (reference : ReferenceStation) : Type 0 where
   pub site : Site
   pub is : expected ≡ Ok site
@@ -61,7 +61,7 @@ FindsReference book expected (Err refusal) = Excused (refusal_is_out_of_memory r
 
 -- ---- levels
 
--- a minute whose level is that of a reference's minute that may be evaluated
+-- the level at this minute is the level of a reference's minute that may be evaluated
 pub record IsLooked (found : FoundStation) (minute : ℤ) : Type 0 where
   pub from : found.span.begin ≤ℤ (minute -ℤ found.basis.high.add)
   pub until : (minute -ℤ found.basis.high.add) ≤ℤ found.span.end
@@ -70,14 +70,14 @@ pub record IsLooked (found : FoundStation) (minute : ℤ) : Type 0 where
 abbrev pub AreLooked : FoundStation → Type 0
 AreLooked found = (minute : ℤ) → found.asked.begin ≤ℤ minute → minute ≤ℤ found.asked.end → IsLooked found minute
 
--- a station whose span has a highest water
+-- a station with a span that has a highest water
 pub record HasPeak (found : FoundStation) : Type 0 where
   pub reach : found.reach ≡ Highest
   pub equal : IsTrue (is_equal found.basis)
 
 -- ---- events
 
--- the list of a station's events, whose span has a local time by every clock
+-- the list of a station's events; its span has a local time in every zone
 pub record IsSiteList (book : Book) (asked : Asked) (site : Site) (listed : FoundEvents) : Type 0 where
   pub units : listed.units ≡ site.station.units
   pub levels : HasLevels listed.units
@@ -93,6 +93,6 @@ abbrev pub Lists : Book → Asked → Result Site Refusal → Result FoundEvents
 Lists book asked expected (Ok listed) = (site : Site) × (expected ≡ Ok site) × IsSiteList book asked site listed
 Lists book asked expected (Err refusal) = Excused (refusal_is_out_of_memory refusal) expected refusal
 
--- the events of the reference's curves over the minutes that are evaluated
+-- the events of the reference's curves over the evaluated minutes
 abbrev pub AreReferences : FoundStation → List Event → Type 0
 AreReferences found events = events ≡ merged_of found.span.begin (tracks_of found.curve.book (site_of found) found.asked)

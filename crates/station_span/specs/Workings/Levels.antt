@@ -9,13 +9,13 @@ use Rattle.station_curve.specs.Curves.{IsPredicted, IsPrediction}
 abbrev pub source_of : SiteTide → ℤ → ℤ
 source_of found minute = minute -ℤ found.basis.high.add
 
--- a minute whose level the curve has
+-- the curve has the level at a minute
 pub record HasLevel (found : SiteTide) (minute : ℤ) : Type 0 where
   pub offset : IsOffset found.basis.high
   pub valid : IsPrediction found.curve
   pub inside : IsPredicted found.curve (source_of found minute)
 
--- a span at whose ends the curve has a level
+-- the curve has the level at both ends of a span
 pub record HasLevelsIn (found : SiteTide) (asked : Asked) : Type 0 where
   pub forward : asked.begin ≤ℤ asked.end
   pub first : HasLevel found asked.begin

@@ -17,7 +17,7 @@ site_with basis station = record { basis = basis; station = station }
 abbrev pub tide_with : Basis → Station → Prediction → SiteTide
 tide_with basis station curve = record { basis = basis; units = station.units; curve = curve }
 
--- the curve predicts the station over the minutes that are evaluated
+-- the curve predicts the station over the evaluated minutes
 abbrev pub IsValid : Reach → Book → Asked → Basis → Station → Prediction → Type 0
 IsValid reach book asked basis station curve =
     IsFound reach book asked (site_with basis station) (tide_with basis station curve)

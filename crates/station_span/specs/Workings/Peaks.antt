@@ -12,7 +12,7 @@ use Rattle.station_span.specs.Workings.Tides.{SiteTide}
 use Rattle.station_span.specs.Sites.{span_limit}
 use Rattle.station_span.specs.Workings.Levels.{HasLevelsIn, source_of}
 
--- the reference's level, as by every constituent of the harmonics file
+-- the curve of the reference's level, equal to the curve by every constituent of the harmonics file
 abbrev pub tide_levels : SiteTide → Meaning
 tide_levels found = mark_meaning Second found.curve (pos 1000000) (pos 0) (pos 0) true
 

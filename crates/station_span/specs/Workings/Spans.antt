@@ -1,4 +1,4 @@
--- The facts that the steps of an answer pass on.
+-- The facts that the steps of an answer pass to the next steps.
 use Rattle.std.specs.Prelude.{◌≡◌, ℤ, negsuc, pos, ◌-ℤ◌, ◌≤ℤ◌, ◌≤◌, unsigned_abs, length, Bool, true, false, IsTrue}
 use Rattle.std.specs.Option.{ForSome}
 use Rattle.event_list.specs.declared.span.Span.{Span}
@@ -22,23 +22,24 @@ pub record IsInRange (asked : Asked) : Type 0 where
   pub end : unsigned_abs asked.end ≤ 20000000000
   pub mark : ForSome asked.mark (λ level. unsigned_abs level ≤ 10000000000)
 
--- a span that isn't backward, and whose minutes are in range
+-- a span whose end isn't before its beginning, and whose minutes are in range
 pub record IsSpanInRange (s : Span) : Type 0 where
   pub forward : s.begin ≤ℤ s.end
   pub begin : unsigned_abs s.begin ≤ 100000000000
   pub end : unsigned_abs s.end ≤ 100000000000
 
--- a span whose ends have a text
+-- a span whose ends have a text as moments
 pub record AreMoments (asked : Asked) : Type 0 where
   pub begin : IsMoment asked.begin
   pub end : IsMoment asked.end
 
--- a span whose ends are at most a day from two minutes
+-- each end of a span is at most a day from a given minute
 pub record IsBeside (begin end : ℤ) (s : Span) : Type 0 where
   pub begins : unsigned_abs (s.begin -ℤ begin) ≤ 1440
   pub ends : unsigned_abs (s.end -ℤ end) ≤ 1440
 
--- a span that isn't backward, and for which the harmonics file has the minutes that are needed
+-- a span whose end isn't before its beginning, and for which the harmonics file has the minutes that are
+-- needed
 pub record IsReached (reach : Reach) (book : Book) (basis : Basis) (begin end : ℤ) : Type 0 where
   pub forward : begin ≤ℤ end
   pub begins : InDomain book.first_year book.years (reached reach basis begin end).begin
@@ -47,7 +48,7 @@ pub record IsReached (reach : Reach) (book : Book) (basis : Basis) (begin end : 
   pub beside : IsBeside begin end (reached reach basis begin end)
   pub some : lacks_minute reach begin end ≡ false
 
--- a unit of levels: any but that of a hydraulic current
+-- a unit of levels: any but a hydraulic current's
 abbrev pub has_levels : Units → Bool
 has_levels Feet = true
 has_levels Meters = true
@@ -58,7 +59,7 @@ has_levels KnotsSquared = false
 abbrev pub HasLevels : Units → Type 0
 HasLevels units = IsTrue (has_levels units)
 
--- a minute from the begin of the year 2 to that of the year 9300
+-- a minute from the beginning of the year 2 to the beginning of the year 9300
 pub record IsFileMinute (minute : ℤ) : Type 0 where
   pub least : negsuc 1035067679 ≤ℤ minute
   pub most : minute ≤ℤ pos 3855208320

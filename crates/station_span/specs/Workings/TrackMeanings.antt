@@ -1,4 +1,4 @@
--- The curves of a current's slacks and of a mark, by the tide that was found.
+-- The curves of a current's slack waters and of a mark, for a station that was found.
 use Rattle.std.specs.Prelude.{ℤ, pos, true, false, Option, option_map}
 use Rattle.curve_law.specs.Meaning.{Meaning}
 use Rattle.rate_bound.specs.declared.version.Version.{Version}
@@ -6,7 +6,7 @@ use Rattle.rate_bound.specs.Meanings.{mark_meaning}
 use Rattle.station_span.specs.Workings.Tides.{SiteTide}
 use Rattle.station_span.specs.Following.{asks_slack, slack_times, slack_plus, if_asked}
 
--- the curve of the slacks, if they are listed
+-- the curve of the slack waters, if they are listed
 abbrev pub tide_slack : Version → SiteTide → Option Meaning
 tide_slack version found =
     if_asked (asks_slack found.units found.basis)

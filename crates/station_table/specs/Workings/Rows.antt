@@ -8,7 +8,7 @@ use Rattle.station_table.specs.declared.borrowed_offsets.BorrowedOffsets.{Borrow
 abbrev pub offsets_in : BorrowedOffsets → Offsets
 offsets_in r = record { name = r.name.now; reference = r.reference.now; high = r.high; low = r.low; slack = r.slack }
 
--- a result, seen by `view`, is the rule's
+-- a result, seen by `view`, is the rule's result
 abbrev pub Reads : {A B : Type 0} → (A → B) → Result B OffsetWhy → Result A OffsetWhy → Type 0
 Reads view rule (Ok value) = rule ≡ Ok (view value)
 Reads view rule (Err why) = rule ≡ Err why

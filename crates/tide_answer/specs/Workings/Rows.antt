@@ -12,7 +12,7 @@ pub record IsStep (step : ℤ) : Type 0 where
   pub first : pos 1 ≤ℤ step
   pub last : step ≤ℤ pos 44640
 
--- the first rows of a list, as many as the count
+-- the first `count` rows of a listing of heights
 pub record AreRows (book : Book) (site : Site) (begin step : ℤ) (count : ℕ) (rows : List Row) : Type 0 where
   pub value : rows ≡ map (row_at book site begin step) (range_with_len 0 count)
   pub listed : All (λ row. InZoneYears row.minute) rows

@@ -42,7 +42,7 @@ abbrev pub form_of : Command → Form
 form_of Certify = Certificate
 form_of _ = Listing
 
--- the premises for writing an answer as it is found
+-- what writing a streamed answer requires of the station, the name and the zone
 pub record IsStream (found : FoundStation) (name : List ℕ) (zone : Zone) : Type 0 where
   pub reach : found.reach ≡ Events
   pub moments : AreMoments found.asked

@@ -19,7 +19,7 @@ abbrev pub answer_in : Body → Answer
 answer_in (Text answer) = answer
 answer_in (Stream ready) = option_map_or (λ answer. answer) ready.stream (text_alone [])
 
--- an answer in memory, or one that is streamed
+-- the answer is in memory, or it is streamed
 abbrev pub IsReply : Body → Type 0
 IsReply (Text answer) = Unit {0}
 IsReply (Stream ready) = Streamed ready
@@ -29,7 +29,7 @@ abbrev pub answer_by : {E : Type 0} → Result Body E → Result Answer E
 answer_by (Ok body) = Ok (answer_in body)
 answer_by (Err fault) = Err fault
 
--- the answer is written as it is found
+-- the answer is written while it is computed
 abbrev pub is_stream : Body → Bool
 is_stream (Text answer) = false
 is_stream (Stream ready) = true

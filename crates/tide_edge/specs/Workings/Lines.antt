@@ -6,13 +6,14 @@ abbrev pub pieces_from : ℕ → List (List ℕ) → List (List ℕ)
 pieces_from at [] = []
 pieces_from at (piece ∷ more) = drop at piece ∷ more
 
--- the bytes cut into parts at these starts; each part ends where the next begins
+-- the bytes cut into parts that begin at these indices; each part ends where the next begins
 abbrev pub parts : List ℕ → List ℕ → List (List ℕ)
 parts [] bytes = []
 parts (start ∷ []) bytes = drop start bytes ∷ []
 parts (start ∷ next ∷ more) bytes = drop start (take next bytes) ∷ parts (next ∷ more) bytes
 
--- the replies, the bytes that they may still grow by, and the number of replies still to come
+-- the replies, the number of bytes that they may still grow by, and the number of replies that may still
+-- be begun
 pub record HeldReplies : Type 0 where
   pub replies : List (List ℕ)
   pub room : ℕ

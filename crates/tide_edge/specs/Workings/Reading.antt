@@ -7,12 +7,12 @@ use Rattle.tide_edge.specs.Whole.{as_came}
 use Rattle.tide_edge.specs.declared.piece.TheConstants.{PIECE}
 use Rattle.tide_edge.specs.declared.read_all_fault.ReadAllFault.{ReadAllFault}
 
--- all bytes that were taken, or the failure before their end
+-- all bytes that a receiver got, or the failure before their end
 abbrev pub all_taken : List ℕ → Result (Unit {0}) ReadAllFault → Result (List ℕ) ReadAllFault
 all_taken bytes (Ok done) = Ok bytes
 all_taken bytes (Err fault) = Err fault
 
--- the open file was read on: at most one piece past the limit, its end found at most once, and no other
+-- the open file was read: at most one piece past the limit, its end found at most once, and no other
 -- file opened
 pub record IsReadOn (limit : ℕ) (failed : Bool) (before after : FilesState) : Type 0 where
   pub store : after.store ≡ before.store
@@ -25,7 +25,7 @@ pub record IsReadOn (limit : ℕ) (failed : Bool) (before after : FilesState) : 
 abbrev pub IsFresh : Openings → Type 0
 IsFresh o = (name : List ℕ) × (o.latest ≡ Some (just_opened true name))
 
--- the latest opening was read on, and the result is the expected one for the bytes read of it
+-- the result is the expected one for the bytes read after the latest opening
 abbrev pub HasCome : {T E : Type 0} → (E → Source) → (Option (List ℕ) → Result T E) → ℕ → Openings → Openings → Result T E → Type 0
 HasCome source expected limit before after result =
     (name bytes : List ℕ) × (is_ended : Bool)

@@ -22,8 +22,8 @@ abbrev pub read_as : Bool → List ℕ → Bool → Connection
 read_as failed bytes ended =
     record { came = bytes; is_ended = ended; sent = []; read_failed = failed; write_failed = false }
 
--- the port after the open connection was read to `left`, with the connection as it is then, and after a
--- read that failed or none
+-- the port after the open connection was read up to the pieces `left`, with the connection as it then
+-- is; the Bool says whether a read failed
 abbrev pub read_to : List (List ℕ) → Connection → Bool → DoorState → DoorState
 read_to left connection failed d = record d {
   connections = with_latest connection d.connections;
@@ -37,7 +37,7 @@ pub record IsRead (bytes request : List ℕ) : Type 0 where
   pub parts : bytes ≡ request ++ rest
   pub enough : (rest ≡ []) ⊎ IsEnough request
 
--- the row of the bytes that were read; a connection without a byte has none
+-- the row of the bytes that were read; a connection without bytes has none
 abbrev pub IsReadAs : List ℕ → Option ReplyRow → Type 0
 IsReadAs bytes None = bytes ≡ []
 IsReadAs bytes (Some row) = (request : List ℕ) × IsRead bytes request × ¬ (request ≡ []) × IsRow request row
@@ -52,7 +52,7 @@ pub record HasRead (failed : Bool) (request : List ℕ) (before after : DoorStat
 
 -- ---- Sending
 
--- the connection after a text was sent, and after a write that failed or none
+-- the connection after a text was sent; the Bool says whether a write failed
 abbrev pub sending : List ℕ → Bool → Connection → Connection
 sending text false connection = record connection { sent = connection.sent ++ text }
 sending text true connection = record connection { sent = connection.sent ++ text; write_failed = true }
@@ -70,7 +70,7 @@ abbrev pub SentBy : Bool → List ℕ → DoorState → DoorState → Type 0
 SentBy false text before after = after ≡ sent text false before
 SentBy true text before after = (count : ℕ) × (count < length text) × (after ≡ sent (take count text) true before)
 
--- the reply of a row, or the one that replaces it if it isn't fixed
+-- the reply of a row, or, unless it is a fixed reply, the reply 503 if memory runs out
 abbrev pub Replies : ServedData → ℤ → ReplyRow → List ℕ → Type 0
 Replies served_data minute row text =
     (text ≡ reply_of served_data.book served_data.table minute row) ⊎ ((fixed_of row ≡ None) × (text ≡ unavailable_of row))
@@ -96,8 +96,8 @@ abbrev pub IsNextMinute : Option ℤ → ℤ → Type 0
 IsNextMinute None next = Unit {0}
 IsNextMinute (Some minute) next = minute ≡ next
 
--- the open connection at its end: what is left of its pieces, the reply, whether a read or write failed,
--- the minute that the clock returned for it, and the connection
+-- the open connection at its end: its unread pieces, the reply, whether a read or write failed, the
+-- minute that the clock returned for it, and the connection
 pub record Talk : Type 0 where
   pub left : List (List ℕ)
   pub reply : List ℕ
@@ -135,12 +135,12 @@ pub record Stopped (before after : Exchange) : Type 0 where
   pub byte : IsTrue before.door.is_observable → ¬ (concat before.door.traffic.rest ≡ [])
   pub needed : IsTrue before.door.is_observable → IsTrue before.door.keeps_pieces → IsReadAsNeeded before.door.traffic.rest left
 
--- one of the two, by whether the clock has failed
+-- the open connection was answered, or the clock has failed for it, as the Bool says
 abbrev pub WentBy : Bool → ServedData → Exchange → Exchange → Type 0
 WentBy false served_data before after = Went served_data before after
 WentBy true served_data before after = Stopped before after
 
--- one of the two, and the connection was closed
+-- the open connection was answered, or the clock has failed for it; then it was closed
 pub record Closed (failed : Bool) (served_data : ServedData) (before after : Exchange) : Type 0 where
   pub still : DoorState
   pub went : WentBy failed served_data before record { door = still; clock = after.clock }

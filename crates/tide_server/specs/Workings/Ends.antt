@@ -21,11 +21,11 @@ pub record Unread : Type 0 where
 abbrev pub unread : DoorState → SinkState → ClockState → Unread
 unread door err clock = record { door = door; err = err; clock = clock }
 
--- the states of all objects, from those of the files and of the others
+-- the states of all objects, from the states of the files and of the others
 abbrev pub with_files : FilesState → Unread → ServerStates
 with_files files left = server_states files left.door left.err left.clock
 
--- the end of a server, over any files, which aren't read any more
+-- the end of a server that has data; the files are no longer read
 pub record Ended (served_data : ServedData) (status : Status) (before after : Unread) : Type 0 where
   pub listened : (files left : FilesState) → HasListened served_data status (with_files files before) (with_files left after)
   pub done : status ≡ Done → IsOver after.door.doorway

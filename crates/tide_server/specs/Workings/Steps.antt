@@ -73,7 +73,7 @@ abbrev pub conversation : List (List ℕ) → Talk → Conversation
 conversation request talk =
     record { request = request; reply = talk.reply; is_cut = talk.is_cut; is_asked = is_some talk.minute }
 
--- the first request that waits, and those after it
+-- there is a waiting request: the first, and the ones after it
 pub record IsNext (door : DoorState) : Type 0 where
   pub request : List (List ℕ)
   pub more : List (List (List ℕ))
@@ -103,7 +103,7 @@ pub record LeftNext (before after : Exchange) : Type 0 where
   pub byte : (door : IsTrue before.door.is_observable) → ¬ (concat (next door).request ≡ [])
   pub needed : (door : IsTrue before.door.is_observable) → IsTrue before.door.keeps_pieces → IsReadAsNeeded (next door).request left
 
--- the port after no more connections came
+-- the port after `next` returned that there are no more connections
 abbrev pub door_at_end : DoorState → DoorState
 door_at_end d = record d { doorway = after_next (Ok false) d.doorway }
 
@@ -111,7 +111,7 @@ door_at_end d = record d { doorway = after_next (Ok false) d.doorway }
 abbrev pub door_failed : DoorState → DoorState
 door_failed d = record d { faults = counted d.faults }
 
--- one step: the next connection was served, or none came, or the port or the clock failed
+-- one step: the next connection was served, or there were no more, or the port or the clock failed
 abbrev pub StepBy : Result Bool Outage → ServedData → Exchange → Exchange → Type 0
 StepBy (Ok true) served_data before after = ServedNext served_data before after
 StepBy (Ok false) served_data before after = (after.door ≡ door_at_end before.door) × (after.clock ≡ before.clock)
@@ -124,8 +124,8 @@ StepBy (Err outages.Clock) served_data before after = LeftNext before after
 abbrev pub serving : ℕ → ℕ → Doorway
 serving port taken = record { port = Some port; listens = true; taken = taken; is_open = false; is_over = false }
 
--- what serving leaves unchanged: that port and clock are observable, and their counts of faults except for
--- the failures
+-- what serving leaves unchanged: whether port and clock are observable, and their counts of faults
+-- except for the failures
 pub record IsKept (door_failed clock_failed : Bool) (before after : Exchange) : Type 0 where
   pub is_observable : after.door.is_observable ≡ before.door.is_observable
   pub pieces : after.door.keeps_pieces ≡ before.door.keeps_pieces
@@ -145,7 +145,7 @@ pub record WereServed (served_data : ServedData) (count : ℕ) (before after : E
   pub cut : RoseBy (count_by (λ c. c.is_cut) served) before.door.line_faults after.door.line_faults
   pub clock : after.clock ≡ clock_after_all served before.clock
 
--- these connections were served so far, at these minutes
+-- these connections were served until now, at these minutes
 pub record HavePassed (served_data : ServedData) (before after : Exchange) : Type 0 where
   pub over : List Connection
   pub minutes : List ℤ
