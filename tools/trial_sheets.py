@@ -24,7 +24,7 @@ def run(*command, **options):
 def filled(path):
     """How much of its height the fullest page of a PDF fills with text."""
     pages = run('pdftotext', '-bbox', path, '-').stdout.split('<page ')[1:]
-    return max(max(map(float, re.findall('yMax="([0-9.]+)"', page))) / float(re.search('height="([0-9.]+)"', page)[1]) for page in pages)
+    return max(max(map(float, re.findall('yMax="([0-9.]+)"', page)), default=0) / float(re.search('height="([0-9.]+)"', page)[1]) for page in pages)
 
 
 class Sheet:
