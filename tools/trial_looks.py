@@ -84,7 +84,8 @@ FAULTS = r"""(() => {
   for (const id of new Set(ids.filter((id, place) => ids.indexOf(id) !== place))) faults.push(`two elements with the id ${id}`);
   if (!document.documentElement.lang) faults.push('no language');
   if (document.querySelectorAll('h1').length !== 1) faults.push(`${document.querySelectorAll('h1').length} titles (h1)`);
-  if (document.documentElement.scrollWidth > innerWidth) faults.push(`${document.documentElement.scrollWidth} points wide of ${innerWidth}`);
+  const { scrollWidth, clientWidth } = document.documentElement;
+  if (scrollWidth > clientWidth) faults.push(`${scrollWidth} points wide of ${clientWidth}`);
   return { least: least.toFixed(2), faults };
 })()"""
 
