@@ -164,7 +164,7 @@ class AnswerTrial:
         if icalendar is None:
             print('     the calendar is not read: Debian\'s python3-icalendar is missing')
             return
-        entries = icalendar.Calendar.from_ical(calendar).walk('VEVENT')
+        entries = icalendar.Calendar.from_ical(calendar).walk('VEVENT') if calendar else []
         starts = sorted(entry.decoded('dtstart') for entry in entries)
         spans = sorted((entry.decoded('dtstart'), entry.decoded('dtend') - MINUTE) for entry in entries if 'dtend' in entry)
         summaries = {str(entry['summary']) for entry in entries}

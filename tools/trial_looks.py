@@ -84,7 +84,8 @@ FAULTS = r"""(() => {
   for (const id of new Set(ids.filter((id, place) => ids.indexOf(id) !== place))) faults.push(`two elements with the id ${id}`);
   if (!document.documentElement.lang) faults.push('no language');
   if (document.querySelectorAll('h1').length !== 1) faults.push(`${document.querySelectorAll('h1').length} titles (h1)`);
-  if (document.documentElement.scrollWidth > innerWidth) faults.push(`${document.documentElement.scrollWidth} points wide of ${innerWidth}`);
+  const { scrollWidth, clientWidth } = document.documentElement;
+  if (scrollWidth > clientWidth) faults.push(`${scrollWidth} points wide of ${clientWidth}`);
   return { least: least.toFixed(2), faults };
 })()"""
 
@@ -110,14 +111,17 @@ class LooksTrial:
         about, file, question = page
         query = '' if question is None else f'?{urllib.parse.urlencode({"date": "2025-06-01", "year": "2025", **question})}'
         tab.open(f'{file}{query}', SHOWN if question else 'document.querySelectorAll("#finder a").length > 0')
-        seen = tab.value(FAULTS)
-        if not seen:
+        seen = [tab.value(FAULTS)]
+        self.keep(tab, f'{about}-{how}')
+        tab.value('document.querySelectorAll("#question details, #take").forEach(it => { it.open = true; })')
+        seen.append(tab.value(FAULTS))
+        if not all(seen):
             self.say(False, f'{about}, {how}: the checks did not run')
             return
-        self.say(not seen['faults'], f'{about}, {how}: contrast of {seen["least"]} or more, {len(seen["faults"])} faults')
-        for fault in seen['faults'][:8]:
+        faults = list(dict.fromkeys(fault for each in seen for fault in each['faults']))
+        self.say(not faults, f'{about}, {how}: contrast of {min(float(each["least"]) for each in seen):.2f} or more, {len(faults)} faults')
+        for fault in faults[:8]:
             print(f'     {fault}')
-        self.keep(tab, f'{about}-{how}')
 
     def keep(self, tab, name):
         if 'pictures' in self.words:

@@ -21,6 +21,12 @@ def run(*command, **options):
     return subprocess.run([str(word) for word in command], capture_output=True, text=True, check=False, **options)
 
 
+def filled(path):
+    """How much of its height the fullest page of a PDF fills with text."""
+    pages = run('pdftotext', '-bbox', path, '-').stdout.split('<page ')[1:]
+    return max(max(map(float, re.findall('yMax="([0-9.]+)"', page)), default=0) / float(re.search('height="([0-9.]+)"', page)[1]) for page in pages)
+
+
 class Sheet:
     """The events and the times above the sill that the text of a PDF has, as (date, time, offset, word, level) and (date, text)."""
 

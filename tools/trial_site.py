@@ -261,7 +261,8 @@ class Tab:
         """Prints the page on a paper of some inches, with the page's own margins."""
         width, height = inches
         style = '@page { size: %sin %sin; }' % ((height, width) if landscape else (width, height))
-        self.value(f'document.adoptedStyleSheets = [new CSSStyleSheet()]; document.adoptedStyleSheets[0].replaceSync({json.dumps(style)})')
+        # The page's own styles stay: year.js adopts the height of the lines.
+        self.value(f'(sheet => {{ sheet.replaceSync({json.dumps(style)}); document.adoptedStyleSheets.push(sheet); }})(new CSSStyleSheet())')
         printed = self.call('Page.printToPDF', preferCSSPageSize=True, printBackground=True)
         sheet.write_bytes(base64.b64decode(printed['data']))
 

@@ -13,8 +13,8 @@ from yearbook_clock import MINUTE, Point, clock_name, day_text, moment_of, offse
 SIZES = (64, 72, 80)  # the most lines of a column for each size of type in year.css, which is 9, 8.5 or 8 points
 COLUMNS_OF_MONTH = {6: (2, 3, 6, 12, 18), 4: (2, 4, 8, 16), 3: (3, 6, 12, 15)}  # those that a month may have, by those of a sheet
 # By year.css, in mm: the height of a sheet's paper, the greatest height of a line, that of a line of text, and the height of all else.
-PAPER_HIGH, MOST_HIGH, TEXT, AROUND = {'A4': 277, 'Letter': 259.4}, 4, 3.4, 30
-LETTERS = 115  # the letters that a line of text has at least
+PAPER_HIGH, MOST_HIGH, TEXT, AROUND = {'A4': 277, 'Letter': 259.4}, 5, 3.4, 30
+LETTERS, NAME_LETTERS = 115, 88  # the letters that a line of text and one of the station's name have at least
 SHORT = {'feet': 'ft', 'meters': 'm', 'knots': 'kn'}
 SIGNS = {'High Tide': 'H', 'Low Tide': 'L', 'Max Flood': 'F', 'Max Ebb': 'E', 'Min Flood': 'f', 'Min Ebb': 'e',
          'Slack Flood Begins': 'SF', 'Slack Ebb Begins': 'SE'}
@@ -322,6 +322,7 @@ def sheet_names(year):
 def line_height(year, paper):
     """The rule by which the fullest column fills the height of a paper, for WeasyPrint, which doesn't compute lengths."""
     texts = sum(-(-len(text) // LETTERS) for text in [*about_lines(year), *(text for _, text in texts_below(year))])
+    texts += 2 * (-(-len(year.station['name']) // NAME_LETTERS) - 1)  # a line of a name is less high than two of text
     high = (PAPER_HIGH[paper] - AROUND - TEXT * texts) / year.layout().most
     return f'.column td, .column tbody th {{ line-height: {min(high, MOST_HIGH):.3f}mm; }}'
 

@@ -12,9 +12,9 @@ const place = id => document.getElementById(id);
 const controls = place('question').elements;
 const PAPERS = ['A4', 'Letter'];
 /** By year.css, in mm: the greatest height of a line, that of a line of text, and the height of all else on a sheet. */
-const MOST_HIGH = 4, TEXT = 3.4, AROUND = 30;
-/** The letters that a line of text has at least. */
-const LETTERS = 115;
+const MOST_HIGH = 5, TEXT = 3.4, AROUND = 30;
+/** The letters that a line of text and one of the station's name have at least. A line of a name is less high than two of text. */
+const LETTERS = 115, NAME_LETTERS = 88;
 
 const noted = (all, name) => (Object.hasOwn(all, name) && all[name]) || {};
 
@@ -45,7 +45,8 @@ function setPaper() {
 
 /** Has the fullest column fill the height of the paper. */
 function fillPaper(answer, { most }) {
-  const texts = textLengths(answer).reduce((sum, length) => sum + Math.ceil(length / LETTERS), 0);
+  const names = Math.ceil(answer.station.length / NAME_LETTERS) - 1;
+  const texts = textLengths(answer).reduce((sum, length) => sum + Math.ceil(length / LETTERS), 2 * names);
   const height = `min(${MOST_HIGH}mm, calc((100vh - ${AROUND + TEXT * texts}mm) / ${most}))`;
   addStyle(`@media print { .column td, .column tbody th { line-height: ${height}; } }`);
 }
