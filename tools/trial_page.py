@@ -211,12 +211,12 @@ class PageTrial:
             tab.call('Network.clearBrowserCache')
             tab.open(self.address(), f'{SHOWN} && document.querySelector("#near a") !== null')
             first, asked = tab.bytes, [url.split('/')[-1].split('?')[0] for url in tab.requests]
-            last = tab.value('Math.max(...performance.getEntriesByType("resource").map((it) => it.responseEnd))')
+            curve = tab.value('performance.getEntriesByType("resource").find((it) => it.name.includes("/heights")).responseEnd')
             tab.bytes = 0
             tab.open(self.address(), f'{SHOWN} && document.querySelector("#near a") !== null')
         again = [line.split('"')[2].split()[0] for line in (self.site.folder / 'access.log').read_text().splitlines() if '/stations.txt ' in line][-1]
         later = asked.index('stations.txt') > asked.index('heights') > asked.index('stations.json')
-        self.say(first < 350_000 and later, f'a first view of {len(asked)} requests loads {first / 1000:.0f} kB in {last:.0f} ms, the list of stations after the curve')
+        self.say(first < 350_000 and later, f'a first view of {len(asked)} requests loads {first / 1000:.0f} kB, the curve after {curve:.0f} ms and the list of stations after it')
         self.say(again == '304' and tab.bytes < first / 2, f'a second view loads {tab.bytes / 1000:.0f} kB, and the list of stations not again')
 
     def steady(self):
