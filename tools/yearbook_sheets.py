@@ -11,7 +11,7 @@ import io
 from yearbook_clock import MINUTE, Point, clock_name, day_text, moment_of, offset_text
 
 SIZES = (64, 72, 80)  # the most lines of a column for each size of type in year.css, which is 9, 8.5 or 8 points
-COLUMNS_OF_MONTH = {6: (2, 3, 6, 12, 18), 4: (2, 4, 8, 16), 3: (3, 6, 12, 15)}  # those that a month may have, by those of a sheet
+COLUMNS_OF_MONTH = {6: (2, 3, 6, 12, 18), 4: (2, 4, 8, 16), 3: (3, 6, 12, 15)}  # the columns that a month may have, by the columns of a sheet
 # By year.css, in mm: the height of a sheet's paper, the greatest height of a line, that of a line of text, and the height of all else.
 PAPER_HIGH, MOST_HIGH, TEXT, AROUND = {'A4': 277, 'Letter': 259.4}, 5, 3.4, 30
 LETTERS, NAME_LETTERS = 115, 88  # the letters that a line of text and one of the station's name have at least

@@ -110,7 +110,7 @@ const mostLines = (answer, columns) => Math.max(...columns.map(dates => dates.re
 const chunks = (all, size) => Array.from({ length: Math.ceil(all.length / size) }, (_, place) => all.slice(place * size, (place + 1) * size));
 
 /**
- * How a year is laid out: `wide`, the columns of a sheet; `divided`, those of a month on it; `most`, the lines of the
+ * How a year is laid out: `wide`, the columns of a sheet; `divided`, the columns of a month on it; `most`, the lines of the
  * fullest column; and the `sheets`, each with its months and their columns of dates. There are as few sheets as can be in
  * type of at least 8 points.
  */
