@@ -22,8 +22,8 @@ pub fn clock_shows_the_present_and_the_next_day()
     ensures { ShowsThePresentAndTheNextDay }
 {}
 
-/// Proves an example of a request that has an answer, at the minute before a high water: the level
-/// rises, and the next turn is the high water.
+/// Proves an example of a command `clock` that has an answer. It is asked at the minute before the one
+/// of a high water: the printed direction is rising, and the next high or low water is this high water.
 pub fn worked_clock()
     ensures met { IsOk (answered pier_file [] (record (bare Command.Clock) { station = Some (codes "Pier") })
         (record { zone = Zone.Utc; certificate = []; now = pos 15791759 })) }

@@ -23,8 +23,9 @@ pub fn no_event_is_above_the_highest_water()
     highest_is_reported();
 }
 
-/// Proves examples: a request about two minutes that has a highest water; and over the minute before it,
-/// the slack of a station with separate offsets for slacks, at a level above the only level of the span.
+/// Proves two examples. `highest` has an answer for a span of two minutes. A station with separate
+/// offsets for its slacks has in a span of one minute a slack with the reference's level, which is above
+/// the station's only level in the span.
 pub fn worked_highest()
     ensures met { IsOk (answered pier_file []
         (record (bare Command.Highest) { station = Some (codes "Pier"); begin = Some (pos 15791759); end = Some (pos 15791761) })

@@ -60,8 +60,9 @@ fn add_event(events: &mut Vec<Event>, minute: i64, cell: Cell) -> Result<(), All
     Ok(())
 }
 
-/// Appends the events of one track's `cells`, of which the first begins at the minute `begin`; nothing
-/// if there is no track.
+/// Appends to `events` the events of `cells`, the cells of one track, or nothing if `cells` is `None`.
+/// The first cell begins at `begin`, in minutes since 1970-01-01T00:00Z, from -10^12 to 10^12, and the
+/// cells have at most 6,000,000 minutes together.
 ///
 /// # Errors
 /// [`AllocError`] if memory runs out.

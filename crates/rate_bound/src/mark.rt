@@ -37,9 +37,9 @@ impl<'a> MarkCurve<'a> {
     ghost use Rattle.rate_bound.specs.Meanings.{mark_meaning};
 
     /// Returns the curve of the reference's level times `times` millionths, plus `plus` less `mark`,
-    /// with rates only outside the blends at new years. `times` is from 1 to 100,000,000, `plus` and
-    /// `mark` are from -10,000,000,000 to 10,000,000,000 millionths of the unit, and `mark` is 0 if
-    /// `slack`.
+    /// with rates only outside the blends at new years. `times` is from 1 to 100,000,000, and `plus` and
+    /// `mark` are from -10,000,000,000 to 10,000,000,000 millionths of the unit. If `slack`, `mark` is 0,
+    /// and the changes of sign are a current's slacks; otherwise they are the passages of the mark.
     ///
     /// The program doesn't call it: it names the version in [`new`](MarkCurve::new).
     pub fn over(station: &'a StationCurve, times: i64, plus: i64, mark: i64, slack: bool) -> Self
@@ -53,8 +53,9 @@ impl<'a> MarkCurve<'a> {
     }
 
     /// Returns the curve of the reference's level times `times` millionths, plus `plus` less `mark`,
-    /// with rates also across a new year. `times` is from 1 to 100,000,000, `plus` and `mark` are from
-    /// -10,000,000,000 to 10,000,000,000 millionths of the unit, and `mark` is 0 if `slack`.
+    /// with rates also across a new year. `times` is from 1 to 100,000,000, and `plus` and `mark` are from
+    /// -10,000,000,000 to 10,000,000,000 millionths of the unit. If `slack`, `mark` is 0, and the changes of
+    /// sign are a current's slacks; otherwise they are the passages of the mark.
     pub fn blended(station: &'a StationCurve, times: i64, plus: i64, mark: i64, slack: bool) -> Self
         requires scale { IsScale times plus mark }
         requires slack { OnTrue slack (mark ≡ pos 0) }

@@ -10,8 +10,9 @@ use Rattle.year_blend.specs.Weights.{total_weight, weight_of, weight_slope_of}
 abbrev pub minutes_into : ℤ → ℕ → ℤ → ℕ
 minutes_into first_year year m = unsigned_abs ((m -ℤ start_of first_year year) +ℤ pos 60)
 
--- a level or slope at a position, from each year's: outside the blends at new years the year's own
--- times the total weight of a blend; in a blend both years' times their weights
+-- A level or slope, times the total weight of a blend, at a position, from the values that each year's
+-- constants give: outside the blends at new years the year's value times the total weight; in a blend the
+-- sum of both years' values, each times its weight.
 abbrev pub blended : (ℕ → ℤ) → Place → ℤ
 blended value (Plain year) = pos total_weight *ℤ value year
 blended value (Blend year x) =

@@ -25,8 +25,9 @@ pub fn weighted(weight: i64, value: i128) -> i128
     i128::from(weight) * value
 }
 
-/// Returns the values of the earlier and the later year, blended: the later year's value times
-/// `weight`, plus the earlier year's times the rest of the total weight of 4,147,200,000.
+/// Returns `later`, the later year's value, times `weight`, plus `earlier`, the earlier year's value,
+/// times the rest of the total weight of 4,147,200,000. Both values are at most 10^26 in size, and
+/// `weight` is from 0 to 4,147,200,000.
 pub fn mixed(earlier: i128, later: i128, weight: i64) -> i128
     requires earlier { unsigned_abs earlier ≤ 10 ^ 26 }
     requires later { unsigned_abs later ≤ 10 ^ 26 }

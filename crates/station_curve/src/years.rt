@@ -19,7 +19,7 @@ use year_blend::year_start;
 /// Half the length of a blend at a new year, in minutes.
 pub const HOUR: i64 = 60;
 
-/// A year of a station, with its waves.
+/// A calendar year of the harmonics file, with the waves of one station in this year.
 #[derive(Drop)]
 pub struct Year {
     /// The first minute of the year, since 1970-01-01T00:00Z.

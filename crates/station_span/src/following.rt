@@ -142,9 +142,9 @@ pub fn turn_search<'a>(found: &'a FoundStation) -> Search<TurnCurve<'a>>
     )
 }
 
-/// Returns the search for the slack waters of the reference of `found`, a current, or `None` if the
-/// station's slack waters aren't listed. It evaluates the curve at most once per cell, plus once.
-/// `found` is for [`Reach::Events`].
+/// Returns the search for the slack waters of the reference station of `found`, or `None` if the station
+/// of `found` is no current, or has different offsets for highs and lows and none for slack waters. The
+/// search evaluates the curve at most once per cell, plus once. `found` is for [`Reach::Events`].
 pub fn slack_search<'a>(found: &'a FoundStation) -> Option<Search<MarkCurve<'a>>>
     requires { found.now.reach ≡ Reach.Events }
     ensures at { ForSome result (λ search. search.at ≡ found.now.span.begin) }

@@ -40,8 +40,9 @@ use year_blend::year_start;
 /// The greatest number of minutes of a span.
 const SPAN_LIMIT: i64 = 5_270_400;
 
-/// Returns the station of `stations` that `request` names, with its span and its mark, for the purpose
-/// `reach`.
+/// Returns the station of `stations` that `request` names, with its span, its mark, and the curve of its
+/// reference station over the minutes that `reach` needs: the ones for events, for levels, or for the
+/// highest water.
 ///
 /// # Errors
 /// The first [`Refusal`] in this order: the station, its unit, the span, the limits on its constants,

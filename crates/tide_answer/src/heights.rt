@@ -27,9 +27,9 @@ const ROW_LIMIT: u64 = 100_000;
 /// # Errors
 /// The first [`Refusal`] in this order: the station isn't found, it is a hydraulic current, the span is
 /// backward or outside the file's years, its constants are over a bound ([`Refusal::TooLarge`] or
-/// [`Refusal::TooSteep`]), the span is longer than 5,270,400 minutes, a mark is given or a level is
-/// needed at each minute but the offsets of its high and low waters differ, and [`Refusal::TooManyRows`]
-/// for more than 100,000 rows.
+/// [`Refusal::TooSteep`]), the span is longer than 5,270,400 minutes, the offsets of the station's high and
+/// low waters differ ([`Refusal::MarkNotHere`] if the request has a mark, [`Refusal::LevelNotHere`] if it
+/// has none), and [`Refusal::TooManyRows`] for more than 100,000 rows.
 #[tactic(auto, unfolding(crate::specs::Answers::heights))]
 pub fn list_heights(
     alloc: Global,

@@ -24,6 +24,7 @@ unfoldable pub weight_of : ℤ → ℤ
 weight_of x =
     ((pos 2073600000 +ℤ (pos 64800000 *ℤ x)) -ℤ (pos 12000 *ℤ cube x)) +ℤ (square x *ℤ cube x)
 
--- the change of the weight per minute, x minutes from the new year: 5 (3600 - x^2)^2
+-- the change of the weight (in parts of 4147200000) in a minute, x minutes from the new year:
+-- 5 (3600 - x^2)^2
 unfoldable pub weight_slope_of : ℤ → ℤ
 weight_slope_of x = pos 5 *ℤ square (pos 3600 -ℤ square x)

@@ -28,7 +28,8 @@ pages_of zone events first last = map (page_of zone events) (days_through first 
 abbrev pub line_of_page : Zone → Units → CalendarPage → List ℕ
 line_of_page zone units page = date_text page.day ++ flat_map (entry_in zone units) page.events ++ codes "\n"
 
--- a range of day numbers, both ends included, each of which has a date that can be written
+-- a range of day numbers, both ends included, with 1970-01-01 as day 0: the first isn't after the last, and
+-- each has a date in the years 0 to 9999
 pub record AreDays (first last : ℤ) : Type 0 where
   pub first_day : IsDay first
   pub last_day : IsDay last

@@ -33,7 +33,8 @@ IsPlaceInRange first_year years m (Blend year x) =
     (0 < year) × (year < years) × IsWithinHourOfYear first_year year m × IsWithinHourOfYear first_year (year - 1) m
     × IsWithinHourOfNewYear x
 
--- a year of a prediction with constants that are used at minute m
+-- a year (an index, counted from 0) with constants that the prediction of minute m may use: the file has
+-- this year, m is at most an hour outside it, and it is one of the years that the prediction's span touches
 pub record IsUsed (c : Prediction) (year : ℕ) (m : ℤ) : Type 0 where
   pub below : year < c.book.years
   pub hour : IsWithinHourOfYear c.book.first_year year m
