@@ -10,14 +10,14 @@ use Rattle.decimal_text.specs.Writing.{last_digits, minus_of, fraction_of, write
 use Rattle.decimal_text.proofs.StepsLemmas.{ten_up}
 
 -- the text after one more digit
-pub push_next : (out : List ℕ) (place n unit : ℕ) → 0 < place → unit ≡ 10 ^ (place - 1)
-    → (out ++ (48 + n / unit % 10) ∷ []) ++ last_digits (place - 1) n ≡ out ++ last_digits place n
+pub push_next : (out : List ℕ) (place n rest : ℕ) → 0 < place → rest ≡ n / 10 ^ (place - 1)
+    → (out ++ (48 + rest % 10) ∷ []) ++ last_digits (place - 1) n ≡ out ++ last_digits place n
 unfolding last_digits
-push_next out zero n unit some is = absurd (omega arith)
-push_next out (suc place) n unit some is =
+push_next out zero n rest some is = absurd (omega arith)
+push_next out (suc place) n rest some is =
     let e : suc place - 1 ≡ place = omega arith in
-    let unit' = rw e at is in
-    rw (append_assoc, e, unit') refl
+    let rest' = rw e at is in
+    rw (append_assoc, e, rest') refl
 
 pub append_none : (out : List ℕ) (place n : ℕ) → place ≡ 0 → out ≡ out ++ last_digits place n
 unfolding last_digits
@@ -37,12 +37,12 @@ pub minus_short : (value : ℤ) → length (minus_of value) ≤ 1
 minus_short (pos n) = omega arith
 minus_short (negsuc n) = omega arith
 
-pub written : (old minus text whole out : List ℕ) (value : ℤ) (size unit places : ℕ) → old ≡ []
-    → minus ≡ old ++ minus_of value → size ≡ unsigned_abs value → unit ≡ 10 ^ places → text ≡ decimal (size / unit)
+pub written : (old minus text whole out : List ℕ) (value : ℤ) (size places : ℕ) → old ≡ []
+    → minus ≡ old ++ minus_of value → size ≡ unsigned_abs value → text ≡ decimal (size / 10 ^ places)
     → whole ≡ minus ++ text → out ≡ whole ++ fraction_of places size → out ≡ write_of value places
 unfolding write_of
-written old minus text whole out value size unit places is_old is_minus is_size is_unit is_text is_whole is_out =
-    simp (is_out, is_whole, is_text, is_minus, is_old, is_size, is_unit)
+written old minus text whole out value size places is_old is_minus is_size is_text is_whole is_out =
+    simp (is_out, is_whole, is_text, is_minus, is_old, is_size)
 
 pub abs_small : (value : ℤ) → SFits w64 value → unsigned_abs value < 2 ^ 64
 abs_small (pos n) h = omega (arith, h.sfits)

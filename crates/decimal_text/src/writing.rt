@@ -1,6 +1,6 @@
 //! Writing numbers as decimals.
 
-ghost use Rattle.std.specs.Prelude.{◌≡◌, ℕ, ◌+◌, ◌^◌, ◌<◌, ◌≤◌, [], ◌∷◌, ◌++◌, length, unsigned_abs};
+ghost use Rattle.std.specs.Prelude.{◌≡◌, ℕ, ◌+◌, ◌/◌, ◌^◌, ◌<◌, ◌≤◌, [], ◌∷◌, ◌++◌, length, unsigned_abs};
 ghost use Rattle.arrayvec.specs.ArrayString.{array_string_len};
 ghost use Rattle.decimal_text.specs.Decimal.{read_of};
 ghost use Rattle.decimal_text.specs.Writing.{write_of, whole_of, minus_of, fraction_of, last_digits};
@@ -29,7 +29,7 @@ pub fn write(value: i64, places: u32, out: &mut ArrayString<24>)
     push_minus(value, out);
     let size = value.unsigned_abs();
     let mut buffer = Buffer::new();
-    out.push_str(buffer.format(size / 10u64.pow(places)));
+    out.push_str(buffer.format(without_last(size, places)));
     push_fraction(size, places, out);
 }
 
@@ -62,6 +62,23 @@ fn push_last_digits(size: u64, places: u32, out: &mut ArrayString<24>)
     ensures { out.new.bytes ≡ out.old.bytes ++ last_digits places size }
 {
     for place in (0..places).rev() {
-        push_digit((size / 10u64.pow(place) % 10) as u32, out);
+        push_digit((without_last(size, place) % 10) as u32, out);
+    }
+}
+
+/// Returns `size` without its last `places` digits. Divisors that the compiler knows become products,
+/// which take a fraction of a division's time.
+fn without_last(size: u64, places: u32) -> u64
+    requires { places ≤ 6 }
+    ensures { result ≡ size / 10 ^ places }
+{
+    match places {
+        0 => size,
+        1 => size / 10,
+        2 => size / 100,
+        3 => size / 1_000,
+        4 => size / 10_000,
+        5 => size / 100_000,
+        _ => size / 1_000_000,
     }
 }

@@ -1,15 +1,11 @@
 use Rattle.std.proofs.Common.{◌≡◌, ◌-◌, length-append, ◌∙◌, arith}
-use Rattle.decimal_text.proofs.StepsLemmas.{ten_up}
 use Rattle.decimal_text.proofs.WritingLemmas.{push_next, append_none}
 use Rattle.decimal_text.proofs.writing.push_last_digits.Goals as goal
 
-pub nonzero_div-size : goal.nonzero_div-size
-nonzero_div-size c = omega (arith, c.pow.ensures, ten_up (c.loop-place.place - 1))
-
 pub loop-place-preserved : goal.loop-place-preserved
 loop-place-preserved c = record {
-  written = rw c.push_digit.ensures.bytes (push_next c.loop-place.out.bytes c.loop-place.place c.args.size c.pow.result
-      c.loop-place-test.true c.pow.ensures ∙ c.loop-place.invariant.written);
+  written = rw c.push_digit.ensures.bytes (push_next c.loop-place.out.bytes c.loop-place.place c.args.size c.without_last.result
+      c.loop-place-test.true c.without_last.ensures ∙ c.loop-place.invariant.written);
   room = rw c.push_digit.ensures.bytes (simp length-append (omega arith));
 }
 

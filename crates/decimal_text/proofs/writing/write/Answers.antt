@@ -1,18 +1,14 @@
 use Rattle.std.proofs.Common.{◌-◌, ◌≤◌, length, length-append, arith}
 use Rattle.std.proofs.lemmas.Int.{to_z-of_z}
 use mir.Syntax.{w64}
-use Rattle.decimal_text.proofs.StepsLemmas.{ten_up}
 use Rattle.decimal_text.proofs.WritingLemmas.{whole_short, minus_short, written, abs_small}
 use Rattle.decimal_text.proofs.RoundTrip.{reads_back}
 use Rattle.decimal_text.proofs.writing.write.Goals as goal
 
-pub nonzero_div-size : goal.nonzero_div-size
-nonzero_div-size c = omega (arith, c.pow.ensures, ten_up c.args.places)
-
 pub push_fraction-requires-clause-room : goal.push_fraction-requires-clause-room
 push_fraction-requires-clause-room c =
     let size = c.unsigned_abs-size.result in
-    let whole : length c.format.result.now ≤ 19 - c.args.places = rw (c.format.ensures.text, c.pow.ensures)
+    let whole : length c.format.result.now ≤ 19 - c.args.places = rw (c.format.ensures.text, c.without_last.ensures)
     (whole_short size c.args.places (omega arith) c.requires.count_bound) in
     let same = to_z-of_z w64 c.args.value c.ranges.value in
     let minus = minus_short c.args.value in
@@ -23,7 +19,7 @@ returns-clause-exact c =
     let same = to_z-of_z w64 c.args.value c.ranges.value in
     let minus = rw same at c.push_minus.ensures in
     let size = rw same at c.unsigned_abs-size.ensures.value in
-    written _ _ _ _ _ c.args.value _ _ c.args.places c.requires.empty minus size c.pow.ensures c.format.ensures.text
+    written _ _ _ _ _ c.args.value _ c.args.places c.requires.empty minus size (rw c.without_last.ensures at c.format.ensures.text)
     c.push_str.ensures.bytes c.push_fraction.ensures
 
 pub returns-clause-reads_back : goal.returns-clause-reads_back
