@@ -1,6 +1,6 @@
--- Products, differences and quotients within their types.
+-- Products and differences within their types.
 use Rattle.std.proofs.Common.{◌≡◌, ℕ, ◌+◌, ◌-◌, ◌*◌, ◌%◌, ◌^◌, ◌<◌, ◌≤◌, ℤ, pos, negsuc, ◌+ℤ◌, ◌-ℤ◌, ◌*ℤ◌, ◌≤ℤ◌, ◌<ℤ◌, unsigned_abs, to_z, of_z, FitsSigned, arith}
-use Rattle.std.specs.Int.{int_shr, int_div_euclid}
+use Rattle.std.specs.Int.{int_shr}
 use Rattle.std.proofs.lemmas.Int.{ints, to_z-of_z, unsigned_abs-mul, fits_signed_mul, fits_signed_from_abs}
 use Rattle.std.proofs.lemmas.Nat.{mul-le, div_below}
 use mir.Syntax.{Width}
@@ -81,14 +81,3 @@ rest-after (negsuc n) = record {
 pub rest-small : (z whole : ℤ) → IsRest z whole → unsigned_abs z ≤ 330000000000000000000000000
     → unsigned_abs (whole *ℤ pos 18446744073709551616) ≤ 340000000000000000000000000
 rest-small z whole is small = let size = is.size in omega (arith, size, small)
-
--- a quotient rounded down
-pub record IsQuotient (z quotient : ℤ) : Type 0 where
-  pub least : (quotient *ℤ pos 1440000000000000000) ≤ℤ z
-  pub most : z <ℤ ((quotient *ℤ pos 1440000000000000000) +ℤ pos 1440000000000000000)
-  pub size : unsigned_abs quotient ≤ 300000000
-
-pub quotient-of : (z : ℤ) → unsigned_abs z ≤ 330000000000000000000000000 → IsQuotient z (int_div_euclid z (pos 1440000000000000000))
-quotient-of (pos n) small = record { least = omega (arith, ints); most = omega (arith, ints); size = omega (arith, ints, small) }
-quotient-of (negsuc n) small =
-    record { least = omega (arith, ints); most = omega (arith, ints); size = omega (arith, ints, small) }

@@ -2,8 +2,8 @@ use Rattle.std.proofs.Common.{◌∙◌, lit<, w64, pos, ◌*ℤ◌, arith}
 use Rattle.std.proofs.lemmas.Int.{to_z-of_z}
 use mir.Syntax.{w128}
 use Rattle.fixed_sine.proofs.ProductLemmas.{IsProduct, product-of}
-use Rattle.fixed_sine.proofs.sine.product.Goals as goal
-use Rattle.fixed_sine.proofs.sine.product.Goals.{After-from-2}
+use Rattle.fixed_sine.proofs.binary_angle.product.Goals as goal
+use Rattle.fixed_sine.proofs.binary_angle.product.Goals.{After-from-2}
 
 product : (c : After-from-2)
     → IsProduct w128 c.from.result c.from-2.result (pos c.args.r *ℤ c.args.slope) 330000000000000000000000000
