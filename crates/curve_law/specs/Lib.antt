@@ -2,6 +2,7 @@ pub mod Cells
 pub mod Cover
 pub mod CurveStates
 pub mod Meaning
+pub mod Pieces
 pub mod Track
 pub mod Verdicts
 pub mod Samples

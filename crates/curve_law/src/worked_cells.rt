@@ -37,7 +37,7 @@ pub fn worked_quiet_cells()
 /// Proves examples of the cells of spans: a block is halved until its parts are quiet, with the shorter
 /// half of an odd number of minutes first. Without a rate it is halved down to single minutes. A long
 /// span is cut into blocks of 1,024 minutes.
-#[tactic(auto, unfolding(crate::specs::Cover::keeps_side, crate::specs::Cover::is_quiet, crate::specs::Cover::unit_cell, crate::specs::Cover::split_within, crate::specs::Cover::split, crate::specs::Cover::cover_within, crate::specs::Cover::cover))]
+#[tactic(auto, unfolding(crate::specs::Cover::keeps_side, crate::specs::Cover::is_quiet, crate::specs::Cover::unit_cell, crate::specs::Pieces::halves_within, crate::specs::Pieces::pieces_of_block, crate::specs::Pieces::blocks_within, crate::specs::Pieces::pieces_of, crate::specs::Cover::cover))]
 pub fn worked_covers()
     ensures halved { cover (line (pos 1) false (pos 3)) (pos 0) 8 ≡ Cell.Still ∷ Cell.Still ∷ Cell.Quiet 2 ∷ Cell.Quiet 4 ∷ [] }
     ensures event { cover (line (negsuc 1) false (pos 1)) (pos 0) 8

@@ -48,7 +48,7 @@ pub fn worked_orders()
 /// Proves, for two curves that are straight lines, the events at the dock, which lists each high 30 minutes
 /// later and each low 10 minutes earlier than the reference, and how many cells cover 8 minutes of each
 /// curve.
-#[tactic(auto, unfolding(decimal_text::specs::Rounding::rounded_of, curve_law::specs::Track::minutes, curve_law::specs::Track::plain_list, curve_law::specs::Cover::keeps_side, curve_law::specs::Cover::is_quiet, curve_law::specs::Cover::unit_cell, curve_law::specs::Cover::split_within, curve_law::specs::Cover::split, curve_law::specs::Cover::cover_within, curve_law::specs::Cover::cover, crate::specs::Order::with_event, crate::specs::Order::ordered, crate::specs::Events::station_events, crate::specs::Events::cells_in, crate::specs::Events::cell_count))]
+#[tactic(auto, unfolding(decimal_text::specs::Rounding::rounded_of, curve_law::specs::Track::minutes, curve_law::specs::Track::plain_list, curve_law::specs::Cover::keeps_side, curve_law::specs::Cover::is_quiet, curve_law::specs::Cover::unit_cell, curve_law::specs::Pieces::halves_within, curve_law::specs::Pieces::pieces_of_block, curve_law::specs::Pieces::blocks_within, curve_law::specs::Pieces::pieces_of, curve_law::specs::Cover::cover, crate::specs::Order::with_event, crate::specs::Order::ordered, crate::specs::Events::station_events, crate::specs::Events::cells_in, crate::specs::Events::cell_count))]
 pub fn worked_stations()
     ensures dock { station_events lines dock (negsuc 9) (pos 32)
         ≡ event (negsuc 7) Kind.Low (pos 2) ∷ event (pos 31) Kind.High (pos 100001) ∷ [] }

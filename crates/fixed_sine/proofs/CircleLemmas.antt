@@ -1,5 +1,5 @@
 -- Angles folded onto the first quarter of the circle, and the size of the sine there.
-use Rattle.std.proofs.Common.{◌≡◌, ℕ, zero, suc, ◌+◌, ◌-◌, ◌/◌, ◌%◌, ◌<◌, ◌≤◌, inl, inr, nat_lt, refl, sym, ap, ◌∙◌, arith, lit≤, ℤ, pos, negsuc, neg_ℤ, ◌-ℤ◌, unsigned_abs, get_or, to_z, of_z, w64}
+use Rattle.std.proofs.Common.{◌≡◌, ℕ, zero, suc, ◌+◌, ◌-◌, ◌/◌, ◌%◌, ◌<◌, ◌≤◌, inl, inr, nat_lt, min, refl, sym, ap, ◌∙◌, arith, lit≤, ℤ, pos, negsuc, neg_ℤ, ◌-ℤ◌, unsigned_abs, get_or, to_z, of_z, w64}
 use Rattle.std.proofs.lemmas.Bool.{cases_lt, cond-true, cond-false, lt-ltb, le-ltb}
 use Rattle.std.proofs.lemmas.Int.{ints, to_z-of_z, fits_signed_from_abs}
 use Rattle.fixed_sine.specs.Circle.{degree}
@@ -21,6 +21,13 @@ half_of-first p h = cond-true (nat_lt p 54000000000) _ _ (lt-ltb p 54000000000 h
 pub half_of-second : (p : ℕ) → 54000000000 ≤ p → half_of p ≡ quarter_of (108000000000 - p)
 unfolding half_of
 half_of-second p h = cond-false (nat_lt p 54000000000) _ _ (le-ltb p 54000000000 h)
+
+pub half_of-folded : (p : ℕ) → p < 108000000000 → half_of p ≡ quarter_of (min p (108000000000 - p))
+half_of-folded p h =
+    elim (cases_lt p 54000000000) [
+      | inl below ↦ half_of-first p below ∙ ap quarter_of (omega arith)
+      | inr above ↦ half_of-second p above ∙ ap quarter_of (omega arith)
+    ]
 
 pub isin_of-first : (p : ℕ) → p < 108000000000 → isin_of p ≡ half_of p
 unfolding isin_of

@@ -14,7 +14,7 @@ use Rattle.fixed_sine.specs.Rate.{step_of}
 use Rattle.fixed_sine.specs.BinaryAngle.{units_of}
 use Rattle.fixed_sine.specs.Approximate.{middle_of, part_sine_of, approximate_sine_of}
 use Rattle.fixed_sine.proofs.CircleLemmas.{isin_of_size}
-use Rattle.fixed_sine.proofs.ProductLemmas.{kept-small}
+use Rattle.fixed_sine.proofs.ProductLemmas.{cast_small}
 use Rattle.fixed_sine.proofs.RateLemmas.{rate_law}
 
 table : PART_SINES ≡ map part_sine_of (range_with_len 0 8192)
@@ -40,7 +40,7 @@ part-size k h =
     rounded-size (isin_of (middle_of k) +ℤ pos 16384) (isin_of (middle_of k)) refl (isin_of_size (middle_of k) (omega (arith, h)))
 
 pub part-kept : (k : ℕ) → k < 8192 → to_z w16 (of_z w16 (get_or PART_SINES k (pos 0))) ≡ part_sine_of k
-part-kept k h = rw (part-entry k h) (kept-small w16 (part_sine_of k) 30518 (part-size k h) (lit< tt))
+part-kept k h = rw (part-entry k h) (cast_small w16 (part_sine_of k) 30518 (part-size k h) (lit< tt))
 
 -- ---- half a part is at most 13,183,594 units
 

@@ -1,52 +1,42 @@
--- Products, differences and quotients within their types.
+-- Products and differences within their types.
 use Rattle.std.proofs.Common.{◌≡◌, ℕ, ◌+◌, ◌-◌, ◌*◌, ◌%◌, ◌^◌, ◌<◌, ◌≤◌, ℤ, pos, negsuc, ◌+ℤ◌, ◌-ℤ◌, ◌*ℤ◌, ◌≤ℤ◌, ◌<ℤ◌, unsigned_abs, to_z, of_z, FitsSigned, arith}
-use Rattle.std.specs.Int.{int_shr, int_div_euclid}
+use Rattle.std.specs.Int.{int_shr}
 use Rattle.std.proofs.lemmas.Int.{ints, to_z-of_z, unsigned_abs-mul, fits_signed_mul, fits_signed_from_abs}
 use Rattle.std.proofs.lemmas.Nat.{mul-le, div_below}
 use mir.Syntax.{Width}
 use mir.Val.{hbits}
 
-pub kept-small : (w : Width) (z : ℤ) (m : ℕ) → unsigned_abs z ≤ m → m < 2 ^ hbits w → to_z w (of_z w z) ≡ z
-kept-small w z m small within = to_z-of_z w z (fits_signed_from_abs w z (omega arith))
+pub cast_small : (w : Width) (a : ℤ) (m : ℕ) → unsigned_abs a ≤ m → m < 2 ^ hbits w → to_z w (of_z w a) ≡ a
+cast_small w a m h fits = to_z-of_z w a (fits_signed_from_abs w a (omega arith))
 
--- the product of two numbers that a type holds
-pub record IsProduct (w : Width) (x y value : ℤ) (most : ℕ) : Type 0 where
-  pub fits : FitsSigned w (to_z w (of_z w x) *ℤ to_z w (of_z w y))
-  pub kept : to_z w (of_z w (to_z w (of_z w x) *ℤ to_z w (of_z w y))) ≡ value
-  pub size : unsigned_abs value ≤ most
+pub small_fits : (w : Width) (a : ℤ) (m : ℕ) → unsigned_abs a ≤ m → m < 2 ^ hbits w → FitsSigned w a
+small_fits w a m h fits = fits_signed_from_abs w a (omega arith)
 
-pub product-of : (w : Width) (x y : ℤ) (r : ℕ) (z : ℤ) (m n : ℕ) → x ≡ pos r → y ≡ z → r ≤ m → unsigned_abs z ≤ n
-    → m < 2 ^ hbits w → n < 2 ^ hbits w → m * n < 2 ^ hbits w → IsProduct w x y (pos r *ℤ z) (m * n)
-product-of w x y r z m n is_x is_y few small high low within =
-    let first = kept-small w (pos r) m few high in
-    let second = kept-small w z n small low in
-    let fits = fits_signed_mul w (pos r) z m n few small within in
-    rw (is_x, is_y) (record {
-      fits = rw (first, second) fits;
-      kept = rw (first, second) (to_z-of_z w (pos r *ℤ z) fits);
-      size = rw (unsigned_abs-mul (pos r) z) (mul-le r (unsigned_abs z) m n few small);
-    })
+pub abs_times : (a b : ℤ) (m n : ℕ) → unsigned_abs a ≤ m → unsigned_abs b ≤ n → unsigned_abs (a *ℤ b) ≤ m * n
+abs_times a b m n h k = rw (unsigned_abs-mul a b) (mul-le (unsigned_abs a) (unsigned_abs b) m n h k)
 
--- the difference of two numbers that a type holds
-pub record IsDifference (w : Width) (x y : ℤ) (most : ℕ) : Type 0 where
-  pub fits : FitsSigned w (to_z w (of_z w x) -ℤ to_z w (of_z w y))
-  pub kept : to_z w (of_z w (to_z w (of_z w x) -ℤ to_z w (of_z w y))) ≡ x -ℤ y
-  pub size : unsigned_abs (x -ℤ y) ≤ most
+pub times_fits : (w : Width) (a b : ℤ) (m n : ℕ) → unsigned_abs a ≤ m → unsigned_abs b ≤ n → m < 2 ^ hbits w
+    → n < 2 ^ hbits w → m * n < 2 ^ hbits w → FitsSigned w (to_z w (of_z w a) *ℤ to_z w (of_z w b))
+times_fits w a b m n h k fits_m fits_n fits =
+    rw (cast_small w a m h fits_m, cast_small w b n k fits_n) (fits_signed_mul w a b m n h k fits)
 
-minus-small : (x y : ℤ) (m n : ℕ) → unsigned_abs x ≤ m → unsigned_abs y ≤ n → unsigned_abs (x -ℤ y) ≤ m + n
-minus-small x y m n first second = omega (arith, ints, first, second)
+pub times : (w : Width) (a b : ℤ) (m n : ℕ) → unsigned_abs a ≤ m → unsigned_abs b ≤ n → m < 2 ^ hbits w
+    → n < 2 ^ hbits w → m * n < 2 ^ hbits w → to_z w (of_z w (to_z w (of_z w a) *ℤ to_z w (of_z w b))) ≡ a *ℤ b
+times w a b m n h k fits_m fits_n fits =
+    rw (cast_small w a m h fits_m, cast_small w b n k fits_n) (to_z-of_z w (a *ℤ b) (fits_signed_mul w a b m n h k fits))
 
-pub difference-of : (w : Width) (x y : ℤ) (m n : ℕ) → unsigned_abs x ≤ m → unsigned_abs y ≤ n → m + n < 2 ^ hbits w
-    → IsDifference w x y (m + n)
-difference-of w x y m n first second within =
-    let left = kept-small w x m first (omega arith) in
-    let right = kept-small w y n second (omega arith) in
-    let small = minus-small x y m n first second in
-    record {
-      fits = rw (left, right) (fits_signed_from_abs w (x -ℤ y) (omega (arith, small, within)));
-      kept = rw (left, right) (kept-small w (x -ℤ y) (m + n) small within);
-      size = small;
-    }
+pub abs_minus : (x y : ℤ) (m n : ℕ) → unsigned_abs x ≤ m → unsigned_abs y ≤ n → unsigned_abs (x -ℤ y) ≤ m + n
+abs_minus x y m n h k = omega (arith, ints, h, k)
+
+pub minus_fits : (w : Width) (a b : ℤ) (m n : ℕ) → unsigned_abs a ≤ m → unsigned_abs b ≤ n → m + n < 2 ^ hbits w
+    → FitsSigned w (to_z w (of_z w a) -ℤ to_z w (of_z w b))
+minus_fits w a b m n h k fits =
+    rw (cast_small w a m h (omega arith), cast_small w b n k (omega arith)) (small_fits w (a -ℤ b) (m + n) (abs_minus a b m n h k) fits)
+
+pub minus : (w : Width) (a b : ℤ) (m n : ℕ) → unsigned_abs a ≤ m → unsigned_abs b ≤ n → m + n < 2 ^ hbits w
+    → to_z w (of_z w (to_z w (of_z w a) -ℤ to_z w (of_z w b))) ≡ a -ℤ b
+minus w a b m n h k fits =
+    rw (cast_small w a m h (omega arith), cast_small w b n k (omega arith)) (cast_small w (a -ℤ b) (m + n) (abs_minus a b m n h k) fits)
 
 -- a number without its last bits
 pub shifted-size : (z : ℤ) (k m : ℕ) → 0 < 2 ^ k → unsigned_abs z ≤ m * 2 ^ k → unsigned_abs (int_shr z k) ≤ m
@@ -81,14 +71,3 @@ rest-after (negsuc n) = record {
 pub rest-small : (z whole : ℤ) → IsRest z whole → unsigned_abs z ≤ 330000000000000000000000000
     → unsigned_abs (whole *ℤ pos 18446744073709551616) ≤ 340000000000000000000000000
 rest-small z whole is small = let size = is.size in omega (arith, size, small)
-
--- a quotient rounded down
-pub record IsQuotient (z quotient : ℤ) : Type 0 where
-  pub least : (quotient *ℤ pos 1440000000000000000) ≤ℤ z
-  pub most : z <ℤ ((quotient *ℤ pos 1440000000000000000) +ℤ pos 1440000000000000000)
-  pub size : unsigned_abs quotient ≤ 300000000
-
-pub quotient-of : (z : ℤ) → unsigned_abs z ≤ 330000000000000000000000000 → IsQuotient z (int_div_euclid z (pos 1440000000000000000))
-quotient-of (pos n) small = record { least = omega (arith, ints); most = omega (arith, ints); size = omega (arith, ints, small) }
-quotient-of (negsuc n) small =
-    record { least = omega (arith, ints); most = omega (arith, ints); size = omega (arith, ints, small) }

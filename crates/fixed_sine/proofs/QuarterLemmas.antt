@@ -72,3 +72,7 @@ by_slope r u c h =
     let split : 600000000 * c ≡ r * c + q * c = ap (λ n. n * c) all ∙ (omega arith) in
     let inner : (2400000000 * u + 600000000 * c) - r * c ≡ 2400000000 * u + q * c = omega arith in
     ap (λ n. r * n) inner ∙ (omega arith)
+
+-- the formula, with the units after the degree as a factor
+pub factored : (r q u c : ℕ) → r * (2400000000 * u + q * c) ≡ 2400000000 * r * u + r * q * c
+factored r q u c = omega arith

@@ -137,29 +137,6 @@ half_of-row k r sine size slope gain h small row least most =
     sym (half_of-num (600000000 * k + r) (omega arith)
     ∙ rounded _ sine gain _ (half_num-row k r sine size slope h small row) least most)
 
--- no row is too steep, nor its slope with all of the correction
-pub record IsWithinLimits (slope : ℤ) (r size : ℕ) : Type 0 where
-  pub begin : unsigned_abs slope ≤ 41943040000000000
-  pub mean : unsigned_abs (slope -ℤ pos (r * size)) ≤ 41943040000000000
-
-pub bounded : (k r sine size : ℕ) (slope : ℤ) → k < 180 → r < 600000000 → IsRow k slope sine size → IsWithinLimits slope r size
-bounded k r sine size slope h small row =
-    let little : r * size ≤ 600000000 * size = mul-le r size 600000000 size (omega arith) (omega arith) in
-    elim (cases_lt k 90) [
-      | inl first ↦ (let rises = risen k sine size slope first row in
-          let rising = sines_rise k first in
-          record {
-            begin = omega (arith, ints, rises.steep, rises.bent, rising.bounded);
-            mean = omega (arith, ints, rises.steep, rises.bent, rising.bounded, little);
-          })
-      | inr second ↦ (let falls = fallen k (179 - k) sine size slope second (omega arith) row in
-          let rising = sines_rise (179 - k) (omega arith) in
-          record {
-            begin = omega (arith, ints, falls.steep, falls.bent, rising.bounded, rising.enough);
-            mean = omega (arith, ints, falls.steep, falls.bent, rising.bounded, rising.enough, little);
-          })
-    ]
-
 -- the sum that the code computes fits 64 bits
 pub summed : (here gain z sine : ℤ) → here ≡ sine → sine +ℤ gain ≡ z → unsigned_abs gain ≤ 300000000
     → unsigned_abs z ≤ 1000000000 → to_z w64 (of_z w64 (to_z w64 (of_z w64 here) +ℤ to_z w64 (of_z w64 gain))) ≡ z

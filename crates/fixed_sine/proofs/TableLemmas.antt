@@ -5,7 +5,7 @@ use Rattle.std.proofs.lemmas.Bool.{agree_below_at, leb-true, and_parts}
 use Rattle.std.proofs.lemmas.Bool.Decides.{Decides-int_eq}
 use Rattle.std.proofs.lemmas.Int.{ints, to_z-of_z, fits_signed_from_abs}
 use Rattle.fixed_sine.specs.declared.degrees.TheConstants.{DEGREES}
-use Rattle.fixed_sine.specs.declared.table.TheConstants.{ROWS}
+use Rattle.fixed_sine.specs.declared.table.TheConstants.{CORRECTIONS}
 use Rattle.fixed_sine.specs.Workings.Degrees.{bend_at, slope_at, IsReady}
 use Rattle.fixed_sine.specs.Table.{sines, sine_at, rise, correction}
 
@@ -76,29 +76,19 @@ sines_rise k h =
       bounded = leb-true _ _ last.1;
     }
 
--- the rows of the code are those of the table
-unfoldable is_row : ℕ → Bool
-is_row k =
-    let row = get_or ROWS k (pos 0, 0, 0) in
-    int_eq row.0 ((pos 2400000000 *ℤ rise k) +ℤ pos (600000000 * row.2))
-    && (int_eq (pos row.1) (sine_at (pos k))
-    && int_eq (correction (min k (179 - k))) (neg_ℤ (pos row.2)))
+-- the corrections of the code are those of the definition
+unfoldable has_correction : ℕ → Bool
+has_correction k = int_eq (correction k) (neg_ℤ (pos (get_or CORRECTIONS k 0)))
 
+pub correction-entry : (k : ℕ) → k < 90 → correction k ≡ neg_ℤ (pos (get_or CORRECTIONS k 0))
+unfolding has_correction correction sine_at sines
+correction-entry k h = (Decides-int_eq _ _).0 (agree_below_at has_correction (λ _. true) 90 k refl h)
+
+-- the row of a degree: its slope, its sine and the size of its correction
 pub record IsRow (k : ℕ) (slope : ℤ) (sine size : ℕ) : Type 0 where
   pub steep : slope ≡ (pos 2400000000 *ℤ rise k) +ℤ pos (600000000 * size)
   pub here : pos sine ≡ sine_at (pos k)
   pub bent : correction (min k (179 - k)) ≡ neg_ℤ (pos size)
-
-pub row-entry : (k : ℕ) → k < 180 → IsRow k (get_or ROWS k (pos 0, 0, 0)).0 (get_or ROWS k (pos 0, 0, 0)).1 (get_or ROWS k (pos 0, 0, 0)).2
-unfolding is_row correction sine_at sines
-row-entry k h =
-    let all = and_parts _ _ (agree_below_at is_row (λ _. true) 180 k refl h) in
-    let rest = and_parts _ _ all.1 in
-    record {
-      steep = (Decides-int_eq _ _).0 all.0;
-      here = (Decides-int_eq _ _).0 rest.0;
-      bent = (Decides-int_eq _ _).0 rest.1;
-    }
 
 -- the degrees of the code, on either half of the circle
 unfoldable is_ready : ℤ → ℤ → ℤ → ℤ → Bool

@@ -11,7 +11,7 @@ ghost use Rattle.fixed_sine.specs.BinaryAngle.{binary_angle_of, units_of};
 
 use crate::circle::CIRCLE;
 use crate::degrees::degree_at;
-use crate::sine::{UNITS, isin, product};
+use crate::sine::{UNITS, isin};
 
 /// A full circle, in 2^-64 of a turn.
 pub const FULL_CIRCLE: u128 = 1 << 64;
@@ -142,6 +142,17 @@ fn gain_over(r: u64, slope: i64) -> Gain
         whole,
         rest: rest_of(product, whole),
     }
+}
+
+/// Returns `r * slope`, which can't overflow: `r` is below 600,000,000, and `slope` at most
+/// 550,000,000,000,000,000 in size.
+fn product(r: u64, slope: i64) -> i128
+    requires part { r < degree }
+    requires slope { unsigned_abs slope ≤ 550000000000000000 }
+    ensures value { result ≡ pos r *ℤ slope }
+    ensures size { unsigned_abs result ≤ 330000000000000000000000000 }
+{
+    i128::from(r) * i128::from(slope)
 }
 
 /// Returns `product / 2^64`, rounded down.

@@ -1,11 +1,11 @@
 //! Sine and cosine of an angle on the circle.
 
-ghost use Rattle.std.specs.Prelude.{◌≡◌, ◌+◌, ◌*◌, ◌/◌, ◌≤◌, ◌<◌, pos, unsigned_abs, ◌+ℤ◌, ◌-ℤ◌, ◌*ℤ◌, ◌≤ℤ◌, ◌<ℤ◌};
+ghost use Rattle.std.specs.Prelude.{◌≡◌, ◌+◌, ◌-◌, ◌*◌, ◌/◌, ◌≤◌, ◌<◌, pos, unsigned_abs};
 ghost use Rattle.fixed_sine.specs.Circle.{circle, degree, IsOnCircle};
-ghost use Rattle.fixed_sine.specs.Sine.{half_of, isin_of, icos_of};
+ghost use Rattle.fixed_sine.specs.Sine.{quarter_of, half_of, isin_of, icos_of};
 
 use crate::circle::{CIRCLE, DEGREE};
-use crate::table::row_of;
+use crate::table::{SineRow, row_of};
 
 /// The number of units of angle, of 1/600,000,000 degree each, in a degree, as an unsigned number.
 pub const UNITS: u64 = DEGREE as u64;
@@ -14,7 +14,7 @@ pub const UNITS: u64 = DEGREE as u64;
 const HALF: u64 = 180 * UNITS;
 
 /// The divisor of the interpolation formula between two degrees.
-const SQUARE: i128 = 4 * UNITS as i128 * UNITS as i128;
+const SQUARE: u128 = 4 * UNITS as u128 * UNITS as u128;
 
 /// Returns the sine of the angle `p`, in billionths from -1,000,000,000 to 1,000,000,000. `p` is in
 /// units of 1/600,000,000 degree, from 0 to `CIRCLE - 1`.
@@ -55,56 +55,36 @@ pub fn icos(p: i64) -> i64
 }
 
 /// Returns the sine, in billionths, of the angle `place` on the first half of the circle, in units of
-/// 1/600,000,000 degree.
+/// 1/600,000,000 degree: the second quarter mirrors the first.
 fn half(place: u64) -> i64
     requires { place < circle / 2 }
     ensures value { result ≡ half_of place }
     ensures size { unsigned_abs result ≤ 1000000000 }
 {
-    between((place / UNITS) as usize, place % UNITS)
+    quarter(place.min(HALF - place)) as i64
 }
 
-/// Returns the sine, in billionths, `r` units of 1/600,000,000 degree after `degrees` whole degrees,
-/// from 0 to 179.
-fn between(degrees: usize, r: u64) -> i64
-    requires degrees { degrees < 180 }
-    requires part { r < degree }
-    ensures value { result ≡ half_of (degree * degrees + r) }
-    ensures size { unsigned_abs result ≤ 1000000000 }
+/// Returns the sine, in billionths, of the angle `place` on the first quarter of the circle, both ends
+/// included, in units of 1/600,000,000 degree.
+fn quarter(place: u64) -> u64
+    requires { place ≤ circle / 4 }
+    ensures value { pos result ≡ quarter_of place }
+    ensures size { result ≤ 1000000000 }
 {
-    let row = row_of(degrees);
-    i64::from(row.sine) + gain(r, mean_slope(row.slope, row.correction, r))
+    let degrees = place / UNITS;
+    if degrees < 90 {
+        between(row_of(degrees as usize), place % UNITS)
+    } else {
+        1_000_000_000
+    }
 }
 
-/// Returns the mean change of the sine for each unit of 1/600,000,000 degree over the first `r` such
-/// units after a whole degree, in billionths times `SQUARE`.
-fn mean_slope(slope: i64, correction: u32, r: u64) -> i64
-    requires slope { unsigned_abs slope ≤ 41943040000000000 }
-    requires part { r < degree }
-    ensures { result ≡ slope -ℤ pos (r * correction) }
+/// Returns the sine, in billionths, `r` units of 1/600,000,000 degree after the whole degree of `row`.
+fn between(row: SineRow, r: u64) -> u64
+    requires { r < degree }
+    ensures { result
+        ≡ row.sine + (4 * degree * r * row.rise + r * (degree - r) * row.correction) / (4 * degree * degree) }
 {
-    slope - (r * u64::from(correction)) as i64
-}
-
-/// Returns the change of the sine, in billionths, over `r` units of 1/600,000,000 degree: `r * slope /
-/// SQUARE`, rounded down.
-fn gain(r: u64, slope: i64) -> i64
-    requires part { r < degree }
-    requires slope { unsigned_abs slope ≤ 41943040000000000 }
-    ensures least { (result *ℤ pos (4 * degree * degree)) ≤ℤ (pos r *ℤ slope) }
-    ensures most { (pos r *ℤ slope) <ℤ ((result *ℤ pos (4 * degree * degree)) +ℤ pos (4 * degree * degree)) }
-    ensures size { unsigned_abs result ≤ 300000000 }
-{
-    product(r, slope).div_euclid(SQUARE) as i64
-}
-
-/// Returns `r * slope`, which can't overflow: `r` is below 600,000,000, and `slope` at most
-/// 550,000,000,000,000,000 in size.
-pub fn product(r: u64, slope: i64) -> i128
-    requires part { r < degree }
-    requires slope { unsigned_abs slope ≤ 550000000000000000 }
-    ensures value { result ≡ pos r *ℤ slope }
-    ensures size { unsigned_abs result ≤ 330000000000000000000000000 }
-{
-    i128::from(r) * i128::from(slope)
+    let slope = 4 * UNITS * u64::from(row.rise) + (UNITS - r) * u64::from(row.correction);
+    u64::from(row.sine) + (u128::from(r) * u128::from(slope) / SQUARE) as u64
 }

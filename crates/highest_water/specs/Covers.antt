@@ -1,33 +1,8 @@
 -- The cells that show a highest water: cells that by the curve's rate are under it, and otherwise halves
 -- of cells, down to single minutes (this project).
-use Rattle.std.specs.Prelude.{
-  ℕ,
-  zero,
-  suc,
-  ◌+◌,
-  ◌-◌,
-  ◌/◌,
-  ℤ,
-  pos,
-  ◌+ℤ◌,
-  ◌*ℤ◌,
-  int_lt,
-  int_le,
-  nat_le,
-  Bool,
-  true,
-  false,
-  ◌&&◌,
-  ◌||◌,
-  Option,
-  Some,
-  None,
-  List,
-  [],
-  ◌∷◌,
-  ◌++◌,
-}
+use Rattle.std.specs.Prelude.{ℕ, ◌+◌, ℤ, pos, ◌+ℤ◌, ◌*ℤ◌, int_lt, int_le, nat_le, Bool, false, ◌&&◌, ◌||◌, if◌then◌else◌, Option, Some, None, List, [], ◌∷◌, map}
 use Rattle.curve_law.specs.Meaning.{Meaning}
+use Rattle.curve_law.specs.Pieces.{Interval, pieces_of_block, pieces_of}
 use Rattle.curve_law.specs.declared.quiet.TheConstants.{MOST_MINUTES}
 use Rattle.highest_water.specs.declared.peak.Peak.{Peak}
 use Rattle.highest_water.specs.declared.peak_cell.PeakCell.{PeakCell}
@@ -80,36 +55,19 @@ unfoldable pub is_under : Meaning → ℤ → ℤ → ℤ → ℕ → Bool
 is_under c at value a n =
     nat_le 2 n && nat_le n MOST_MINUTES && (ends_below c at value a n || begins_within c at value a n)
 
--- the cells of n minutes from minute a on, with at most this many halvings
-unfoldable pub split_within : ℕ → Meaning → ℤ → ℤ → ℤ → ℕ → List PeakCell
-split_within zero c at value a n = []
-split_within (suc halvings) c at value a n =
-    elim (nat_le n 1) [
-      | true ↦ Single ∷ []
-      | false ↦ elim (is_under c at value a n) [
-        | true ↦ Under n ∷ []
-        | false ↦ split_within halvings c at value a (n / 2) ++ split_within halvings c at value (a +ℤ pos (n / 2)) (n - n / 2)
-      ]
-    ]
+-- the cell of a piece: of one minute, or under the highest water
+abbrev pub cell_of : Interval → PeakCell
+cell_of piece = if nat_le piece.minutes 1 then Single else Under piece.minutes
 
--- the cells of the n minutes from minute `a` on, for a highest water: one cell that is under it, or one
--- of a single minute, or the cells of the two halves, the shorter half first
+-- the cells of a block of n minutes from minute `a` on, for a highest water: one cell that is under it,
+-- or one of a single minute, or the cells of the two halves, the shorter half first
 unfoldable pub peak_split : Meaning → ℤ → ℤ → ℤ → ℕ → List PeakCell
-peak_split c at value a n = split_within n c at value a n
+peak_split c at value a n = map cell_of (pieces_of_block (is_under c at value) a n)
 
--- the cells of n minutes from minute a on, in at most this many blocks
-unfoldable pub cover_within : ℕ → Meaning → ℤ → ℤ → ℤ → ℕ → List PeakCell
-cover_within zero c at value a n = []
-cover_within (suc blocks) c at value a n =
-    elim (nat_le n MOST_MINUTES) [
-      | true ↦ peak_split c at value a n
-      | false ↦ peak_split c at value a MOST_MINUTES ++ cover_within blocks c at value (a +ℤ pos MOST_MINUTES) (n - MOST_MINUTES)
-    ]
-
--- the cells of a span of n minutes from minute a on, for the minute and the value of its highest water,
--- cut into blocks of 1,024 minutes from its beginning on; the last block may be shorter
+-- the cells of a span of n minutes from minute `a` on, for the minute and the value of its highest
+-- water, cut into blocks of 1,024 minutes from its beginning on; the last block may be shorter
 unfoldable pub peak_cover : Meaning → ℤ → ℤ → ℤ → ℕ → List PeakCell
-peak_cover c at value a n = cover_within n c at value a n
+peak_cover c at value a n = map cell_of (pieces_of (is_under c at value) a n)
 
 -- the highest water of the span of n minutes from minute `a` on, with the cells that show it
 unfoldable pub peak_of : Meaning → ℤ → ℕ → Peak

@@ -4,8 +4,8 @@ ghost use Rattle.std.specs.Prelude.{◌≡◌, ◌+◌, ◌^◌, ◌<◌, ◌≤
 ghost use Rattle.curve_law.specs.declared.point.Point.{Point};
 ghost use Rattle.curve_law.specs.CurveStates.{evaluated_once};
 ghost use Rattle.interval_search.specs.Workings.Ahead.{minutes_to, interval_of, IsFront};
-ghost use Rattle.highest_water.specs.Covers.{peak_cover};
-ghost use Rattle.highest_water.specs.Workings.Walk.{cell_of, cells_ahead, StepsTo};
+ghost use Rattle.highest_water.specs.Covers.{cell_of, peak_cover};
+ghost use Rattle.highest_water.specs.Workings.Walk.{cells_ahead, StepsTo};
 
 use crate::peak_cell::PeakCell;
 use crate::under_pieces::UnderPieces;

@@ -45,7 +45,7 @@ pub fn worked_cells_under()
 /// Around the highest water it is halved down to single minutes. A long span is cut into blocks of
 /// 1,024 minutes. The numbers after the curve are the highest water's minute and value, the first
 /// minute and the number of minutes.
-#[tactic(auto, unfolding(crate::specs::Covers::stays_below, crate::specs::Covers::stays_within, crate::specs::Covers::is_under, crate::specs::Covers::split_within, crate::specs::Covers::peak_split, crate::specs::Covers::cover_within, crate::specs::Covers::peak_cover))]
+#[tactic(auto, unfolding(crate::specs::Covers::stays_below, crate::specs::Covers::stays_within, crate::specs::Covers::is_under, curve_law::specs::Pieces::halves_within, curve_law::specs::Pieces::pieces_of_block, curve_law::specs::Pieces::blocks_within, curve_law::specs::Pieces::pieces_of, crate::specs::Covers::peak_cover))]
 pub fn worked_covers()
     ensures first_top { peak_cover (hills (pos 2) (pos 5) (pos 6) (pos 5) (pos 1)) (pos 2) (pos 5) (pos 0) 8
         ≡ PeakCell.Single ∷ PeakCell.Single ∷ PeakCell.Single ∷ PeakCell.Single ∷ PeakCell.Under 4 ∷ [] }

@@ -9,11 +9,10 @@ use Rattle.curve_law.specs.declared.point.Point.{Point}
 use Rattle.curve_law.specs.declared.quiet.TheConstants.{MOST_MINUTES}
 use Rattle.curve_law.specs.Meaning.{IsLawful}
 use Rattle.curve_law.specs.CurveStates.{CurveState, evaluated_once}
-use Rattle.curve_law.proofs.CoverLemmas.{by_test}
+use Rattle.curve_law.proofs.CoverLemmas.{by_test, block-few, block-whole, block-halves, block-some, pieces-few, pieces-none, pieces-last, pieces-block}
 use Rattle.interval_search.specs.declared.piece.Piece.{Piece}
-use Rattle.interval_search.specs.Pieces.{interval, stays_whole, pieces_of_block, pieces_of}
+use Rattle.curve_law.specs.Pieces.{interval, stays_whole, pieces_of_block, pieces_of}
 use Rattle.interval_search.specs.Workings.Ahead.{minutes_to, piece_between, interval_of, IsPiece, pieces_after, ArePieces, SearchInvariant}
-use Rattle.interval_search.proofs.PieceLemmas.{block-few, block-whole, block-halves, block-some, pieces-few, pieces-none, pieces-last, pieces-block}
 
 -- ---- beginning a block doesn't change the pieces
 

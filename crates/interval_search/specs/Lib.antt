@@ -1,3 +1,2 @@
 pub mod Looking
-pub mod Pieces
 pub mod Workings

@@ -2,7 +2,7 @@
 
 ghost use Rattle.std.specs.Prelude.{◌≡◌, ◌+◌, ◌^◌, ◌≤◌, ℤ, ℕ, Bool, ◌≤ℤ◌, ◌<ℤ◌, true, [], ◌∷◌, length, IfSome, MatchOption};
 ghost use Rattle.curve_law.specs.CurveStates.{evaluated_once};
-ghost use Rattle.interval_search.specs.Pieces.{stays_whole};
+ghost use Rattle.curve_law.specs.Pieces.{stays_whole};
 ghost use Rattle.interval_search.specs.Workings.Ahead.{piece_between, pieces_after, SearchInvariant, IsFront, IsPiece, StepsTo};
 
 use crate::piece::{Piece, block_end, halfway, piece_between, stays_whole};

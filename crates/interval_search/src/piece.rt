@@ -1,7 +1,7 @@
 //! The pieces between points.
 
 ghost use Rattle.std.specs.Prelude.{◌≡◌, ◌/◌, ◌≤◌, ◌^◌, pos, ◌+ℤ◌, ◌≤ℤ◌, ◌<ℤ◌, unsigned_abs, min};
-ghost use Rattle.interval_search.specs.Pieces.{stays_whole};
+ghost use Rattle.curve_law.specs.Pieces.{stays_whole};
 ghost use Rattle.interval_search.specs.Workings.Ahead.{minutes_to, piece_between, IsPiece};
 
 use crate::rule::PieceRule;

@@ -1,10 +1,10 @@
 //! Quiet pieces, and the cells of pieces.
 
 ghost use Rattle.std.specs.Prelude.{◌≡◌};
-ghost use Rattle.curve_law.specs.Cover.{is_quiet};
+ghost use Rattle.curve_law.specs.Cover.{is_quiet, cell_of};
 ghost use Rattle.curve_law.specs.CurveStates.{CurveFacts};
 ghost use Rattle.interval_search.specs.Workings.Ahead.{IsPiece, interval_of, IsFront};
-ghost use Rattle.interval_search.specs.Workings.Cells.{cell_of, looking_at};
+ghost use Rattle.interval_search.specs.Workings.Cells.{looking_at};
 ghost use Rattle.interval_search.specs.Looking.{StepsOn};
 
 use crate::found::Found;

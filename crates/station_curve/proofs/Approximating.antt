@@ -136,25 +136,15 @@ year_slope_approximate b s m year times approximate =
     (approximate_fall_gap t (few_minutes b m year approximate)) hs (pos 0) (pos 0) 0 0 (omega arith)))
 
 -- approximate level and slope by the position of a minute
-pub approximate_level_of-plain : (b : Book) (s : Station) (m : ℤ) (year : ℕ) → Plain year ≡ place_of b.first_year b.years m
-    → approximate_level_of b s m ≡ pos total_weight *ℤ approximate_year_level b s m year
+pub approximate_level-at : (b : Book) (s : Station) (m : ℤ) (p : Place) → p ≡ place_of b.first_year b.years m
+    → approximate_level_of b s m ≡ approximate_or_exact (approximate_year_level b s m) (predicted_level b s m) p
 unfolding approximate_level_of
-approximate_level_of-plain b s m year at = ap (approximate_or_exact (approximate_year_level b s m) (predicted_level b s m)) (sym at)
+approximate_level-at b s m p at = ap (approximate_or_exact (approximate_year_level b s m) (predicted_level b s m)) (sym at)
 
-pub approximate_level_of-blend : (b : Book) (s : Station) (m : ℤ) (year : ℕ) (x : ℤ) → Blend year x ≡ place_of b.first_year b.years m
-    → approximate_level_of b s m ≡ predicted_level b s m
-unfolding approximate_level_of
-approximate_level_of-blend b s m year x at = ap (approximate_or_exact (approximate_year_level b s m) (predicted_level b s m)) (sym at)
-
-pub approximate_slope_of-plain : (b : Book) (s : Station) (m : ℤ) (year : ℕ) → Plain year ≡ place_of b.first_year b.years m
-    → approximate_slope_of b s m ≡ pos total_weight *ℤ approximate_year_slope b s m year
+pub approximate_slope-at : (b : Book) (s : Station) (m : ℤ) (p : Place) → p ≡ place_of b.first_year b.years m
+    → approximate_slope_of b s m ≡ approximate_or_exact (approximate_year_slope b s m) (predicted_slope b s m) p
 unfolding approximate_slope_of
-approximate_slope_of-plain b s m year at = ap (approximate_or_exact (approximate_year_slope b s m) (predicted_slope b s m)) (sym at)
-
-pub approximate_slope_of-blend : (b : Book) (s : Station) (m : ℤ) (year : ℕ) (x : ℤ) → Blend year x ≡ place_of b.first_year b.years m
-    → approximate_slope_of b s m ≡ predicted_slope b s m
-unfolding approximate_slope_of
-approximate_slope_of-blend b s m year x at = ap (approximate_or_exact (approximate_year_slope b s m) (predicted_slope b s m)) (sym at)
+approximate_slope-at b s m p at = ap (approximate_or_exact (approximate_year_slope b s m) (predicted_slope b s m)) (sym at)
 
 -- an error of a year is at most the greatest one, times the total weight
 in_error : (approximate exact : ℤ) (error most : ℕ) → unsigned_abs (approximate -ℤ exact) ≤ error → error ≤ most
@@ -174,15 +164,12 @@ level_at_place c m (Plain year) times at used =
     let b = c.book in
     let s = c.station in
     let greatest = greatest-each (λ year. amount_of (waves_for c year)) b.years year used.below in
-    rw (
-      approximate_level_of-plain b s m year at,
-      ← level_plain b s m year (predicted_year_level b s m year) (pos total_weight *ℤ predicted_year_level b s m year) at refl refl,
-    )
+    rw (approximate_level-at b s m (Plain year) at, ← level_plain b s m year at)
     (in_error (approximate_year_level b s m year) (predicted_year_level b s m year) _ _ (year_level_approximate b s m year times used.hour)
     (omega (arith, rw (over-touched b s c.first c.last year used.touched) at greatest)))
 level_at_place c m (Blend year x) times at used =
     no_gap (approximate_level_of c.book c.station m) (predicted_level c.book c.station m) _
-    (approximate_level_of-blend c.book c.station m year x at)
+    (approximate_level-at c.book c.station m (Blend year x) at)
 
 pub level_approximate : (c : Prediction) (m : ℤ) → IsPrediction c → IsPredicted c m
     → unsigned_abs (approximate_level_of c.book c.station m -ℤ predicted_level c.book c.station m) ≤ level_error_of c
@@ -197,15 +184,12 @@ slope_at_place c m (Plain year) times at used =
     let amount = greatest-each (λ year. amount_of (waves_for c year)) b.years year used.below in
     let steepness = greatest-each (λ year. steepness_of (waves_for c year)) b.years year used.below in
     let touched = over-touched b s c.first c.last year used.touched in
-    rw (
-      approximate_slope_of-plain b s m year at,
-      ← slope_plain b s m year (predicted_year_slope b s m year) (pos total_weight *ℤ predicted_year_slope b s m year) at refl refl,
-    )
+    rw (approximate_slope-at b s m (Plain year) at, ← slope_plain b s m year at)
     (in_error (approximate_year_slope b s m year) (predicted_year_slope b s m year) _ _ (year_slope_approximate b s m year times used.hour)
     (omega (arith, rw touched at steepness, rw touched at amount)))
 slope_at_place c m (Blend year x) times at used =
     no_gap (approximate_slope_of c.book c.station m) (predicted_slope c.book c.station m) _
-    (approximate_slope_of-blend c.book c.station m year x at)
+    (approximate_slope-at c.book c.station m (Blend year x) at)
 
 pub slope_approximate : (c : Prediction) (m : ℤ) → IsPrediction c → IsPredicted c m
     → unsigned_abs (approximate_slope_of c.book c.station m -ℤ predicted_slope c.book c.station m) ≤ slope_error_of c

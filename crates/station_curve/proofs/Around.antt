@@ -8,21 +8,12 @@ use Rattle.year_blend.specs.Places.{place_of, plain_end_of}
 use Rattle.year_blend.specs.Stretches.{stretch_of}
 use Rattle.year_blend.proofs.PlainLemmas.{plain_end_of-inner, plain_end_of-last}
 use Rattle.year_blend.proofs.StretchLemmas.{plain_inside, stretch_of-within}
-use Rattle.station_curve.specs.Workings.NumberRanges.{IsPlaceInRange, IsAround}
-use Rattle.station_curve.proofs.InRange.{next_start}
+use Rattle.station_curve.specs.Workings.NumberRanges.{IsAround}
 
 pub around_plain : (first_year : ℤ) (years : ℕ) (m last : ℤ) (year : ℕ) → pos 2 ≤ℤ first_year → m ≤ℤ last
     → IsAround first_year years m last year → place_of first_year years m ≡ Plain year
 around_plain first_year years m last year low onward around =
     plain_inside first_year years m year low around.one_of around.past_start (omega (arith, ints, onward, around.before_end))
-
-pub around_in_range : (first_year : ℤ) (years : ℕ) (m : ℤ) (year : ℕ) → pos 2 ≤ℤ first_year
-    → IsAround first_year years m m year → IsPlaceInRange first_year years m (Plain year)
-around_in_range first_year years m year low around =
-    let step = next_start first_year year low in
-    let more : suc year ≡ year + 1 = omega arith in
-    let before = rw more at around.before_end in
-    (around.one_of, record { least = omega (arith, ints, around.past_start); most = omega (arith, ints, step.most, before) })
 
 around_end : (first_year : ℤ) (years : ℕ) (m : ℤ) (n year : ℕ) → IsAround first_year years m (m +ℤ pos n) year
     → (m +ℤ pos n) ≤ℤ plain_end_of first_year years year

@@ -16,11 +16,10 @@ use Rattle.station_curve.specs.Curves.{waves_of, AreTimes}
 use Rattle.station_curve.proofs.Circling.{IsSince}
 use Rattle.station_curve.proofs.Predicting.{year_level_is}
 
-pub level_plain : (b : Book) (s : Station) (m : ℤ) (year : ℕ) (level value : ℤ) → Plain year ≡ place_of b.first_year b.years m
-    → level ≡ predicted_year_level b s m year → value ≡ pos total_weight *ℤ level → value ≡ predicted_level b s m
+pub level_plain : (b : Book) (s : Station) (m : ℤ) (year : ℕ) → Plain year ≡ place_of b.first_year b.years m
+    → pos total_weight *ℤ predicted_year_level b s m year ≡ predicted_level b s m
 unfolding predicted_level
-level_plain b s m year level value at is_level is_value =
-    is_value ∙ ap (λ l. pos total_weight *ℤ l) is_level ∙ ap (blended (predicted_year_level b s m)) at
+level_plain b s m year at = ap (blended (predicted_year_level b s m)) at
 
 pub level_blend : (b : Book) (s : Station) (m : ℤ) (year : ℕ) (x earlier later weight value : ℤ) → Blend year x
     ≡ place_of b.first_year b.years m → earlier ≡ predicted_year_level b s m (year - 1) → later ≡ predicted_year_level b s m year → weight
@@ -32,11 +31,10 @@ level_blend b s m year x earlier later weight value at is_earlier is_later is_we
 no_drift : (z : ℤ) → z ≡ z +ℤ pos 0
 no_drift z = omega (arith, ints)
 
-pub slope_plain : (b : Book) (s : Station) (m : ℤ) (year : ℕ) (slope value : ℤ) → Plain year ≡ place_of b.first_year b.years m
-    → slope ≡ predicted_year_slope b s m year → value ≡ pos total_weight *ℤ slope → value ≡ predicted_slope b s m
+pub slope_plain : (b : Book) (s : Station) (m : ℤ) (year : ℕ) → Plain year ≡ place_of b.first_year b.years m
+    → pos total_weight *ℤ predicted_year_slope b s m year ≡ predicted_slope b s m
 unfolding predicted_slope
-slope_plain b s m year slope value at is_slope is_value =
-    is_value ∙ ap (λ l. pos total_weight *ℤ l) is_slope ∙ no_drift (pos total_weight *ℤ predicted_year_slope b s m year)
+slope_plain b s m year at = no_drift (pos total_weight *ℤ predicted_year_slope b s m year)
     ∙ ap (λ p. blended (predicted_year_slope b s m) p +ℤ drift (predicted_year_level b s m) p) at
 
 -- the mean level cancels in the difference of two years' levels

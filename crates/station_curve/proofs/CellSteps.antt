@@ -1,11 +1,11 @@
 -- The change of level and slope in a minute of a cell: outside blends, and across a new year.
-use Rattle.std.proofs.Common.{◌≡◌, ℕ, suc, ◌+◌, ◌*◌, ◌^◌, ◌<◌, ◌≤◌, max, ◌⊎◌, inl, inr, refl, ap, ◌∙◌, arith, ℤ, pos, negsuc, ◌+ℤ◌, ◌-ℤ◌, ◌*ℤ◌, ◌≤ℤ◌, ◌<ℤ◌}
+use Rattle.std.proofs.Common.{◌≡◌, ℕ, suc, ◌+◌, ◌*◌, ◌^◌, ◌<◌, ◌≤◌, max, ◌⊎◌, inl, inr, refl, sym, arith, ℤ, pos, negsuc, ◌+ℤ◌, ◌-ℤ◌, ◌*ℤ◌, ◌≤ℤ◌, ◌<ℤ◌}
 use Rattle.std.specs.Prelude.{unsigned_abs}
 use Rattle.std.proofs.lemmas.Int.{ints, by_lt_z}
 use Rattle.fixed_sine.specs.Circle.{radian}
 use Rattle.station_curve.specs.Waves.{amount_of, steepness_of}
 use Rattle.station_curve.specs.Sums.{near_of, far_of}
-use Rattle.station_curve.specs.Levels.{blended, drift}
+use Rattle.station_curve.proofs.Blending.{level_plain, slope_plain}
 use Rattle.station_curve.proofs.Gaps.{scaled_gap}
 use Rattle.station_curve.proofs.Products.{abs_times, abs_below, abs_minus}
 use Rattle.station_curve.proofs.YearChanges.{year_level_gap, year_slope_gap, year_slope_size, level_difference}
@@ -31,31 +31,17 @@ pub record IsPlainStep (b : Book) (m : ℤ) (year : ℕ) : Type 0 where
   pub there : place_of b.first_year b.years (m +ℤ pos 1) ≡ Plain year
   pub since : IsSince b.first_year year m
 
-level_plain : (b : Book) (s : Station) (m : ℤ) (year : ℕ) → place_of b.first_year b.years m ≡ Plain year
-    → predicted_level b s m ≡ pos total_weight *ℤ predicted_year_level b s m year
-unfolding predicted_level
-level_plain b s m year plain = ap (blended (predicted_year_level b s m)) plain
-
-no_drift : (z : ℤ) → z +ℤ pos 0 ≡ z
-no_drift z = omega (arith, ints)
-
-slope_plain : (b : Book) (s : Station) (m : ℤ) (year : ℕ) → place_of b.first_year b.years m ≡ Plain year
-    → predicted_slope b s m ≡ pos total_weight *ℤ predicted_year_slope b s m year
-unfolding predicted_slope
-slope_plain b s m year plain =
-    ap (λ p. blended (predicted_year_slope b s m) p +ℤ drift (predicted_year_level b s m) p) plain ∙ no_drift (pos total_weight *ℤ predicted_year_slope b s m year)
-
 pub plain_level_gap : (b : Book) (s : Station) (m : ℤ) (year : ℕ) → IsPlainStep b m year
     → unsigned_abs (predicted_level b s (m +ℤ pos 1) -ℤ predicted_level b s m) ≤ total_weight * near_of (waves_of b s year)
 plain_level_gap b s m year step =
-    rw (level_plain b s (m +ℤ pos 1) year step.there, level_plain b s m year step.here)
+    rw (← level_plain b s (m +ℤ pos 1) year (sym step.there), ← level_plain b s m year (sym step.here))
     (scaled_gap (pos total_weight) (predicted_year_level b s (m +ℤ pos 1) year) (predicted_year_level b s m year)
     (near_of (waves_of b s year)) (year_level_gap b s m year step.times step.since))
 
 pub plain_slope_gap : (b : Book) (s : Station) (m : ℤ) (year : ℕ) → IsPlainStep b m year
     → unsigned_abs (predicted_slope b s (m +ℤ pos 1) -ℤ predicted_slope b s m) ≤ total_weight * far_of (waves_of b s year)
 plain_slope_gap b s m year step =
-    rw (slope_plain b s (m +ℤ pos 1) year step.there, slope_plain b s m year step.here)
+    rw (← slope_plain b s (m +ℤ pos 1) year (sym step.there), ← slope_plain b s m year (sym step.here))
     (scaled_gap (pos total_weight) (predicted_year_slope b s (m +ℤ pos 1) year) (predicted_year_slope b s m year)
     (far_of (waves_of b s year)) (year_slope_gap b s m year step.times step.since))
 

@@ -24,4 +24,3 @@ pub mod Ranges
 pub mod Present
 mod YearLimits
 mod OneMore
-mod WorkedStarts

@@ -6,25 +6,10 @@ use Rattle.std.proofs.lemmas.Nat.{mul-le, div_below}
 use mir.Syntax.{Width, w64}
 use mir.Val.{to_z, of_z, hbits}
 use Rattle.decimal_text.specs.Rounding.{half_up}
-
-pub cast_small : (w : Width) (a : ℤ) (m : ℕ) → unsigned_abs a ≤ m → m < 2 ^ hbits w → to_z w (of_z w a) ≡ a
-cast_small w a m h fits = to_z-of_z w a (fits_signed_from_abs w a (omega arith))
+pub use Rattle.fixed_sine.proofs.ProductLemmas.{abs_minus, abs_times, cast_small, minus, minus_fits, small_fits, times, times_fits}
 
 pub kept_small : (w : Width) (a : ℤ) (m : ℕ) → unsigned_abs a ≤ m → m < 2 ^ hbits w → unsigned_abs (to_z w (of_z w a)) ≤ m
 kept_small w a m h fits = rw (cast_small w a m h fits) h
-
-pub abs_times : (a b : ℤ) (m n : ℕ) → unsigned_abs a ≤ m → unsigned_abs b ≤ n → unsigned_abs (a *ℤ b) ≤ m * n
-abs_times a b m n h k = rw (unsigned_abs-mul a b) (mul-le (unsigned_abs a) (unsigned_abs b) m n h k)
-
-pub times_fits : (w : Width) (a b : ℤ) (m n : ℕ) → unsigned_abs a ≤ m → unsigned_abs b ≤ n → m < 2 ^ hbits w
-    → n < 2 ^ hbits w → m * n < 2 ^ hbits w → FitsSigned w (to_z w (of_z w a) *ℤ to_z w (of_z w b))
-times_fits w a b m n h k fits_m fits_n fits =
-    rw (cast_small w a m h fits_m, cast_small w b n k fits_n) (fits_signed_mul w a b m n h k fits)
-
-pub times : (w : Width) (a b : ℤ) (m n : ℕ) → unsigned_abs a ≤ m → unsigned_abs b ≤ n → m < 2 ^ hbits w
-    → n < 2 ^ hbits w → m * n < 2 ^ hbits w → to_z w (of_z w (to_z w (of_z w a) *ℤ to_z w (of_z w b))) ≡ a *ℤ b
-times w a b m n h k fits_m fits_n fits =
-    rw (cast_small w a m h fits_m, cast_small w b n k fits_n) (to_z-of_z w (a *ℤ b) (fits_signed_mul w a b m n h k fits))
 
 pub abs_below : (z : ℤ) (n : ℕ) → pos 0 ≤ℤ z → z ≤ℤ pos n → unsigned_abs z ≤ n
 abs_below (pos a) n least most = omega (arith, ints)
@@ -53,12 +38,6 @@ under a m n most below = omega arith
 pub abs_plus : (x y : ℤ) (m n : ℕ) → unsigned_abs x ≤ m → unsigned_abs y ≤ n → unsigned_abs (x +ℤ y) ≤ m + n
 abs_plus x y m n h k = omega (arith, ints, h, k)
 
-pub abs_minus : (x y : ℤ) (m n : ℕ) → unsigned_abs x ≤ m → unsigned_abs y ≤ n → unsigned_abs (x -ℤ y) ≤ m + n
-abs_minus x y m n h k = omega (arith, ints, h, k)
-
-pub small_fits : (w : Width) (a : ℤ) (m : ℕ) → unsigned_abs a ≤ m → m < 2 ^ hbits w → FitsSigned w a
-small_fits w a m h fits = fits_signed_from_abs w a (omega arith)
-
 pub plus_fits : (w : Width) (a b : ℤ) (m n : ℕ) → unsigned_abs a ≤ m → unsigned_abs b ≤ n → m + n < 2 ^ hbits w
     → FitsSigned w (to_z w (of_z w a) +ℤ to_z w (of_z w b))
 plus_fits w a b m n h k fits =
@@ -68,16 +47,6 @@ pub plus : (w : Width) (a b : ℤ) (m n : ℕ) → unsigned_abs a ≤ m → unsi
     → to_z w (of_z w (to_z w (of_z w a) +ℤ to_z w (of_z w b))) ≡ a +ℤ b
 plus w a b m n h k fits =
     rw (cast_small w a m h (omega arith), cast_small w b n k (omega arith)) (cast_small w (a +ℤ b) (m + n) (abs_plus a b m n h k) fits)
-
-pub minus_fits : (w : Width) (a b : ℤ) (m n : ℕ) → unsigned_abs a ≤ m → unsigned_abs b ≤ n → m + n < 2 ^ hbits w
-    → FitsSigned w (to_z w (of_z w a) -ℤ to_z w (of_z w b))
-minus_fits w a b m n h k fits =
-    rw (cast_small w a m h (omega arith), cast_small w b n k (omega arith)) (small_fits w (a -ℤ b) (m + n) (abs_minus a b m n h k) fits)
-
-pub minus : (w : Width) (a b : ℤ) (m n : ℕ) → unsigned_abs a ≤ m → unsigned_abs b ≤ n → m + n < 2 ^ hbits w
-    → to_z w (of_z w (to_z w (of_z w a) -ℤ to_z w (of_z w b))) ≡ a -ℤ b
-minus w a b m n h k fits =
-    rw (cast_small w a m h (omega arith), cast_small w b n k (omega arith)) (cast_small w (a -ℤ b) (m + n) (abs_minus a b m n h k) fits)
 
 pub zero_minus : (z : ℤ) → pos 0 -ℤ z ≡ neg_ℤ z
 zero_minus z = omega (arith, ints)

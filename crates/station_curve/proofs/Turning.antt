@@ -32,9 +32,6 @@ drifted phase speed t few =
     unwound (p + 1 + (q + 1) * t) (phase + speed * t) _ past (omega (arith, most))
 
 -- a phase is the unit that contains its fraction
-pub units_of-binary_angle_of : (phase : ℕ) → phase < circle → units_of (binary_angle_of phase) ≡ phase
-units_of-binary_angle_of phase h = omega arith
-
 -- the sine and the cosine of a wave by its fractions of a turn
 pub sine_after : (h : Harmonic) (t : ℕ) → t ≤ 600000 → isin_of (units_of (binary_angle_after h t)) ≡ isin_of (phase_at h t)
 sine_after h t few = ap isin_of (drifted h.phase h.speed t few)

@@ -63,41 +63,36 @@ zero_times : (z : ℤ) → pos 0 *ℤ z ≡ pos 0
 zero_times (pos n) = ap pos (omega arith)
 zero_times (negsuc n) = omega (arith, ints)
 
--- a sum of products by the amplitude
-with_amplitude : (f : Harmonic → ℤ) (sine : Harmonic → ℤ) → ((h : Harmonic) → f h ≡ h.amplitude *ℤ sine h) → (hs : List Harmonic)
+-- a sum of parts that are 0 for an absent wave
+parts-present : (f : Harmonic → ℤ) → ((h : Harmonic) → h.amplitude ≡ pos 0 → f h ≡ pos 0) → (hs : List Harmonic)
     → fold (λ sum h. sum +ℤ f h) (pos 0) (filter is_present hs) ≡ fold (λ sum h. sum +ℤ f h) (pos 0) hs
-with_amplitude f sine is hs =
-    fold-present (λ sum h. sum +ℤ f h)
-    (λ a h e. ap (λ z. a +ℤ z) (is h ∙ ap (λ z. z *ℤ sine h) e ∙ zero_times (sine h)) ∙ add_none a) (pos 0) hs
+parts-present f none hs = fold-present (λ sum h. sum +ℤ f h) (λ a h e. ap (λ z. a +ℤ z) (none h e) ∙ add_none a) (pos 0) hs
   where
     add_none : (a : ℤ) → a +ℤ pos 0 ≡ a
     add_none a = omega (arith, ints)
 
--- a sum of products by the amplitude and another factor
-with_factor : (f : Harmonic → ℤ) (factor sine : Harmonic → ℤ) → ((h : Harmonic) → f h ≡ (h.amplitude *ℤ factor h) *ℤ sine h)
-    → (hs : List Harmonic) → fold (λ sum h. sum +ℤ f h) (pos 0) (filter is_present hs) ≡ fold (λ sum h. sum +ℤ f h) (pos 0) hs
-with_factor f factor sine is hs =
-    fold-present (λ sum h. sum +ℤ f h)
-    (λ a h e. ap (λ z. a +ℤ z) (is h ∙ ap (λ z. (z *ℤ factor h) *ℤ sine h) e ∙ ap (λ z. z *ℤ sine h) (zero_times (factor h))
-    ∙ zero_times (sine h)) ∙ add_none a) (pos 0) hs
-  where
-    add_none : (a : ℤ) → a +ℤ pos 0 ≡ a
-    add_none a = omega (arith, ints)
+-- products by an amplitude of 0
+none_times : (a z : ℤ) → a ≡ pos 0 → a *ℤ z ≡ pos 0
+none_times a z e = ap (λ a. a *ℤ z) e ∙ zero_times z
+
+none_twice : (a y z : ℤ) → a ≡ pos 0 → (a *ℤ y) *ℤ z ≡ pos 0
+none_twice a y z e = none_times (a *ℤ y) z (none_times a y e)
 
 pub heights-present : (t : ℕ) (hs : List Harmonic) → heights_of t (filter is_present hs) ≡ heights_of t hs
-heights-present t hs = with_amplitude (height_at t) (λ h. icos_of (phase_at h t)) (λ h. refl) hs
+heights-present t hs = parts-present (height_at t) (λ h. none_times h.amplitude (icos_of (phase_at h t))) hs
 
 pub falls-present : (t : ℕ) (hs : List Harmonic) → falls_of t (filter is_present hs) ≡ falls_of t hs
-falls-present t hs = with_factor (fall_at t) (λ h. pos h.speed) (λ h. isin_of (phase_at h t)) (λ h. refl) hs
+falls-present t hs = parts-present (fall_at t) (λ h. none_twice h.amplitude (pos h.speed) (isin_of (phase_at h t))) hs
 
 pub approximate_heights-present : (t : ℕ) (hs : List Harmonic)
     → approximate_heights_of t (filter is_present hs) ≡ approximate_heights_of t hs
 approximate_heights-present t hs =
-    with_amplitude (approximate_height_at t) (λ h. approximate_sine_of (binary_angle_ahead h t)) (λ h. refl) hs
+    parts-present (approximate_height_at t) (λ h. none_times h.amplitude (approximate_sine_of (binary_angle_ahead h t))) hs
 
 pub approximate_falls-present : (t : ℕ) (hs : List Harmonic) → approximate_falls_of t (filter is_present hs) ≡ approximate_falls_of t hs
 approximate_falls-present t hs =
-    with_factor (approximate_fall_at t) (λ h. pos (h.speed / 2 ^ 9)) (λ h. approximate_sine_of (binary_angle_after h t)) (λ h. refl) hs
+    parts-present (approximate_fall_at t)
+    (λ h. none_twice h.amplitude (pos (h.speed / 2 ^ 9)) (approximate_sine_of (binary_angle_after h t))) hs
 
 -- no year before the last is beyond a limit
 both_none : (a b : Option CurveFault) → option_or a b ≡ None → (a ≡ None) × (b ≡ None)

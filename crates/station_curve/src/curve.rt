@@ -367,7 +367,7 @@ impl StationCurve {
         ensures used { IsPlaceUsed self.now m result }
         ensures valid { IsPrediction self.now }
     {
-        match self.year_around(m, m) {
+        match self.plain_year(m) {
             Some(year) => Place::Plain { year },
             None => place(self.first_year, self.years(), m),
         }

@@ -1,19 +1,14 @@
 -- The cells ahead of a walk over a span. No public clause cites this.
-use Rattle.std.specs.Prelude.{◌≡◌, ℤ, pos, ◌+ℤ◌, ◌≤ℤ◌, nat_le, true, List, [], ◌∷◌, map, Option, Some, None, if◌then◌else◌}
+use Rattle.std.specs.Prelude.{◌≡◌, ℤ, pos, ◌+ℤ◌, ◌≤ℤ◌, true, List, [], ◌∷◌, map, Option, Some, None, if◌then◌else◌}
 use Rattle.curve_law.specs.declared.point.Point.{Point}
 use Rattle.curve_law.specs.Meaning.{Meaning}
 use Rattle.interval_search.specs.declared.front.Front.{Front}
-use Rattle.interval_search.specs.Pieces.{Interval}
 use Rattle.interval_search.specs.Workings.Ahead.{pieces_ahead}
 use Rattle.highest_water.specs.declared.peak_cell.PeakCell.{PeakCell}
 use Rattle.highest_water.specs.declared.peak_cell.PeakCell.TheVariants.{Under, Single}
 use Rattle.highest_water.specs.declared.walk.LocatedCell.{LocatedCell}
 use Rattle.highest_water.specs.Peaks.{is_higher}
-use Rattle.highest_water.specs.Covers.{minutes_of, is_under}
-
--- the cell of a piece: of one minute, or under the highest point
-abbrev pub cell_of : Interval → PeakCell
-cell_of piece = if nat_le piece.minutes 1 then Single else Under piece.minutes
+use Rattle.highest_water.specs.Covers.{minutes_of, is_under, cell_of}
 
 -- the cells of the pieces that a walk has still to reach, for this highest point
 unfoldable pub cells_ahead : Meaning → Point → Front → List PeakCell

@@ -30,7 +30,7 @@ use Rattle.curve_law.specs.Meaning.{Meaning}
 use Rattle.curve_law.specs.CurveStates.{CurveState}
 use Rattle.interval_search.specs.declared.front.Front.{Front}
 use Rattle.interval_search.specs.declared.piece.Piece.{Piece}
-use Rattle.interval_search.specs.Pieces.{Interval, interval, stays_whole, pieces_of_block, pieces_of}
+use Rattle.curve_law.specs.Pieces.{Interval, interval, stays_whole, pieces_of_block, pieces_of}
 
 -- the number of minutes from `a` to `b`
 abbrev pub minutes_to : ℤ → ℤ → ℕ

@@ -1,18 +1,12 @@
 -- The cells of the pieces that a search has still to reach. No public clause cites this.
-use Rattle.std.specs.Prelude.{◌+◌, ◌-◌, nat_le, if◌then◌else◌, List, length, map}
+use Rattle.std.specs.Prelude.{◌+◌, ◌-◌, List, length, map}
 use Rattle.curve_law.specs.declared.cell.Cell.{Cell}
-use Rattle.curve_law.specs.declared.cell.Cell.TheVariants.{Quiet}
 use Rattle.curve_law.specs.Meaning.{Meaning}
 use Rattle.curve_law.specs.CurveStates.{CurveState}
-use Rattle.curve_law.specs.Cover.{is_quiet, unit_cell}
+use Rattle.curve_law.specs.Cover.{is_quiet, cell_of}
 use Rattle.interval_search.specs.declared.front.Front.{Front}
 use Rattle.interval_search.specs.Looking.{Looking}
-use Rattle.interval_search.specs.Pieces.{Interval}
 use Rattle.interval_search.specs.Workings.Ahead.{pieces_ahead}
-
--- the cell of a piece: of one minute, or quiet
-abbrev pub cell_of : Meaning → Interval → Cell
-cell_of c piece = if nat_le piece.minutes 1 then unit_cell c.track piece.begin else Quiet piece.minutes
 
 -- the cells of the pieces that a search has still to reach
 unfoldable pub cells_ahead : Meaning → Front → List Cell

@@ -26,7 +26,8 @@ use Rattle.station_span.specs.Following.{followed_by, events_of, tracks_of, cell
 use Rattle.station_span.specs.Sites.{lacks_minute, span_in, length_in, site_at, site_in}
 use Rattle.event_list.specs.Events.{station_events, cells_in, cell_count}
 use Rattle.event_list.specs.Order.{with_event, ordered}
-use Rattle.curve_law.specs.Cover.{keeps_side, is_quiet, unit_cell, split_within, split, cover_within, cover}
+use Rattle.curve_law.specs.Pieces.{halves_within, pieces_of_block, blocks_within, pieces_of}
+use Rattle.curve_law.specs.Cover.{keeps_side, is_quiet, unit_cell, cover}
 use Rattle.curve_law.specs.Track.{minutes, plain_list}
 use Rattle.rate_bound.specs.Rates.{predicted_slope_rate, predicted_level_rate}
 use Rattle.station_curve.specs.Curves.{waves_of, curve_over, year_fault, first_fault, curve_of}
@@ -74,7 +75,7 @@ certified_text : answered_over_book (is_report certified_question.command) ([]) 
     (given_with pier_read (minute_for certified_question.command (pos 0))) ≡ Ok certified_answer
 unfolding reported predicted certified heights rows_in asks_span listed answered asked_by_question followed_by events_of
     tracks_of cells_of lacks_minute span_in length_in site_at site_in station_events cells_in cell_count with_event
-    ordered keeps_side is_quiet unit_cell split_within split cover_within cover minutes plain_list predicted_slope_rate
+    ordered keeps_side is_quiet unit_cell halves_within pieces_of_block blocks_within pieces_of cover minutes plain_list predicted_slope_rate
     predicted_level_rate waves_of curve_over year_fault first_fault curve_of predicted_year_level predicted_year_slope
     predicted_level predicted_slope predicted_millionths year_at place_in place_of plain_end_of stretch_of year_start_of
     scaled_between quarter_of half_of isin_of icos_of step_of sines sine_at correction basis_in basis_of page_of
@@ -109,7 +110,7 @@ listed_text : answered_over_book (is_report listed_question.command) ([]) pier_b
     (given_with pier_read (minute_for listed_question.command (pos 0))) ≡ Ok listed_answer
 unfolding reported predicted certified heights rows_in asks_span listed answered asked_by_question followed_by events_of
     tracks_of cells_of lacks_minute span_in length_in site_at site_in station_events cells_in cell_count with_event
-    ordered keeps_side is_quiet unit_cell split_within split cover_within cover minutes plain_list predicted_slope_rate
+    ordered keeps_side is_quiet unit_cell halves_within pieces_of_block blocks_within pieces_of cover minutes plain_list predicted_slope_rate
     predicted_level_rate waves_of curve_over year_fault first_fault curve_of predicted_year_level predicted_year_slope
     predicted_level predicted_slope predicted_millionths year_at place_in place_of plain_end_of stretch_of year_start_of
     scaled_between quarter_of half_of isin_of icos_of step_of sines sine_at correction basis_in basis_of page_of

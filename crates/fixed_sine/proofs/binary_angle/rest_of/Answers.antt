@@ -1,7 +1,7 @@
-use Rattle.std.proofs.Common.{◌≡◌, ◌+◌, ◌-ℤ◌, ◌*ℤ◌, ◌∙◌, pos, to_z, of_z, lit<, w64, ap}
+use Rattle.std.proofs.Common.{◌≡◌, ◌≤◌, ◌-ℤ◌, ◌*ℤ◌, ◌∙◌, pos, unsigned_abs, to_z, of_z, lit<, w64, ap}
 use Rattle.std.proofs.lemmas.Int.{to_z-of_z}
 use mir.Syntax.{w128}
-use Rattle.fixed_sine.proofs.ProductLemmas.{IsRest, IsDifference, difference-of, rest-after, rest-small}
+use Rattle.fixed_sine.proofs.ProductLemmas.{IsRest, minus, minus_fits, rest-after, rest-small}
 use Rattle.fixed_sine.proofs.binary_angle.rest_of.Goals as goal
 use Rattle.fixed_sine.proofs.binary_angle.rest_of.Goals.{After-scaled}
 
@@ -11,18 +11,20 @@ scaled c = c.scaled.ensures ∙ ap (λ z. z *ℤ pos 18446744073709551616) (to_z
 rest : (c : After-scaled) → IsRest c.args.product c.args.whole
 rest c = rw c.requires.whole (rest-after c.args.product)
 
-difference : (c : After-scaled)
-    → IsDifference w128 c.args.product c.scaled.result (330000000000000000000000000 + 340000000000000000000000000)
-difference c =
-    difference-of w128 _ _ 330000000000000000000000000 340000000000000000000000000 c.requires.size
-    (rw (scaled c) (rest-small c.args.product c.args.whole (rest c) c.requires.size)) (lit< tt)
+whole_small : (c : After-scaled) → unsigned_abs c.scaled.result ≤ 340000000000000000000000000
+whole_small c = rw (scaled c) (rest-small c.args.product c.args.whole (rest c) c.requires.size)
 
 left-over : (c : After-scaled) → to_z w128 (of_z w128
     (to_z w128 (of_z w128 c.args.product) -ℤ to_z w128 (of_z w128 c.scaled.result))) ≡ pos (rest c).rest
-left-over c = (difference c).kept ∙ ap (λ z. c.args.product -ℤ z) (scaled c) ∙ (rest c).value
+left-over c =
+    minus w128 c.args.product c.scaled.result 330000000000000000000000000 340000000000000000000000000 c.requires.size
+    (whole_small c) (lit< tt)
+    ∙ ap (λ z. c.args.product -ℤ z) (scaled c) ∙ (rest c).value
 
 pub overflow_sub-result : goal.overflow_sub-result
-overflow_sub-result c = (difference c).fits
+overflow_sub-result c =
+    minus_fits w128 c.args.product c.scaled.result 330000000000000000000000000 340000000000000000000000000 c.requires.size
+    (whole_small c) (lit< tt)
 
 pub overflow_cast-result : goal.overflow_cast-result
 overflow_cast-result c = rw (left-over c) (tt, record { fits = (rest c).less })

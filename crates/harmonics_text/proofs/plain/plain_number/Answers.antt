@@ -9,17 +9,7 @@ use Rattle.harmonics_text.proofs.plain.plain_number.Goals as goal
 
 pub in_units-requires-clause-small : goal.in_units-requires-clause-small
 in_units-requires-clause-small c =
-    let text = c.args.text.now in
-    let visible = c.split_at.result.1.now in
-    let body = c.split_byte-negative.result.1.now in
-    let tail = c.split_at-2.result.1.now in
-    let fraction = c.split_byte-pointed.result.1.now in
-    let rest = c.split_at-3.result.1.now in
-    let whole = c.digits_after-whole.result in
-    let number = c.digits_after-number.result in
-    let negative = c.split_byte-negative.result.0 in
-    let pointed = c.split_byte-pointed.result.0 in
-    let r : Reads text visible body tail fraction rest c.in_ok-start.start whole.1 number.1 whole.0 number.0 negative pointed = record {
+    let r : Reads _ _ _ _ _ _ _ _ _ _ _ _ _ = record {
       starts = sym c.in_ok-start.ensures;
       visible_cut = c.split_at.ensures.back;
       sign_cut = c.split_byte-negative.ensures;
@@ -32,7 +22,7 @@ in_units-requires-clause-small c =
       rest_cut = c.split_at-3.ensures.back;
     } in
     let short = c.is_short.ensures c.if-not-is_short.false in
-    number_small text visible body tail fraction rest c.in_ok-start.start whole.1 number.1 whole.0 number.0 negative pointed r short.1
+    number_small _ _ _ _ _ _ _ _ _ _ _ _ _ r short.1
 
 pub returns : goal.returns
 returns c =

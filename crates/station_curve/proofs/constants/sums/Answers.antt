@@ -9,16 +9,10 @@ use Rattle.station_curve.proofs.Products.{cast_small}
 use Rattle.station_curve.proofs.constants.sums.Goals as goal
 
 pub amplitude-requires-clause-place : goal.amplitude-requires-clause-place
-amplitude-requires-clause-place c =
-    place-in_book c.args.book.now c.args.station.now c.args.present.now c.loop-place.place-index c.requires.present
-    (omega (arith, c.loop-place-test.true))
+amplitude-requires-clause-place c = place-in_book c.args.book.now c.args.station.now c.args.present.now c.loop-place.place-index c.requires.present (omega (arith, c.loop-place-test.true))
 
 pub speed-requires : goal.speed-requires
-speed-requires c =
-    record {
-      place = place-in_book c.args.book.now c.args.station.now c.args.present.now c.loop-place.place-index
-          c.requires.present (omega (arith, c.loop-place-test.true));
-    }
+speed-requires c = record { place = place-in_book c.args.book.now c.args.station.now c.args.present.now c.loop-place.place-index c.requires.present (omega (arith, c.loop-place-test.true)) }
 
 pub overflow_add-amount : goal.overflow_add-amount
 overflow_add-amount c =

@@ -11,21 +11,13 @@ use Rattle.station_curve.proofs.constants.year_waves.Goals.{then-amplitude-ne0+i
 use Rattle.station_curve.specs.Workings.Prepared.{is_present}
 
 pub amplitude-amplitude-requires-clause-place : goal.amplitude-amplitude-requires-clause-place
-amplitude-amplitude-requires-clause-place c =
-    place-in_book c.args.book.now c.args.station.now c.args.present.now c.loop-place.place-index c.requires.present
-    (omega (arith, c.loop-place-test.true))
+amplitude-amplitude-requires-clause-place c = place-in_book c.args.book.now c.args.station.now c.args.present.now c.loop-place.place-index c.requires.present (omega (arith, c.loop-place-test.true))
 
 pub speed-requires : goal.speed-requires
-speed-requires c =
-    record {
-      place = place-in_book c.args.book.now c.args.station.now c.args.present.now c.loop-place.place-index
-          c.requires.present (omega (arith, c.loop-place-test.true));
-    }
+speed-requires c = record { place = place-in_book c.args.book.now c.args.station.now c.args.present.now c.loop-place.place-index c.requires.present (omega (arith, c.loop-place-test.true)) }
 
 pub phase-requires-clause-place : goal.phase-requires-clause-place
-phase-requires-clause-place c =
-    place-in_book c.args.book.now c.args.station.now c.args.present.now c.loop-place.place-index c.requires.present
-    (omega (arith, c.loop-place-test.true))
+phase-requires-clause-place c = place-in_book c.args.book.now c.args.station.now c.args.present.now c.loop-place.place-index c.requires.present (omega (arith, c.loop-place-test.true))
 
 pub new-requires-clause-amplitude : goal.new-requires-clause-amplitude
 new-requires-clause-amplitude c =

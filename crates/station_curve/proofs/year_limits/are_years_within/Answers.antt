@@ -8,16 +8,10 @@ use Rattle.station_curve.proofs.YearLimits.{amount-most, steepness-most}
 use Rattle.station_curve.proofs.year_limits.are_years_within.Goals as goal
 
 pub greatest_size-size-requires-clause-place : goal.greatest_size-size-requires-clause-place
-greatest_size-size-requires-clause-place c =
-    place-in_book c.args.book.now c.args.station.now c.args.present.now c.loop-place.place-index c.requires.present
-    (omega (arith, c.loop-place-test.true))
+greatest_size-size-requires-clause-place c = place-in_book c.args.book.now c.args.station.now c.args.present.now c.loop-place.place-index c.requires.present (omega (arith, c.loop-place-test.true))
 
 pub speed-requires : goal.speed-requires
-speed-requires c =
-    record {
-      place = place-in_book c.args.book.now c.args.station.now c.args.present.now c.loop-place.place-index
-          c.requires.present (omega (arith, c.loop-place-test.true));
-    }
+speed-requires c = record { place = place-in_book c.args.book.now c.args.station.now c.args.present.now c.loop-place.place-index c.requires.present (omega (arith, c.loop-place-test.true)) }
 
 pub loop-place-preserved : goal.loop-place-preserved
 loop-place-preserved c =

@@ -1,9 +1,10 @@
 use Rattle.std.proofs.Common.{FitsSigned, rules, pos, ◌*ℤ◌, ap, sym, ◌∙◌, arith}
 use Rattle.std.proofs.lemmas.Int.{to_z-of_z}
 use mir.Syntax.{w64, w128}
+use Rattle.year_blend.specs.declared.parts.Place.TheVariants.{Plain}
 use Rattle.year_blend.specs.Weights.{total_weight}
 use Rattle.station_curve.specs.Approximate.{approximate_year_level}
-use Rattle.station_curve.proofs.Approximating.{full_weight, approximate_level_of-plain, approximate_level_of-blend, level_approximate}
+use Rattle.station_curve.proofs.Approximating.{full_weight, approximate_level-at, level_approximate}
 use Rattle.station_curve.proofs.curve.StationCurve.approximate_level.Goals as goal
 
 pub returns-in-Some-clause-value : goal.returns-in-Some-clause-value
@@ -12,7 +13,7 @@ returns-in-Some-clause-value c =
     let place = (rw same at c.in-Some.ensures.year).0 in
     full_weight c.approximate_year_level.result c.by_full_weight.result
     (omega (arith, c.approximate_year_level.ensures.size)) c.by_full_weight.ensures
-    ∙ rw (approximate_level_of-plain c.args.self.now.book c.args.self.now.station c.args.m c.in-Some.year place)
+    ∙ rw (approximate_level-at c.args.self.now.book c.args.self.now.station c.args.m (Plain c.in-Some.year) place)
     (ap (λ z. pos total_weight *ℤ z) (rw same at c.approximate_year_level.ensures.value))
 
 pub returns-in-Some-clause-approximate : goal.returns-in-Some-clause-approximate
@@ -24,8 +25,7 @@ returns-in-None-clause-value c =
     let same = to_z-of_z w64 c.args.m c.ranges.m in
     let fits : FitsSigned w128 c.level.result = search rules in
     to_z-of_z w128 c.level.result fits ∙ rw same at c.level.ensures.value
-    ∙ sym (approximate_level_of-blend c.args.self.now.book c.args.self.now.station c.args.m (rw same at c.in-None.ensures.year).0
-    (rw same at c.in-None.ensures.year).1 (rw same at c.in-None.ensures.year).2)
+    ∙ sym (approximate_level-at c.args.self.now.book c.args.self.now.station c.args.m _ (rw same at c.in-None.ensures.year).2)
 
 pub returns-in-None-clause-approximate : goal.returns-in-None-clause-approximate
 returns-in-None-clause-approximate c =

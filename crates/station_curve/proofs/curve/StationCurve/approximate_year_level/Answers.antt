@@ -11,30 +11,9 @@ use Rattle.station_curve.proofs.Touched.{touched}
 use Rattle.station_curve.specs.Curves.{waves_of}
 use Rattle.station_curve.proofs.curve.StationCurve.approximate_year_level.Goals as goal
 
-pub index-year-requires : goal.index-year-requires
-index-year-requires c = rw (stored c.self.inside c.args.self.now c.self.invariant c.self.view_is) c.requires.below
-
 pub mean_level-requires : goal.mean_level-requires
 mean_level-requires c =
     kept_small w64 c.self.inside.datum (10 ^ 10) (datum_small c.self.inside c.self.invariant) (lit< tt)
-
-pub minutes_to-requires-clause-least : goal.minutes_to-requires-clause-least
-minutes_to-requires-clause-least c =
-    let y = year_of c.self.inside c.args.self.now c.args.year c.index-year.result.now c.self.invariant c.self.view_is
-    c.requires.below c.index-year.ensures in
-    rw (to_z-of_z w64 c.args.m c.ranges.m, y.start) c.requires.hour.least
-
-pub minutes_to-requires-clause-most : goal.minutes_to-requires-clause-most
-minutes_to-requires-clause-most c =
-    let y = year_of c.self.inside c.args.self.now c.args.year c.index-year.result.now c.self.invariant c.self.view_is
-    c.requires.below c.index-year.ensures in
-    rw (to_z-of_z w64 c.args.m c.ranges.m, y.start) c.requires.hour.most
-
-pub approximate_heights-requires-clause-amount : goal.approximate_heights-requires-clause-amount
-approximate_heights-requires-clause-amount c =
-    let y = year_of c.self.inside c.args.self.now c.args.year c.index-year.result.now c.self.invariant c.self.view_is
-    c.requires.below c.index-year.ensures in
-    rw c.as_slice.ensures.value y.amount
 
 pub overflow_add-result : goal.overflow_add-result
 overflow_add-result c =
@@ -50,12 +29,8 @@ unfolding approximate_year_level
 returns-clause-value c =
     let b = c.args.self.now.book in
     let s = c.args.self.now.station in
-    let y = year_of c.self.inside c.args.self.now c.args.year c.index-year.result.now c.self.invariant c.self.view_is
-    c.requires.below c.index-year.ensures in
-    let same = to_z-of_z w64 c.args.m c.ranges.m in
-    let minutes : c.minutes_to.result ≡ minutes_into b.first_year c.args.year c.args.m =
-    rw (same, y.start) at c.minutes_to.ensures.value in
-    let waves = c.as_slice.ensures.value ∙ used_waves c.args.self.now c.args.year c.index-year.result.now y c.requires.touched in
+    let at = c.waves_at-at.ensures in
+    let minutes = rw (to_z-of_z w64 c.args.m c.ranges.m) at at.minutes in
     let datum : to_z w64 (of_z w64 c.self.inside.datum) ≡ s.datum =
     datum_of c.self.inside c.args.self.now c.self.invariant c.self.view_is in
     plus w128 c.mean_level.result c.in_billionths.result (10 ^ 19) (2 * 10 ^ 18) c.mean_level.ensures.size c.in_billionths.ensures.size (lit< tt)
@@ -63,7 +38,5 @@ returns-clause-value c =
     ∙ ap (λ y. (pos (10 ^ 9) *ℤ s.datum) +ℤ y)
     (rw (cast_small w64 c.approximate_heights.result (30518 * 10 ^ 9) c.approximate_heights.ensures.size (lit< tt))
     at c.in_billionths.ensures.value
-    ∙ ap (λ z. pos (2 ^ 15) *ℤ z) (c.approximate_heights.ensures.value
-    ∙ ap (λ t. approximate_heights_of t c.as_slice.result.now) minutes
-    ∙ ap (approximate_heights_of (minutes_into b.first_year c.args.year c.args.m)) waves
-    ∙ approximate_heights-present (minutes_into b.first_year c.args.year c.args.m) (waves_of b s c.args.year)))
+    ∙ ap (λ z. pos (2 ^ 15) *ℤ z) ((rw (minutes, at.waves) at c.approximate_heights.ensures.value)
+    ∙ (approximate_heights-present (minutes_into b.first_year c.args.year c.args.m) (waves_of b s c.args.year))))

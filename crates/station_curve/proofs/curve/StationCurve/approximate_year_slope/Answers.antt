@@ -10,21 +10,6 @@ use Rattle.station_curve.proofs.Touched.{touched}
 use Rattle.station_curve.specs.Curves.{waves_of}
 use Rattle.station_curve.proofs.curve.StationCurve.approximate_year_slope.Goals as goal
 
-pub index-year-requires : goal.index-year-requires
-index-year-requires c = rw (stored c.self.inside c.args.self.now c.self.invariant c.self.view_is) c.requires.below
-
-pub minutes_to-requires-clause-least : goal.minutes_to-requires-clause-least
-minutes_to-requires-clause-least c =
-    let y = year_of c.self.inside c.args.self.now c.args.year c.index-year.result.now c.self.invariant c.self.view_is
-    c.requires.below c.index-year.ensures in
-    rw (to_z-of_z w64 c.args.m c.ranges.m, y.start) c.requires.hour.least
-
-pub minutes_to-requires-clause-most : goal.minutes_to-requires-clause-most
-minutes_to-requires-clause-most c =
-    let y = year_of c.self.inside c.args.self.now c.args.year c.index-year.result.now c.self.invariant c.self.view_is
-    c.requires.below c.index-year.ensures in
-    rw (to_z-of_z w64 c.args.m c.ranges.m, y.start) c.requires.hour.most
-
 pub overflow_sub-result : goal.overflow_sub-result
 overflow_sub-result c =
     minus_fits w128 (pos 0) c.in_fall_units.result 0 (2 * 10 ^ 26) (lit≤ tt) c.in_fall_units.ensures.size (lit< tt)
@@ -34,28 +19,16 @@ returns-clause-size c =
     rw (minus w128 (pos 0) c.in_fall_units.result 0 (2 * 10 ^ 26) (lit≤ tt) c.in_fall_units.ensures.size (lit< tt))
     (abs_minus (pos 0) c.in_fall_units.result 0 (2 * 10 ^ 26) (lit≤ tt) c.in_fall_units.ensures.size)
 
-pub approximate_falls-requires-clause-steepness : goal.approximate_falls-requires-clause-steepness
-approximate_falls-requires-clause-steepness c =
-    let y = year_of c.self.inside c.args.self.now c.args.year c.index-year.result.now c.self.invariant c.self.view_is
-    c.requires.below c.index-year.ensures in
-    rw c.as_slice.ensures.value y.steepness
-
 pub returns-clause-value : goal.returns-clause-value
 unfolding approximate_year_slope
 returns-clause-value c =
     let b = c.args.self.now.book in
     let s = c.args.self.now.station in
-    let y = year_of c.self.inside c.args.self.now c.args.year c.index-year.result.now c.self.invariant c.self.view_is
-    c.requires.below c.index-year.ensures in
-    let same = to_z-of_z w64 c.args.m c.ranges.m in
-    let minutes : c.minutes_to.result ≡ minutes_into b.first_year c.args.year c.args.m =
-    rw (same, y.start) at c.minutes_to.ensures.value in
-    let waves = c.as_slice.ensures.value ∙ used_waves c.args.self.now c.args.year c.index-year.result.now y c.requires.touched in
+    let at = c.waves_at-at.ensures in
+    let minutes = rw (to_z-of_z w64 c.args.m c.ranges.m) at at.minutes in
     minus w128 (pos 0) c.in_fall_units.result 0 (2 * 10 ^ 26) (lit≤ tt) c.in_fall_units.ensures.size (lit< tt)
     ∙ zero_minus c.in_fall_units.result
     ∙ ap neg_ℤ (rw (cast_small w64 c.approximate_falls.result (6 * 10 ^ 18) c.approximate_falls.ensures.size (lit< tt))
     at c.in_fall_units.ensures.value
-    ∙ ap (λ z. pos (2 ^ 24) *ℤ z) (c.approximate_falls.ensures.value
-    ∙ ap (λ t. approximate_falls_of t c.as_slice.result.now) minutes
-    ∙ ap (approximate_falls_of (minutes_into b.first_year c.args.year c.args.m)) waves
-    ∙ approximate_falls-present (minutes_into b.first_year c.args.year c.args.m) (waves_of b s c.args.year)))
+    ∙ ap (λ z. pos (2 ^ 24) *ℤ z) ((rw (minutes, at.waves) at c.approximate_falls.ensures.value)
+    ∙ (approximate_falls-present (minutes_into b.first_year c.args.year c.args.m) (waves_of b s c.args.year))))

@@ -1,4 +1,4 @@
-use Rattle.std.proofs.Common.{◌≡◌, ◌*◌, ◌^◌, pos, ◌*ℤ◌, arith, lit<, ◌∙◌}
+use Rattle.std.proofs.Common.{◌≡◌, ◌*◌, ◌^◌, pos, ◌*ℤ◌, ap, arith, lit<, ◌∙◌}
 use Rattle.std.proofs.lemmas.Int.{ints, to_z-of_z}
 use mir.Syntax.{w64, w128}
 use mir.Val.{to_z, of_z}
@@ -12,8 +12,8 @@ returns-in-Plain-clause-value c =
     let same = to_z-of_z w64 c.args.m c.ranges.m in
     let level = cast_small w128 c.year_level.result (11 * 10 ^ 18) c.year_level.ensures.size (lit< tt) in
     cast_small w128 c.weighted.result (total_weight * 10 ^ 26) c.weighted.ensures.size (lit< tt)
-    ∙ level_plain c.args.self.now.book c.args.self.now.station c.args.m c.in-Plain.year c.year_level.result c.weighted.result
-    (rw same at c.in-Plain.ensures.value) (rw same at c.year_level.ensures.value) (rw level at c.weighted.ensures.value)
+    ∙ rw level at c.weighted.ensures.value ∙ ap (λ l. pos total_weight *ℤ l) (rw same at c.year_level.ensures.value)
+    ∙ level_plain c.args.self.now.book c.args.self.now.station c.args.m c.in-Plain.year (rw same at c.in-Plain.ensures.value)
 
 pub returns-in-Plain-clause-size : goal.returns-in-Plain-clause-size
 returns-in-Plain-clause-size c =

@@ -1,20 +1,14 @@
-use Rattle.std.proofs.Common.{sym, arith}
-use Rattle.std.proofs.lemmas.Int.{ints, to_z-of_z}
+use Rattle.std.proofs.Common.{◌∙◌}
+use Rattle.std.proofs.lemmas.Int.{to_z-of_z}
 use mir.Syntax.{w64}
-use Rattle.station_curve.proofs.Around.{around_plain}
-use Rattle.station_curve.proofs.Ready.{first_year_of, domain_of, used_at, years_of, valid_of}
+use Rattle.station_curve.proofs.Ready.{first_year_of, domain_of, used_at, years_of}
 use Rattle.station_curve.proofs.curve.StationCurve.place.Goals as goal
 
 pub returns-in-Some-clause-value : goal.returns-in-Some-clause-value
-returns-in-Some-clause-value c =
-    let b = c.args.self.now.book in
-    let years = years_of c.self.inside c.args.self.now c.self.invariant c.self.view_is in
-    let around = rw (to_z-of_z w64 c.args.m c.ranges.m) at c.in-Some.ensures in
-    sym (around_plain b.first_year b.years c.args.m c.args.m c.in-Some.year years.least (omega (arith, ints)) around)
+returns-in-Some-clause-value c = (rw (to_z-of_z w64 c.args.m c.ranges.m) at c.in-Some.ensures.year).0
 
 pub returns-in-Some-clause-used : goal.returns-in-Some-clause-used
-returns-in-Some-clause-used c =
-    used_at c.self.inside c.args.self.now c.args.m _ c.self.invariant c.self.view_is c.requires (returns-in-Some-clause-value c)
+returns-in-Some-clause-used c = (rw (to_z-of_z w64 c.args.m c.ranges.m) at c.in-Some.ensures.year).1
 
 pub returns-in-None-clause-value : goal.returns-in-None-clause-value
 returns-in-None-clause-value c =
@@ -24,18 +18,6 @@ returns-in-None-clause-value c =
 pub returns-in-None-clause-used : goal.returns-in-None-clause-used
 returns-in-None-clause-used c =
     used_at c.self.inside c.args.self.now c.args.m _ c.self.invariant c.self.view_is c.requires (returns-in-None-clause-value c)
-
-pub returns-in-Some-clause-valid : goal.returns-in-Some-clause-valid
-returns-in-Some-clause-valid c = valid_of c.self.inside c.args.self.now c.self.invariant c.self.view_is
-
-pub returns-in-None-clause-valid : goal.returns-in-None-clause-valid
-returns-in-None-clause-valid c = valid_of c.self.inside c.args.self.now c.self.invariant c.self.view_is
-
-pub year_around-requires-clause-first : goal.year_around-requires-clause-first
-year_around-requires-clause-first c = rw (to_z-of_z w64 c.args.m c.ranges.m) c.requires
-
-pub year_around-requires-clause-last : goal.year_around-requires-clause-last
-year_around-requires-clause-last c = rw (to_z-of_z w64 c.args.m c.ranges.m) c.requires
 
 pub place-requires-clause-years : goal.place-requires-clause-years
 place-requires-clause-years c =
