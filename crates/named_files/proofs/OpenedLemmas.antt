@@ -1,11 +1,11 @@
 -- The opening of one file, and of one after the other.
-use Rattle.std.proofs.Common.{◌≡◌, ◌∙◌, ap, sym, ℕ, ◌+◌, List, [], ◌∷◌, ◌++◌, length, map, Option, Some, None, Result, Ok, Err, inl, inr, refl, append_assoc, append-nil, suc}
-use Rattle.std.specs.Prelude.{OnOk, slice_get}
+use Rattle.std.proofs.Common.{◌≡◌, ◌∙◌, ap, sym, ℕ, ◌+◌, List, [], ◌∷◌, ◌++◌, length, map, Option, Some, None, Result, Ok, Err, inl, inr, refl, subst, append_assoc, append-nil, suc}
+use Rattle.std.specs.Prelude.{Bool, true, false, if◌then◌else◌, ◌<◌, IfSome, IsTrue, OnOk, slice_get, All}
 use Rattle.std.specs.Result.{IsErrAnd}
 use Rattle.book_loading.specs.declared.loading.LoadFault.{LoadFault}
 use Rattle.book_loading.specs.declared.loading.LoadFault.TheVariants as load
 use Rattle.book_loading.specs.Loading.{loaded, source_of as source_of_loading}
-use Rattle.decimal_text.specs.Expected.{Meets, Source, memory, outside, given}
+use Rattle.decimal_text.specs.Expected.{Meets, memory, outside, given}
 use Rattle.harmonics_book.specs.declared.book.Book.{Book as TheBook}
 use Rattle.harmonics_text.specs.declared.fault.BookFault.TheVariants as form
 use Rattle.question.specs.declared.question.Question.{Question}
@@ -13,8 +13,13 @@ use Rattle.question.specs.declared.question.ZoneWord.{ZoneWord}
 use Rattle.station_table.specs.declared.offsets.Offsets.{Offsets as TableRow}
 use Rattle.std.specs.Option.{ForSome}
 use Rattle.std.proofs.lemmas.List.{length-append}
-use Rattle.tide_edge.specs.FileStates.{Opening, Openings, listed, openings_of}
-use Rattle.tide_edge.specs.Whole.{IsOutOfMemory, OpenedOnce, as_came, whole, source_of as source_of_reading}
+use Rattle.std.proofs.lemmas.List.Elements.{All-get_or, All-tail}
+use Rattle.std.proofs.lemmas.Option.{slice_get_cases}
+use Rattle.tide_edge.specs.FileStates.{Folder, Opening, Openings, Store, listed, openings_of}
+use Rattle.tide_edge.specs.FileStates.{FilesState}
+use Rattle.tide_edge.specs.StoreLaws.{IsLawful, IsOfStore}
+use Rattle.tide_edge.proofs.ReadingLemmas.{all_of_store, go_on, once_as, shows_by_law}
+use Rattle.tide_edge.specs.Whole.{IsOutOfMemory, OpenedOnce, Shows, is_read_out, whole, source_of as source_of_reading}
 use Rattle.tide_edge.specs.declared.read_all_fault.ReadAllFault.{ReadAllFault}
 use Rattle.tide_edge.specs.declared.read_all_fault.ReadAllFault.TheVariants as reading
 use Rattle.tide_fault.specs.declared.slot.Slot.{Slot}
@@ -22,15 +27,15 @@ use Rattle.zone_time.specs.declared.zone.Zone.{Zone as TheZone}
 use Rattle.tide_fault.specs.declared.slot.Slot.TheVariants.{File, Offsets, Zone, Certificate}
 use Rattle.named_files.specs.declared.no_answer.NoAnswer.{NoAnswer}
 use Rattle.named_files.specs.NoAnswers.{IsOf, file_of, source_of}
-use Rattle.named_files.specs.Opened.{AreOpened, IsShown, Opened, folders_shown, index_of, names_of, names_to, shown}
+use Rattle.named_files.specs.Opened.{AreOpened, AreShown, AreShownFor, IsShown, Opened, folders_shown, index_of, names_of, names_to, shown}
 use Rattle.named_files.specs.declared.materials.Materials.{Materials}
-use Rattle.named_files.specs.Readings.{book_named, bytes_from, bytes_of, certificate_named, files_in, limit_of, table_named, zone_file, zone_named}
+use Rattle.named_files.specs.Readings.{Folders, book_named, bytes_from, bytes_of, certificate_named, files_in, limit_of, table_named, zone_file, zone_named}
 use Rattle.named_files.proofs.ReadingLemmas.{excuses_book, excuses_bytes, meets_at, named_book, named_from}
 
-out_of_memory_meets : {T : Type 0} (expected result : Result T NoAnswer) → IsOutOfMemory source_of result
-    → Meets source_of (Unit {0}) expected result
-out_of_memory_meets expected (Ok value) of_memory = absurd of_memory
-out_of_memory_meets expected (Err none) of_memory = rw of_memory tt
+out_of_memory_meets : {T : Type 0} (firm : Type 0) (expected result : Result T NoAnswer) → IsOutOfMemory source_of result
+    → Meets source_of firm expected result
+out_of_memory_meets firm expected (Ok value) of_memory = absurd of_memory
+out_of_memory_meets firm expected (Err none) of_memory = rw of_memory tt
 
 out_of_memory_whole : {T : Type 0} (P : Type 0) (result : Result T NoAnswer) → IsOutOfMemory source_of result → OnOk result P
 out_of_memory_whole P (Ok value) of_memory = absurd of_memory
@@ -47,41 +52,43 @@ never_whole P (Err it) none is = tt
 -- a file that is named
 pub opened_named : {T : Type 0} (slot : Slot) (name : List ℕ) (expected : Option (List ℕ) → Result T NoAnswer) (before after : Openings)
     (result : Result T NoAnswer) → OpenedOnce source_of expected (limit_of slot) name before after result
-    → Opened slot (Some name) expected before after result
+    → Opened slot (Some name) (λ folder. expected (folder name)) before after result
 opened_named slot name expected before after result (inl (same, of_memory)) = record {
   openings = [];
   unopened = name ∷ [];
   all = ap openings_of same ∙ sym (append-nil (openings_of before));
   names = refl;
   whole = out_of_memory_whole _ result of_memory;
-  answer = λ file is. out_of_memory_meets (expected file) result of_memory;
+  answer = λ firm folder is. out_of_memory_meets (IsTrue firm) (expected (folder name)) result of_memory;
 }
-opened_named slot name expected before after result (inr (opening, named, is, meets)) = record {
+opened_named slot name expected before after result (inr (opening, named, is, answer)) = record {
   openings = opening ∷ [];
   unopened = [];
   all = ap openings_of is;
   names = ap (λ n. n ∷ []) (sym named);
   whole = always_whole _ result refl;
-  answer = λ file shows. rw shows meets;
+  answer = λ firm folder shows.
+      answer firm (folder name) (subst (λ (n : List ℕ). Shows (limit_of slot) firm opening (folder n)) named shows);
 }
 
 -- no file is named
-pub opened_none : {T : Type 0} (slot : Slot) (expected : Option (List ℕ) → Result T NoAnswer) (before : Openings)
-    (result : Result T NoAnswer)
-    → ((file : Option (List ℕ)) → Meets source_of (Unit {0}) (expected file) result) → Opened slot None expected before before result
+pub opened_none : {T : Type 0} (slot : Slot) (expected : Folder → Result T NoAnswer) (before : Openings) (result : Result T NoAnswer)
+    → ((firm : Bool) (folder : Folder) → Meets source_of (IsTrue firm) (expected folder) result)
+    → Opened slot None expected before before result
 opened_none slot expected before result meets = record {
   openings = [];
   unopened = [];
   all = sym (append-nil (openings_of before));
   names = refl;
   whole = always_whole _ result refl;
-  answer = λ file is. meets file;
+  answer = λ firm folder is. meets firm folder;
 }
 
 -- a fact that follows from the expected result of a file
-pub opened_as : {T S : Type 0} (slot : Slot) (name : Option (List ℕ)) (expected : Option (List ℕ) → Result T NoAnswer)
-    (also : Option (List ℕ) → Result S NoAnswer) (before after : Openings) (result : Result T NoAnswer) (other : Result S NoAnswer)
-    → ((file : Option (List ℕ)) → Meets source_of (Unit {0}) (expected file) result → Meets source_of (Unit {0}) (also file) other)
+pub opened_as : {T S : Type 0} (slot : Slot) (name : Option (List ℕ)) (expected : Folder → Result T NoAnswer)
+    (also : Folder → Result S NoAnswer) (before after : Openings) (result : Result T NoAnswer) (other : Result S NoAnswer)
+    → ((firm : Bool) (folder : Folder) → Meets source_of (IsTrue firm) (expected folder) result
+    → Meets source_of (IsTrue firm) (also folder) other)
     → ((left : List (List ℕ)) → OnOk result (left ≡ []) → OnOk other (left ≡ []))
     → Opened slot name expected before after result → Opened slot name also before after other
 opened_as slot name expected also before after result other says whole o = record {
@@ -90,19 +97,8 @@ opened_as slot name expected also before after result other says whole o = recor
   all = o.all;
   names = o.names;
   whole = whole o.unopened o.whole;
-  answer = λ file is. says file (o.answer file is);
+  answer = λ firm folder is. says firm folder (o.answer firm folder is);
 }
-
--- such a fact for a file that is named, whatever the fault of reading it
-pub opened_once_as : {T E S : Type 0} (slot : Slot) (name : List ℕ) (source : E → Source) (expected : Option (List ℕ) → Result T E)
-    (also : Option (List ℕ) → Result S NoAnswer) (before after : Openings) (result : Result T E) (other : Result S NoAnswer)
-    → ((file : Option (List ℕ)) → Meets source (Unit {0}) (expected file) result → Meets source_of (Unit {0}) (also file) other)
-    → (IsOutOfMemory source result → IsOutOfMemory source_of other)
-    → OpenedOnce source expected (limit_of slot) name before after result
-    → OpenedOnce source_of also (limit_of slot) name before after other
-opened_once_as slot name source expected also before after result other says out (inl (same, of_memory)) = inl (same, out of_memory)
-opened_once_as slot name source expected also before after result other says out (inr (opening, named, is, meets)) =
-    inr (opening, named, is, says (as_came (limit_of slot) opening) meets)
 
 -- the element at an index after that many others
 get_behind : (before : List Opening) (here : Opening) (more : List Opening) → slice_get (before ++ here ∷ more) (length before) ≡ Some here
@@ -110,10 +106,11 @@ get_behind [] here more = refl
 get_behind (first ∷ before) here more = get_behind before here more
 
 -- the opening at a file's index shows the file
-pub shown_at : (slot : Slot) (before here more : List Opening) (index : ℕ) → index ≡ length before
-    → IsShown slot here (shown slot (slice_get (before ++ (here ++ more)) index))
-shown_at slot before [] more index at = tt
-shown_at slot before (opening ∷ rest) more index at = rw at (ap (shown slot) (get_behind before opening (rest ++ more)))
+pub shown_at : (slot : Slot) (firm : Bool) (folder : Folder) (before here more : List Opening) (index : ℕ) → index ≡ length before
+    → IfSome (slice_get (before ++ (here ++ more)) index) (λ o. Shows (limit_of slot) firm o (folder o.name))
+    → IsShown slot firm here folder
+shown_at slot firm folder before [] more index at shows = tt
+shown_at slot firm folder before (opening ∷ rest) more index at shows = rw (at, get_behind before opening (rest ++ more)) at shows
 
 -- ---- The contents of a file, from its bytes
 
@@ -124,19 +121,19 @@ memory_of_bytes slot (Err reading.NoMemory) out = refl
 memory_of_bytes slot (Err reading.Failed) out = let no : outside ≡ memory = out in cc
 memory_of_bytes slot (Err reading.TooLong) out = let no : given ≡ memory = out in cc
 
-bytes_meet : (slot : Slot) (file : Option (List ℕ)) (result : Result (List ℕ) ReadAllFault)
-    → Meets source_of_reading (Unit {0}) (whole (limit_of slot) file) result
-    → Meets source_of (Unit {0}) (bytes_of slot file) (bytes_from slot result)
-bytes_meet slot file (Ok bytes) meets = rw meets refl
-bytes_meet slot file (Err fault) meets = excuses_bytes (Unit {0}) slot file fault meets
+bytes_meet : (slot : Slot) (firm : Type 0) (file : Option (List ℕ)) (result : Result (List ℕ) ReadAllFault)
+    → Meets source_of_reading firm (whole (limit_of slot) file) result → Meets source_of firm (bytes_of slot file) (bytes_from slot result)
+bytes_meet slot firm file (Ok bytes) meets = rw meets refl
+bytes_meet slot firm file (Err fault) meets = excuses_bytes firm slot file fault meets
 
 pub opened_bytes : (slot : Slot) (name : List ℕ) (before after : Openings) (result : Result (List ℕ) ReadAllFault)
     → OpenedOnce source_of_reading (whole (limit_of slot)) (limit_of slot) name before after result
-    → Opened slot (Some name) (bytes_of slot) before after (bytes_from slot result)
+    → Opened slot (Some name) (λ folder. bytes_of slot (folder name)) before after (bytes_from slot result)
 opened_bytes slot name before after result once =
     opened_named slot name (bytes_of slot) before after (bytes_from slot result)
-    (opened_once_as slot name source_of_reading (whole (limit_of slot)) (bytes_of slot) before after result (bytes_from slot result)
-    (λ file meets. bytes_meet slot file result meets) (memory_of_bytes slot result) once)
+    (once_as source_of_reading (whole (limit_of slot)) source_of (bytes_of slot) (limit_of slot) name before after result
+    (bytes_from slot result)
+    (λ firm file meets. bytes_meet slot (IsTrue firm) file result meets) (memory_of_bytes slot result) once)
 
 memory_of_book : (result : Result TheBook LoadFault) → IsOutOfMemory source_of_loading result → IsOutOfMemory source_of (named_from result)
 unfolding named_from
@@ -146,29 +143,24 @@ memory_of_book (Err load.TooLong) out = let no : given ≡ memory = out in cc
 memory_of_book (Err (load.Book form.NoMemory)) out = refl
 memory_of_book (Err (load.Book (form.At line why))) out = let no : given ≡ memory = out in cc
 
-book_meets : (name : List ℕ) (file : Option (List ℕ)) (result : Result TheBook LoadFault)
-    → Meets source_of_loading (Unit {0}) (loaded (limit_of File) file) result
-    → Meets source_of (Unit {0}) (book_named (λ _. file) name) (named_from result)
+book_meets : (name : List ℕ) (firm : Type 0) (file : Option (List ℕ)) (result : Result TheBook LoadFault)
+    → Meets source_of_loading firm (loaded (limit_of File) file) result
+    → Meets source_of firm (book_named (λ _. file) name) (named_from result)
 unfolding named_from
-book_meets name file (Ok book) meets = named_book (λ _. file) name book meets
-book_meets name file (Err fault) meets = excuses_book (Unit {0}) (λ _. file) name fault meets
+book_meets name firm file (Ok book) meets = named_book (λ _. file) name book meets
+book_meets name firm file (Err fault) meets = excuses_book firm (λ _. file) name fault meets
 
 pub opened_book : (name : List ℕ) (before after : Openings) (result : Result TheBook LoadFault)
     → OpenedOnce source_of_loading (loaded (limit_of File)) (limit_of File) name before after result
-    → Opened File (Some name) (λ file. book_named (λ _. file) name) before after (named_from result)
+    → Opened File (Some name) (λ folder. book_named folder name) before after (named_from result)
+unfolding book_named
 opened_book name before after result once =
     opened_named File name (λ file. book_named (λ _. file) name) before after (named_from result)
-    (opened_once_as File name source_of_loading (loaded (limit_of File))
-    (λ file. book_named (λ _. file) name) before after result (named_from result)
-    (λ file meets. book_meets name file result meets) (memory_of_book result) once)
+    (once_as source_of_loading (loaded (limit_of File)) source_of (λ file. book_named (λ _. file) name) (limit_of File) name before after
+    result (named_from result)
+    (λ firm file meets. book_meets name (IsTrue firm) file result meets) (memory_of_book result) once)
 
 -- ---- One file after the other
-
--- openings follow those before
-pub go_on : (before between after : Openings) (first second : List Opening) → openings_of between ≡ openings_of before ++ first
-    → openings_of after ≡ openings_of between ++ second → openings_of after ≡ openings_of before ++ (first ++ second)
-go_on before between after first second is then =
-    then ∙ ap (λ o. o ++ second) is ∙ append_assoc (openings_of before) first second
 
 map-append : (first second : List Opening) → map (λ o. o.name) (first ++ second) ≡ map (λ o. o.name) first ++ map (λ o. o.name) second
 map-append [] second = refl
@@ -177,15 +169,14 @@ map-append (o ∷ first) second = ap (λ names. o.name ∷ names) (map-append fi
 -- names follow those before
 pub names_on : (first second : List Opening) (names more left : List (List ℕ)) → names ≡ map (λ o. o.name) first
     → more ≡ map (λ o. o.name) second ++ left → names ++ more ≡ map (λ o. o.name) (first ++ second) ++ left
-names_on first second names more left is then =
+names_on first second names more left is next =
     ap (λ n. n ++ more) is
-    ∙ ap (λ m. map (λ o. o.name) first ++ m) then
+    ∙ ap (λ m. map (λ o. o.name) first ++ m) next
     ∙ sym (append_assoc (map (λ o. o.name) first) (map (λ o. o.name) second) left)
     ∙ ap (λ n. n ++ left) (sym (map-append first second))
 
 -- a file that was read was opened, if it is named
-pub all_named : {T : Type 0} (slot : Slot) (name : Option (List ℕ)) (expected : Option (List ℕ) → Result T NoAnswer)
-    (before after : Openings)
+pub all_named : {T : Type 0} (slot : Slot) (name : Option (List ℕ)) (expected : Folder → Result T NoAnswer) (before after : Openings)
     (value : T) (o : Opened slot name expected before after (Ok value)) → listed name ≡ map (λ it. it.name) o.openings
 all_named slot name expected before after value o =
     o.names ∙ ap (λ left. map (λ it. it.name) o.openings ++ left) o.whole ∙ append-nil (map (λ it. it.name) o.openings)
@@ -194,19 +185,17 @@ length-names : (openings : List Opening) → length (map (λ o. o.name) openings
 length-names [] = refl
 length-names (o ∷ openings) = ap suc (length-names openings)
 
-pub as_many : {T : Type 0} (slot : Slot) (name : Option (List ℕ)) (expected : Option (List ℕ) → Result T NoAnswer) (before after : Openings)
+pub as_many : {T : Type 0} (slot : Slot) (name : Option (List ℕ)) (expected : Folder → Result T NoAnswer) (before after : Openings)
     (value : T) (o : Opened slot name expected before after (Ok value)) → length (listed name) ≡ length o.openings
 as_many slot name expected before after value o = ap length (all_named slot name expected before after value o) ∙ length-names o.openings
 
 -- the last of the files that were opened
-pub last_all : {T : Type 0} (slot : Slot) (name : Option (List ℕ)) (expected : Option (List ℕ) → Result T NoAnswer)
-    (before after : Openings)
+pub last_all : {T : Type 0} (slot : Slot) (name : Option (List ℕ)) (expected : Folder → Result T NoAnswer) (before after : Openings)
     (result : Result T NoAnswer) (o : Opened slot name expected before after result)
     → openings_of after ≡ openings_of before ++ (o.openings ++ [])
 last_all slot name expected before after result o = o.all ∙ ap (λ it. openings_of before ++ it) (sym (append-nil o.openings))
 
-pub last_names : {T : Type 0} (slot : Slot) (name : Option (List ℕ)) (expected : Option (List ℕ) → Result T NoAnswer)
-    (before after : Openings)
+pub last_names : {T : Type 0} (slot : Slot) (name : Option (List ℕ)) (expected : Folder → Result T NoAnswer) (before after : Openings)
     (result : Result T NoAnswer) (o : Opened slot name expected before after result)
     → listed name ≡ map (λ it. it.name) (o.openings ++ []) ++ o.unopened
 last_names slot name expected before after result o =
@@ -234,7 +223,8 @@ stops_at name question slot (Some other) is =
 stopped : (question : Question) (name : List ℕ) (slot : Slot) (before after : Openings) (none : NoAnswer) (openings : List Opening)
     (left : List (List ℕ)) → IsOf slot none → openings_of after ≡ openings_of before ++ openings
     → names_to name question (Some slot) ≡ map (λ o. o.name) openings ++ left
-    → Meets {T = Materials} source_of (Unit {0}) (files_in (folders_shown question openings) question name) (Err none)
+    → ((firm : Bool) (folders : Folders) → AreShown question firm openings folders
+    → Meets {T = Materials} source_of (IsTrue firm) (files_in folders question name) (Err none))
     → (result : Result Materials NoAnswer) → IsErrAnd result (λ e. e ≡ none) → AreOpened question name before after result
 stopped question name slot before after none openings left of_slot all names answer (Ok read) is = absurd is
 stopped question name slot before after none openings left of_slot all names answer (Err it) is =
@@ -251,36 +241,46 @@ stopped question name slot before after none openings left of_slot all names ans
 
 -- ---- The contents of each file, from the openings
 
-pub shown_second : (p q more : List Opening) → 1 ≡ length p → IsShown Offsets q (shown Offsets (slice_get (p ++ (q ++ more)) 1))
-shown_second p q more one = shown_at Offsets p q more 1 one
+module _ (firm : Bool) (folders : Folders) where
+  pub shown_first : (p more : List Opening)
+      → IfSome (slice_get (p ++ more) 0) (λ o. Shows (limit_of File) firm o (folders File o.name)) → IsShown File firm p (folders File)
+  shown_first p more shows = shown_at File firm (folders File) [] p more 0 refl shows
 
-shown_third : (p q r more : List Opening) (count : ℕ) → 1 ≡ length p → count ≡ length q
-    → IsShown Zone r (shown Zone (slice_get (p ++ (q ++ (r ++ more))) (1 + count)))
-shown_third p q r more count one counted =
-    rw (← append_assoc p q (r ++ more))
-    (shown_at Zone (p ++ q) r more (1 + count) (rw (one, counted) (sym (length-append p q))))
+  pub shown_second : (p q more : List Opening) → 1 ≡ length p
+      → IfSome (slice_get (p ++ (q ++ more)) 1) (λ o. Shows (limit_of Offsets) firm o (folders Offsets o.name))
+      → IsShown Offsets firm q (folders Offsets)
+  shown_second p q more one shows = shown_at Offsets firm (folders Offsets) p q more 1 one shows
 
-shown_fourth : (p q r s : List Opening) (count also : ℕ) → 1 ≡ length p → count ≡ length q → also ≡ length r
-    → IsShown Certificate s (shown Certificate (slice_get (p ++ (q ++ (r ++ (s ++ [])))) (1 + (count + also))))
-shown_fourth p q r s count also one counted too =
-    rw (← append_assoc q r (s ++ []), ← append_assoc p (q ++ r) (s ++ []))
-    (shown_at Certificate (p ++ (q ++ r)) s [] (1 + (count + also))
-    (rw (one, counted, too) (sym (length-append p (q ++ r) ∙ ap (λ n. length p + n) (length-append q r)))))
+  pub shown_third : (p q r more : List Opening) (count : ℕ) → 1 ≡ length p → count ≡ length q
+      → IfSome (slice_get (p ++ (q ++ (r ++ more))) (1 + count)) (λ o. Shows (limit_of Zone) firm o (folders Zone o.name))
+      → IsShown Zone firm r (folders Zone)
+  shown_third p q r more count one counted shows =
+      shown_at Zone firm (folders Zone) (p ++ q) r more (1 + count) (rw (one, counted) (sym (length-append p q)))
+      (rw (append_assoc p q (r ++ more)) shows)
+
+  pub shown_fourth : (p q r s : List Opening) (count also : ℕ) → 1 ≡ length p → count ≡ length q → also ≡ length r
+      → IfSome (slice_get (p ++ (q ++ (r ++ (s ++ [])))) (1 + (count + also)))
+      (λ o. Shows (limit_of Certificate) firm o (folders Certificate o.name))
+      → IsShown Certificate firm s (folders Certificate)
+  shown_fourth p q r s count also one counted too shows =
+      shown_at Certificate firm (folders Certificate) (p ++ (q ++ r)) s [] (1 + (count + also))
+      (rw (one, counted, too) (sym (length-append p (q ++ r) ∙ ap (λ n. length p + n) (length-append q r))))
+      (rw (append_assoc p (q ++ r) (s ++ []), append_assoc q r (s ++ [])) shows)
 
 -- ---- The files of a request
 
--- each file is read by its own name, with the contents that its opening shows
-abbrev pub book_shown : List ℕ → Option (List ℕ) → Result TheBook NoAnswer
-book_shown name file = book_named (λ _. file) name
+-- each file is read by its own name
+abbrev pub book_shown : List ℕ → Folder → Result TheBook NoAnswer
+book_shown name folder = book_named folder name
 
-abbrev pub table_shown : Option (List ℕ) → Option (List ℕ) → Result (List TableRow) NoAnswer
-table_shown name file = table_named (λ _. file) name
+abbrev pub table_shown : Option (List ℕ) → Folder → Result (List TableRow) NoAnswer
+table_shown name folder = table_named folder name
 
-abbrev zone_shown : ZoneWord → Option (List ℕ) → Result TheZone NoAnswer
-zone_shown word file = zone_named (λ _. file) word
+abbrev zone_shown : ZoneWord → Folder → Result TheZone NoAnswer
+zone_shown word folder = zone_named folder word
 
-abbrev certificate_shown : Option (List ℕ) → Option (List ℕ) → Result (List ℕ) NoAnswer
-certificate_shown name file = certificate_named (λ _. file) name
+abbrev certificate_shown : Option (List ℕ) → Folder → Result (List ℕ) NoAnswer
+certificate_shown name folder = certificate_named folder name
 
 pub stopped_at_book : (question : Question) (name : List ℕ) (before after : Openings) (none : NoAnswer) (result : Result Materials NoAnswer)
     → IsErrAnd result (λ e. e ≡ none) → IsOf File none → Opened File (Some name) (book_shown name) before after (Err none)
@@ -291,8 +291,8 @@ stopped_at_book question name before after none result is of_book book =
     stopped question name File before after none openings book.unopened of_book
     (last_all File (Some name) (book_shown name) before after (Err none) book)
     (last_names File (Some name) (book_shown name) before after (Err none) book)
-    (meets_at (Unit {0}) (book_named (folders_shown question openings File) name) _ (Err none) none refl
-    (book.answer (shown File (slice_get openings 0)) (shown_at File [] book.openings [] 0 refl)))
+    (λ firm folders shows. meets_at (IsTrue firm) (book_named (folders File) name) _ (Err none) none refl
+    (book.answer firm (folders File) (shown_first firm folders book.openings [] (shows File))))
     result is
 
 pub stopped_at_table : (question : Question) (name : List ℕ) (before between after : Openings) (read : TheBook) (none : NoAnswer)
@@ -311,9 +311,9 @@ stopped_at_table question name before between after read none result is of_table
     (names_on book.openings last (name ∷ []) (listed question.offsets) table.unopened
     (all_named File (Some name) (book_shown name) before between read book)
     (last_names Offsets question.offsets (table_shown question.offsets) between after (Err none) table))
-    (rw (book.answer (shown File (slice_get openings 0)) (shown_at File [] book.openings last 0 refl))
-    (meets_at (Unit {0}) (table_named (folders_shown question openings Offsets) question.offsets) _ (Err none) none refl
-    (table.answer (shown Offsets (slice_get openings 1)) (shown_second book.openings table.openings [] one))))
+    (λ firm folders shows. rw (book.answer firm (folders File) (shown_first firm folders book.openings last (shows File)))
+    (meets_at (IsTrue firm) (table_named (folders Offsets) question.offsets) _ (Err none) none refl
+    (table.answer firm (folders Offsets) (shown_second firm folders book.openings table.openings [] one (shows Offsets)))))
     result is
 
 pub stopped_at_zone : (question : Question) (name : List ℕ) (before between beyond after : Openings) (read : TheBook) (rows : List TableRow)
@@ -338,13 +338,13 @@ stopped_at_zone question name before between beyond after read rows none result 
     (names_on table.openings third (listed question.offsets) (listed (zone_file question.zone)) zone.unopened
     (all_named Offsets question.offsets (table_shown question.offsets) between beyond rows table)
     (last_names Zone (zone_file question.zone) (zone_shown question.zone) beyond after (Err none) zone)))
-    (rw (
-      book.answer (shown File (slice_get openings 0)) (shown_at File [] book.openings last 0 refl),
-      table.answer (shown Offsets (slice_get openings 1)) (shown_second book.openings table.openings third one),
+    (λ firm folders shows. rw (
+      book.answer firm (folders File) (shown_first firm folders book.openings last (shows File)),
+      table.answer firm (folders Offsets) (shown_second firm folders book.openings table.openings third one (shows Offsets)),
     )
-    (meets_at (Unit {0}) (zone_named (folders_shown question openings Zone) question.zone) _ (Err none) none refl
-    (zone.answer (shown Zone (slice_get openings (index_of question Zone)))
-    (shown_third book.openings table.openings zone.openings [] (length (listed question.offsets)) one two))))
+    (meets_at (IsTrue firm) (zone_named (folders Zone) question.zone) _ (Err none) none refl
+    (zone.answer firm (folders Zone)
+    (shown_third firm folders book.openings table.openings zone.openings [] (length (listed question.offsets)) one two (shows Zone)))))
     result is
 
 pub stopped_at_certificate : (question : Question) (name : List ℕ) (before between beyond later after : Openings)
@@ -377,16 +377,17 @@ stopped_at_certificate question name before between beyond later after read rows
     (names_on zone.openings fourth (listed (zone_file question.zone)) (listed question.certificate) certificate.unopened
     (all_named Zone (zone_file question.zone) (zone_shown question.zone) beyond later clock zone)
     (last_names Certificate question.certificate (certificate_shown question.certificate) later after (Err none) certificate))))
-    (rw (
-      book.answer (shown File (slice_get openings 0)) (shown_at File [] book.openings last 0 refl),
-      table.answer (shown Offsets (slice_get openings 1)) (shown_second book.openings table.openings third one),
-      zone.answer (shown Zone (slice_get openings (index_of question Zone)))
-          (shown_third book.openings table.openings zone.openings fourth (length (listed question.offsets)) one two),
+    (λ firm folders shows. rw (
+      book.answer firm (folders File) (shown_first firm folders book.openings last (shows File)),
+      table.answer firm (folders Offsets) (shown_second firm folders book.openings table.openings third one (shows Offsets)),
+      zone.answer firm (folders Zone)
+          (shown_third firm folders book.openings table.openings zone.openings fourth (length (listed question.offsets)) one two
+          (shows Zone)),
     )
-    (meets_at (Unit {0}) (certificate_named (folders_shown question openings Certificate) question.certificate) _ (Err none) none refl
-    (certificate.answer (shown Certificate (slice_get openings (index_of question Certificate)))
-    (shown_fourth book.openings table.openings zone.openings certificate.openings (length (listed question.offsets))
-    (length (listed (zone_file question.zone))) one two three))))
+    (meets_at (IsTrue firm) (certificate_named (folders Certificate) question.certificate) _ (Err none) none refl
+    (certificate.answer firm (folders Certificate)
+    (shown_fourth firm folders book.openings table.openings zone.openings certificate.openings (length (listed question.offsets))
+    (length (listed (zone_file question.zone))) one two three (shows Certificate)))))
     result is
 
 pub all_opened : (question : Question) (name : List ℕ) (before between beyond later after : Openings) (read : TheBook)
@@ -423,15 +424,75 @@ all_opened question name before between beyond later after read rows clock bytes
           (all_named Zone (zone_file question.zone) (zone_shown question.zone) beyond later clock zone)
           (last_names Certificate question.certificate (certificate_shown question.certificate) later after (Ok bytes) certificate)));
       whole = certificate.whole;
-      answer =
+      answer = λ firm folders shows.
           rw (
-            book.answer (shown File (slice_get openings 0)) (shown_at File [] book.openings last 0 refl),
-            table.answer (shown Offsets (slice_get openings 1)) (shown_second book.openings table.openings third one),
-            zone.answer (shown Zone (slice_get openings (index_of question Zone)))
-                (shown_third book.openings table.openings zone.openings fourth (length (listed question.offsets)) one two),
-            certificate.answer (shown Certificate (slice_get openings (index_of question Certificate)))
-                (shown_fourth book.openings table.openings zone.openings certificate.openings
-                (length (listed question.offsets)) (length (listed (zone_file question.zone))) one two three),
+            book.answer firm (folders File) (shown_first firm folders book.openings last (shows File)),
+            table.answer firm (folders Offsets) (shown_second firm folders book.openings table.openings third one (shows Offsets)),
+            zone.answer firm (folders Zone)
+                (shown_third firm folders book.openings table.openings zone.openings fourth (length (listed question.offsets)) one two
+                (shows Zone)),
+            certificate.answer firm (folders Certificate)
+                (shown_fourth firm folders book.openings table.openings zone.openings certificate.openings
+                (length (listed question.offsets)) (length (listed (zone_file question.zone))) one two three (shows Certificate)),
           )
           refl;
     }
+
+-- ---- The contents that agree with what was read
+
+came_by : (limit : ℕ) (opening : Opening) (out : Bool) → is_read_out limit opening ≡ out
+    → (IsTrue out → (left : List ℕ) × ((if out then Some opening.bytes else None) ≡ Some (opening.bytes ++ left))
+    × (0 < opening.ends → left ≡ []))
+    × (out ≡ false → (if out then Some opening.bytes else None) ≡ None)
+came_by limit opening true is = (λ t. ([], ap Some (sym (append-nil opening.bytes)), λ some. refl), λ untrue. let never : true ≡ false = untrue in cc)
+came_by limit opening false is = (λ t. let never : false ≡ true = t in cc, λ _. refl)
+
+shows_itself_at : (slot : Slot) (opening : Option Opening) → IfSome opening (λ o. Shows (limit_of slot) true o (shown slot opening))
+shows_itself_at slot None = tt
+shows_itself_at slot (Some o) =
+    let by = came_by (limit_of slot) o (is_read_out (limit_of slot) o) refl in
+    record { read = λ t. by.0 t; absent = λ firm out why. by.1 out }
+
+-- the contents that the openings show agree with what was read
+pub shows_itself : (question : Question) (openings : List Opening) → AreShown question true openings (folders_shown question openings)
+shows_itself question openings = λ slot. shows_itself_at slot (slice_get openings (index_of question slot))
+
+each : (P : Opening → Type 0) (openings : List Opening) (index : ℕ) → All P openings → IfSome (slice_get openings index) P
+each P openings index all = elim (slice_get_cases openings index).1 [
+  | inl here ↦ rw here.2 (subst P here.3 (All-get_or P openings index here.0 here.1 all))
+  | inr past ↦ rw past.1 tt
+]
+
+some_as : (P Q : Opening → Type 0) (opening : Option Opening) → ((o : Opening) → P o → Q o) → IfSome opening P → IfSome opening Q
+some_as P Q None says is = tt
+some_as P Q (Some o) says is = says o is
+
+-- the contents of observable files agree with what was read of them
+pub shows_own : (question : Question) (firm : Bool) (openings : List Opening) (store : Store) → (IsTrue firm → IsTrue store.is_steady)
+    → All (IsOfStore store) openings → AreShown question firm openings (λ slot. store.folder)
+shows_own question firm openings store steady of = λ slot.
+    let shows : (o : Opening) → IsOfStore store o → Shows (limit_of slot) firm o (store.folder o.name) =
+    λ o is. shows_by_law (limit_of slot) firm store o steady is in
+    some_as (IsOfStore store) (λ o. Shows (limit_of slot) firm o (store.folder o.name)) (slice_get openings (index_of question slot)) shows
+    (each (IsOfStore store) openings (index_of question slot) of)
+
+-- the same for the arguments of a command line
+pub shows_itself_for : {E : Type 0} (asked : Result Question E) (openings : List Opening) (folders : Folders)
+    → ((question : Question) → asked ≡ Ok question → folders ≡ folders_shown question openings)
+    → AreShownFor asked true openings folders
+shows_itself_for (Ok question) openings folders are = rw (are question refl) (shows_itself question openings)
+shows_itself_for (Err fault) openings folders are = tt
+
+behind : (P : Opening → Type 0) (before openings : List Opening) → All P (before ++ openings) → All P openings
+behind P [] openings all = all
+behind P (o ∷ before) openings all = behind P before openings (All-tail P o (before ++ openings) all)
+
+pub shows_own_for : {E : Type 0} (asked : Result Question E) (firm : Bool) (openings : List Opening) (before after : FilesState)
+    → (IsTrue firm → IsTrue before.store.is_steady) → IsLawful after → after.store ≡ before.store
+    → openings_of after.openings ≡ openings_of before.openings ++ openings → IsTrue before.store.is_observable
+    → AreShownFor asked firm openings (λ slot. before.store.folder)
+shows_own_for (Ok question) firm openings before after steady lawful store all t =
+    let whole : All (IsOfStore before.store) (openings_of after.openings) = rw store at (all_of_store after (lawful (rw store t))) in
+    let both : All (IsOfStore before.store) (openings_of before.openings ++ openings) = rw all at whole in
+    shows_own question firm openings before.store steady (behind (IsOfStore before.store) (openings_of before.openings) openings both)
+shows_own_for (Err fault) firm openings before after steady lawful store all t = tt

@@ -174,10 +174,12 @@ excuses_book firm folder name (load.Book (form.At line why)) excused =
 wider : (a b : Allowance) (failed : Bool) (before after : FilesState) → a.files ≤ b.files → a.bytes ≤ b.bytes
     → ReadWithin a failed before after → ReadWithin b failed before after
 wider a b failed before after files bytes read = record {
-  store = read.store;
+  openings = read.openings;
+  all = read.all;
   opens = omega (arith, read.opens, files);
   ends = omega (arith, read.ends, files);
   bytes = omega (arith, read.bytes, bytes);
+  store = read.store;
   faults = read.faults;
 }
 

@@ -1,5 +1,6 @@
 -- A fault whose status isn't that of out of memory is the expected one.
-use Rattle.std.proofs.Common.{◌≡◌, ◌∙◌, Result, Err, inl, inr, refl}
+use Rattle.std.proofs.Common.{◌≡◌, ◌∙◌, true, Result, Err, inl, inr, refl}
+use Rattle.std.specs.Bool.{IsTrue}
 use Rattle.decimal_text.specs.Expected.{Excuses}
 use Rattle.harmonics_text.specs.declared.fault.BookFault.TheVariants as form
 use Rattle.question.specs.declared.fault.AskFault.TheVariants as ask
@@ -15,9 +16,9 @@ use Rattle.named_files.specs.declared.no_answer.NoAnswer.TheVariants as none_of
 use Rattle.named_files.specs.NoAnswers.{source_of, status_of}
 use Rattle.named_files.specs.Reporting.{Reports}
 
-settles : {T : Type 0} (expected : Result T NoAnswer) (none : NoAnswer) → Excuses (source_of none) (Unit {0}) expected none
+settles : {T : Type 0} (expected : Result T NoAnswer) (none : NoAnswer) → Excuses (source_of none) (IsTrue true) expected none
     → ¬ (status_of none ≡ NoMemory) → expected ≡ Err none
-settles expected Unread excuses other = excuses tt
+settles expected Unread excuses other = excuses refl
 settles expected (Faulty (Ask ask.NoMemory)) excuses other = absurd (other refl)
 settles expected (Faulty (Ask _)) excuses other = excuses
 settles expected (Faulty (NoSheet word)) excuses other = excuses
@@ -34,7 +35,7 @@ settles expected (none_of.Refused _ rows) excuses other = excuses
 
 -- a fault is the expected one, by the status with which its line was written
 pub reported_settles : {T : Type 0} (expected : Result T NoAnswer) (none : NoAnswer) (status : Status) (before after : SinkState)
-    → Excuses (source_of none) (Unit {0}) expected none → Reports none status before after → ¬ (status ≡ NoMemory) → expected ≡ Err none
+    → Excuses (source_of none) (IsTrue true) expected none → Reports none status before after → ¬ (status ≡ NoMemory) → expected ≡ Err none
 reported_settles expected none status before after excuses reported other =
     elim reported [
       | inl t ↦ settles expected none excuses (λ is. other (t.0 ∙ is))

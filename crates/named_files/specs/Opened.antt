@@ -1,9 +1,9 @@
 -- The openings of a request's files, and the contents that they show (this project).
-use Rattle.std.specs.Prelude.{◌≡◌, ◌+◌, ℕ, List, [], ◌∷◌, ◌++◌, length, map, Option, Some, None, Result, Ok, Err, OnOk, slice_get}
+use Rattle.std.specs.Prelude.{◌≡◌, ◌+◌, ℕ, Bool, IsTrue, IfSome, List, [], ◌∷◌, ◌++◌, length, map, Option, Some, None, Result, Ok, Err, OnOk, slice_get}
 use Rattle.decimal_text.specs.Expected.{Meets}
 use Rattle.question.specs.declared.question.Question.{Question}
-use Rattle.tide_edge.specs.FileStates.{Opening, Openings, listed, openings_of}
-use Rattle.tide_edge.specs.Whole.{as_came}
+use Rattle.tide_edge.specs.FileStates.{Folder, Opening, Openings, listed, openings_of}
+use Rattle.tide_edge.specs.Whole.{Shows, as_came}
 use Rattle.tide_fault.specs.declared.slot.Slot.{Slot}
 use Rattle.tide_fault.specs.declared.slot.Slot.TheVariants as slots
 use Rattle.named_files.specs.declared.materials.Materials.{Materials}
@@ -49,40 +49,53 @@ index_of question slots.Certificate = 1 + (length (listed question.offsets) + le
 abbrev pub folders_shown : Question → List Opening → Folders
 folders_shown question openings = λ slot name. shown slot (slice_get openings (index_of question slot))
 
--- the contents of a file are the ones that its opening shows; without an opening they are arbitrary
-abbrev pub IsShown : Slot → List Opening → Option (List ℕ) → Type 0
-IsShown slot [] file = Unit {0}
-IsShown slot (opening ∷ more) file = file ≡ shown slot (Some opening)
+-- contents of files agree with what the openings of a request show of them; the contents of a file
+-- without an opening are arbitrary
+abbrev pub AreShown : Question → Bool → List Opening → Folders → Type 0
+AreShown question firm openings folders =
+    (slot : Slot) → IfSome (slice_get openings (index_of question slot)) (λ o. Shows (limit_of slot) firm o (folders slot o.name))
 
--- one file was opened, if it is named and memory sufficed, and the result is the expected one for the
--- contents that were read of it
-pub record Opened {T : Type 0} (slot : Slot) (name : Option (List ℕ)) (expected : Option (List ℕ) → Result T NoAnswer)
+-- contents of files agree with what the openings of a command line show of them
+abbrev pub AreShownFor : {E : Type 0} → Result Question E → Bool → List Opening → Folders → Type 0
+AreShownFor (Ok question) firm openings folders = AreShown question firm openings folders
+AreShownFor (Err fault) firm openings folders = Unit {0}
+
+-- the contents of one file agree with what its opening shows of them; without an opening they are
+-- arbitrary
+abbrev pub IsShown : Slot → Bool → List Opening → Folder → Type 0
+IsShown slot firm [] folder = Unit {0}
+IsShown slot firm (opening ∷ more) folder = Shows (limit_of slot) firm opening (folder opening.name)
+
+-- one file was opened, if it is named and memory sufficed, and the result is the expected one for any
+-- contents that agree with what was read of it
+pub record Opened {T : Type 0} (slot : Slot) (name : Option (List ℕ)) (expected : Folder → Result T NoAnswer)
     (before after : Openings) (result : Result T NoAnswer) : Type 0 where
   pub openings : List Opening
   pub unopened : List (List ℕ)
   pub all : openings_of after ≡ openings_of before ++ openings
   pub names : listed name ≡ map (λ o. o.name) openings ++ unopened
   pub whole : OnOk result (unopened ≡ [])
-  pub answer : (file : Option (List ℕ)) → IsShown slot openings file → Meets source_of (Unit {0}) (expected file) result
+  pub answer : (firm : Bool) (folder : Folder) → IsShown slot firm openings folder → Meets source_of (IsTrue firm) (expected folder) result
 
--- files were opened in the order of the names, each once, and none after the one that is the reason why
--- there is no answer; and the result is the expected one for the openings
-pub record IsResultOf {T : Type 0} (wanted : Option Slot → List (List ℕ)) (expected : List Opening → Result T NoAnswer)
-    (before after : Openings)
-    (result : Result T NoAnswer) : Type 0 where
+-- the files that were opened are the first of the names, each once, and none after the one that is the
+-- reason why there is no answer; and the result is the expected one for any contents that agree with
+-- what was read of them
+pub record IsResultOf {T : Type 0} (wanted : Option Slot → List (List ℕ)) (shows : Bool → List Opening → Folders → Type 0)
+    (expected : Folders → Result T NoAnswer) (before after : Openings) (result : Result T NoAnswer) : Type 0 where
   pub openings : List Opening
   pub unopened : List (List ℕ)
   pub all : openings_of after ≡ openings_of before ++ openings
   pub names : wanted (failing_file result) ≡ map (λ o. o.name) openings ++ unopened
-  pub answer : Meets source_of (Unit {0}) (expected openings) result
+  pub answer : (firm : Bool) (folders : Folders) → shows firm openings folders → Meets source_of (IsTrue firm) (expected folders) result
 
 -- the files of a request were opened in the order of reading, each once, and none after the one that is
--- the reason why there is no answer, or all if none is; and the result is the one for the files as these
--- openings show them
+-- the reason why there is no answer, or all if none is; and the result is the one for any contents that
+-- agree with what was read of them
 pub record AreOpened (question : Question) (name : List ℕ) (before after : Openings) (result : Result Materials NoAnswer) : Type 0 where
   pub openings : List Opening
   pub unopened : List (List ℕ)
   pub all : openings_of after ≡ openings_of before ++ openings
   pub names : names_to name question (failing_file result) ≡ map (λ o. o.name) openings ++ unopened
   pub whole : OnOk result (unopened ≡ [])
-  pub answer : Meets source_of (Unit {0}) (files_in (folders_shown question openings) question name) result
+  pub answer : (firm : Bool) (folders : Folders) → AreShown question firm openings folders
+      → Meets source_of (IsTrue firm) (files_in folders question name) result

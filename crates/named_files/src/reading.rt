@@ -1,11 +1,11 @@
 //! The files of a request, read.
 
-ghost use Rattle.std.specs.Prelude.{◌≡◌, ◌≤◌, false, IsTrue, [], length, Some, None, Ok, IfOk, IfErr};
+ghost use Rattle.std.specs.Prelude.{◌≡◌, ◌≤◌, false, [], length, Some, None, Ok, IfOk, IfErr};
 ghost use Rattle.harmonics_book.specs.Books.{IsBook};
 ghost use Rattle.question.specs.Asked.{IsZoneWord};
 ghost use Rattle.zone_time.specs.Zones.{IsZone};
 ghost use Rattle.tide_edge.specs.Whole.{ReadWithin, one_file};
-ghost use Rattle.named_files.specs.NoAnswers.{IsOf, file_of, is_unread, reading_failed, source_of};
+ghost use Rattle.named_files.specs.NoAnswers.{IsOf, file_of, is_unread, reading_failed};
 ghost use Rattle.named_files.specs.Opened.{AreOpened, Opened};
 ghost use Rattle.named_files.specs.Readings.{
   allowed_for,
@@ -21,10 +21,8 @@ ghost use Rattle.named_files.specs.Readings.{
   zone_from,
   zone_named,
   certificate_named,
-  files_in,
 };
 ghost use Rattle.named_files.specs.Workings.Materials.{AreMaterials};
-ghost use Rattle.decimal_text.specs.Expected.{Meets};
 ghost use Rattle.decimal_text.specs.declared.limits.TheConstants.{MOST_BYTES};
 
 use crate::materials::Materials;
@@ -46,7 +44,6 @@ use zone_time::{Zone, ZoneFault, read_zone};
 /// # Errors
 /// The first fault: [`NoAnswer::Unread`] if a file couldn't be opened or read, and [`NoAnswer::Faulty`]
 /// if a file is too long or isn't in its format, or if memory ran out.
-#[tactic(auto, unfolding(crate::specs::Readings::files_in))]
 pub fn read_files<F: Files>(
     alloc: Global,
     files: &mut F,
@@ -54,9 +51,6 @@ pub fn read_files<F: Files>(
     name: &Text,
 ) -> Result<Materials, NoAnswer>
     requires zone { IsZoneWord question.now.zone }
-    ensures own { IsTrue (F.state files.old).store.is_observable
-        → Meets source_of (IsTrue (F.state files.old).store.is_steady)
-        (files_in (λ slot. (F.state files.old).store.folder) question.now name.now) result }
     ensures opened { AreOpened question.now name.now (F.state files.old).openings (F.state files.new).openings result }
     ensures valid { IfOk result AreMaterials }
     ensures read { ReadWithin (files_allowed question.now) (reading_failed result) (F.state files.old) (F.state files.new) }
@@ -82,9 +76,7 @@ pub fn read_files<F: Files>(
 /// [`NoAnswer::Unread`] if the file couldn't be opened or read, and [`NoAnswer::Faulty`] if it is too
 /// long or has a bad line, or if memory ran out.
 pub fn read_book<F: Files>(alloc: Global, files: &mut F, name: &Text) -> Result<Book, NoAnswer>
-    ensures own { IsTrue (F.state files.old).store.is_observable
-        → Meets source_of (IsTrue (F.state files.old).store.is_steady) (book_named (F.state files.old).store.folder name.now) result }
-    ensures opened { Opened Slot.File (Some name.now) (λ file. book_named (λ _. file) name.now)
+    ensures opened { Opened Slot.File (Some name.now) (λ folder. book_named folder name.now)
         (F.state files.old).openings (F.state files.new).openings result }
     ensures valid { IfOk result IsBook }
     ensures read { ReadWithin (one_file (limit_of Slot.File)) (reading_failed result) (F.state files.old) (F.state files.new) }
@@ -107,9 +99,7 @@ pub fn read_table<F: Files>(
     files: &mut F,
     name: &Option<Text>,
 ) -> Result<OffsetTable, NoAnswer>
-    ensures own { IsTrue (F.state files.old).store.is_observable
-        → Meets source_of (IsTrue (F.state files.old).store.is_steady) (table_named (F.state files.old).store.folder name.now) result }
-    ensures opened { Opened Slot.Offsets name.now (λ file. table_named (λ _. file) name.now)
+    ensures opened { Opened Slot.Offsets name.now (λ folder. table_named folder name.now)
         (F.state files.old).openings (F.state files.new).openings result }
     ensures unnamed { name.now ≡ None → result ≡ Ok [] }
     ensures read { ReadWithin (allowed_for Slot.Offsets name.now) (reading_failed result) (F.state files.old) (F.state files.new) }
@@ -143,9 +133,7 @@ fn read_zone_named<F: Files>(
     word: &ZoneWord,
 ) -> Result<Zone, NoAnswer>
     requires { IsZoneWord word.now }
-    ensures own { IsTrue (F.state files.old).store.is_observable
-        → Meets source_of (IsTrue (F.state files.old).store.is_steady) (zone_named (F.state files.old).store.folder word.now) result }
-    ensures opened { Opened Slot.Zone (zone_file word.now) (λ file. zone_named (λ _. file) word.now)
+    ensures opened { Opened Slot.Zone (zone_file word.now) (λ folder. zone_named folder word.now)
         (F.state files.old).openings (F.state files.new).openings result }
     ensures unnamed { zone_file word.now ≡ None → result ≡ zone_named (λ _. None) word.now }
     ensures valid { IfOk result IsZone }
@@ -183,10 +171,7 @@ fn read_certificate<F: Files>(
     files: &mut F,
     name: &Option<Text>,
 ) -> Result<Bytes, NoAnswer>
-    ensures own { IsTrue (F.state files.old).store.is_observable
-        → Meets source_of (IsTrue (F.state files.old).store.is_steady)
-        (certificate_named (F.state files.old).store.folder name.now) result }
-    ensures opened { Opened Slot.Certificate name.now (λ file. certificate_named (λ _. file) name.now)
+    ensures opened { Opened Slot.Certificate name.now (λ folder. certificate_named folder name.now)
         (F.state files.old).openings (F.state files.new).openings result }
     ensures unnamed { name.now ≡ None → result ≡ Ok [] }
     ensures within { IfOk result (λ bytes. length bytes ≤ MOST_BYTES) }
@@ -206,9 +191,7 @@ fn read_file<F: Files>(
     name: &Text,
     slot: Slot,
 ) -> Result<Bytes, NoAnswer>
-    ensures own { IsTrue (F.state files.old).store.is_observable
-        → Meets source_of (IsTrue (F.state files.old).store.is_steady) (bytes_of slot ((F.state files.old).store.folder name.now)) result }
-    ensures opened { Opened slot (Some name.now) (bytes_of slot) (F.state files.old).openings (F.state files.new).openings result }
+    ensures opened { Opened slot (Some name.now) (λ folder. bytes_of slot (folder name.now)) (F.state files.old).openings (F.state files.new).openings result }
     ensures within { IfOk result (λ bytes. length bytes ≤ limit_of slot) }
     ensures read { ReadWithin (one_file (limit_of slot)) (reading_failed result) (F.state files.old) (F.state files.new) }
     ensures fault { IfErr result (IsOf slot) }

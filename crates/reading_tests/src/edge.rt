@@ -52,7 +52,7 @@ fn read_steady(
     name: &Text,
     limit: u64,
 ) -> Result<Bytes, ReadAllFault>
-    requires { files.old.calls.fails ≡ [] }
+    requires { files.old.fails ≡ [] }
     ensures { result ≢ Err ReadAllFault.NoMemory → result ≡ whole limit (folder_of files.old.files name.now) }
 {
     read_all(alloc, files, name, limit)

@@ -1,15 +1,16 @@
 -- The answer over files, from its steps.
 use Rattle.std.proofs.Common.{◌≡◌, ◌∙◌, ap, ℕ, ℤ, Bool, true, false, if◌then◌else◌, List, [], ◌∷◌, ◌++◌, map, append-nil, Option, Some, None, Result, Ok, Err, refl, sym, subst, le_refl}
 use Rattle.std.specs.Bool.{IsTrue}
-use Rattle.std.specs.Prelude.{IsOk, IsSome, count_by, pos}
+use Rattle.std.specs.Prelude.{IsOk, IsSome, IfSome, IfErr, count_by, pos, length}
+use Rattle.std.proofs.lemmas.Option.{slice_get_past}
 use Rattle.std.specs.Option.{IsSomeAnd, option_map_or}
 use Rattle.std.specs.Result.{IsErrAnd}
-use Rattle.decimal_text.specs.Expected.{◌>>=◌, Excused, ReturnsUnless, Meets}
+use Rattle.decimal_text.specs.Expected.{◌>>=◌, Excused, Excuses, ReturnsUnless, Meets}
 use Rattle.question.specs.declared.question.Question.{Question}
 use Rattle.report_sheets.specs.Sheets.{SheetMeaning}
 use Rattle.tide_answer.specs.declared.text.Answer.{Answer}
 use Rattle.tide_answer.specs.Answers.{answered_without_files}
-use Rattle.tide_edge.specs.Clocks.{ClockState, clock_after}
+use Rattle.tide_edge.specs.Clocks.{ClockState, clock_after, next_minute}
 use Rattle.tide_edge.specs.Faults.{Rose, counted}
 use Rattle.tide_edge.specs.Calls.{answer}
 use Rattle.tide_edge.specs.declared.failed.Failed.{Failed}
@@ -19,16 +20,18 @@ use Rattle.tide_edge.proofs.ReadingLemmas.{read_none}
 use Rattle.tide_fault.specs.declared.fault.Fault.{Fault}
 use Rattle.tide_fault.specs.Faults.{is_out_of_memory as fault_is_out_of_memory}
 use Rattle.named_files.specs.declared.no_answer.NoAnswer.{NoAnswer}
-use Rattle.named_files.specs.declared.no_answer.NoAnswer.TheVariants.{Faulty}
+use Rattle.named_files.specs.declared.no_answer.NoAnswer.TheVariants.{Unread, Faulty, Refused}
 use Rattle.named_files.specs.declared.materials.Materials.{Materials}
-use Rattle.named_files.specs.NoAnswers.{file_of, refused_over, source_of, faulty, is_out_of_memory}
-use Rattle.named_files.specs.Opened.{AreOpened, IsResultOf, failing_file, folders_shown, names_to}
+use Rattle.named_files.specs.NoAnswers.{file_of, is_unread, reading_failed, refused_over, source_of, faulty, is_out_of_memory}
+use Rattle.named_files.specs.Opened.{AreOpened, AreShown, AreShownFor, IsResultOf, failing_file, names_to}
 use Rattle.tide_fault.specs.declared.slot.Slot.{Slot}
 use Rattle.named_files.specs.Readings.{Folders, files_allowed, files_in}
-use Rattle.named_files.proofs.ReadingLemmas.{meets_at, meets_inside, faulty_excuses}
-use Rattle.tide_desk.specs.Answers.{ReadsClock, HasFiles, NamesFile, allowed_by, answer_from, answered_over_optional_file, answered_over_file, answered_over_book, question_of_words, reads_clock, given_with, is_report, refused_from}
+use Rattle.named_files.proofs.ReadingLemmas.{failed_at, meets_at, meets_inside, faulty_excuses}
+use Rattle.tide_desk.specs.Workings.Settled.{IsSettled}
+use Rattle.tide_desk.proofs.SettledLemmas.{never, no_value, unread_unsettled}
+use Rattle.tide_desk.specs.Answers.{ReadsClock, HasFiles, NamesFile, allowed_by, answered_over_book, question_of_words, reads_clock, given_with, is_report, refused_from}
 use Rattle.tide_desk.specs.Outcomes.{Sources, WentOn, sources}
-use Rattle.tide_desk.specs.Shown.{answer_shown, folders_by, minute_read, names_by, names_wanted, shown_by, shown_over}
+use Rattle.tide_desk.specs.Shown.{IsReadLast, answer_shown, given_between, minute_read, names_by, names_wanted, shown_by, shown_over}
 
 -- ---- The bytes that were read, and the readings of the clock
 
@@ -104,16 +107,16 @@ failing_at (Ok value) none is = absurd is
 failing_at (Err e) none is = ap file_of is
 
 -- nothing was opened
-pub shown_unopened : {A : Type 0} (names : Option Slot → List (List ℕ)) (expected : List Opening → Result A NoAnswer)
-    (before after : Openings)
-    (result : Result A NoAnswer) → after ≡ before → Meets source_of (Unit {0}) (expected []) result
-    → IsResultOf names expected before after result
-shown_unopened names expected before after result same meets = record {
+pub shown_unopened : {A : Type 0} (names : Option Slot → List (List ℕ)) (shows : Bool → List Opening → Folders → Type 0)
+    (expected : Folders → Result A NoAnswer) (before after : Openings) (result : Result A NoAnswer) → after ≡ before
+    → ((firm : Bool) (folders : Folders) → Meets source_of (IsTrue firm) (expected folders) result)
+    → IsResultOf names shows expected before after result
+shown_unopened names shows expected before after result same meets = record {
   openings = [];
   unopened = names (failing_file result);
   all = ap openings_of same ∙ sym (append-nil (openings_of before));
   names = refl;
-  answer = meets;
+  answer = λ firm folders is. meets firm folders;
 }
 
 -- the files couldn't be read
@@ -121,114 +124,77 @@ pub shown_unread : (sheets : List SheetMeaning) (given : Option ℤ) (question :
     (before after : Openings) (none : NoAnswer)
     (result : Result Answer NoAnswer) → IsErrAnd result (λ e. e ≡ none)
     → AreOpened question name before after (Err none)
-    → IsResultOf (names_to name question)
-    (λ openings. shown_over sheets (folders_shown question openings) given question name) before after result
+    → IsResultOf (names_to name question) (AreShown question) (λ folders. shown_over sheets folders given question name) before after result
 unfolding shown_over
 shown_unread sheets given question name before after none result is read = record {
   openings = read.openings;
   unopened = read.unopened;
   all = read.all;
   names = rw (failing_at result none is) read.names;
-  answer = meets_at (Unit {0}) (files_in (folders_shown question read.openings) question name) _ result none is read.answer;
+  answer = λ firm folders shows.
+      meets_at (IsTrue firm) (files_in folders question name) _ result none is (read.answer firm folders shows);
 }
 
 -- the files were read, and the result is that of the other steps
 pub shown_read : (sheets : List SheetMeaning) (given : Option ℤ) (question : Question) (name : List ℕ)
     (before after : Openings) (read : Materials)
     (result : Result Answer NoAnswer) → failing_file result ≡ None
-    → Meets source_of (Unit {0}) (minute_read question.command given >>= λ now.
+    → ((firm : Bool) → Meets source_of (IsTrue firm) (minute_read question.command given >>= λ now.
     refused_over read.table
-    (answered_over_book (is_report question.command) sheets read.book read.table question (given_with read now))) result
+    (answered_over_book (is_report question.command) sheets read.book read.table question (given_with read now))) result)
     → AreOpened question name before after (Ok read)
-    → IsResultOf (names_to name question)
-    (λ openings. shown_over sheets (folders_shown question openings) given question name) before after result
+    → IsResultOf (names_to name question) (AreShown question) (λ folders. shown_over sheets folders given question name) before after result
 unfolding shown_over
 shown_read sheets given question name before after read result of_none meets opened = record {
   openings = opened.openings;
   unopened = opened.unopened;
   all = opened.all;
   names = rw of_none opened.names;
-  answer = rw opened.answer meets;
+  answer = λ firm folders shows. rw (opened.answer firm folders shows) (meets firm);
 }
 
 -- a command line has the answer of its request
 pub shown_named : (sheets : List SheetMeaning) (given : Option ℤ) (words : List (List ℕ)) (question : Question)
     (name : List ℕ) (before after : Openings)
     (result : Result Answer NoAnswer) → question_of_words sheets words ≡ Ok question → question.file ≡ Some name
-    → IsResultOf (names_to name question)
-    (λ openings. shown_over sheets (folders_shown question openings) given question name) before after result
-    → IsResultOf (names_wanted (question_of_words sheets words)) (λ openings.
-    answer_shown sheets (folders_by (question_of_words sheets words) openings) given words) before after result
+    → IsResultOf (names_to name question) (AreShown question) (λ folders. shown_over sheets folders given question name) before after result
+    → IsResultOf (names_wanted (question_of_words sheets words)) (AreShownFor (question_of_words sheets words))
+    (λ folders. answer_shown sheets folders given words) before after result
 unfolding answer_shown
 shown_named sheets given words question name before after result is named shown =
     let N : Option (List ℕ) → Type 0 =
     λ file. names_by question file (failing_file result) ≡ map (λ o. o.name) shown.openings ++ shown.unopened in
-    let M : Option (List ℕ) → Type 0 = λ file. Meets source_of (Unit {0})
-    (shown_by sheets (folders_shown question shown.openings) given question file) result in
+    let M : Bool → Folders → Option (List ℕ) → Type 0 = λ firm folders file. Meets source_of (IsTrue firm)
+    (shown_by sheets folders given question file) result in
     record {
       openings = shown.openings;
       unopened = shown.unopened;
       all = shown.all;
       names = rw is (subst N (sym named) shown.names);
-      answer = rw is (subst M (sym named) shown.answer);
+      answer = λ firm folders shows. rw is (subst (M firm folders) (sym named) (shown.answer firm folders (rw is at shows)));
     }
 
 -- a command line that is no request
 pub shown_unasked : (sheets : List SheetMeaning) (given : Option ℤ) (words : List (List ℕ)) (fault : Fault)
-    (result : Result Answer NoAnswer)
-    (openings : List Opening) → IsErrAnd result (λ none. none ≡ Faulty fault)
+    (result : Result Answer NoAnswer) (firm : Bool) (folders : Folders) → IsErrAnd result (λ none. none ≡ Faulty fault)
     → Excused (fault_is_out_of_memory fault) (question_of_words sheets words) fault
-    → Meets source_of (Unit {0}) (answer_shown sheets (folders_by (question_of_words sheets words) openings) given words) result
+    → Meets source_of (IsTrue firm) (answer_shown sheets folders given words) result
 unfolding answer_shown
-shown_unasked sheets given words fault result openings is excused =
-    meets_at (Unit {0}) (faulty (question_of_words sheets words)) _ result (Faulty fault) is
-    (faulty_excuses (Unit {0}) (question_of_words sheets words) fault excused)
+shown_unasked sheets given words fault result firm folders is excused =
+    meets_at (IsTrue firm) (faulty (question_of_words sheets words)) _ result (Faulty fault) is
+    (faulty_excuses (IsTrue firm) (question_of_words sheets words) fault excused)
 
 -- a command line that names no file
 pub shown_alone : (sheets : List SheetMeaning) (given : Option ℤ) (words : List (List ℕ)) (question : Question)
-    (result : Result Answer NoAnswer)
-    (openings : List Opening) → question_of_words sheets words ≡ Ok question → question.file ≡ None
+    (result : Result Answer NoAnswer) (firm : Bool) (folders : Folders) → question_of_words sheets words ≡ Ok question → question.file ≡ None
     → ReturnsUnless is_out_of_memory (faulty (refused_from (answered_without_files question))) result
-    → Meets source_of (Unit {0}) (answer_shown sheets (folders_by (question_of_words sheets words) openings) given words) result
+    → Meets source_of (IsTrue firm) (answer_shown sheets folders given words) result
 unfolding answer_shown
-shown_alone sheets given words question result openings is none returned =
-    let M : Option (List ℕ) → Type 0 = λ file.
-    Meets source_of (Unit {0}) (shown_by sheets (folders_shown question openings) given question file) result in
-    rw is (subst M (sym none) (meets_inside (Unit {0}) (faulty (refused_from (answered_without_files question))) result returned))
+shown_alone sheets given words question result firm folders is none returned =
+    let M : Option (List ℕ) → Type 0 = λ file. Meets source_of (IsTrue firm) (shown_by sheets folders given question file) result in
+    rw is (subst M (sym none) (meets_inside (IsTrue firm) (faulty (refused_from (answered_without_files question))) result returned))
 
--- ---- Command lines that are no request, that name a file, or that name none
-
-pub meets_unasked : (firm : Type 0) (sheets : List SheetMeaning) (folders : Folders) (minute : ℤ)
-    (words : List (List ℕ)) (fault : Fault) (result : Result Answer NoAnswer)
-    → IsErrAnd result (λ none. none ≡ Faulty fault)
-    → Excused (fault_is_out_of_memory fault) (question_of_words sheets words) fault
-    → Meets source_of firm (answer_from sheets folders minute words) result
-unfolding answer_from
-meets_unasked firm sheets folders minute words fault result is excused =
-    meets_at firm (faulty (question_of_words sheets words)) _ result (Faulty fault) is
-    (faulty_excuses firm (question_of_words sheets words) fault excused)
-
-pub meets_named : (firm : Type 0) (sheets : List SheetMeaning) (folders : Folders) (minute : ℤ) (words : List (List ℕ))
-    (question : Question) (name : List ℕ) (result : Result Answer NoAnswer)
-    → question_of_words sheets words ≡ Ok question → question.file ≡ Some name
-    → Meets source_of firm (answered_over_file sheets folders minute question name) result
-    → Meets source_of firm (answer_from sheets folders minute words) result
-unfolding answer_from
-meets_named firm sheets folders minute words question name result is named meets =
-    let P : Option (List ℕ) → Type 0 =
-    λ file. Meets source_of firm (answered_over_optional_file sheets folders minute question file) result in
-    rw is (subst P (sym named) meets)
-
-pub meets_alone : (firm : Type 0) (sheets : List SheetMeaning) (folders : Folders) (minute : ℤ) (words : List (List ℕ))
-    (question : Question) (result : Result Answer NoAnswer)
-    → question_of_words sheets words ≡ Ok question → question.file ≡ None
-    → ReturnsUnless is_out_of_memory (faulty (refused_from (answered_without_files question))) result
-    → Meets source_of firm (answer_from sheets folders minute words) result
-unfolding answer_from
-meets_alone firm sheets folders minute words question result is none returned =
-    let P : Option (List ℕ) → Type 0 =
-    λ file. Meets source_of firm (answered_over_optional_file sheets folders minute question file) result in
-    rw is (subst P (sym none) (meets_inside firm (faulty (refused_from (answered_without_files question))) result returned))
+-- ---- A command line that names files
 
 pub has_files : (folders : Folders) (asked : Result Question Fault) (question : Question) (name : List ℕ)
     → asked ≡ Ok question → question.file ≡ Some name → IsOk (files_in folders question name) → HasFiles folders asked
@@ -246,3 +212,91 @@ pub names_file : (asked : Result Question Fault) (question : Question) (name : L
     → question.file ≡ Some name → NamesFile asked
 names_file asked question name is named =
     let P : Option (List ℕ) → Type 0 = λ file. IsSome file in rw is (subst P (sym named) refl)
+
+-- ---- The clock, which is read after the files
+
+-- a clock that wasn't read has returned no minute
+none_given : (clock : ClockState) → given_between clock clock ≡ None
+none_given clock = slice_get_past clock.given (length clock.given) (le_refl (length clock.given))
+
+no_minute : (clock : ClockState) (P : ℤ → Type 0) → IfSome (given_between clock clock) P
+no_minute clock P = rw (none_given clock) tt
+
+settled_at : {A : Type 0} (result : Result A NoAnswer) (none : NoAnswer) → IsErrAnd result (λ e. e ≡ none) → IfErr result IsSettled
+    → IsSettled none
+settled_at (Ok value) none is settled = absurd is
+settled_at (Err e) none is settled = subst IsSettled is settled
+
+-- a file that can be read hasn't failed
+unread_failed : {A : Type 0} (expected : Result A NoAnswer) (none : NoAnswer) → is_unread none ≡ true
+    → Excuses (source_of none) (IsTrue true) expected none → IsOk expected → ⊥
+unread_failed expected Unread is excuses ok = no_value expected Unread (excuses refl) ok
+unread_failed expected (Faulty fault) is excuses ok = never is
+unread_failed expected (Refused refusal rows) is excuses ok = never is
+
+-- the files couldn't be read
+pub last_unread : (question : Question) (name : List ℕ) (asks unread : Type 0) (before after : FilesState) (clock : ClockState)
+    (none : NoAnswer) (result : Result Answer NoAnswer) → unread → IsErrAnd result (λ e. e ≡ none)
+    → AreOpened question name before.openings after.openings (Err none)
+    → IsReadLast asks unread (AreShown question) (λ folders. IsOk (files_in folders question name))
+    (sources before clock) (sources after clock) result
+last_unread question name asks unread before after clock none result same is read = record {
+  openings = read.openings;
+  all = read.all;
+  last = λ folders shows no. same;
+  once = λ folders shows ok asked settled.
+      absurd (unread_unsettled (IsTrue false) (files_in folders question name) none (read.answer false folders shows) ok
+      (settled_at result none is settled));
+  failed = λ folders shows ok failed.
+      absurd (unread_failed (files_in folders question name) none (sym (failed_at result none is) ∙ failed)
+      (read.answer true folders shows) ok);
+  minute = λ t. no_minute clock _;
+}
+
+-- the files were read
+pub last_read : (question : Question) (name : List ℕ) (asks unread : Type 0) (before after : Sources) (read : Materials)
+    (result : Result Answer NoAnswer) → AreOpened question name before.files.openings after.files.openings (Ok read)
+    → (asks → IfErr result IsSettled → (minute : ℤ) × (after.clock ≡ clock_after (Ok minute) before.clock))
+    → (reading_failed result ≡ true → Rose before.clock.faults after.clock.faults)
+    → (IsTrue before.clock.is_observable
+    → IfSome (given_between before.clock after.clock) (λ minute. minute ≡ next_minute before.clock))
+    → IsReadLast asks unread (AreShown question) (λ folders. IsOk (files_in folders question name)) before after result
+last_read question name asks unread before after read result opened once failed minute = record {
+  openings = opened.openings;
+  all = opened.all;
+  last = λ folders shows no. absurd (no (rw (opened.answer false folders shows) refl));
+  once = λ folders shows ok asked settled. once asked settled;
+  failed = λ folders shows ok is. failed is;
+  minute = minute;
+}
+
+-- no file was named
+pub last_unopened : (asks unread : Type 0) (shows : Bool → List Opening → Folders → Type 0) (has : Folders → Type 0)
+    (files : FilesState) (clock : ClockState) (result : Result Answer NoAnswer) → unread → reading_failed result ≡ false
+    → ((folders : Folders) → has folders → asks → IfErr result IsSettled → ⊥)
+    → IsReadLast asks unread shows has (sources files clock) (sources files clock) result
+last_unopened asks unread shows has files clock result same unfailed none = record {
+  openings = [];
+  all = sym (append-nil (openings_of files.openings));
+  last = λ folders shows no. same;
+  once = λ folders shows has asked settled. absurd (none folders has asked settled);
+  failed = λ folders shows has failed. never (sym unfailed ∙ failed);
+  minute = λ t. no_minute clock _;
+}
+
+-- a command line reads the clock as its request does
+pub last_named : (asked : Result Question Fault) (question : Question) (name : List ℕ) (unread : Type 0) (before after : Sources)
+    (result : Result Answer NoAnswer) → asked ≡ Ok question → question.file ≡ Some name
+    → IsReadLast (IsTrue (reads_clock question.command)) unread (AreShown question) (λ folders. IsOk (files_in folders question name))
+    before after result
+    → IsReadLast (ReadsClock asked) unread (AreShownFor asked) (λ folders. HasFiles folders asked) before after result
+last_named asked question name unread before after result is named read = record {
+  openings = read.openings;
+  all = read.all;
+  last = λ folders shows no. read.last folders (rw is at shows) (λ ok. no (has_files folders asked question name is named ok));
+  once = λ folders shows has asks settled.
+      read.once folders (rw is at shows) (files_named folders asked question name is named has) (rw is at asks) settled;
+  failed = λ folders shows has failed.
+      read.failed folders (rw is at shows) (files_named folders asked question name is named has) failed;
+  minute = read.minute;
+}

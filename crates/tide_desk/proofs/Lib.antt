@@ -12,3 +12,4 @@ pub mod ReplyLemmas
 pub mod SettledLemmas
 pub mod SheetLemmas
 mod ShownLemmas
+pub mod OwnLemmas

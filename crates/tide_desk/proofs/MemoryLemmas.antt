@@ -3,6 +3,7 @@ use Rattle.std.proofs.Common.{◌≡◌, ◌⊎◌, ◌∙◌, ℕ, List, [], �
 use Rattle.tide_answer.specs.declared.text.Answer.{Answer}
 use Rattle.tide_edge.specs.Memory.{HeldSink, sink_state}
 use Rattle.tide_edge.specs.SinkStates.{SinkState, Wrote, put}
+use Rattle.tide_edge.specs.Workings.MemoryLaws.{memory_store}
 use Rattle.tide_fault.specs.declared.status.Status.{Status}
 use Rattle.tide_fault.specs.declared.status.Status.TheVariants.{Done, Rejected}
 use Rattle.named_files.specs.declared.no_answer.NoAnswer.{NoAnswer}
@@ -24,5 +25,5 @@ taken_by expected status before after empty wrote whole =
 
 pub holds_answer : MemoryHoldsTheAnswer
 holds_answer sheets words status before after empty promised not_read =
-    let ends = promised refl (λ asks. refl) (inr not_read) in
+    let ends = promised (rw (memory_store before.files) refl) (λ asks. refl) (inr not_read) in
     (ends.says, taken_by (answer_in sheets before words) status before.out after.out empty ends.output)

@@ -50,7 +50,7 @@ settled_expected : {A : Type 0} (firm : Type 0) (expected : Result A NoAnswer) (
 settled_expected firm expected none excuses settled =
     subst (λ source. Excuses source firm expected none) (settled_given none settled) excuses
 
-no_value : {A E : Type 0} (expected : Result A E) (fault : E) → expected ≡ Err fault → IsOk expected → ⊥
+pub no_value : {A E : Type 0} (expected : Result A E) (fault : E) → expected ≡ Err fault → IsOk expected → ⊥
 no_value (Ok value) fault is ok = cc
 no_value (Err other) fault is ok = never ok
 

@@ -1,23 +1,23 @@
 -- The end of a run by what it opened.
-use Rattle.std.proofs.Common.{◌≡◌, ◌∙◌, ap, ℕ, false, List, [], ◌++◌, map, append-nil, append_assoc, Option, Some, None, Result, Ok, Err, inl, refl, sym}
-use Rattle.decimal_text.specs.Expected.{Excused}
+use Rattle.std.proofs.Common.{◌≡◌, ◌∙◌, ap, ℕ, true, false, List, [], ◌++◌, map, append-nil, append_assoc, Option, Some, None, Result, Ok, Err, inl, refl, sym}
+use Rattle.std.specs.Bool.{IsTrue}
+use Rattle.decimal_text.specs.Expected.{Excused, Meets}
 use Rattle.named_files.specs.declared.no_answer.NoAnswer.{NoAnswer}
-use Rattle.named_files.specs.NoAnswers.{is_out_of_memory}
-use Rattle.named_files.specs.Opened.{IsResultOf, failing_file}
+use Rattle.named_files.specs.NoAnswers.{is_out_of_memory, source_of}
+use Rattle.named_files.specs.Opened.{AreShownFor, IsResultOf, failing_file}
 use Rattle.named_files.specs.Reporting.{Reports}
-use Rattle.named_files.proofs.OpenedLemmas.{up_to}
+use Rattle.named_files.proofs.OpenedLemmas.{shows_itself_for, up_to}
 use Rattle.named_files.proofs.SettledLemmas.{reported_settles}
 use Rattle.question.specs.declared.question.Question.{Question}
 use Rattle.report_sheets.specs.Sheets.{SheetMeaning}
 use Rattle.tide_answer.specs.declared.text.Answer.{Answer}
-use Rattle.tide_edge.specs.FileStates.{Opening}
 use Rattle.tide_edge.specs.SinkStates.{Wrote}
 use Rattle.tide_fault.specs.declared.fault.Fault.{Fault}
 use Rattle.tide_fault.specs.declared.slot.Slot.{Slot}
 use Rattle.tide_fault.specs.declared.status.Status.{Status}
 use Rattle.tide_desk.specs.Answers.{question_of_words}
 use Rattle.tide_desk.specs.Outcomes.{EndsAs, Outputs, Sources}
-use Rattle.tide_desk.specs.Shown.{EndsAsShown, answer_by, names_by, names_wanted}
+use Rattle.tide_desk.specs.Shown.{EndsAsShown, answer_by, answer_shown, folders_by, given_between, names_by, names_wanted}
 use Rattle.tide_desk.proofs.OutcomeLemmas.{ends_reported, own_excused}
 
 -- ---- The names up to a fault are the first of all
@@ -35,31 +35,46 @@ wider (Err fault) why = ([], refl)
 
 -- ---- The end
 
+-- the answer by the openings is an expected one
+by_openings : (sheets : List SheetMeaning) (words : List (List ℕ)) (before after : Sources) (result : Result Answer NoAnswer)
+    (shown : IsResultOf (names_wanted (question_of_words sheets words)) (AreShownFor (question_of_words sheets words))
+    (λ folders. answer_shown sheets folders (given_between before.clock after.clock) words)
+    before.files.openings after.files.openings result)
+    → Meets source_of (IsTrue true) (answer_by sheets words shown.openings before.clock after.clock) result
+by_openings sheets words before after result shown =
+    shown.answer true (folders_by (question_of_words sheets words) shown.openings)
+    (shows_itself_for (question_of_words sheets words) shown.openings (folders_by (question_of_words sheets words) shown.openings)
+    (λ question is. ap (λ asked. folders_by asked shown.openings) is))
+
 pub shown_answered : (sheets : List SheetMeaning) (words : List (List ℕ)) (before after : Sources) (answer : Answer) (status : Status)
     (unwritten written : Outputs)
-    → IsResultOf (names_wanted (question_of_words sheets words)) (λ openings.
-    answer_by sheets words openings before.clock after.clock) before.files.openings after.files.openings (Ok answer)
-    → ((openings : List Opening) → answer_by sheets words openings before.clock after.clock ≡ Ok answer
-    → EndsAs (answer_by sheets words openings before.clock after.clock) status unwritten written)
+    → IsResultOf (names_wanted (question_of_words sheets words)) (AreShownFor (question_of_words sheets words))
+    (λ folders. answer_shown sheets folders (given_between before.clock after.clock) words)
+    before.files.openings after.files.openings (Ok answer)
+    → ((expected : Result Answer NoAnswer) → expected ≡ Ok answer → EndsAs expected status unwritten written)
     → EndsAsShown sheets words before after status unwritten written
-shown_answered sheets words before after answer status unwritten written shown ends = record {
-  openings = shown.openings;
-  all = shown.all;
-  unopened = shown.unopened;
-  names = shown.names;
-  last = λ other. (shown.unopened, rw shown.answer shown.names);
-  ends = ends shown.openings shown.answer;
-}
+shown_answered sheets words before after answer status unwritten written shown ends =
+    let is = by_openings sheets words before after (Ok answer) shown in
+    record {
+      openings = shown.openings;
+      all = shown.all;
+      unopened = shown.unopened;
+      names = shown.names;
+      last = λ other. (shown.unopened, rw is shown.names);
+      ends = ends (answer_by sheets words shown.openings before.clock after.clock) is;
+    }
 
 pub shown_refused : (sheets : List SheetMeaning) (words : List (List ℕ)) (before after : Sources) (none : NoAnswer) (status : Status)
     (unwritten written : Outputs)
-    → IsResultOf (names_wanted (question_of_words sheets words)) (λ openings.
-    answer_by sheets words openings before.clock after.clock) before.files.openings after.files.openings (Err none)
+    → IsResultOf (names_wanted (question_of_words sheets words)) (AreShownFor (question_of_words sheets words))
+    (λ folders. answer_shown sheets folders (given_between before.clock after.clock) words)
+    before.files.openings after.files.openings (Err none)
     → Wrote unwritten.out written.out false [] → Reports none status unwritten.err written.err
     → EndsAsShown sheets words before after status unwritten written
 shown_refused sheets words before after none status unwritten written shown quiet reported =
+    let meets = by_openings sheets words before after (Err none) shown in
     let expected : Result Answer NoAnswer = answer_by sheets words shown.openings before.clock after.clock in
-    let returned : Excused (is_out_of_memory none) expected none = own_excused (Unit {0}) expected none shown.answer (inl tt) in
+    let returned : Excused (is_out_of_memory none) expected none = own_excused (IsTrue true) expected none meets (inl refl) in
     let to = wider (question_of_words sheets words) (failing_file {T = Answer} (Err none)) in
     record {
       openings = shown.openings;
@@ -67,6 +82,6 @@ shown_refused sheets words before after none status unwritten written shown quie
       unopened = shown.unopened ++ to.0;
       names = to.1 ∙ ap (λ n. n ++ to.0) shown.names ∙ append_assoc (map (λ o. o.name) shown.openings) shown.unopened to.0;
       last = λ other.
-          (shown.unopened, rw (reported_settles expected none status unwritten.err written.err shown.answer reported other) shown.names);
+          (shown.unopened, rw (reported_settles expected none status unwritten.err written.err meets reported other) shown.names);
       ends = ends_reported expected none status unwritten written returned quiet reported;
     }

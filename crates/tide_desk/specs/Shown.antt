@@ -1,13 +1,14 @@
 -- The answer to a command line, from the openings of its files and the minute that the clock returned
 -- (this project).
-use Rattle.std.specs.Prelude.{◌≡◌, ℕ, ℤ, pos, if◌then◌else◌, List, [], ◌++◌, length, map, Option, Some, None, Result, Ok, Err, slice_get}
+use Rattle.std.specs.Prelude.{◌≡◌, ℕ, ℤ, pos, Bool, true, false, IsTrue, IfSome, IfErr, if◌then◌else◌, List, [], ◌++◌, length, map, Option, Some, None, Result, Ok, Err, slice_get}
 use Rattle.decimal_text.specs.Expected.{◌>>=◌}
 use Rattle.question.specs.declared.command.Command.{Command}
 use Rattle.question.specs.declared.question.Question.{Question}
 use Rattle.report_sheets.specs.Sheets.{SheetMeaning}
 use Rattle.tide_answer.specs.declared.text.Answer.{Answer}
 use Rattle.tide_answer.specs.Answers.{answered_without_files}
-use Rattle.tide_edge.specs.Clocks.{ClockState}
+use Rattle.tide_edge.specs.Clocks.{ClockState, clock_after, next_minute}
+use Rattle.tide_edge.specs.Faults.{Rose}
 use Rattle.tide_edge.specs.FileStates.{Opening, openings_of}
 use Rattle.tide_fault.specs.declared.fault.Fault.{Fault}
 use Rattle.tide_fault.specs.declared.slot.Slot.{Slot}
@@ -15,11 +16,12 @@ use Rattle.tide_fault.specs.declared.status.Status.{Status}
 use Rattle.tide_fault.specs.declared.status.Status.TheVariants.{NoMemory}
 use Rattle.named_files.specs.declared.no_answer.NoAnswer.{NoAnswer}
 use Rattle.named_files.specs.declared.no_answer.NoAnswer.TheVariants.{Unread}
-use Rattle.named_files.specs.NoAnswers.{faulty, refused_over}
+use Rattle.named_files.specs.NoAnswers.{faulty, reading_failed, refused_over}
 use Rattle.named_files.specs.Opened.{failing_file, folders_shown, names_to}
 use Rattle.named_files.specs.Readings.{Folders, files_in}
 use Rattle.tide_desk.specs.Answers.{answered_over_book, question_of_words, reads_clock, given_with, is_report, refused_from}
 use Rattle.tide_desk.specs.Outcomes.{EndsAs, Outputs, Sources}
+use Rattle.tide_desk.specs.Workings.Settled.{IsSettled}
 
 -- ---- The answer, if the clock may fail
 
@@ -91,3 +93,22 @@ pub record EndsAsShown (sheets : List SheetMeaning) (words : List (List ℕ)) (b
       × (names_wanted (question_of_words sheets words) (failing_file (answer_by sheets words openings before.clock after.clock))
       ≡ map (λ o. o.name) openings ++ behind)
   pub ends : EndsAs (answer_by sheets words openings before.clock after.clock) status unwritten written
+
+-- The clock is read after all files, at most once. The fields, for any contents of the files that agree
+-- with what was read of them:
+-- - `last`: the clock is unchanged (`unread`), unless all files can be read.
+-- - `once`: the clock was read once, if they can, and if the request needs it (`asks`) and the result is
+--   no fault of reading or of memory.
+-- - `failed`: the clock has failed, if they can and a file or the clock has failed.
+-- - `minute`: an observable clock returned its next minute, if it returned one.
+pub record IsReadLast {T : Type 0} (asks unread : Type 0) (shows : Bool → List Opening → Folders → Type 0) (has_files : Folders → Type 0)
+    (before after : Sources) (result : Result T NoAnswer) : Type 0 where
+  pub openings : List Opening
+  pub all : openings_of after.files.openings ≡ openings_of before.files.openings ++ openings
+  pub last : (folders : Folders) → shows false openings folders → ¬ (has_files folders) → unread
+  pub once : (folders : Folders) → shows false openings folders → has_files folders → asks → IfErr result IsSettled
+      → (minute : ℤ) × (after.clock ≡ clock_after (Ok minute) before.clock)
+  pub failed : (folders : Folders) → shows true openings folders → has_files folders → reading_failed result ≡ true
+      → Rose before.clock.faults after.clock.faults
+  pub minute : IsTrue before.clock.is_observable
+      → IfSome (given_between before.clock after.clock) (λ minute. minute ≡ next_minute before.clock)

@@ -3,7 +3,6 @@
 use Rattle.std.specs.Prelude.{ℕ, pos, List, [], ◌∷◌, codes}
 use Rattle.harmonics_text.specs.Worked.{file_of, pier_lines}
 use Rattle.tide_edge.specs.Calls.{HeldCalls}
-use Rattle.tide_edge.specs.FileStates.{no_openings}
 use Rattle.tide_edge.specs.Memory.{HeldClock, HeldFiles, HeldSink, clock_state, files_state, sink_state}
 use Rattle.tide_desk.specs.Promises.{Objects, States, objects, states}
 
@@ -15,10 +14,8 @@ no_calls = record { fails = []; made = 0; faults = 0 }
 abbrev pub pier_files : HeldFiles
 pier_files = record {
   files = record { name = codes "f"; bytes = file_of pier_lines } ∷ [];
-  rest = [];
-  openings = no_openings;
-  reads = record { opens = 0; ends = 0; bytes = 0 };
-  calls = no_calls;
+  fails = [];
+  history = [];
 }
 
 -- an empty output in memory, which accepts at most 10 bytes in a write and 1,000 bytes in all

@@ -1,9 +1,9 @@
 //! The answer to a command line, or the first reason why there is none.
 
-ghost use Rattle.std.specs.Prelude.{◌≡◌, ℤ, false, IsTrue, None, Ok, IsOk, IfOk, IfErr, OnErr, if◌then◌else◌, map};
+ghost use Rattle.std.specs.Prelude.{◌≡◌, false, IsTrue, None, IsOk, IfOk, IfErr, IfSome, OnErr, if◌then◌else◌, map};
 ghost use Rattle.decimal_text.specs.Expected.{ReturnsUnless};
-ghost use Rattle.named_files.specs.NoAnswers.{reading_failed, refused_over, source_of, faulty, is_out_of_memory};
-ghost use Rattle.named_files.specs.Opened.{IsResultOf, failing_file, folders_shown, names_to};
+ghost use Rattle.named_files.specs.NoAnswers.{reading_failed, refused_over, faulty, is_out_of_memory};
+ghost use Rattle.named_files.specs.Opened.{AreShown, AreShownFor, IsResultOf, failing_file, names_to};
 ghost use Rattle.named_files.specs.Readings.{files_allowed, files_in};
 ghost use Rattle.named_files.specs.Workings.Materials.{AreMaterials};
 ghost use Rattle.question.specs.Asked.{IsZoneWord};
@@ -13,22 +13,18 @@ ghost use Rattle.tide_desk.specs.Answers.{
   HasFiles,
   NamesFile,
   allowed_by,
-  answer_of,
-  answered_over_file,
   answered_over_book,
   question_of_words,
   reads_clock,
   given_with,
   is_report,
-  minute_for,
   refused_from,
 };
-ghost use Rattle.tide_desk.specs.Outcomes.{IsFirm, WentOn, sources};
-ghost use Rattle.tide_desk.specs.Shown.{answer_by, given_between, minute_read, names_wanted, shown_over};
+ghost use Rattle.tide_desk.specs.Outcomes.{WentOn, sources};
+ghost use Rattle.tide_desk.specs.Shown.{IsReadLast, answer_shown, given_between, minute_read, names_wanted, shown_over};
 ghost use Rattle.tide_desk.specs.Workings.Replies.{IsReply, answer_by as answer_from};
-ghost use Rattle.tide_desk.specs.Workings.Settled.{IsSettled, reading_of};
+ghost use Rattle.tide_desk.specs.Workings.Settled.{reading_of};
 ghost use Rattle.tide_edge.specs.Clocks.{IsClockMinute, clock_after, next_minute};
-ghost use Rattle.decimal_text.specs.Expected.{Meets};
 
 use crate::asking::read_words;
 use crate::body::Body;
@@ -58,26 +54,18 @@ pub fn answer_words<F: Files, K: Clock>(
     clock: &mut K,
     sheets: Vec<Box<dyn Sheet>>,
 ) -> Result<Reply, NoAnswer>
-    ensures own { let meanings = map meaning sheets.items in let asked = question_of_words meanings words.now in
-        IsTrue (F.state files.old).store.is_observable → (ReadsClock asked → IsTrue (K.state clock.old).is_observable)
-        → Meets source_of (IsFirm (ReadsClock asked) (sources (F.state files.old) (K.state clock.old))
-        (sources (F.state files.new) (K.state clock.new)))
-        (answer_of meanings (F.state files.old).store.folder (next_minute (K.state clock.old)) words.now) result }
-    ensures shown { let meanings = map meaning sheets.items in
-        IsResultOf (names_wanted (question_of_words meanings words.now))
-        (λ openings. answer_by meanings words.now openings (K.state clock.old) (K.state clock.new))
+    ensures shown { let meanings = map meaning sheets.items in let asked = question_of_words meanings words.now in
+        IsResultOf (names_wanted asked) (AreShownFor asked)
+        (λ folders. answer_shown meanings folders (given_between (K.state clock.old) (K.state clock.new)) words.now)
         (F.state files.old).openings (F.state files.new).openings result }
     ensures reads { let asked = question_of_words (map meaning sheets.items) words.now in
         WentOn (reading_failed result) (ReadsClock asked) (allowed_by asked)
         (sources (F.state files.old) (K.state clock.old)) (sources (F.state files.new) (K.state clock.new)) }
     ensures unopened { ¬ (NamesFile (question_of_words (map meaning sheets.items) words.now)) → files.new ≡ files.old }
     ensures clock_unread { ¬ (ReadsClock (question_of_words (map meaning sheets.items) words.now)) → clock.new ≡ clock.old }
-    ensures asked_last { IsTrue (F.state files.old).store.is_observable
-        → ¬ (HasFiles (λ slot. (F.state files.old).store.folder) (question_of_words (map meaning sheets.items) words.now))
-        → clock.new ≡ clock.old }
-    ensures clock_read_once { let asked = question_of_words (map meaning sheets.items) words.now in
-        IsTrue (F.state files.old).store.is_observable → ReadsClock asked → HasFiles (λ slot. (F.state files.old).store.folder) asked
-        → IfErr result IsSettled → (minute : ℤ) × (K.state clock.new ≡ clock_after (Ok minute) (K.state clock.old)) }
+    ensures last { let asked = question_of_words (map meaning sheets.items) words.now in
+        IsReadLast (ReadsClock asked) (clock.new ≡ clock.old) (AreShownFor asked) (λ folders. HasFiles folders asked)
+        (sources (F.state files.old) (K.state clock.old)) (sources (F.state files.new) (K.state clock.new)) result }
 {
     let question = read_words(alloc, words, &sheets)?;
     let valid = ValidQuestion::new(&question);
@@ -116,24 +104,16 @@ fn answer_over<F: Files, K: Clock>(
     sheets: Vec<Box<dyn Sheet>>,
 ) -> Result<Reply, NoAnswer>
     requires zone { IsZoneWord question.now.zone }
-    ensures own { IsTrue (F.state files.old).store.is_observable
-        → (IsTrue (reads_clock question.now.command) → IsTrue (K.state clock.old).is_observable)
-        → Meets source_of (IsFirm (IsTrue (reads_clock question.now.command))
-        (sources (F.state files.old) (K.state clock.old)) (sources (F.state files.new) (K.state clock.new)))
-        (answered_over_file (map meaning sheets.items) (λ slot. (F.state files.old).store.folder)
-        (next_minute (K.state clock.old)) question.now name.now) result }
-    ensures shown { IsResultOf (names_to name.now question.now)
-        (λ openings. shown_over (map meaning sheets.items) (folders_shown question.now openings)
-        (given_between (K.state clock.old) (K.state clock.new)) question.now name.now)
+    ensures shown { IsResultOf (names_to name.now question.now) (AreShown question.now)
+        (λ folders. shown_over (map meaning sheets.items) folders (given_between (K.state clock.old) (K.state clock.new))
+        question.now name.now)
         (F.state files.old).openings (F.state files.new).openings result }
     ensures reads { WentOn (reading_failed result) (IsTrue (reads_clock question.now.command)) (files_allowed question.now)
         (sources (F.state files.old) (K.state clock.old)) (sources (F.state files.new) (K.state clock.new)) }
     ensures clock_unread { ¬ (IsTrue (reads_clock question.now.command)) → clock.new ≡ clock.old }
-    ensures asked_last { IsTrue (F.state files.old).store.is_observable
-        → ¬ (IsOk (files_in (λ slot. (F.state files.old).store.folder) question.now name.now)) → clock.new ≡ clock.old }
-    ensures clock_read_once { IsTrue (F.state files.old).store.is_observable → IsTrue (reads_clock question.now.command)
-        → IsOk (files_in (λ slot. (F.state files.old).store.folder) question.now name.now)
-        → IfErr result IsSettled → (minute : ℤ) × (K.state clock.new ≡ clock_after (Ok minute) (K.state clock.old)) }
+    ensures last { IsReadLast (IsTrue (reads_clock question.now.command)) (clock.new ≡ clock.old) (AreShown question.now)
+        (λ folders. IsOk (files_in folders question.now name.now))
+        (sources (F.state files.old) (K.state clock.old)) (sources (F.state files.new) (K.state clock.new)) result }
 {
     let read = read_files(alloc, files, question, name)?;
     match read_minute(clock, question) {
@@ -147,8 +127,8 @@ fn answer_over<F: Files, K: Clock>(
 
 /// Returns the present minute if the command needs it, and 0 otherwise.
 fn read_minute<K: Clock>(clock: &mut K, question: &ValidQuestion<'_>) -> Result<i64, NoAnswer>
-    ensures own { (IsTrue (reads_clock question.now.command) → IsTrue (K.state clock.old).is_observable)
-        → IfOk result (λ now. now ≡ minute_for question.now.command (next_minute (K.state clock.old))) }
+    ensures minute { IsTrue (K.state clock.old).is_observable
+        → IfSome (given_between (K.state clock.old) (K.state clock.new)) (λ minute. minute ≡ next_minute (K.state clock.old)) }
     ensures given { ReturnsUnless (λ none. false)
         (minute_read question.now.command (given_between (K.state clock.old) (K.state clock.new))) result }
     ensures in_range { IfOk result IsClockMinute }

@@ -2,4 +2,4 @@ pub mod PlaceLemmas
 pub mod WritingLemmas
 pub mod ReplyLemmas
 pub mod ReadingLemmas
-pub mod StoreLemmas
+pub mod MemoryLemmas

@@ -2,13 +2,10 @@
 use Rattle.std.specs.Prelude.{
   ℕ,
   ◌+◌,
-  ◌-◌,
-  ◌^◌,
   ◌==◌,
-  min,
   Bool,
+  true,
   false,
-  ◌||◌,
   if◌then◌else◌,
   List,
   [],
@@ -28,7 +25,7 @@ use Rattle.std.specs.Prelude.{
 }
 use Rattle.std.specs.Option.{option_map}
 use Rattle.tide_edge.specs.declared.failed.Failed.{Failed}
-use Rattle.tide_edge.specs.Faults.{counted, counted_if, faults_after}
+use Rattle.tide_edge.specs.Faults.{counted, faults_after}
 
 -- the contents of the file of each name, or None if there is no such file
 abbrev pub Folder : Type 0
@@ -42,20 +39,14 @@ pub record Store : Type 0 where
   pub folder : Folder
   pub is_steady : Bool
 
--- The number of calls of `open`, of calls of `read` that found the end, and of bytes read. Each saturates
--- at the greatest `u64`.
-pub record Reads : Type 0 where
-  pub opens : ℕ
-  pub ends : ℕ
-  pub bytes : ℕ
-
--- One call of `open`: the name; whether a file was opened; the bytes read of it; and whether its end was
--- found.
+-- One call of `open`: the name; whether a file was opened; the bytes read of it; how many calls of
+-- `read` found its end; and whether one has failed.
 pub record Opening : Type 0 where
   pub name : List ℕ
   pub is_open : Bool
   pub bytes : List ℕ
-  pub is_ended : Bool
+  pub ends : ℕ
+  pub read_failed : Bool
 
 -- all calls of `open`, the earliest first, in two parts: all but the last, and the last
 pub record Openings : Type 0 where
@@ -76,7 +67,7 @@ openings_of o = o.earlier ++ listed o.latest
 
 -- an opening before any byte is read; `is_open` says whether a file was opened
 abbrev pub just_opened : Bool → List ℕ → Opening
-just_opened is_open name = record { name = name; is_open = is_open; bytes = []; is_ended = false }
+just_opened is_open name = record { name = name; is_open = is_open; bytes = []; ends = 0; read_failed = false }
 
 -- the openings after another call of `open` for `name`; `is_open` says whether it opened a file
 abbrev pub openings_after_open : Bool → List ℕ → Openings → Openings
@@ -87,37 +78,29 @@ openings_after_open is_open name o = record { earlier = openings_of o; latest = 
 abbrev pub opening_after_read : ℕ → List ℕ → Opening → Opening
 opening_after_read count room opening = record opening {
   bytes = opening.bytes ++ take count room;
-  is_ended = (count == 0) || opening.is_ended;
+  ends = (if count == 0 then opening.ends + 1 else opening.ends);
 }
 
 -- the openings after a `read` of `count` bytes, which belong to the latest opening
 abbrev pub openings_after_read : ℕ → List ℕ → Openings → Openings
 openings_after_read count room o = record o { latest = option_map (opening_after_read count room) o.latest }
 
+-- the opening after a `read` that failed
+abbrev pub opening_after_failure : Opening → Opening
+opening_after_failure opening = record opening { read_failed = true }
+
+-- the openings after a `read` that failed, which belongs to the latest opening
+abbrev pub openings_after_failure : Openings → Openings
+openings_after_failure o = record o { latest = option_map opening_after_failure o.latest }
+
 -- Files: the part that no call changes; the unread bytes of the open file, none if no file is open,
--- meaningful only if the contents are observable; the openings with the bytes read; the counts of calls;
--- and the number of failures, which saturates too.
+-- meaningful only if the contents are observable; the openings with the bytes read; and the number of
+-- failures, which saturates at the greatest `u64`.
 pub record FilesState : Type 0 where
   pub store : Store
   pub rest : List ℕ
   pub openings : Openings
-  pub reads : Reads
   pub faults : ℕ
-
--- n + more, or the greatest `u64` if the sum exceeds it
-abbrev pub counted_up : ℕ → ℕ → ℕ
-counted_up more n = min (n + more) (2 ^ 64 - 1)
-
--- the counts of calls after another `open`
-abbrev pub one_opening : Reads → Reads
-one_opening reads = record reads { opens = counted reads.opens }
-
--- the counts of calls after a `read` of `count` bytes; a count of 0 is the end of the file
-abbrev pub one_reading : ℕ → Reads → Reads
-one_reading count reads = record reads {
-  ends = counted_if (count == 0) reads.ends;
-  bytes = counted_up count reads.bytes;
-}
 
 -- the unread bytes after `open`: the whole file, or none if the call failed
 abbrev pub begun : {T : Type 0} → Result T Failed → Option (List ℕ) → List ℕ
@@ -129,7 +112,6 @@ abbrev pub files_after_open : {T : Type 0} → Result T Failed → List ℕ → 
 files_after_open result name s = record s {
   rest = (if s.store.is_observable then begun result (s.store.folder name) else s.rest);
   openings = openings_after_open (is_ok result) name s.openings;
-  reads = one_opening s.reads;
   faults = faults_after (is_err result) s.faults;
 }
 
@@ -138,6 +120,5 @@ abbrev pub files_after_read : Result ℕ Failed → List ℕ → FilesState → 
 files_after_read (Ok count) room s = record s {
   rest = (if s.store.is_observable then drop count s.rest else s.rest);
   openings = openings_after_read count room s.openings;
-  reads = one_reading count s.reads;
 }
-files_after_read (Err failed) room s = record s { faults = counted s.faults }
+files_after_read (Err failed) room s = record s { openings = openings_after_failure s.openings; faults = counted s.faults }

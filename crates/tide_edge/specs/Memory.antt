@@ -3,6 +3,7 @@
 use Rattle.std.specs.Prelude.{
   ℕ,
   ℤ,
+  ◌+◌,
   ◌-◌,
   ◌==◌,
   nat_lt,
@@ -21,14 +22,14 @@ use Rattle.std.specs.Prelude.{
   take,
   drop,
   find,
+  fold,
   Option,
   None,
   is_none,
-  is_some,
-  unwrap_or,
   Result,
   Ok,
   Err,
+  is_err,
 }
 use Rattle.std.specs.List.{list_all}
 use Rattle.std.specs.Option.{option_map}
@@ -53,58 +54,74 @@ use Rattle.tide_edge.specs.Doors.{
   connection_after_write,
 }
 use Rattle.tide_edge.specs.Faults.{counted, faults_after}
-use Rattle.tide_edge.specs.FileStates.{FilesState, Openings, Reads, one_opening, one_reading, openings_after_open, openings_after_read}
+use Rattle.tide_edge.specs.FileStates.{FilesState, files_after_open, files_after_read, no_openings}
 use Rattle.tide_edge.specs.SinkStates.{SinkState}
 
--- files by name, the unread bytes of the open one (none if no file is open), the openings, and the counts
+-- a call on files in memory: `open` of a name, or `read` with a buffer of this many bytes and one more
+pub data FileCall : Type 0 where
+  Open : List ℕ → FileCall
+  Read : ℕ → FileCall
+
+-- files in memory: the files by name, the numbers of the calls that are to fail, counted from 1, and the
+-- calls until now, in order
 pub record HeldFiles : Type 0 where
   pub files : List NamedFile
-  pub rest : List ℕ
-  pub openings : Openings
-  pub reads : Reads
-  pub calls : HeldCalls
+  pub fails : List ℕ
+  pub history : List FileCall
 
 -- the contents of files by name; of two files with the same name the first counts
 abbrev pub folder_of : List NamedFile → List ℕ → Option (List ℕ)
 folder_of files name = option_map (λ file. file.bytes) (find (λ file. bytes_eq file.name name) files)
 
--- the observable state of files in memory: they are steady if no call is to fail
+-- what calls have made of files in memory: the state of the files, and the calls
+pub record FilesNow : Type 0 where
+  pub state : FilesState
+  pub calls : HeldCalls
+
+-- files in memory before any call; their contents are observable, and they are steady if no call is to
+-- fail
+abbrev pub before_calls : HeldFiles → FilesNow
+before_calls held = record {
+  state = record {
+    store = record { is_observable = true; folder = folder_of held.files; is_steady = length held.fails == 0 };
+    rest = [];
+    openings = no_openings;
+    faults = 0;
+  };
+  calls = record { fails = held.fails; made = 0; faults = 0 };
+}
+
+-- the bytes of the file that the next `open` finds, unless it is to fail
+abbrev pub found : FilesNow → List ℕ → Option (List ℕ)
+found now name = (if is_to_fail now.calls then None else now.state.store.folder name)
+
+-- the result of `open` of `name`: it fails if the call is to fail, or if there is no such file
+abbrev pub open_result : FilesNow → List ℕ → Result (Unit {0}) Failed
+open_result now name = answer (is_none (found now name)) record {}
+
+-- the result of `read` with a buffer of length `room`: the number of bytes copied, unless the call is to
+-- fail
+abbrev pub read_result : FilesNow → ℕ → Result ℕ Failed
+read_result now room = answer (is_to_fail now.calls) (min room (length now.state.rest))
+
+-- files in memory after a call
+abbrev pub after_file_call : FilesNow → FileCall → FilesNow
+after_file_call now (Open name) = record {
+  state = files_after_open (open_result now name) name now.state;
+  calls = after_call (is_err (open_result now name)) now.calls;
+}
+after_file_call now (Read more) = record {
+  state = files_after_read (read_result now (more + 1)) now.state.rest now.state;
+  calls = after_call (is_to_fail now.calls) now.calls;
+}
+
+-- files in memory after all their calls
+abbrev pub files_now : HeldFiles → FilesNow
+files_now held = fold after_file_call (before_calls held) held.history
+
+-- the observable state of files in memory
 abbrev pub files_state : HeldFiles → FilesState
-files_state held = record {
-  store = record { is_observable = true; folder = folder_of held.files; is_steady = length held.calls.fails == 0 };
-  rest = held.rest;
-  openings = held.openings;
-  reads = held.reads;
-  faults = held.calls.faults;
-}
-
--- the bytes of the file that the next `open` finds, unless it fails
-abbrev pub found : HeldFiles → List ℕ → Option (List ℕ)
-found held name = (if is_to_fail held.calls then None else folder_of held.files name)
-
--- the files in memory after `open` of `name`
-abbrev pub after_open : HeldFiles → List ℕ → HeldFiles
-after_open held name = record {
-  files = held.files;
-  rest = unwrap_or (found held name) [];
-  openings = openings_after_open (is_some (found held name)) name held.openings;
-  reads = one_opening held.reads;
-  calls = after_call (is_none (found held name)) held.calls;
-}
-
--- the number of bytes that the next `read` copies to a buffer of length `room`: 0 if it fails
-abbrev pub read_count : HeldFiles → ℕ → ℕ
-read_count held room = (if is_to_fail held.calls then 0 else min room (length held.rest))
-
--- the files in memory after `read` with a buffer of length `room`; `filled` is the buffer after the call
-abbrev pub after_read : HeldFiles → ℕ → List ℕ → HeldFiles
-after_read held room filled = record {
-  files = held.files;
-  rest = drop (read_count held room) held.rest;
-  openings = (if is_to_fail held.calls then held.openings else openings_after_read (read_count held room) filled held.openings);
-  reads = (if is_to_fail held.calls then held.reads else one_reading (read_count held room) held.reads);
-  calls = after_call (is_to_fail held.calls) held.calls;
-}
+files_state held = (files_now held).state
 
 -- a sink in memory: the bytes accepted, the most bytes that one call accepts, the most bytes that all
 -- calls accept, and the calls

@@ -8,13 +8,19 @@ use Rattle.std.specs.Prelude.{
   ◌+◌,
   ℕ,
   Bool,
+  false,
+  IsTrue,
+  not,
   nat_le,
   nat_lt,
   ◌&&◌,
   ◌||◌,
   if◌then◌else◌,
   List,
+  [],
+  ◌++◌,
   length,
+  sum_by,
   Option,
   Some,
   None,
@@ -35,11 +41,22 @@ abbrev pub whole : ℕ → Option (List ℕ) → Result (List ℕ) ReadAllFault
 whole limit None = Err Failed
 whole limit (Some bytes) = (if nat_le (length bytes) limit then Ok bytes else Err TooLong)
 
+-- enough of a file was read to know the result: its end was found, or more than `limit` bytes came
+abbrev pub is_read_out : ℕ → Opening → Bool
+is_read_out limit opening = opening.is_open && (nat_lt 0 opening.ends || nat_lt limit (length opening.bytes))
+
 -- The contents that an opening shows: the bytes read, if their end was found or they are more than
 -- `limit`. Otherwise the file couldn't be opened or read, which counts as no file.
 abbrev pub as_came : ℕ → Opening → Option (List ℕ)
-as_came limit opening =
-    if opening.is_open && (opening.is_ended || nat_lt limit (length opening.bytes)) then Some opening.bytes else None
+as_came limit opening = if is_read_out limit opening then Some opening.bytes else None
+
+-- The contents of a file agree with what an opening shows of them. If enough was read to know the
+-- result, they begin with the bytes read, and are these if the end was found. Otherwise there is no such
+-- file if it couldn't be opened or a read failed, as long as this is the only reason (`firm`).
+pub record Shows (limit : ℕ) (firm : Bool) (opening : Opening) (file : Option (List ℕ)) : Type 0 where
+  pub read : IsTrue (is_read_out limit opening)
+      → (left : List ℕ) × (file ≡ Some (opening.bytes ++ left)) × (0 < opening.ends → left ≡ [])
+  pub absent : IsTrue firm → is_read_out limit opening ≡ false → IsTrue (not opening.is_open || opening.read_failed) → file ≡ None
 
 -- one more file was opened since `before`, and more than `limit` bytes were read of it
 abbrev pub HasPassed : ℕ → Openings → Openings → Type 0
@@ -73,10 +90,12 @@ both first second = record { files = first.files + second.files; bytes = first.b
 -- files, and no more bytes read than it has. The count of faults is one more if a call failed, else
 -- unchanged. The contents are unchanged.
 pub record ReadWithin (allowed : Allowance) (failed : Bool) (before after : FilesState) : Type 0 where
+  pub openings : List Opening
+  pub all : openings_of after.openings ≡ openings_of before.openings ++ openings
+  pub opens : length openings ≤ allowed.files
+  pub ends : sum_by (λ o. o.ends) openings ≤ allowed.files
+  pub bytes : sum_by (λ o. length o.bytes) openings ≤ allowed.bytes
   pub store : after.store ≡ before.store
-  pub opens : after.reads.opens ≤ before.reads.opens + allowed.files
-  pub ends : after.reads.ends ≤ before.reads.ends + allowed.files
-  pub bytes : after.reads.bytes ≤ before.reads.bytes + allowed.bytes
   pub faults : after.faults ≡ faults_after failed before.faults
 
 -- a result is the error that memory ran out
@@ -84,11 +103,11 @@ abbrev pub IsOutOfMemory : {T E : Type 0} → (E → Source) → Result T E → 
 IsOutOfMemory source (Ok value) = ⊥
 IsOutOfMemory source (Err fault) = source fault ≡ memory
 
--- One file `name` was opened, and the result is the expected one for the bytes read of it; or memory ran
--- out before that.
+-- One file `name` was opened, and the result is the expected one for any contents of it that agree with
+-- what was read; or memory ran out before that.
 abbrev pub OpenedOnce : {T E : Type 0} → (E → Source) → (Option (List ℕ) → Result T E) → ℕ → List ℕ → Openings → Openings → Result T E
     → Type 0
 OpenedOnce source expected limit name before after result =
     ((after ≡ before) × IsOutOfMemory source result)
     ⊎ ((opening : Opening) × (opening.name ≡ name) × (after ≡ record { earlier = openings_of before; latest = Some opening })
-    × Meets source (Unit {0}) (expected (as_came limit opening)) result)
+    × ((firm : Bool) (file : Option (List ℕ)) → Shows limit firm opening file → Meets source (IsTrue firm) (expected file) result))

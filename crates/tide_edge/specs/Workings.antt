@@ -1,3 +1,4 @@
 pub mod OpenFile
 pub mod Lines
 pub mod Reading
+pub mod MemoryLaws

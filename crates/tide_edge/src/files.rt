@@ -2,6 +2,7 @@
 
 ghost use Rattle.std.specs.Prelude.{◌≡◌, ◌↔◌, ◌<◌, ◌≤◌, IsTrue, [], length, take, None, IsOk, IsSome, IfOk, OnOk, OnErr};
 ghost use Rattle.tide_edge.specs.FileStates.{FilesState, files_after_open, files_after_read};
+ghost use Rattle.tide_edge.specs.StoreLaws.{IsLawful};
 
 use crate::failed::Failed;
 use decimal_text::Text;
@@ -29,8 +30,8 @@ pub trait Files {
     /// at the end of the file, and if no file is open.
     ///
     /// # Errors
-    /// [`Failed`] if the file can't be read; the state is unchanged but for the count of faults. If the
-    /// files are steady, it never fails.
+    /// [`Failed`] if the file can't be read; the count of faults grows, the opening is marked, and
+    /// nothing else changes. If the files are steady, it never fails.
     fn read(&mut self, room: &mut [u8]) -> Result<usize, Failed>
         requires { 0 < length room.old }
         ensures after { state self.new ≡ files_after_read result room.new (state self.old) }
@@ -39,4 +40,9 @@ pub trait Files {
             → IfOk result (λ count. take count room.new ≡ take count (state self.old).rest) }
         ensures end { IsTrue (state self.old).store.is_observable → IfOk result (λ count. (count ≡ 0) ↔ ((state self.old).rest ≡ [])) }
         ensures reads { IsTrue (state self.old).store.is_observable → IsTrue (state self.old).store.is_steady → IsOk result };
+
+    /// If the files are observable, the bytes read after each opening are a prefix of the file's bytes,
+    /// and all of them if its end was found. If they are also steady, only a file that isn't there
+    /// couldn't be opened, and no read has failed.
+    ghost lawful: { (files : Self) → IsLawful (state files) };
 }

@@ -9,7 +9,6 @@ use crate::files::Files;
 use crate::host_fault::count_fault;
 use crate::openings::Openings;
 use crate::read_through::read_through;
-use crate::reads::Reads;
 use decimal_text::Text;
 use std::{fs, rt};
 
@@ -23,7 +22,6 @@ pub struct HostFiles<R: rt::Files + Drop> {
     system: R,
     opened: Option<R::File>,
     openings: Openings,
-    reads: Reads,
     faults: u64,
 }
 
@@ -34,14 +32,12 @@ impl<R: rt::Files + Drop> HostFiles<R> {
     pub fn new(system: R) -> HostFiles<R>
         ensures none_open { file_of result ≡ None }
         ensures openings { (⟦<HostFiles<R> as Files>⟧.state result).openings ≡ no_openings }
-        ensures reads { (⟦<HostFiles<R> as Files>⟧.state result).reads ≡ record { opens = 0; ends = 0; bytes = 0 } }
         ensures faults { (⟦<HostFiles<R> as Files>⟧.state result).faults ≡ 0 }
     {
         HostFiles {
             system,
             opened: None,
             openings: Openings::none(),
-            reads: Reads::none(),
             faults: 0,
         }
     }
@@ -49,14 +45,16 @@ impl<R: rt::Files + Drop> HostFiles<R> {
 
 impl<R: rt::Files + Drop> Files for HostFiles<R> {
     ghost use Rattle.tide_edge.specs.Adapters.{file_of, left_of};
+    ghost use Rattle.tide_edge.specs.Workings.MemoryLaws.{unobservable};
 
     ghost state = { λ h. record {
       store = record { is_observable = false; folder = λ name. None; is_steady = false };
       rest = [];
       openings = h.openings;
-      reads = h.reads;
       faults = h.faults;
     } };
+
+    ghost lawful = { λ h untrue. unobservable untrue };
 
     fn open(&mut self, name: &Text) -> Result<(), Failed>
         ensures after { ⟦<HostFiles<R> as Files>⟧.state self.new
@@ -65,7 +63,6 @@ impl<R: rt::Files + Drop> Files for HostFiles<R> {
         ensures none_open { OnErr result (file_of self.new ≡ None) }
     {
         self.opened = None;
-        self.reads.open();
         match fs::open(&self.system, name.as_str()) {
             Ok(file) => {
                 self.opened = Some(file);
@@ -89,11 +86,9 @@ impl<R: rt::Files + Drop> Files for HostFiles<R> {
     {
         let outcome = read_through(&mut self.opened, room);
         match outcome {
-            Ok(count) => {
-                self.openings.read(room, count);
-                self.reads.read(count);
-            }
+            Ok(count) => self.openings.read(room, count),
             Err(_) => {
+                self.openings.fail();
                 count_fault(&mut self.faults);
             }
         }

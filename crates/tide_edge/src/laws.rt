@@ -1,8 +1,17 @@
 //! Theorems about files, sinks, clocks and doors.
 
-ghost use Rattle.std.specs.Prelude.{◌≡◌};
-ghost use Rattle.tide_edge.specs.Memory.{HeldFiles, HeldSink, HeldClock, HeldDoor, files_state, sink_state, clock_state, door_state};
-ghost use Rattle.tide_edge.specs.StoreLaws.{OpenKeepsStore, ReadKeepsStore, StartsOfStore};
+ghost use Rattle.std.specs.Prelude.{◌≡◌, ◌==◌, true, length};
+ghost use Rattle.tide_edge.specs.Memory.{
+  HeldFiles,
+  HeldSink,
+  HeldClock,
+  HeldDoor,
+  files_state,
+  folder_of,
+  sink_state,
+  clock_state,
+  door_state,
+};
 
 use crate::clock::Clock;
 use crate::door::Door;
@@ -16,7 +25,9 @@ use crate::sink::Sink;
 /// Proves that files in memory are observable, and steady if none of their calls is to fail: then
 /// opening and reading an existing file doesn't fail.
 pub fn memory_files_are_observable()
-    ensures { (m : HeldFiles) → ⟦<MemoryFiles as Files>⟧.state m ≡ files_state m }
+    ensures state { (m : HeldFiles) → ⟦<MemoryFiles as Files>⟧.state m ≡ files_state m }
+    ensures store { (m : HeldFiles) → (files_state m).store
+        ≡ record { is_observable = true; folder = folder_of m.files; is_steady = length m.fails == 0 } }
 {}
 
 /// Proves that the bytes that a sink in memory has accepted are observable.
@@ -33,15 +44,4 @@ pub fn fixed_clock_is_observable()
 /// of it returns bytes of one piece only.
 pub fn memory_door_is_observable()
     ensures { (d : HeldDoor) → ⟦<MemoryDoor as Door>⟧.state d ≡ door_state d }
-{}
-
-/// Proves that the bytes read after each opening of observable files are a prefix of the file's bytes,
-/// and all of them if its end was found.
-///
-/// The property holds before any opening, and each call of `open` and `read` that meets its contract
-/// preserves it.
-pub fn openings_are_of_store()
-    ensures at_first { StartsOfStore }
-    ensures opened { OpenKeepsStore }
-    ensures read { ReadKeepsStore }
 {}

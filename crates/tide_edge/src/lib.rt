@@ -13,6 +13,7 @@ mod count;
 mod door;
 mod doorway;
 mod failed;
+mod file_call;
 mod files;
 mod fixed_clock;
 mod host_clock;
@@ -35,7 +36,6 @@ mod pieces;
 mod read_all_fault;
 mod read_through;
 mod reading;
-mod reads;
 mod receiver;
 mod replies;
 mod rest;
@@ -55,7 +55,7 @@ pub use host_files::HostFiles;
 pub use host_sink::HostSink;
 pub use laws::{
     fixed_clock_is_observable, memory_door_is_observable, memory_files_are_observable,
-    memory_sink_is_observable, openings_are_of_store,
+    memory_sink_is_observable,
 };
 pub use memory_door::MemoryDoor;
 pub use memory_files::MemoryFiles;

@@ -1,20 +1,44 @@
 //! Files in memory.
 
-ghost use Rattle.std.specs.Prelude.{◌≡◌, ◌+◌, ◌<◌, ◌^◌, ◌++◌, [], position, length, take, drop, is_none};
+ghost use Rattle.std.specs.Prelude.{
+  ◌≡◌,
+  ◌↔◌,
+  ◌+◌,
+  ◌-◌,
+  ◌<◌,
+  ◌≤◌,
+  ◌^◌,
+  ◌∷◌,
+  ◌++◌,
+  [],
+  position,
+  length,
+  take,
+  drop,
+  None,
+  is_none,
+  if◌then◌else◌,
+  IsTrue,
+  IsSome,
+  IsOk,
+  IfOk,
+  OnOk,
+  OnErr,
+};
 ghost use Rattle.std.specs.Option.{option_map};
 ghost use Rattle.std.specs.Str.{bytes_eq};
-ghost use Rattle.tide_edge.specs.FileStates.{no_openings};
+ghost use Rattle.tide_edge.specs.Calls.{after_call, answer, is_to_fail};
 ghost use Rattle.tide_edge.specs.Memory.{folder_of};
 ghost use Rattle.tide_edge.specs.Workings.OpenFile.{bytes_at, rest_of};
 
 use crate::calls::Calls;
 use crate::failed::Failed;
+use crate::file_call::{OneFileCall, then_open, then_read};
 use crate::files::Files;
 use crate::named_file::NamedFile;
-use crate::openings::Openings;
-use crate::reads::Reads;
 use crate::rest::rest_from;
 use decimal_text::Text;
+use ghost_log::Log;
 use std::marker::Model;
 
 /// Files in memory: their contents are observable. They are steady if none of their calls is to fail.
@@ -23,90 +47,107 @@ pub struct MemoryFiles {
     files: Vec<NamedFile>,
     opened: Option<usize>,
     at: usize,
-    openings: Openings,
-    reads: Reads,
     calls: Calls,
+    history: Log<OneFileCall>,
 }
 
 impl Model for MemoryFiles {
     ghost use Rattle.tide_edge.specs.Memory.{HeldFiles};
+    ghost use Rattle.tide_edge.specs.Workings.OpenFile.{IsOpenAs};
 
     ghost Value = { HeldFiles };
 
-    ghost use Rattle.tide_edge.specs.Workings.OpenFile.{bytes_at, rest_of};
+    ghost view = { λ m. record { files = m.files.items; fails = m.calls.fails; history = m.history.items } };
 
-    ghost view = { λ m. record {
-      files = m.files.items;
-      rest = rest_of m.files.items m.opened m.at;
-      openings = m.openings;
-      reads = m.reads;
-      calls = m.calls;
-    } };
+    ghost invariant = { λ m.
+        IsOpenAs (record { files = m.files.items; fails = m.calls.fails; history = m.history.items }) m.opened m.at m.calls };
 }
 
 impl MemoryFiles {
     /// Returns the files in memory `files`, none of them open. If two have the same name, the first is
     /// used. The calls of `open` and `read` with a number in `fails`, counted from 1, fail.
     pub fn new(files: Vec<NamedFile>, fails: Vec<u64>) -> MemoryFiles
-        ensures { result ≡ record {
-          files = files.items;
-          rest = [];
-          openings = no_openings;
-          reads = record { opens = 0; ends = 0; bytes = 0 };
-          calls = record { fails = fails.items; made = 0; faults = 0 };
-        } }
+        ensures { result ≡ record { files = files.items; fails = fails.items; history = [] } }
     {
         MemoryFiles {
             files,
             opened: None,
             at: 0,
-            openings: Openings::none(),
-            reads: Reads::none(),
             calls: Calls::new(fails),
+            history: Log::new(),
         }
     }
 }
 
 impl Files for MemoryFiles {
-    ghost use Rattle.tide_edge.specs.Calls.{answer, is_to_fail};
-    ghost use Rattle.tide_edge.specs.Memory.{files_state, found, after_open, read_count, after_read};
+    ghost use Rattle.std.specs.Result.{result_unwrap_or};
+    ghost use Rattle.tide_edge.specs.FileStates.{files_after_open, files_after_read};
+    ghost use Rattle.tide_edge.specs.Memory.{Open, Read, files_now, files_state, open_result, read_result};
+    ghost use Rattle.tide_edge.specs.Workings.MemoryLaws.{memory_lawful};
 
     ghost state = { λ m. files_state m };
 
+    ghost lawful = { memory_lawful };
+
     fn open(&mut self, name: &Text) -> Result<(), Failed>
-        ensures answer { result ≡ answer (is_none (found self.old name.now)) record {} }
-        ensures after { self.new ≡ after_open self.old name.now }
+        ensures answer { result ≡ open_result (files_now self.old) name.now }
+        ensures history { self.new ≡ record self.old { history = self.old.history ++ Open name.now ∷ [] } }
+        ensures after { files_state self.new ≡ files_after_open result name.now (files_state self.old) }
+        ensures found { OnOk result (IsSome ((files_state self.old).store.folder name.now)) }
+        ensures absent { IsTrue (files_state self.old).store.is_steady → OnErr result ((files_state self.old).store.folder name.now ≡ None) }
     {
-        self.opened = None;
+        self.history = then_open(&self.history, name);
+        self.opened = find(&mut self.calls, &self.files, name);
         self.at = 0;
-        self.reads.open();
-        if let Err(failed) = self.calls.next() {
-            self.openings.open(name, false);
-            return Err(failed);
-        }
-        self.opened = place_of(&self.files, name);
-        self.openings.open(name, self.opened.is_some());
-        if self.opened.is_none() {
-            return Err(self.calls.fail());
-        }
-        Ok(())
+        result_of(self.opened)
     }
 
     fn read(&mut self, room: &mut [u8]) -> Result<usize, Failed>
         requires { 0 < length room.old }
-        ensures answer { result ≡ answer (is_to_fail self.old.calls) (read_count self.old (length room.old)) }
-        ensures after { self.new ≡ after_read self.old (length room.old) room.new }
-        ensures filled { room.new ≡ take (read_count self.old (length room.old)) self.old.rest
-            ++ drop (read_count self.old (length room.old)) room.old }
+        ensures answer { result ≡ read_result (files_now self.old) (length room.old) }
+        ensures history { self.new ≡ record self.old { history = self.old.history ++ Read (length room.old - 1) ∷ [] } }
+        ensures filled { let count = result_unwrap_or result 0 in
+            room.new ≡ take count (files_state self.old).rest ++ drop count room.old }
+        ensures after { files_state self.new ≡ files_after_read result room.new (files_state self.old) }
+        ensures within { IfOk result (λ count. count ≤ length room.old) }
+        ensures next_bytes { IfOk result (λ count. take count room.new ≡ take count (files_state self.old).rest) }
+        ensures end { IfOk result (λ count. (count ≡ 0) ↔ ((files_state self.old).rest ≡ [])) }
+        ensures reads { IsTrue (files_state self.old).store.is_steady → IsOk result }
     {
+        self.history = then_read(&self.history, room.len() - 1);
         self.calls.next()?;
         let rest = rest_at(&self.files, self.opened, self.at);
         let count = room.len().min(rest.len());
         room[..count].copy_from_slice(&rest[..count]);
         self.at += count;
-        self.openings.read(room, count);
-        Ok(self.reads.read(count))
+        Ok(count)
     }
+}
+
+/// Returns the result of `open`, which has found the file with this index, or none.
+fn result_of(place: Option<usize>) -> Result<(), Failed>
+    ensures { result ≡ answer (is_none place) record {} }
+{
+    match place {
+        Some(_) => Ok(()),
+        None => Err(Failed),
+    }
+}
+
+/// Counts a call, and returns the index of the first file called `name`, or `None` if the call is to fail
+/// or there is no such file.
+fn find(calls: &mut Calls, files: &[NamedFile], name: &Text) -> Option<usize>
+    ensures place { option_map (bytes_at files.now) result ≡ (if is_to_fail calls.old then None else folder_of files.now name.now) }
+    ensures after { calls.new ≡ after_call (is_none result) calls.old }
+{
+    if calls.next().is_err() {
+        return None;
+    }
+    let place = place_of(files, name);
+    if place.is_none() {
+        calls.fail();
+    }
+    place
 }
 
 /// Returns the index of the first file called `name`, or `None` if there isn't one.

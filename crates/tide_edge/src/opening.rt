@@ -6,17 +6,19 @@ use decimal_text::Text;
 use ghost_log::Log;
 use std::marker::Model;
 
-/// One call of `open`: the name, whether a file was opened, the bytes read of it, and whether its end was
-/// found.
+/// One call of `open`: the name, whether a file was opened, the bytes read of it, how many calls of
+/// `read` found its end, and whether one has failed.
 #[derive(Drop)]
 pub(crate) struct OneOpening {
     name: Log<u8>,
     is_open: bool,
     bytes: Log<u8>,
-    is_ended: bool,
+    ends: Log<()>,
+    read_failed: bool,
 }
 
 impl Model for OneOpening {
+    ghost use Rattle.std.specs.Prelude.{length};
     ghost use Rattle.tide_edge.specs.FileStates.{Opening};
 
     ghost Value = { Opening };
@@ -25,12 +27,13 @@ impl Model for OneOpening {
       name = o.name.items;
       is_open = o.is_open;
       bytes = o.bytes.items;
-      is_ended = o.is_ended;
+      ends = length o.ends.items;
+      read_failed = o.read_failed;
     } };
 }
 
 impl OneOpening {
-    ghost use Rattle.tide_edge.specs.FileStates.{just_opened, opening_after_read};
+    ghost use Rattle.tide_edge.specs.FileStates.{just_opened, opening_after_failure, opening_after_read};
 
     /// Returns the opening of `name` before any byte is read; `is_open` is true if a file was opened.
     pub(crate) fn new(name: &Text, is_open: bool) -> OneOpening
@@ -40,7 +43,8 @@ impl OneOpening {
             name: Log::new().then(name.as_str().as_bytes()),
             is_open,
             bytes: Log::new(),
-            is_ended: false,
+            ends: Log::new(),
+            read_failed: false,
         }
     }
 
@@ -50,6 +54,15 @@ impl OneOpening {
         ensures { self.new ≡ opening_after_read count room.now self.old }
     {
         self.bytes = self.bytes.then(&room[..count]);
-        self.is_ended = count == 0 || self.is_ended;
+        if count == 0 {
+            self.ends = self.ends.then(&[()]);
+        }
+    }
+
+    /// Records that a read failed.
+    pub(crate) fn fail(&mut self)
+        ensures { self.new ≡ opening_after_failure self.old }
+    {
+        self.read_failed = true;
     }
 }

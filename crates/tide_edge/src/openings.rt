@@ -25,7 +25,12 @@ impl Model for Openings {
 }
 
 impl Openings {
-    ghost use Rattle.tide_edge.specs.FileStates.{no_openings, openings_after_open, openings_after_read};
+    ghost use Rattle.tide_edge.specs.FileStates.{
+      no_openings,
+      openings_after_failure,
+      openings_after_open,
+      openings_after_read,
+    };
 
     /// Returns the record of openings before any call of `open`.
     pub(crate) fn none() -> Openings
@@ -54,6 +59,15 @@ impl Openings {
     {
         if let Some(latest) = &mut self.latest {
             latest.read(room, count);
+        }
+    }
+
+    /// Records a call of `read` that failed.
+    pub(crate) fn fail(&mut self)
+        ensures { self.new ≡ openings_after_failure self.old }
+    {
+        if let Some(latest) = &mut self.latest {
+            latest.fail();
         }
     }
 }

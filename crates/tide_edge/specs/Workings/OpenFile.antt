@@ -1,8 +1,10 @@
 -- The open file of files in memory (this project).
-use Rattle.std.specs.Prelude.{ℕ, List, [], drop, Option, Some, None}
+use Rattle.std.specs.Prelude.{◌≡◌, ℕ, List, [], drop, Option, Some, None}
 use Rattle.std.specs.List.{slice_get}
 use Rattle.std.specs.Option.{option_map_or}
 use Rattle.tide_edge.specs.declared.named_file.NamedFile.{NamedFile}
+use Rattle.tide_edge.specs.Calls.{HeldCalls}
+use Rattle.tide_edge.specs.Memory.{HeldFiles, files_now}
 
 -- the bytes of the file with index `place`, counted from 0; none if there is no such file
 abbrev pub bytes_at : List NamedFile → ℕ → List ℕ
@@ -12,3 +14,9 @@ bytes_at files place = option_map_or (λ file. file.bytes) (slice_get files plac
 abbrev pub rest_of : List NamedFile → Option ℕ → ℕ → List ℕ
 rest_of files None at = []
 rest_of files (Some place) at = drop at (bytes_at files place)
+
+-- the open file of files in memory has this index and is read up to byte `at`; None if no file is open;
+-- and these are the calls
+pub record IsOpenAs (held : HeldFiles) (opened : Option ℕ) (at : ℕ) (calls : HeldCalls) : Type 0 where
+  pub rest : (files_now held).state.rest ≡ rest_of held.files opened at
+  pub made : (files_now held).calls ≡ calls

@@ -1,16 +1,11 @@
 use Rattle.std.proofs.Common.{Ok, Err}
+use Rattle.std.specs.Bool.{IsTrue}
 use Rattle.std.proofs.lemmas.Result.{err_from_is_err_and}
 use Rattle.book_loading.proofs.LoadingLemmas.{book_unlike, excuses_form, excuses_reading, fed_passed, fed_unpassed, loaded_whole, memory_as}
 use Rattle.book_loading.specs.Loading.{loaded, source_of}
-use Rattle.tide_edge.proofs.ReadingLemmas.{once_as}
+use Rattle.tide_edge.proofs.ReadingLemmas.{once_as, own_once}
 use Rattle.tide_edge.specs.Whole.{whole, source_of as source_of_reading}
 use Rattle.book_loading.proofs.loading.load_book.Goals as goal
-
-pub returns-in_err-passed-clause-own : goal.returns-in_err-passed-clause-own
-returns-in_err-passed-clause-own g c =
-    λ t. let p = err_from_is_err_and c.from_residual-in_err-passed.result c.from_residual-in_err-passed.ensures.1 in
-    rw (p.1, p.2)
-    (excuses_reading c.args.limit _ ((g.F.Files.state c.args.files.now).store.folder c.args.name.now) _ (c.in_err-passed.ensures.whole t))
 
 pub returns-in_err-passed-clause-came : goal.returns-in_err-passed-clause-came
 returns-in_err-passed-clause-came g c =
@@ -26,20 +21,19 @@ returns-in_err-passed-clause-came g c =
     (g.F.Files.state c.pass_file-passed.new.files).openings
     (Err c.in_err-passed.field-0.0)
     c.from_residual-in_err-passed.result
-    (λ file meets. rw (p.1, p.2) (excuses_reading c.args.limit (Unit {0}) file _ meets))
+    (λ firm file meets. rw (p.1, p.2) (excuses_reading c.args.limit (IsTrue firm) file _ meets))
     (λ memory. rw (p.1, p.2) (memory_as c.in_err-passed.field-0.0 memory))
     c.in_err-passed.ensures.came
+
+pub returns-in_err-passed-clause-own : goal.returns-in_err-passed-clause-own
+returns-in_err-passed-clause-own g c =
+    own_once source_of (loaded c.args.limit) c.args.limit c.args.name.now (g.F.Files.state c.args.files.now)
+    (g.F.Files.state c.pass_file-passed.new.files) c.from_residual-in_err-passed.result c.pass_file-passed.ensures.read.store
+    (g.met.F.Files.lawful c.pass_file-passed.new.files) (returns-in_err-passed-clause-came g c)
 
 pub returns-in_err-passed-clause-too_long : goal.returns-in_err-passed-clause-too_long
 returns-in_err-passed-clause-too_long g c =
     fed_passed _ _ c.from_residual-in_err-passed.result c.from_residual-in_err-passed.ensures.1 c.in_err-passed.ensures.too_long
-
-pub returns-in_err-book-clause-own : goal.returns-in_err-book-clause-own
-returns-in_err-book-clause-own g c =
-    λ t. let p = err_from_is_err_and c.from_residual-in_err-book.result c.from_residual-in_err-book.ensures.1 in
-    rw (p.1, p.2)
-    (excuses_form c.args.limit _ ((g.F.Files.state c.args.files.now).store.folder c.args.name.now) _ _
-    (c.in_ok-passed.ensures.whole t) c.in_err-book.ensures.exact)
 
 pub returns-in_err-book-clause-came : goal.returns-in_err-book-clause-came
 returns-in_err-book-clause-came g c =
@@ -55,20 +49,21 @@ returns-in_err-book-clause-came g c =
     (g.F.Files.state c.pass_file-passed.new.files).openings
     (Ok c.pass_file-passed.new.receiver.reader.bytes)
     c.from_residual-in_err-book.result
-    (λ file meets. rw (p.1, p.2) (excuses_form c.args.limit (Unit {0}) file _ _ meets c.in_err-book.ensures.exact))
+    (λ firm file meets. rw (p.1, p.2) (excuses_form c.args.limit (IsTrue firm) file _ _ meets c.in_err-book.ensures.exact))
     (λ memory. absurd memory)
     c.in_ok-passed.ensures.came
+
+pub returns-in_err-book-clause-own : goal.returns-in_err-book-clause-own
+returns-in_err-book-clause-own g c =
+    own_once source_of (loaded c.args.limit) c.args.limit c.args.name.now (g.F.Files.state c.args.files.now)
+    (g.F.Files.state c.pass_file-passed.new.files) c.from_residual-in_err-book.result c.pass_file-passed.ensures.read.store
+    (g.met.F.Files.lawful c.pass_file-passed.new.files) (returns-in_err-book-clause-came g c)
 
 pub returns-in_err-book-clause-too_long : goal.returns-in_err-book-clause-too_long
 returns-in_err-book-clause-too_long g c =
     fed_unpassed _ c.from_residual-in_err-book.result
     (book_unlike _ c.from_residual-in_err-book.result c.from_residual-in_err-book.ensures.1)
     c.in_ok-passed.ensures.too_long
-
-pub returns-clause-own : goal.returns-clause-own
-returns-clause-own g c =
-    λ t. loaded_whole c.args.limit ((g.F.Files.state c.args.files.now).store.folder c.args.name.now) _ _
-    (c.in_ok-passed.ensures.whole t) c.in_ok-book.ensures.exact
 
 pub returns-clause-came : goal.returns-clause-came
 returns-clause-came g c =
@@ -83,6 +78,12 @@ returns-clause-came g c =
     (g.F.Files.state c.pass_file-passed.new.files).openings
     (Ok c.pass_file-passed.new.receiver.reader.bytes)
     (Ok c.in_ok-book.field-0)
-    (λ file meets. loaded_whole c.args.limit file _ _ meets c.in_ok-book.ensures.exact)
+    (λ firm file meets. loaded_whole c.args.limit file _ _ meets c.in_ok-book.ensures.exact)
     (λ memory. absurd memory)
     c.in_ok-passed.ensures.came
+
+pub returns-clause-own : goal.returns-clause-own
+returns-clause-own g c =
+    own_once source_of (loaded c.args.limit) c.args.limit c.args.name.now (g.F.Files.state c.args.files.now)
+    (g.F.Files.state c.pass_file-passed.new.files) (Ok c.in_ok-book.field-0) c.pass_file-passed.ensures.read.store
+    (g.met.F.Files.lawful c.pass_file-passed.new.files) (returns-clause-came g c)

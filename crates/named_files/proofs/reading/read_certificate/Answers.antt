@@ -4,21 +4,13 @@ use Rattle.named_files.proofs.OpenedLemmas.{opened_none}
 use Rattle.named_files.specs.Readings.{certificate_named}
 use Rattle.named_files.proofs.reading.read_certificate.Goals as goal
 
-pub returns-in-Some-clause-own : goal.returns-in-Some-clause-own
-unfolding certificate_named
-returns-in-Some-clause-own g c = λ t. rw c.in-Some.is (c.read_file.ensures.own t)
-
 pub returns-in-Some-clause-opened : goal.returns-in-Some-clause-opened
 unfolding certificate_named
 returns-in-Some-clause-opened g c = rw c.in-Some.is c.read_file.ensures.opened
-
-pub returns-in-None-clause-own : goal.returns-in-None-clause-own
-unfolding certificate_named
-returns-in-None-clause-own g c = λ t. rw (c.in-None.is, c.from_vec.ensures, c.new.ensures.items) refl
 
 pub returns-in-None-clause-opened : goal.returns-in-None-clause-opened
 unfolding certificate_named
 returns-in-None-clause-opened g c =
     rw c.in-None.is
-    (opened_none Certificate (λ file. certificate_named (λ _. file) None) (g.F.Files.state c.args.files.now).openings _
-    (λ file. rw (c.from_vec.ensures, c.new.ensures.items) refl))
+    (opened_none Certificate (λ folder. certificate_named folder None) (g.F.Files.state c.args.files.now).openings _
+    (λ firm folder. rw (c.from_vec.ensures, c.new.ensures.items) refl))

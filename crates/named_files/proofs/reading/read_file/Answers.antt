@@ -1,7 +1,5 @@
-use Rattle.std.specs.Bool.{IsTrue}
 use Rattle.std.proofs.Common.{Ok, Err}
 use Rattle.named_files.proofs.OpenedLemmas.{opened_bytes}
-use Rattle.named_files.proofs.ReadingLemmas.{excuses_bytes}
 use Rattle.named_files.proofs.reading.read_file.Goals as goal
 
 pub returns-in-Ok-clause-opened : goal.returns-in-Ok-clause-opened
@@ -13,13 +11,6 @@ returns-in-Ok-clause-opened g c =
     (g.F.Files.state c.read_all.new.files).openings
     (Ok c.in-Ok.bytes)
     (rw c.limit_of.ensures at c.in-Ok.ensures.came)
-
-pub returns-in-Err-clause-own : goal.returns-in-Err-clause-own
-returns-in-Err-clause-own g c =
-    λ t. rw c.fault_of_reading.ensures
-    (excuses_bytes (IsTrue (g.F.Files.state c.args.files.now).store.is_steady) c.args.slot
-    ((g.F.Files.state c.args.files.now).store.folder c.args.name.now) c.in-Err.fault
-    (rw c.limit_of.ensures at (c.in-Err.ensures.whole t)))
 
 pub returns-in-Err-clause-opened : goal.returns-in-Err-clause-opened
 returns-in-Err-clause-opened g c =

@@ -1,18 +1,8 @@
-use Rattle.std.proofs.Common.{refl, false}
-use Rattle.std.specs.Bool.{IsTrue}
+use Rattle.std.proofs.Common.{false}
 use Rattle.tide_fault.specs.declared.slot.Slot.TheVariants.{File, Offsets, Zone, Certificate}
-use Rattle.named_files.specs.Readings.{book_named, table_named, zone_named, certificate_named, files_in}
 use Rattle.named_files.proofs.OpenedLemmas.{all_opened, stopped_at_book, stopped_at_certificate, stopped_at_table, stopped_at_zone}
-use Rattle.named_files.proofs.ReadingLemmas.{last_at, meets_at, read_of_last, to_certificate, to_table, to_zone}
+use Rattle.named_files.proofs.ReadingLemmas.{last_at, read_of_last, to_certificate, to_table, to_zone}
 use Rattle.named_files.proofs.reading.read_files.Goals as goal
-
-pub returns-in_err-book-clause-own : goal.returns-in_err-book-clause-own
-unfolding files_in
-returns-in_err-book-clause-own g c =
-    let book = c.in_err-book.ensures.own in
-    λ t. meets_at (IsTrue (g.F.Files.state c.args.files.now).store.is_steady)
-    (book_named (g.F.Files.state c.args.files.now).store.folder c.args.name.now) _ c.from_residual.result _
-    c.from_residual.ensures.1 (book t)
 
 pub returns-in_err-book-clause-opened : goal.returns-in_err-book-clause-opened
 returns-in_err-book-clause-opened g c =
@@ -26,15 +16,6 @@ returns-in_err-book-clause-opened g c =
     c.from_residual.ensures.1
     c.in_err-book.ensures.fault
     c.in_err-book.ensures.opened
-
-pub returns-in_err-table-clause-own : goal.returns-in_err-table-clause-own
-unfolding files_in
-returns-in_err-table-clause-own g c =
-    let book = c.in_ok-book.ensures.own in
-    let table = rw c.read_book.ensures.read.store at c.in_err-table.ensures.own in
-    rw (← c.get-question.ensures.exact) (λ t. rw (book t) (meets_at (IsTrue (g.F.Files.state c.args.files.now).store.is_steady)
-    (table_named (g.F.Files.state c.args.files.now).store.folder c.get-question.result.now.offsets) _
-    c.from_residual-in_err-table.result _ c.from_residual-in_err-table.ensures.1 (table t)))
 
 pub returns-in_err-table-clause-opened : goal.returns-in_err-table-clause-opened
 returns-in_err-table-clause-opened g c =
@@ -52,17 +33,6 @@ returns-in_err-table-clause-opened g c =
     c.in_err-table.ensures.fault
     c.in_ok-book.ensures.opened
     c.in_err-table.ensures.opened)
-
-pub returns-in_err-zone-clause-own : goal.returns-in_err-zone-clause-own
-unfolding files_in
-returns-in_err-zone-clause-own g c =
-    let book = c.in_ok-book.ensures.own in
-    let table = rw c.read_book.ensures.read.store at c.in_ok-table.ensures.own in
-    let zone = rw (c.read_table.ensures.read.store, c.read_book.ensures.read.store) at c.in_err-zone.ensures.own in
-    rw (← c.get-question.ensures.exact)
-    (λ t. rw (book t, table t) (meets_at (IsTrue (g.F.Files.state c.args.files.now).store.is_steady)
-    (zone_named (g.F.Files.state c.args.files.now).store.folder c.get-question.result.now.zone) _
-    c.from_residual-in_err-zone.result _ c.from_residual-in_err-zone.ensures.1 (zone t)))
 
 pub returns-in_err-zone-clause-opened : goal.returns-in_err-zone-clause-opened
 returns-in_err-zone-clause-opened g c =
@@ -83,20 +53,6 @@ returns-in_err-zone-clause-opened g c =
     c.in_ok-book.ensures.opened
     c.in_ok-table.ensures.opened
     c.in_err-zone.ensures.opened)
-
-pub returns-in_err-certificate-clause-own : goal.returns-in_err-certificate-clause-own
-unfolding files_in
-returns-in_err-certificate-clause-own g c =
-    let book = c.in_ok-book.ensures.own in
-    let table = rw c.read_book.ensures.read.store at c.in_ok-table.ensures.own in
-    let zone = rw (c.read_table.ensures.read.store, c.read_book.ensures.read.store) at c.in_ok-zone.ensures.own in
-    let certificate =
-    rw (c.read_zone_named.ensures.read.store, c.read_table.ensures.read.store, c.read_book.ensures.read.store)
-    at c.in_err-certificate.ensures.own in
-    rw (← c.get-question.ensures.exact)
-    (λ t. rw (book t, table t, zone t) (meets_at (IsTrue (g.F.Files.state c.args.files.now).store.is_steady)
-    (certificate_named (g.F.Files.state c.args.files.now).store.folder c.get-question.result.now.certificate) _
-    c.from_residual-in_err-certificate.result _ c.from_residual-in_err-certificate.ensures.1 (certificate t)))
 
 pub returns-in_err-certificate-clause-opened : goal.returns-in_err-certificate-clause-opened
 returns-in_err-certificate-clause-opened g c =
@@ -120,17 +76,6 @@ returns-in_err-certificate-clause-opened g c =
     c.in_ok-table.ensures.opened
     c.in_ok-zone.ensures.opened
     c.in_err-certificate.ensures.opened)
-
-pub returns-clause-own : goal.returns-clause-own
-unfolding files_in
-returns-clause-own g c =
-    let book = c.in_ok-book.ensures.own in
-    let table = rw c.read_book.ensures.read.store at c.in_ok-table.ensures.own in
-    let zone = rw (c.read_table.ensures.read.store, c.read_book.ensures.read.store) at c.in_ok-zone.ensures.own in
-    let certificate =
-    rw (c.read_zone_named.ensures.read.store, c.read_table.ensures.read.store, c.read_book.ensures.read.store)
-    at c.in_ok-certificate.ensures.own in
-    rw (← c.get-question.ensures.exact) (λ t. rw (book t, table t, zone t, certificate t) refl)
 
 pub returns-clause-opened : goal.returns-clause-opened
 returns-clause-opened g c =

@@ -6,14 +6,6 @@ use Rattle.named_files.specs.Readings.{bytes_of, table_named}
 use Rattle.named_files.proofs.ReadingLemmas.{meets_at, meets_inside, table_inside}
 use Rattle.named_files.proofs.reading.read_table.Goals as goal
 
-pub returns-in_err-bytes-in-Some-clause-own : goal.returns-in_err-bytes-in-Some-clause-own
-unfolding table_named
-returns-in_err-bytes-in-Some-clause-own g c =
-    λ t. rw c.in-Some.is
-    (meets_at (IsTrue (g.F.Files.state c.args.files.now).store.is_steady)
-    (bytes_of Offsets ((g.F.Files.state c.args.files.now).store.folder c.in-Some.name)) _ c.from_residual.result _
-    c.from_residual.ensures.1 (c.in_err-bytes-in-Some.ensures.own t))
-
 pub returns-in_err-bytes-in-Some-clause-opened : goal.returns-in_err-bytes-in-Some-clause-opened
 unfolding table_named
 returns-in_err-bytes-in-Some-clause-opened g c =
@@ -21,21 +13,15 @@ returns-in_err-bytes-in-Some-clause-opened g c =
     (opened_as
     Offsets
     (Some c.in-Some.name)
-    (bytes_of Offsets)
-    (λ file. table_named (λ _. file) (Some c.in-Some.name))
+    (λ folder. bytes_of Offsets (folder c.in-Some.name))
+    (λ folder. table_named folder (Some c.in-Some.name))
     (g.F.Files.state c.args.files.now).openings
     _
     (Err c.in_err-bytes-in-Some.field-0.0)
     c.from_residual.result
-    (λ file meets. meets_at (Unit {0}) (bytes_of Offsets file) _ c.from_residual.result _ c.from_residual.ensures.1 meets)
+    (λ firm folder meets. meets_at (IsTrue firm) (bytes_of Offsets (folder c.in-Some.name)) _ c.from_residual.result _ c.from_residual.ensures.1 meets)
     (λ left whole. never_whole _ c.from_residual.result _ c.from_residual.ensures.1)
     c.in_err-bytes-in-Some.ensures.opened)
-
-pub returns-in_ok-bytes-in-Some-clause-own : goal.returns-in_ok-bytes-in-Some-clause-own
-unfolding table_named
-returns-in_ok-bytes-in-Some-clause-own g c =
-    λ t. rw (c.in-Some.is, c.in_ok-bytes-in-Some.ensures.own t, c.table_from.ensures.exact)
-    (meets_inside _ _ _ (table_inside _ c.read_offsets.result (rw c.as_slice.ensures at c.read_offsets.ensures)))
 
 pub returns-in_ok-bytes-in-Some-clause-opened : goal.returns-in_ok-bytes-in-Some-clause-opened
 unfolding table_named
@@ -44,24 +30,20 @@ returns-in_ok-bytes-in-Some-clause-opened g c =
     (opened_as
     Offsets
     (Some c.in-Some.name)
-    (bytes_of Offsets)
-    (λ file. table_named (λ _. file) (Some c.in-Some.name))
+    (λ folder. bytes_of Offsets (folder c.in-Some.name))
+    (λ folder. table_named folder (Some c.in-Some.name))
     (g.F.Files.state c.args.files.now).openings
     _
     (Ok c.in_ok-bytes-in-Some.bytes)
     c.table_from.result
-    (λ file meets. rw (meets, c.table_from.ensures.exact)
+    (λ firm folder meets. rw (meets, c.table_from.ensures.exact)
     (meets_inside _ _ _ (table_inside _ c.read_offsets.result (rw c.as_slice.ensures at c.read_offsets.ensures))))
     (λ left whole. always_whole _ c.table_from.result whole)
     c.in_ok-bytes-in-Some.ensures.opened)
-
-pub returns-in-None-clause-own : goal.returns-in-None-clause-own
-unfolding table_named
-returns-in-None-clause-own g c = λ t. rw (c.in-None.is, c.new.ensures) refl
 
 pub returns-in-None-clause-opened : goal.returns-in-None-clause-opened
 unfolding table_named
 returns-in-None-clause-opened g c =
     rw c.in-None.is
-    (opened_none Offsets (λ file. table_named (λ _. file) None) (g.F.Files.state c.args.files.now).openings _
-    (λ file. rw c.new.ensures refl))
+    (opened_none Offsets (λ folder. table_named folder None) (g.F.Files.state c.args.files.now).openings _
+    (λ firm folder. rw c.new.ensures refl))

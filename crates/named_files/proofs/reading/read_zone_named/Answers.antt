@@ -7,14 +7,6 @@ use Rattle.named_files.specs.Readings.{bytes_of, zone_named}
 use Rattle.named_files.proofs.ReadingLemmas.{meets_at, meets_inside, zone_inside}
 use Rattle.named_files.proofs.reading.read_zone_named.Goals as goal
 
-pub returns-in_err-bytes-in-Named-clause-own : goal.returns-in_err-bytes-in-Named-clause-own
-unfolding zone_named
-returns-in_err-bytes-in-Named-clause-own g c =
-    λ t. rw c.in-Named.is
-    (meets_at (IsTrue (g.F.Files.state c.args.files.now).store.is_steady)
-    (bytes_of Zone ((g.F.Files.state c.args.files.now).store.folder c.in-Named.name)) _ c.from_residual.result _
-    c.from_residual.ensures.1 (c.in_err-bytes-in-Named.ensures.own t))
-
 pub returns-in_err-bytes-in-Named-clause-opened : goal.returns-in_err-bytes-in-Named-clause-opened
 unfolding zone_named
 returns-in_err-bytes-in-Named-clause-opened g c =
@@ -22,21 +14,15 @@ returns-in_err-bytes-in-Named-clause-opened g c =
     (opened_as
     Zone
     (Some c.in-Named.name)
-    (bytes_of Zone)
-    (λ file. zone_named (λ _. file) (words.Named c.in-Named.name))
+    (λ folder. bytes_of Zone (folder c.in-Named.name))
+    (λ folder. zone_named folder (words.Named c.in-Named.name))
     (g.F.Files.state c.args.files.now).openings
     _
     (Err c.in_err-bytes-in-Named.field-0.0)
     c.from_residual.result
-    (λ file meets. meets_at (Unit {0}) (bytes_of Zone file) _ c.from_residual.result _ c.from_residual.ensures.1 meets)
+    (λ firm folder meets. meets_at (IsTrue firm) (bytes_of Zone (folder c.in-Named.name)) _ c.from_residual.result _ c.from_residual.ensures.1 meets)
     (λ left whole. never_whole _ c.from_residual.result _ c.from_residual.ensures.1)
     c.in_err-bytes-in-Named.ensures.opened)
-
-pub returns-in_ok-bytes-in-Named-clause-own : goal.returns-in_ok-bytes-in-Named-clause-own
-unfolding zone_named
-returns-in_ok-bytes-in-Named-clause-own g c =
-    λ t. rw (c.in-Named.is, c.in_ok-bytes-in-Named.ensures.own t, c.zone_from.ensures.exact)
-    (meets_inside _ _ _ (zone_inside _ c.read_zone.result (rw c.as_slice.ensures at c.read_zone.ensures.exact)))
 
 pub returns-in_ok-bytes-in-Named-clause-opened : goal.returns-in_ok-bytes-in-Named-clause-opened
 unfolding zone_named
@@ -45,37 +31,29 @@ returns-in_ok-bytes-in-Named-clause-opened g c =
     (opened_as
     Zone
     (Some c.in-Named.name)
-    (bytes_of Zone)
-    (λ file. zone_named (λ _. file) (words.Named c.in-Named.name))
+    (λ folder. bytes_of Zone (folder c.in-Named.name))
+    (λ folder. zone_named folder (words.Named c.in-Named.name))
     (g.F.Files.state c.args.files.now).openings
     _
     (Ok c.in_ok-bytes-in-Named.bytes)
     c.zone_from.result
-    (λ file meets. rw (meets, c.zone_from.ensures.exact)
+    (λ firm folder meets. rw (meets, c.zone_from.ensures.exact)
     (meets_inside _ _ _ (zone_inside _ c.read_zone.result (rw c.as_slice.ensures at c.read_zone.ensures.exact))))
     (λ left whole. always_whole _ c.zone_from.result whole)
     c.in_ok-bytes-in-Named.ensures.opened)
 
-pub returns-in-Utc-clause-own : goal.returns-in-Utc-clause-own
-unfolding zone_named
-returns-in-Utc-clause-own g c = λ t. rw c.in-Utc.is refl
-
 pub returns-in-Utc-clause-opened : goal.returns-in-Utc-clause-opened
 unfolding zone_named
 returns-in-Utc-clause-opened g c =
-    rw c.in-Utc.is (opened_none Zone (λ file. zone_named (λ _. file) words.Utc)
-    (g.F.Files.state c.args.files.now).openings _ (λ file. refl))
-
-pub returns-in-Fixed-clause-own : goal.returns-in-Fixed-clause-own
-unfolding zone_named
-returns-in-Fixed-clause-own g c = λ t. rw c.in-Fixed.is (search rules)
+    rw c.in-Utc.is (opened_none Zone (λ folder. zone_named folder words.Utc)
+    (g.F.Files.state c.args.files.now).openings _ (λ firm folder. refl))
 
 pub returns-in-Fixed-clause-opened : goal.returns-in-Fixed-clause-opened
 unfolding zone_named
 returns-in-Fixed-clause-opened g c =
     rw c.in-Fixed.is
-    (opened_none Zone (λ file. zone_named (λ _. file) (words.Fixed c.in-Fixed.minutes))
-    (g.F.Files.state c.args.files.now).openings _ (λ file. search rules))
+    (opened_none Zone (λ folder. zone_named folder (words.Fixed c.in-Fixed.minutes))
+    (g.F.Files.state c.args.files.now).openings _ (λ firm folder. search rules))
 
 pub returns-in-Utc-clause-unnamed : goal.returns-in-Utc-clause-unnamed
 unfolding zone_named

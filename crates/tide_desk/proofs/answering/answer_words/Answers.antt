@@ -1,35 +1,32 @@
-use Rattle.std.proofs.Common.{[], refl}
+use Rattle.std.proofs.Common.{refl}
 use Rattle.named_files.specs.NoAnswers.{reading_failed}
 use Rattle.named_files.proofs.ReadingLemmas.{failed_at}
 use Rattle.tide_desk.specs.Outcomes.{sources}
-use Rattle.tide_desk.proofs.AnsweringLemmas.{files_named, has_files, meets_alone, meets_named, meets_unasked, names_file, shown_alone, shown_named, shown_unasked, shown_unopened, went_by_words, went_nowhere}
+use Rattle.tide_desk.proofs.AnsweringLemmas.{last_named, last_unopened, names_file, shown_alone, shown_named, shown_unasked, shown_unopened, went_by_words, went_nowhere}
 use Rattle.std.proofs.lemmas.Result.{err_from_is_err_and}
 use Rattle.tide_desk.proofs.SettledLemmas.{nameless_unread, unasked_unsettled}
 use Rattle.tide_desk.proofs.answering.answer_words.Goals as goal
 
-pub returns-in_err-question-clause-own : goal.returns-in_err-question-clause-own
-returns-in_err-question-clause-own g c =
-    λ t k. meets_unasked _ _ _ _ c.args.words.now _ c.from_residual.result c.from_residual.ensures.1 c.in_err-question.ensures.exact
-
 pub returns-in_err-question-clause-shown : goal.returns-in_err-question-clause-shown
 returns-in_err-question-clause-shown g c =
-    shown_unopened _ _
+    shown_unopened _ _ _
     (g.F.Files.state c.args.files.now).openings
     (g.F.Files.state c.args.files.now).openings
     c.from_residual.result refl
-    (shown_unasked _ _ c.args.words.now _ c.from_residual.result [] c.from_residual.ensures.1 c.in_err-question.ensures.exact)
+    (λ firm folders. shown_unasked _ _ c.args.words.now _ c.from_residual.result firm folders c.from_residual.ensures.1
+    c.in_err-question.ensures.exact)
 
 pub returns-in_err-question-clause-reads : goal.returns-in_err-question-clause-reads
 returns-in_err-question-clause-reads g c =
     rw (failed_at c.from_residual.result _ c.from_residual.ensures.1)
     (went_nowhere _ _ (g.F.Files.state c.args.files.now) (g.K.Clock.state c.args.clock.now))
 
-pub returns-in-Some-clause-own : goal.returns-in-Some-clause-own
-returns-in-Some-clause-own g c =
-    λ t k. rw c.in_ok-question.ensures.exact
-    (meets_named _ _ _ _ c.args.words.now c.in_ok-question.question c.in-Some.name c.answer_over-answered.result
-    c.in_ok-question.ensures.exact c.in-Some.is
-    ((rw c.new-valid.ensures at c.answer_over-answered.ensures.own) t (rw c.in_ok-question.ensures.exact at k)))
+pub returns-in_err-question-clause-last : goal.returns-in_err-question-clause-last
+returns-in_err-question-clause-last g c =
+    last_unopened _ _ _ _ (g.F.Files.state c.args.files.now) (g.K.Clock.state c.args.clock.now) c.from_residual.result refl
+    (failed_at c.from_residual.result _ c.from_residual.ensures.1)
+    (λ folders has asks settled. let p = err_from_is_err_and c.from_residual.result c.from_residual.ensures.1 in
+    unasked_unsettled _ _ c.in_err-question.ensures.exact asks (rw (p.1, p.2) at settled))
 
 pub returns-in-Some-clause-shown : goal.returns-in-Some-clause-shown
 returns-in-Some-clause-shown g c =
@@ -45,11 +42,6 @@ returns-in-Some-clause-reads g c =
     (sources (g.F.Files.state c.answer_over-answered.new.files) (g.K.Clock.state c.answer_over-answered.new.clock))
     c.in_ok-question.ensures.exact c.in-Some.is (rw c.new-valid.ensures at c.answer_over-answered.ensures.reads)
 
-pub returns-in-None-clause-reads : goal.returns-in-None-clause-reads
-returns-in-None-clause-reads g c =
-    rw c.answer_without-answered.ensures.read
-    (went_nowhere _ _ (g.F.Files.state c.args.files.now) (g.K.Clock.state c.args.clock.now))
-
 pub returns-in-Some-clause-unopened : goal.returns-in-Some-clause-unopened
 returns-in-Some-clause-unopened g c =
     λ nameless. absurd (nameless (names_file _ c.in_ok-question.question c.in-Some.name c.in_ok-question.ensures.exact c.in-Some.is))
@@ -57,39 +49,32 @@ returns-in-Some-clause-unopened g c =
 pub returns-in-Some-clause-clock_unread : goal.returns-in-Some-clause-clock_unread
 returns-in-Some-clause-clock_unread g c = rw c.in_ok-question.ensures.exact (rw c.new-valid.ensures at c.answer_over-answered.ensures.clock_unread)
 
-pub returns-in-Some-clause-asked_last : goal.returns-in-Some-clause-asked_last
-returns-in-Some-clause-asked_last g c =
-    λ t unread. (rw c.new-valid.ensures at c.answer_over-answered.ensures.asked_last) t
-    (λ read. unread (has_files (λ slot. (g.F.Files.state c.args.files.now).store.folder) _ c.in_ok-question.question
-    c.in-Some.name c.in_ok-question.ensures.exact c.in-Some.is read))
-
-pub returns-in-None-clause-own : goal.returns-in-None-clause-own
-returns-in-None-clause-own g c =
-    λ t k. meets_alone _ _ _ _ c.args.words.now c.in_ok-question.question c.answer_without-answered.result
-    c.in_ok-question.ensures.exact c.in-None.is
-    (rw c.new-valid.ensures at c.answer_without-answered.ensures.exact)
+pub returns-in-Some-clause-last : goal.returns-in-Some-clause-last
+returns-in-Some-clause-last g c =
+    last_named _ c.in_ok-question.question c.in-Some.name _
+    (sources (g.F.Files.state c.args.files.now) (g.K.Clock.state c.args.clock.now))
+    (sources (g.F.Files.state c.answer_over-answered.new.files) (g.K.Clock.state c.answer_over-answered.new.clock))
+    c.answer_over-answered.result c.in_ok-question.ensures.exact c.in-Some.is
+    (rw c.new-valid.ensures at c.answer_over-answered.ensures.last)
 
 pub returns-in-None-clause-shown : goal.returns-in-None-clause-shown
 returns-in-None-clause-shown g c =
-    shown_unopened _ _
+    shown_unopened _ _ _
     (g.F.Files.state c.args.files.now).openings
     (g.F.Files.state c.args.files.now).openings
     c.answer_without-answered.result refl
-    (shown_alone _ _ c.args.words.now c.in_ok-question.question c.answer_without-answered.result [] c.in_ok-question.ensures.exact c.in-None.is
+    (λ firm folders. shown_alone _ _ c.args.words.now c.in_ok-question.question c.answer_without-answered.result firm folders
+    c.in_ok-question.ensures.exact c.in-None.is
     (rw c.new-valid.ensures at c.answer_without-answered.ensures.exact))
 
-pub returns-in_err-question-clause-clock_read_once : goal.returns-in_err-question-clause-clock_read_once
-returns-in_err-question-clause-clock_read_once g c =
-    λ t asks has settled. let p = err_from_is_err_and c.from_residual.result c.from_residual.ensures.1 in
-    absurd (unasked_unsettled _ _ c.in_err-question.ensures.exact asks (rw (p.1, p.2) at settled))
+pub returns-in-None-clause-reads : goal.returns-in-None-clause-reads
+returns-in-None-clause-reads g c =
+    rw c.answer_without-answered.ensures.read
+    (went_nowhere _ _ (g.F.Files.state c.args.files.now) (g.K.Clock.state c.args.clock.now))
 
-pub returns-in-Some-clause-clock_read_once : goal.returns-in-Some-clause-clock_read_once
-returns-in-Some-clause-clock_read_once g c =
-    λ t asks has settled. (rw c.new-valid.ensures at c.answer_over-answered.ensures.clock_read_once) t (rw c.in_ok-question.ensures.exact at asks)
-    (files_named (λ slot. (g.F.Files.state c.args.files.now).store.folder) _ c.in_ok-question.question c.in-Some.name
-    c.in_ok-question.ensures.exact c.in-Some.is has) settled
-
-pub returns-in-None-clause-clock_read_once : goal.returns-in-None-clause-clock_read_once
-returns-in-None-clause-clock_read_once g c =
-    λ t asks has settled. absurd (nameless_unread (λ slot. (g.F.Files.state c.args.files.now).store.folder) _
-    c.in_ok-question.question c.in_ok-question.ensures.exact c.in-None.is has)
+pub returns-in-None-clause-last : goal.returns-in-None-clause-last
+returns-in-None-clause-last g c =
+    last_unopened _ _ _ _ (g.F.Files.state c.args.files.now) (g.K.Clock.state c.args.clock.now) c.answer_without-answered.result refl
+    c.answer_without-answered.ensures.read
+    (λ folders has asks settled.
+    nameless_unread folders _ c.in_ok-question.question c.in_ok-question.ensures.exact c.in-None.is has)

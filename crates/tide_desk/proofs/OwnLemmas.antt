@@ -1,0 +1,148 @@
+-- The answer over the contents of observable files and the minute of an observable clock, from the
+-- transcripts and the law of files.
+use Rattle.std.proofs.Common.{◌≡◌, ◌⊎◌, ℕ, ℤ, Bool, true, false, if◌then◌else◌, List, Option, Some, None, Result, Ok, Err, inl, inr, refl, sym, ap, ◌∙◌}
+use Rattle.std.specs.Bool.{IsTrue}
+use Rattle.std.specs.Prelude.{IsOk, IfErr, IfSome, pos}
+use Rattle.std.specs.Option.{IsSomeAnd}
+use Rattle.decimal_text.specs.Expected.{◌>>=◌, Excuses, Meets, memory, given}
+use Rattle.question.specs.declared.question.Question.{Question}
+use Rattle.report_sheets.specs.Sheets.{SheetMeaning}
+use Rattle.tide_answer.specs.declared.text.Answer.{Answer}
+use Rattle.tide_edge.specs.Clocks.{clock_after, next_minute}
+use Rattle.tide_edge.specs.StoreLaws.{IsLawful}
+use Rattle.tide_fault.specs.declared.fault.Fault.{Fault}
+use Rattle.tide_fault.specs.Faults.{is_out_of_memory as fault_is_out_of_memory, refusal_is_out_of_memory}
+use Rattle.named_files.specs.declared.materials.Materials.{Materials}
+use Rattle.named_files.specs.declared.no_answer.NoAnswer.{NoAnswer}
+use Rattle.named_files.specs.declared.no_answer.NoAnswer.TheVariants.{Unread, Faulty, Refused}
+use Rattle.named_files.specs.NoAnswers.{faulty, reading_failed, refused_over, source_of}
+use Rattle.named_files.specs.Opened.{AreShownFor, IsResultOf}
+use Rattle.named_files.specs.Readings.{Folders, files_in}
+use Rattle.named_files.proofs.OpenedLemmas.{shows_own_for}
+use Rattle.named_files.proofs.ReadingLemmas.{excuses_weaker}
+use Rattle.tide_desk.specs.Answers.{HasFiles, ReadsClock, answer_of, answer_from, answered_over_book, answered_over_file, answered_over_optional_file, given_with, is_report, question_of_words, reads_clock}
+use Rattle.tide_desk.specs.Outcomes.{IsFirm, Sources}
+use Rattle.tide_desk.specs.Shown.{IsReadLast, answer_shown, given_between, minute_given, names_wanted, shown_by, shown_over}
+use Rattle.tide_desk.specs.Workings.Settled.{IsSettled}
+use Rattle.tide_desk.proofs.SettledLemmas.{never}
+
+-- ---- The minute that the clock returned is its next one, or it returned none
+
+-- the answers with what the clock returned and with its next minute are the same, or the clock is needed
+-- and has returned none
+abbrev IsSame : Type 0 → Result Answer NoAnswer → Result Answer NoAnswer → Type 0
+IsSame missed shown own = (shown ≡ own) ⊎ ((shown ≡ Err Unread) × missed)
+
+same_by : (read : Result Materials NoAnswer) (reads : Bool) (returned : Option ℤ) (minute : ℤ)
+    (next : Materials → ℤ → Result Answer NoAnswer) → (IsTrue reads → IfSome returned (λ m. m ≡ minute))
+    → IsSame (IsOk read × IsTrue reads)
+    (read >>= λ r. (if reads then minute_given returned else Ok (pos 0)) >>= λ now. next r now)
+    (read >>= λ r. next r (if reads then minute else pos 0))
+same_by (Err none) reads returned minute next is = inl refl
+same_by (Ok read) false returned minute next is = inl refl
+same_by (Ok read) true (Some m) minute next is = inl (ap (next read) (is refl))
+same_by (Ok read) true None minute next is = inr (refl, (refl, refl))
+
+same_over : (sheets : List SheetMeaning) (folders : Folders) (returned : Option ℤ) (minute : ℤ) (question : Question) (name : List ℕ)
+    → (IsTrue (reads_clock question.command) → IfSome returned (λ m. m ≡ minute))
+    → IsSame (IsOk (files_in folders question name) × IsTrue (reads_clock question.command))
+    (shown_over sheets folders returned question name) (answered_over_file sheets folders minute question name)
+unfolding shown_over answered_over_file
+same_over sheets folders returned minute question name is =
+    same_by (files_in folders question name) (reads_clock question.command) returned minute
+    (λ read now. refused_over read.table (answered_over_book (is_report question.command) sheets read.book read.table question
+    (given_with read now))) is
+
+-- the files of a request with this harmonics file, if it names one, can be read
+abbrev Reads : Folders → Question → Option (List ℕ) → Type 0
+Reads folders question file = IsSomeAnd file (λ name. IsOk (files_in folders question name)) × IsTrue (reads_clock question.command)
+
+same_file : (sheets : List SheetMeaning) (folders : Folders) (returned : Option ℤ) (minute : ℤ) (question : Question)
+    (file : Option (List ℕ))
+    → (IsTrue (reads_clock question.command) → IfSome returned (λ m. m ≡ minute))
+    → IsSame (Reads folders question file) (shown_by sheets folders returned question file)
+    (answered_over_optional_file sheets folders minute question file)
+same_file sheets folders returned minute question None is = inl refl
+same_file sheets folders returned minute question (Some name) is = same_over sheets folders returned minute question name is
+
+same_asked : (sheets : List SheetMeaning) (folders : Folders) (returned : Option ℤ) (minute : ℤ) (asked : Result Question Fault)
+    → (ReadsClock asked → IfSome returned (λ m. m ≡ minute))
+    → IsSame (HasFiles folders asked × ReadsClock asked)
+    (faulty asked >>= λ question. shown_by sheets folders returned question question.file)
+    (faulty asked >>= λ question. answered_over_optional_file sheets folders minute question question.file)
+same_asked sheets folders returned minute (Ok question) is = same_file sheets folders returned minute question question.file is
+same_asked sheets folders returned minute (Err fault) is = inl refl
+
+same_answer : (sheets : List SheetMeaning) (folders : Folders) (returned : Option ℤ) (minute : ℤ) (words : List (List ℕ))
+    → (ReadsClock (question_of_words sheets words) → IfSome returned (λ m. m ≡ minute))
+    → IsSame (HasFiles folders (question_of_words sheets words) × ReadsClock (question_of_words sheets words))
+    (answer_shown sheets folders returned words) (answer_from sheets folders minute words)
+unfolding answer_shown answer_from
+same_answer sheets folders returned minute words is = same_asked sheets folders returned minute (question_of_words sheets words) is
+
+-- ---- The expected result
+
+abbrev unread_answer : Result Answer NoAnswer
+unread_answer = Err Unread
+
+inside : (firm also : Type 0) (out_of_memory : Bool) (own : Result Answer NoAnswer) (none : NoAnswer) → (none ≡ Unread → ⊥)
+    → Excuses (if out_of_memory then memory else given) firm unread_answer none
+    → Excuses (if out_of_memory then memory else given) also own none
+inside firm also true own none other excuses = tt
+inside firm also false own none other excuses = let same : unread_answer ≡ Err none = excuses in let one : none ≡ Unread = cc in absurd (other one)
+
+-- a result is excused if the clock has failed
+missed : (firm also : Type 0) (shown own result : Result Answer NoAnswer) → shown ≡ Err Unread
+    → (reading_failed result ≡ true → also → ⊥) → Meets source_of firm shown result → Meets source_of also own result
+missed firm also shown own (Ok answer) is failed meets = let never_both : unread_answer ≡ Ok answer = sym is ∙ meets in cc
+missed firm also shown own (Err Unread) is failed meets = λ a. absurd (failed refl a)
+missed firm also shown own (Err (Faulty fault)) is failed meets =
+    inside firm also (fault_is_out_of_memory fault) own (Faulty fault) (λ e. absurd cc) (rw is at meets)
+missed firm also shown own (Err (Refused refusal rows)) is failed meets =
+    inside firm also (refusal_is_out_of_memory refusal) own (Refused refusal rows) (λ e. absurd cc) (rw is at meets)
+
+weaker : (firm also : Type 0) (expected result : Result Answer NoAnswer) → (also → firm) → Meets source_of firm expected result
+    → Meets source_of also expected result
+weaker firm also expected (Ok answer) implies meets = meets
+weaker firm also expected (Err none) implies meets = excuses_weaker also firm (source_of none) expected none implies meets
+
+module _ (sheets : List SheetMeaning) (words : List (List ℕ)) (before after : Sources) (result : Result Answer NoAnswer) (unread : Type 0)
+    (lawful : IsLawful after.files) (store : after.files.store ≡ before.files.store)
+    (shown : IsResultOf (names_wanted (question_of_words sheets words)) (AreShownFor (question_of_words sheets words))
+    (λ folders. answer_shown sheets folders (given_between before.clock after.clock) words)
+    before.files.openings after.files.openings result)
+    (last : IsReadLast (ReadsClock (question_of_words sheets words)) unread (AreShownFor (question_of_words sheets words))
+    (λ folders. HasFiles folders (question_of_words sheets words)) before after result)
+    (observable : IsTrue before.files.store.is_observable) where
+  abbrev own : Folders
+  own = λ slot. before.files.store.folder
+
+  abbrev asked : Result Question Fault
+  asked = question_of_words sheets words
+
+  last_shows : (firm : Bool) → (IsTrue firm → IsTrue before.files.store.is_steady) → AreShownFor asked firm last.openings own
+  last_shows firm steady = shows_own_for asked firm last.openings before.files after.files steady lawful store last.all observable
+
+  -- the result is the expected one over the contents
+  pub own_answer : (ReadsClock asked → IsTrue before.clock.is_observable)
+      → Meets source_of (IsFirm (ReadsClock asked) before after)
+      (answer_of sheets before.files.store.folder (next_minute before.clock) words) result
+  own_answer readable =
+      let steady = before.files.store.is_steady in
+      let shows = shows_own_for asked steady shown.openings before.files after.files (λ s. s) lawful store shown.all observable in
+      let meets = shown.answer steady own shows in
+      elim (same_answer sheets own (given_between before.clock after.clock) (next_minute before.clock) words
+      (λ reads. last.minute (readable reads))) [
+        | inl same ↦ weaker (IsTrue steady) (IsFirm (ReadsClock asked) before after) _ result (λ firm. firm.files) (rw same at meets)
+        | inr t ↦ missed (IsTrue steady) (IsFirm (ReadsClock asked) before after) _ _ result t.0
+            (λ failed firm. firm.clock (t.1.1, last.failed own (last_shows true (λ _. firm.files)) t.1.0 failed)) meets
+      ]
+
+  -- the clock is unchanged, unless all files can be read
+  pub own_last : ¬ (HasFiles own asked) → unread
+  own_last unheld = last.last own (last_shows false (λ f. never f)) unheld
+
+  -- the clock was read once, if the files can be read and the command needs it
+  pub own_once : ReadsClock asked → HasFiles own asked → IfErr result IsSettled
+      → (minute : ℤ) × (after.clock ≡ clock_after (Ok minute) before.clock)
+  own_once asks has settled = last.once own (last_shows false (λ f. never f)) has asks settled

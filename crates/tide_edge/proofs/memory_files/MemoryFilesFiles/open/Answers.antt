@@ -1,0 +1,33 @@
+use Rattle.std.proofs.Common.{◌∙◌, ap, sym, rules}
+use Rattle.tide_edge.specs.Memory.{files_now, files_state}
+use Rattle.tide_edge.specs.Workings.MemoryLaws.{opened_exists, safe_now, unopened_absent}
+use Rattle.tide_edge.proofs.MemoryLemmas.{next_open, next_result, open_after}
+use Rattle.tide_edge.proofs.memory_files.MemoryFilesFiles.open.Goals as goal
+
+pub invariant_of-self : goal.invariant_of-self
+invariant_of-self c =
+    next_open c.self.inside.files.items c.self.inside.history.items c.then_open-self-inside.result.items c.self.inside.opened c.self.inside.at
+    c.self.inside.calls c.find-self-inside.new.calls c.args.name.now c.self.invariant c.then_open-self-inside.ensures
+    c.find-self-inside.result (rw c.deref.ensures.value at c.find-self-inside.ensures.place) c.find-self-inside.ensures.after
+
+pub returns-clause-answer : goal.returns-clause-answer
+returns-clause-answer c =
+    c.result_of.ensures
+    ∙ rw (← c.self.view_is)
+    (sym (next_result c.self.inside.files.items c.self.inside.history.items c.then_open-self-inside.result.items c.self.inside.opened
+    c.self.inside.at c.self.inside.calls c.find-self-inside.new.calls c.args.name.now c.self.invariant c.then_open-self-inside.ensures
+    c.find-self-inside.result (rw c.deref.ensures.value at c.find-self-inside.ensures.place) c.find-self-inside.ensures.after))
+
+pub returns-clause-history : goal.returns-clause-history
+returns-clause-history c = search rules
+
+pub returns-clause-after : goal.returns-clause-after
+returns-clause-after c =
+    ap files_state (returns-clause-history c) ∙ open_after c.args.self.now c.args.name.now c.result_of.result (returns-clause-answer c)
+
+pub returns-clause-found : goal.returns-clause-found
+returns-clause-found c = rw (returns-clause-answer c) (opened_exists (files_now c.args.self.now) c.args.name.now)
+
+pub returns-clause-absent : goal.returns-clause-absent
+returns-clause-absent c = λ steady.
+    rw (returns-clause-answer c) (unopened_absent (files_now c.args.self.now) c.args.name.now (safe_now c.args.self.now) steady)
