@@ -1,7 +1,7 @@
 """Checks of a built program over many small files: answers, and what is said of a file with one other line."""
 import shlex
 
-from program_checks import TOP, difference
+from program_checks import DAILY, TOP, Server, difference, request, response, texted
 from program_runs import fed, read_runs, run_as_recorded
 
 EXPECTED = TOP / 'tools' / 'expected'
@@ -307,8 +307,32 @@ def answers(place):
         yield f'answers: {command}', lambda several=several: joined(run_as_recorded(place, run) for run in several)
 
 
+def replies(place):
+    """The replies of replies.txt to GET and to HEAD, and to POST with and without bytes after the body; and some with a fixed reply."""
+    files, runs = read_runs(EXPECTED / 'replies.txt')
+    for name, text in files.items():
+        write(place, name, text.encode())
+    write(place, 'replies-pier.txt', '\n'.join([*DAILY[:-4], '']).encode())
+    lines = {0: '200 OK', 400: '400 Bad Request', 422: '422 Unprocessable Content'}
+    asked = []
+    for (target, *posted), status, body, _ in runs:
+        wanted = response(body.encode(), lines[status], 'text/csv' if 'layout=csv' in target else 'text/plain')
+        if posted:
+            sent = request(target, 'POST', (place.folder / posted[0]).read_bytes())
+            asked += [(sent, wanted), (sent + b'and more', wanted)]
+        else:
+            asked += [(request(target), wanted), (request(target, 'HEAD'), wanted.partition(b'\r\n\r\n')[0] + b'\r\n\r\n')]
+    bad, none = response(b'bad request\n', '400 Bad Request'), response(b'not found\n', '404 Not Found')
+    allowed = response(b'method not allowed\n', '405 Method Not Allowed', allow='Allow: POST\r\n').partition(b'method')[0]
+    asked += [(b'GET /predict?station=Pier HTTP/1.1\r\n\r\n', bad), (request('/tides'), none), (request('/check', 'HEAD'), allowed),
+              (b'POST /check HTTP/1.1\r\nHost: a\r\n\r\n', response(b'length required\n', '411 Length Required'))]
+    with Server(place, 'offsets=replies.csv', file='replies-pier.txt') as server:
+        came = [(sent, server.reply(sent), wanted) for sent, wanted in asked]
+    return joined(f'{texted(sent)}: {texted(reply)} in place of {texted(wanted)}' for sent, reply, wanted in came if reply != wanted)
+
+
 def checks(place):
     yield from answers(place)
     for body in (books, real_book, begins_of_a_book, many_stations, tables, names_over_a_table, arguments, certificates, peak_certificates, long_words, long_tables,
-                 long_certificates, year_of_ten_constituents, eleven_years, longest_reference, samples, trial_of_a_seed):
+                 long_certificates, year_of_ten_constituents, eleven_years, replies, longest_reference, samples, trial_of_a_seed):
         yield f'files: {body.__name__.replace("_", " ")}', lambda body=body: body(place)
