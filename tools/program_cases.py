@@ -89,7 +89,7 @@ def real_book(place):
 
 
 def begins_of_a_book(place):
-    """Of the 97 texts with which pier.txt begins four are files: without its last waves and with them, each with and without a last end of a line."""
+    """Of the 97 texts with which pier.txt begins four are files: up to its stations and all of it, each with and without its last end of a line."""
     text, seen = (place.folder / 'pier.txt').read_bytes(), []
     whole = {it for end in (text.index(b'Pier\n0:00'), len(text)) for it in (end - 1, end)}
     for end in range(len(text) + 1):
@@ -102,14 +102,15 @@ def begins_of_a_book(place):
 def many_stations(place):
     text = (place.folder / 'pier.txt').read_bytes() + b'Pier\n0:00 :UTC\n0 feet\nS2 1 0\n' * 19_999
     listed = difference(place.run('stations', f'file={write(place, "many.txt", text)}'), 0, b'Ref feet Pier\n' * 20_000, b'')
-    return listed or said(place, 'file', 'line 80013: too many stations (12)', 'stations', f'file={write(place, "more.txt", text + b"Pier" + bytes([10]))}')
+    write(place, 'more.txt', text + b'Pier\n')
+    return listed or said(place, 'file', 'line 80013: too many stations (12)', 'stations', 'file=more.txt')
 
 
 def tables(place):
     seen = []
     for line, text, printed in changes('table'):
-        data = (HEADER if line else '') + text
-        seen.append(said(place, 'offsets', printed, 'stations', 'file=pier.txt', f'offsets={write(place, "table.csv", data.encode("latin-1"))}'))
+        write(place, 'table.csv', ((HEADER if line else '') + text).encode('latin-1'))
+        seen.append(said(place, 'offsets', printed, 'stations', 'file=pier.txt', 'offsets=table.csv'))
     return joined(seen)
 
 
@@ -201,7 +202,7 @@ def long_tables(place):
     name = 'a' * 400
     row = f'\n"{name}",{name},-23:59,+24:00,100.000000,0.000001,-10000.000000,10000.000000,0:05,-0:05'
     write(place, 'long.csv', (f'{HEADER},flood_add,ebb_add' + row * 1_200).encode())
-    listed = f'Ref feet Pier\n' + f'Sub - {name} ({name})\n' * 1_200
+    listed = 'Ref feet Pier\n' + f'Sub - {name} ({name})\n' * 1_200
     seen = [difference(place.run('stations', 'file=pier.txt', 'offsets=long.csv'), 0, listed.encode(), b'')]
     sample = place.run('sample', 'seed=0').stdout
     write(place, 'sample.txt', sample)
