@@ -22,12 +22,16 @@ MOST_FILE, MOST_ZONE = 67_108_864, 1_048_576
 FEW_MEGABYTES = (32, 48, 64)
 
 
-def recorded():
-    """The recorded runs: arguments, status, standard output, standard error."""
-    runs = []
-    for line in RUNS.read_text(encoding='utf-8').splitlines():
+def read_runs(path):
+    """The files of a record of runs, and its runs: arguments, status, standard output, standard error."""
+    files, runs, name = {}, [], ''
+    for line in path.read_text(encoding='utf-8').splitlines():
         sign, rest = line[:1], line[2:]
-        if sign == '$':
+        if sign == '@':
+            name, files[rest] = rest, ''
+        elif sign == '+':
+            files[name] += rest + '\n'
+        elif sign == '$':
             runs.append([shlex.split(rest), 0, '', ''])
         elif sign in '|>' and sign:
             runs[-1][2] += rest + ('\r\n' if sign == '>' else '\n')
@@ -35,7 +39,12 @@ def recorded():
             runs[-1][3] += rest + '\n'
         elif sign == '?':
             runs[-1][1] = int(rest)
-    return runs
+    return files, runs
+
+
+def recorded():
+    """The recorded runs: arguments, status, standard output, standard error."""
+    return read_runs(RUNS)[1]
 
 
 def now():
@@ -187,30 +196,36 @@ def standard_input(place):
     return difference(place.run(WORDS[0], 'file=/dev/stdin', *WORDS[2:], input=data), 0, PIER, b'')
 
 
-def fifo(place):
-    """A file that comes in short pieces, each of them only when the one before was read."""
-    path = place.folder / 'fifo'
+def fed(place, data, count, *words):
+    """A run over a file of constants that comes in pieces of so many bytes, each of them only when the one before was read."""
+    path = place.folder / f'fifo-{threading.get_ident()}'
     os.mkfifo(path)
-    data, ended = (place.folder / 'pier.txt').read_bytes(), threading.Event()
+    ended = threading.Event()
 
     def fill():
         with open(path, 'wb', buffering=0) as end:
-            for at in range(0, len(data), 7):
+            for at in range(0, len(data), count):
                 try:
-                    end.write(data[at:at + 7])
+                    end.write(data[at:at + count])
                 except OSError:  # nobody reads on
                     return
-                while any(fcntl.ioctl(end, termios.FIONREAD, bytes(4))) and not ended.wait(0.001):
+                while any(fcntl.ioctl(end, termios.FIONREAD, bytes(4))) and not ended.wait(0.0002):
                     pass
 
     writer = threading.Thread(target=fill, daemon=True)
     writer.start()
-    seen = difference(place.run(WORDS[0], 'file=fifo', *WORDS[2:]), 0, PIER, b'')
+    run = place.run(words[0], f'file={path.name}', *words[1:])
     ended.set()
     if writer.is_alive():  # nobody has opened the other end
         os.close(os.open(path, os.O_RDONLY | os.O_NONBLOCK))
     writer.join(10)
-    return seen
+    path.unlink()
+    return run
+
+
+def fifo(place):
+    data = (place.folder / 'pier.txt').read_bytes()
+    return difference(fed(place, data, 7, WORDS[0], *WORDS[2:]), 0, PIER, b'')
 
 
 def too_long(place):

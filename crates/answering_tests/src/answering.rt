@@ -1,33 +1,29 @@
-//! Answers, streamed answers and refusals, over a pier and a stream.
+//! Streamed answers over a pier and a current, the lines of faults, and laws.
 
 mod case;
 mod rows;
-mod sizes;
 
 ghost use Rattle.std.specs.Prelude.{IfOk};
 ghost use Rattle.harmonics_book.specs.Books.{IsBook};
 ghost use Rattle.question.specs.Asked.{IsAsked};
 ghost use Rattle.tide_answer.specs.Givens.{IsGiven};
 
-use crate::asserts::{assert_bytes, assert_count, assert_holds, lines_of};
-use case::{Case, asked, written};
+use crate::asserts::{assert_bytes, assert_count, assert_holds};
+use case::{Case, asked};
 use decimal_text::{Bytes, Text};
 use harmonics_book::Book;
 use harmonics_text::{BookFault, read_book};
 use question::ValidQuestion;
-use rows::{
-    ANSWERS, ASK_FAULTS, CUT_SHORT, HALF_SLACK, PEAK_VERDICTS, REFUSALS, STREAMS, VERDICTS,
-};
+use rows::{ASK_FAULTS, CUT_SHORT, HALF_SLACK, REFUSALS, STREAMS};
 use station_span::{worked_levels, worked_spans};
 use station_table::{OffsetFault, OffsetTable, read_offsets};
 use std::alloc::{AllocError, Global};
 use std::process::Abort;
 use std::test::Fail;
 use tide_answer::{
-    Fault, Listed, Slot, accepted_is_short, accepted_is_true, accepted_peak_is_short,
+    Fault, Slot, accepted_is_short, accepted_is_true, accepted_peak_is_short,
     accepted_peak_is_true, answer_alone, certified_is_accepted, fault_line, fault_status,
-    highest_is_reported, peak_certified_is_accepted, peak_certified_is_short, station_events,
-    worked_rows,
+    highest_is_reported, peak_certified_is_accepted, peak_certified_is_short, worked_rows,
 };
 use tide_edge::MemorySink;
 use tide_fault::worked_lines;
@@ -56,78 +52,35 @@ fn table(alloc: Global) -> Result<OffsetTable, OffsetFault> {
 
 /// Returns the request of the arguments in `line`, separated by `|`, about the pier, the current or a
 /// subordinate station.
-fn pier_case(alloc: Global, line: &str, certificate: &str) -> Result<Case, Fail>
+fn pier_case(alloc: Global, line: &str) -> Result<Case, Fail>
     ensures book { IfOk result (λ case. IsBook case.book) }
     ensures question { IfOk result (λ case. IsAsked case.question) }
     ensures given { IfOk result (λ case. IsGiven case.given) }
 {
-    Case::new(
-        alloc,
-        pier(alloc)?,
-        table(alloc)?,
-        line,
-        certificate.as_bytes(),
-    )
+    let question = asked(alloc, line)?;
+    let table = table(alloc)?;
+    Ok(Case::new(alloc, pier(alloc)?, table, question))
 }
 
-/// Returns the answer's text, or the line of its refusal.
-fn printed(alloc: Global, line: &str, certificate: &str) -> Result<Bytes, Fail> {
-    pier_case(alloc, line, certificate)?.printed(alloc)
-}
-
-fn assert_printed(
-    rt: &impl Abort,
-    alloc: Global,
-    line: &str,
-    certificate: &str,
-    expected: &str,
-) -> Result<(), Fail> {
-    let text = printed(alloc, line, certificate)?;
-    let case = if certificate.is_empty() {
-        line
-    } else {
-        certificate
-    };
-    assert_bytes(rt, text.as_slice(), expected.as_bytes(), case);
-    Ok(())
-}
-
-#[test]
-fn questions_have_their_answers(rt: HostRuntime) -> Result<(), Fail> {
-    for &(line, expected) in ANSWERS {
-        assert_printed(&rt, rt.alloc(), line, "", expected)?;
-    }
-    Ok(())
-}
-
-/// Returns the events of a request for a report.
-fn listed(alloc: Global, line: &str) -> Result<Listed, Fail> {
-    let case = pier_case(alloc, line, "")?;
-    match station_events(alloc, &case.book, &case.table, &case.question, &case.given) {
-        Ok(listed) => Ok(listed),
-        Err(_) => Err(Fail::from(AllocError)),
-    }
-}
-
-#[test]
-fn a_report_has_the_events_of_a_question(rt: HostRuntime) -> Result<(), Fail> {
-    let line = "report|file=f|station=Outer|begin=2000-01-10T00:00Z|end=2000-01-10T12:00Z|sheets=a";
-    let listed = listed(rt.alloc(), line)?;
-    assert_bytes(&rt, listed.name.as_str().as_bytes(), b"Outer", line);
-    assert_count(&rt, listed.events.as_slice().len(), 2, line);
-    Ok(())
-}
-
-/// Returns the sink of a streamed answer and, if a write failed, the number of bytes sent before it.
+/// Writes the answer to `line` to a sink that accepts `most` bytes in a write, and returns the sink and, if
+/// the write with the number `failing` failed, the number of bytes sent before it.
 fn streamed(
     alloc: Global,
     line: &str,
     most: u64,
     failing: u64,
 ) -> Result<(MemorySink, Option<u64>), Fail> {
-    let ready = pier_case(alloc, line, "")?.ready(alloc)?;
-    let sink = MemorySink::new(alloc, most.max(1), 100_000, [failing].to_vec(alloc)?)?;
-    Ok(written(&ready, sink)?)
+    let mut sink = MemorySink::new(alloc, most.max(1), 100_000, [failing].to_vec(alloc)?)?;
+    let sent = stream(alloc, line, &mut sink);
+    Ok((sink, sent?))
+}
+
+/// Writes the answer to `line` to `sink`, and returns the number of bytes sent before a write that failed.
+fn stream(alloc: Global, line: &str, sink: &mut MemorySink) -> Result<Option<u64>, Fail> {
+    let case = pier_case(alloc, line)?;
+    let sent = case.send(alloc, sink);
+    drop(case);
+    Ok(sent?)
 }
 
 /// Asserts which bytes of an answer were `taken` if the write with the number `failing` fails after
@@ -168,9 +121,10 @@ fn assert_streams(
     line: &str,
     calls: &[(u64, u64, Option<u64>)],
 ) -> Result<(), Fail> {
-    let text = printed(alloc, line, "")?;
+    let (whole, _) = streamed(alloc, line, 5_000, 0)?;
+    assert_holds(rt, whole.bytes().len() > 4_096, line);
     for call in calls {
-        assert_streamed(rt, alloc, line, text.as_slice(), call)?;
+        assert_streamed(rt, alloc, line, whole.bytes(), call)?;
     }
     Ok(())
 }
@@ -179,24 +133,6 @@ fn assert_streams(
 fn answers_are_written_as_they_are_found(rt: HostRuntime) -> Result<(), Fail> {
     for &(line, calls) in STREAMS {
         assert_streams(&rt, rt.alloc(), line, calls)?;
-    }
-    Ok(())
-}
-
-#[test]
-fn certificates_are_judged(rt: HostRuntime) -> Result<(), Fail> {
-    for &(certificate, expected) in VERDICTS {
-        let line = "check|file=f|certificate=c";
-        assert_printed(&rt, rt.alloc(), line, certificate, expected)?;
-    }
-    Ok(())
-}
-
-#[test]
-fn certificates_of_a_highest_water_are_judged(rt: HostRuntime) -> Result<(), Fail> {
-    for &(certificate, expected) in PEAK_VERDICTS {
-        let line = "peakcheck|file=f|certificate=c";
-        assert_printed(&rt, rt.alloc(), line, certificate, expected)?;
     }
     Ok(())
 }
@@ -215,19 +151,6 @@ fn a_trial_needs_no_file(rt: HostRuntime) -> Result<(), Fail> {
     let line = "trial|seed=0";
     let alone = printed_alone(rt.alloc(), line)?;
     assert_bytes(&rt, alone.as_slice(), TRIAL.as_bytes(), line);
-    Ok(())
-}
-
-#[test]
-fn seeds_have_their_trials(rt: HostRuntime) -> Result<(), Fail> {
-    assert_printed(&rt, rt.alloc(), "trial|seed=0", "", TRIAL)
-}
-
-#[test]
-fn seeds_have_their_files(rt: HostRuntime) -> Result<(), Fail> {
-    let line = "sample|seed=0";
-    let sample = printed(rt.alloc(), line, "")?;
-    assert_count(&rt, lines_of(sample.as_slice()), 8192, line);
     Ok(())
 }
 

@@ -13,8 +13,3 @@ pub fn assert_count(rt: &impl Abort, seen: usize, expected: usize, case: &str) {
 pub fn assert_holds(rt: &impl Abort, holds: bool, case: &str) {
     assert!(rt; holds, "{case}");
 }
-
-/// Returns the number of lines of `text`.
-pub fn lines_of(text: &[u8]) -> usize {
-    text.iter().filter(|byte| **byte == b'\n').count()
-}

@@ -1,5 +1,5 @@
-//! Tests of the crates of curves: of levels and rates, of cells and verdicts, of events and highest
-//! waters, and of listings and sheets.
+//! Tests of the crates of curves: of levels and rates, of cells and verdicts, and of events and highest
+//! waters.
 //!
 //! They use only the public items of these crates. They are in a separate crate because a crate with
 //! tests is proved twice: with and without them.
@@ -7,8 +7,6 @@
 
 #[cfg(test)]
 mod asserts;
-#[cfg(test)]
-mod calendars;
 #[cfg(test)]
 mod checks;
 #[cfg(test)]
@@ -24,17 +22,9 @@ mod highest;
 #[cfg(test)]
 mod hills;
 #[cfg(test)]
-mod ical;
-#[cfg(test)]
-mod lists;
-#[cfg(test)]
 mod rates;
 #[cfg(test)]
-mod reports;
-#[cfg(test)]
 mod searches;
-#[cfg(test)]
-mod sheets;
 #[cfg(test)]
 mod sines;
 #[cfg(test)]
@@ -42,10 +32,6 @@ mod sizes;
 #[cfg(test)]
 mod slope_bounds;
 #[cfg(test)]
-mod station_lists;
-#[cfg(test)]
 mod stations;
-#[cfg(test)]
-mod year_lists;
 #[cfg(test)]
 mod years;

@@ -1,25 +1,18 @@
-//! The events of a year, and lists of the sizes that users have.
+//! The events of a year.
 
-ghost use Rattle.std.specs.Prelude.{◌≡◌, ◌≤◌, pos, ◌≤ℤ◌, All, IfOk, IsTrue};
+ghost use Rattle.std.specs.Prelude.{◌≡◌, ◌≤◌, pos, ◌≤ℤ◌, IfOk, IsTrue};
 ghost use Rattle.curve_law.specs.Cells.{all_minutes};
-ghost use Rattle.zone_time.specs.Zones.{InZoneYears};
 
 use crate::asserts::assert_holds;
 use crate::events::{are_movable, dock, event, taken};
-use crate::lists::rows_of;
-use crate::station_lists::{BOOK, TABLE, listed_stations};
 use crate::stations::pier;
 use curve_law::{Cells, Curve, Event, Events, Kind, Tracks};
-use decimal_text::{Bytes, Text};
 use event_list::{Merge, merged, shifted, track_events};
-use harmonics_book::Units;
 use interval_search::{Search, search};
-use listing::{Rows, csv_heights, plain_heights};
 use rate_bound::{MarkCurve, TurnCurve};
 use station_curve::{CurveFault, StationCurve};
 use std::alloc::{AllocError, Global};
 use std::process::Abort;
-use zone_time::Zone;
 
 /// The first minute of 2000.
 const BEGIN: i64 = 15_778_080;
@@ -148,87 +141,5 @@ fn check_one_by_one(rt: &impl Abort, alloc: Global, station: &StationCurve) {
 fn a_year_comes_one_event_at_a_time(rt: HostRuntime) -> Result<(), CurveFault> {
     let station = pier(rt.alloc(), "0", "1")?;
     check_one_by_one(&rt, rt.alloc(), &station);
-    Ok(())
-}
-
-/// A text's length, its beginning and its end.
-type Form = (usize, &'static str, &'static str);
-
-/// Returns true if a text was made, and has this form.
-fn has_form(made: Result<Bytes, AllocError>, form: Form) -> bool {
-    let (length, begin, end) = form;
-    match made {
-        Ok(text) => {
-            let bytes = text.as_slice();
-            bytes.len() == length
-                && bytes.starts_with(begin.as_bytes())
-                && bytes.ends_with(end.as_bytes())
-        }
-        Err(_) => false,
-    }
-}
-
-const PLAIN_HEIGHTS: Form = (
-    3_700_005,
-    "Pier\n2000-01-01 00:00 UTC       1.00 feet\n",
-    "\n2000-03-10 10:39 UTC       1.00 feet\n",
-);
-
-const CSV_HEIGHTS: Form = (
-    5_400_033,
-    "station,moment,local,level,units\nPier,2000-01-01T00:00Z,2000-01-01 00:00,1.000000,feet\n",
-    "\nPier,2000-03-10T10:39Z,2000-03-10 10:39,1.000000,feet\n",
-);
-
-const STATIONS: Form = (
-    76_138,
-    "Ref feet Pier\nRef knots^2 Gate\nRef meters Pier\nRef feet Pier\n",
-    "Sub knots^2 Dock (Gate)\nSub knots^2 Dock (Gate)\n",
-);
-
-/// Returns 100,000 rows of one foot, one a minute.
-fn many_rows(alloc: Global) -> Result<Rows, AllocError>
-    ensures { IfOk result (All (λ row. InZoneYears row.minute)) }
-{
-    let mut items = Vec::new(alloc);
-    for row in 0..100_000u32 {
-        items.push((BEGIN + i64::from(row), 1_000_000))?;
-    }
-    rows_of(alloc, items.as_slice())
-}
-
-fn check_rows(rt: &impl Abort, alloc: Global, name: &Text, rows: &Rows)
-    requires { All (λ row. InZoneYears row.minute) rows.now }
-{
-    let plain = plain_heights(alloc, name, Units::Feet, rows, &Zone::Utc);
-    assert_holds(rt, has_form(plain, PLAIN_HEIGHTS), "text");
-    let csv = csv_heights(alloc, name, Units::Feet, rows, &Zone::Utc);
-    assert_holds(rt, has_form(csv, CSV_HEIGHTS), "csv");
-}
-
-#[test]
-fn many_heights_are_listed(rt: HostRuntime) -> Result<(), AllocError> {
-    let name = Text::from_str(rt.alloc(), "Pier")?;
-    let rows = many_rows(rt.alloc())?;
-    check_rows(&rt, rt.alloc(), &name, &rows);
-    Ok(())
-}
-
-/// Returns a text with 2,000 more parts.
-fn with_more(alloc: Global, text: &[u8], more: &[u8]) -> Result<Vec<u8>, AllocError> {
-    let mut longer = Vec::from_slice(alloc, text)?;
-    for _ in 0..2_000u32 {
-        longer.extend_from_slice(more)?;
-    }
-    Ok(longer)
-}
-
-#[test]
-fn many_stations_are_listed(rt: HostRuntime) -> Result<(), AllocError> {
-    let alloc = rt.alloc();
-    let file = with_more(alloc, BOOK, b"Pier\n0:00 :UTC\n0 feet\nS2 1 0\n")?;
-    let rows = with_more(alloc, TABLE, b"Dock,Gate,,,,,,\n")?;
-    let text = listed_stations(alloc, file.as_slice(), rows.as_slice());
-    assert!(rt; has_form(text, STATIONS));
     Ok(())
 }

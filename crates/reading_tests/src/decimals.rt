@@ -62,7 +62,7 @@ fn bytes_of_names_are_kept(rt: HostRuntime) {
 }
 
 /// A text, the number of places, and the value or the fault.
-const DECIMALS: &[(&[u8], u32, Result<i128, DecimalFault>)] = &[
+static DECIMALS: &[(&[u8], u32, Result<i128, DecimalFault>)] = &[
     (b"-1.50", 2, Ok(-150)),
     (b".5", 6, Ok(500_000)),
     (b"5.", 1, Ok(50)),

@@ -62,7 +62,7 @@ fn has_reply(door: &MemoryDoor, i: u64, text: &str) -> bool {
 
 /// The room for replies, the call that fails, the outcomes of three connections, and the first
 /// reply.
-const DOORS: &[(u64, u64, [Result<bool, Failed>; 3], &str)] = &[
+static DOORS: &[(u64, u64, [Result<bool, Failed>; 3], &str)] = &[
     (4, 0, [Ok(true), Ok(true), Ok(false)], "pier"),
     (4, 2, [Err(Failed), Ok(true), Ok(true)], "pier"),
     (4, 3, [Err(Failed), Ok(true), Ok(false)], ""),

@@ -71,7 +71,7 @@ fn length_read<F: Files>(
 }
 
 /// A name, the limit, the call that fails, and the number of bytes or the fault.
-const MEMORY_FILES: &[(&str, u64, u64, Result<usize, ReadAllFault>)] = &[
+static MEMORY_FILES: &[(&str, u64, u64, Result<usize, ReadAllFault>)] = &[
     ("pier", 10, 0, Ok(10)),
     ("pier", 9, 0, Err(ReadAllFault::TooLong)),
     ("quay", 10, 0, Err(ReadAllFault::Failed)),
@@ -139,7 +139,7 @@ fn has_taken(sink: &MemorySink, count: u64) -> bool {
 }
 
 /// The room of a sink, the call that fails, and the number of bytes sent before a failure.
-const SINKS: &[(u64, u64, Option<u64>)] = &[
+static SINKS: &[(u64, u64, Option<u64>)] = &[
     (10, 0, None),
     (10, 1, Some(0)),
     (10, 2, Some(3)),

@@ -10,8 +10,6 @@ mod asserts;
 #[cfg(test)]
 mod certificates;
 #[cfg(test)]
-mod cuts;
-#[cfg(test)]
 mod decimals;
 #[cfg(test)]
 mod doors;
@@ -35,9 +33,5 @@ mod question_values;
 mod questions;
 #[cfg(test)]
 mod samples;
-#[cfg(test)]
-mod sizes;
-#[cfg(test)]
-mod texts;
 #[cfg(test)]
 mod zones;

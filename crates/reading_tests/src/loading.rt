@@ -59,7 +59,7 @@ fn stations_loaded(
 }
 
 /// A file, a limit, the call that fails, and the number of stations or the fault.
-const LOADINGS: &[(&str, u64, u64, Result<usize, LoadFault>)] = &[
+static LOADINGS: &[(&str, u64, u64, Result<usize, LoadFault>)] = &[
     ("pier", MOST_BYTES as u64, 0, Ok(1)),
     ("pier", 10, 0, Err(LoadFault::TooLong)),
     ("quay", 10, 0, Err(LoadFault::Failed)),

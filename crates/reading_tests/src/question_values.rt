@@ -45,7 +45,7 @@ const USUAL: Values = Values {
 };
 
 /// Arguments, and the values of the question.
-const VALUES: &[(&str, Values)] = &[
+static VALUES: &[(&str, Values)] = &[
     (
         "predict|file=pier.txt|station=Pier|begin=2000-01-10T00:00Z|end=2000-01-11T00:00Z",
         Values {

@@ -14,7 +14,7 @@ use zone_time::{
 };
 
 /// A text, and its moment.
-const READINGS: &[(&str, Option<i64>)] = &[
+static READINGS: &[(&str, Option<i64>)] = &[
     ("2000-01-10T00:00Z", Some(15791040)),
     ("1970-01-01T00:00Z", Some(0)),
     ("1969-12-31T23:59Z", Some(-1)),
@@ -50,7 +50,7 @@ fn moments_are_read(rt: HostRuntime) {
 }
 
 /// A moment, and its text.
-const WRITINGS: &[(i64, &str)] = &[
+static WRITINGS: &[(i64, &str)] = &[
     (15791040, "2000-01-10T00:00Z"),
     (-1, "1969-12-31T23:59Z"),
     (15864479, "2000-02-29T23:59Z"),
@@ -87,7 +87,7 @@ fn laws_and_rows_stand(_rt: HostRuntime) {
 }
 
 /// A local minute, its label, and the text.
-const LOCALS: &[(i64, Label, &str)] = &[
+static LOCALS: &[(i64, Label, &str)] = &[
     (15791400, Label::Utc, "2000-01-10 06:00 UTC"),
     (15791100, Label::Minutes(-300), "2000-01-10 01:00 -05:00"),
     (15881280, Label::Minutes(-240), "2000-03-12 16:00 -04:00"),
@@ -138,7 +138,7 @@ fn new_york(alloc: Global, footer: &[u8]) -> Result<Vec<u8>, AllocError> {
 }
 
 /// A minute, and the minutes that New York is ahead of UTC.
-const NEW_YORK: &[(i64, i32)] = &[
+static NEW_YORK: &[(i64, i32)] = &[
     (-63113760, -297),
     (-45294181, -297),
     (-45294180, -300),
@@ -212,7 +212,7 @@ fn changed_often(alloc: Global) -> Result<Vec<u8>, Fail> {
 }
 
 /// A minute, and the minutes that the zone of many changes is ahead of UTC.
-const MANY_CHANGES: &[(i64, i32)] = &[
+static MANY_CHANGES: &[(i64, i32)] = &[
     (-36290881, -297),
     (-36290880, -300),
     (-5543281, -300),

@@ -2,7 +2,6 @@
 
 mod coming;
 mod hours;
-mod replies;
 mod serving;
 mod serving_texts;
 

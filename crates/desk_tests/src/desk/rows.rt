@@ -21,12 +21,6 @@ pub const LATE: &str =
 pub const OUT_OF_YEARS: &str =
     "refused: out of years: file has 1999-01-01T00:00Z to 2002-01-01T00:00Z\n";
 
-/// A file of eleven years of a pier.
-pub const ELEVEN_YEARS: &str =
-    "1\nM2 28.9841042\n1999\n11\nM2\n0 20 40 60 80 100 120 140 160 180 200\n*END*\n11\nM2\n\
-    0.9800 0.9840 0.9880 0.9920 0.9960 1.0000 1.0040 1.0080 1.0120 1.0160 1.0200\n*END*\n\
-    Pier\n0:00\n1 feet\nM2 3 40\n";
-
 /// Runs that are answered, with what they print.
 pub static ANSWERS: [Case<'static>; 17] = [
     CASE,
@@ -125,30 +119,4 @@ pub static ANSWERS: [Case<'static>; 17] = [
         words: "predict|end=2000-01-11T00:00Z|station=Pier|zone=UTC|begin=2000-01-10T00:00Z|file=pier.txt",
         ..CASE
     },
-];
-
-/// Examples over eleven years: arguments, and the number of bytes and of lines of the text, its
-/// beginning and its end.
-pub const LONG_TEXTS: &[(&str, usize, usize, &str, &str)] = &[
-    (
-        "predict|file=pier.txt|station=Pier|begin=2000-01-01T00:00Z|end=2001-01-01T00:00Z",
-        67_265,
-        1_417,
-        "Pier\n2000-01-01 00:52 UTC       3.93 feet  High Tide\n",
-        "2000-12-31 23:43 UTC       3.21 feet  Low Tide\n",
-    ),
-    (
-        "predict|file=pier.txt|station=Pier|begin=1999-06-01T00:00Z|end=2009-05-31T00:00Z",
-        671_133,
-        14_130,
-        "Pier\n1999-06-01 04:11 UTC       3.94 feet  High Tide\n",
-        "2009-05-30 20:27 UTC       4.06 feet  High Tide\n",
-    ),
-    (
-        "report|file=pier.txt|station=Pier|begin=1999-01-02T00:00Z|end=2009-01-02T00:00Z|sheets=tally,range,first",
-        591,
-        17,
-        "Pier\n7067 High Tide\n7066 Low Tide\nPier\nHighest 4.06 feet 2009-01-01T06:54Z\n",
-        "1999-01-04 10:06 UTC      -1.94 feet  Low Tide\n",
-    ),
 ];

@@ -38,7 +38,7 @@ type Calendar = (
     &'static str,
 );
 
-const CALENDARS: &[Calendar] = &[
+static CALENDARS: &[Calendar] = &[
     (
         Some(0),
         15791040,

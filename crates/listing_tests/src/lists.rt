@@ -76,7 +76,7 @@ fn are_rows(rows: &[Row]) -> bool
 
 /// Returns minutes since 1970-01-01T00:00Z and levels in millionths as rows, or an error if a minute
 /// isn't in the years 2 to 9300 or on the day before them.
-pub fn rows_of(alloc: Global, items: &[(i64, i64)]) -> Result<Rows, AllocError>
+fn rows_of(alloc: Global, items: &[(i64, i64)]) -> Result<Rows, AllocError>
     ensures { IfOk result (All (λ row. InZoneYears row.minute)) }
 {
     let mut rows = Vec::new(alloc);
@@ -133,7 +133,7 @@ type EventLists = (
     &'static str,
 );
 
-const EVENTS: &[EventLists] = &[
+static EVENTS: &[EventLists] = &[
     (
         "Pier",
         Units::Feet,
@@ -214,7 +214,7 @@ fn events_are_listed(rt: HostRuntime) {
 /// The minutes by which a clock is ahead, levels, and both listings of them.
 type HeightLists = (i32, &'static [(i64, i64)], &'static str, &'static str);
 
-const HEIGHTS: &[HeightLists] = &[
+static HEIGHTS: &[HeightLists] = &[
     (
         -300,
         &[(15791040, 1000000), (15791400, -1000000)],
@@ -262,7 +262,7 @@ fn heights_are_listed(rt: HostRuntime) -> Result<(), AllocError> {
 /// A direction, the minutes by which a clock is ahead, events, and the listing of the level now.
 type Clock = (bool, i32, &'static [(i64, Kind, i64)], &'static str);
 
-const CLOCKS: &[Clock] = &[
+static CLOCKS: &[Clock] = &[
     (
         false,
         0,
@@ -309,7 +309,7 @@ fn clocks_are_printed(rt: HostRuntime) -> Result<(), AllocError> {
 }
 
 /// A level, its unit, and the line of it.
-const LEVELS: &[(i64, Units, &str)] = &[
+static LEVELS: &[(i64, Units, &str)] = &[
     (
         -15000,
         Units::Meters,

@@ -144,7 +144,7 @@ fn the_day_of_a_small_file_is_a_calendar(rt: HostRuntime) {
 }
 
 /// A number of letters, and the lengths of their folded lines.
-const FOLDED: &[(usize, &[usize])] = &[
+static FOLDED: &[(usize, &[usize])] = &[
     (0, &[0]),
     (74, &[74]),
     (75, &[75]),
@@ -209,7 +209,7 @@ fn lines_are_unfolded(rt: HostRuntime) {
 }
 
 /// A name, and how it is written in a calendar.
-const NAMES: &[(&str, &str)] = &[
+static NAMES: &[(&str, &str)] = &[
     ("Pier, North; A\\B", "Pier\\, North\\; A\\\\B"),
     ("C\u{e1}diz: \"old\"", "C\u{e1}diz: \"old\""),
     ("\\n;,", "\\\\n\\;\\,"),
@@ -303,7 +303,7 @@ fn sheets_have_their_word(rt: HostRuntime) {
 }
 
 /// A minute, and the stamp of a calendar that is made then.
-const STAMPS: &[(i64, &str)] = &[
+static STAMPS: &[(i64, &str)] = &[
     (i64::MIN, "DTSTAMP:00010101T000000Z\r\n"),
     (-1_035_593_281, "DTSTAMP:00010101T000000Z\r\n"),
     (-1_035_593_279, "DTSTAMP:00010101T000100Z\r\n"),

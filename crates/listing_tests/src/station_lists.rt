@@ -12,20 +12,19 @@ use station_table::read_offsets;
 use std::alloc::{AllocError, Global};
 use std::process::Abort;
 
-pub const BOOK: &[u8] = b"1\nS2 30\n1999\n1\nS2\n0\n*END*\n1\nS2\n1\n*END*\n\
+const BOOK: &[u8] = b"1\nS2 30\n1999\n1\nS2\n0\n*END*\n1\nS2\n1\n*END*\n\
     Pier\n0:00 :UTC\n0 feet\nS2 1 0\n\
     Gate\n0:00 :UTC\n0 knots^2\nS2 1 0\n\
     Pier\n0:00 :UTC\n0 meters\nS2 1 0\n";
 
-pub const TABLE: &[u8] =
-    b"name,reference,high_add,low_add,high_times,low_times,high_plus,low_plus\n\
+const TABLE: &[u8] = b"name,reference,high_add,low_add,high_times,low_times,high_plus,low_plus\n\
     Dock,Pier,0:30,-0:10,1.1,0.9,0.1,0\n\
     \"Outer, east\",Gate,,,,,,\n\
     Lost,Nowhere,,,,,,\n\
     Pier,Dock,,,,,,\n";
 
 /// The minutes by which a clock is ahead, and the listing of a highest water.
-const HIGHEST: &[(i32, &str)] = &[
+static HIGHEST: &[(i32, &str)] = &[
     (
         0,
         "Boston, Boston Harbor\nHighest 2025-04-29 04:33 UTC      12.22 feet\n",
@@ -86,7 +85,7 @@ fn listed_with(alloc: Global, book: &Book, rows: &[u8]) -> Result<Bytes, AllocEr
 
 /// Returns the list of the stations of a file and of a table of offsets, or an error if one of them can't
 /// be read.
-pub fn listed_stations(alloc: Global, file: &[u8], rows: &[u8]) -> Result<Bytes, AllocError> {
+fn listed_stations(alloc: Global, file: &[u8], rows: &[u8]) -> Result<Bytes, AllocError> {
     if file.len() >= 1_000_000 || rows.len() >= 1_000_000 {
         return Err(AllocError);
     }

@@ -91,7 +91,7 @@ const LAST_TWO: &str = "2000-01-10 18:00 UTC      -1.00 feet  Low Tide\n\
     2000-01-10 23:59 UTC       1.00 feet  High Tide\n";
 
 /// The requested words, the limit of the sheet `first`, and the parts of the text.
-const REPORTS: &[(&str, u32, &[&str])] = &[
+static REPORTS: &[(&str, u32, &[&str])] = &[
     (
         "first|tally|range",
         10,
@@ -153,7 +153,7 @@ fn refused(alloc: Global, at: Option<Refusal>) -> Result<Bytes, AllocError> {
     report(alloc, sheets, "tally|refusing", "Pier", TIDE)
 }
 
-const CALLS: &[(Refusal, &str)] = &[
+static CALLS: &[(Refusal, &str)] = &[
     (Refusal::Open, "open"),
     (Refusal::Take, "take"),
     (Refusal::Text, "text"),
@@ -170,7 +170,7 @@ fn refusals_leave_no_text(rt: HostRuntime) {
 }
 
 /// Requested words, and the place of the first one that no sheet has.
-const MISSING: &[(&str, Option<u64>)] = &[
+static MISSING: &[(&str, Option<u64>)] = &[
     ("tally|few", None),
     ("few|tally", None),
     ("few|graph|table", Some(1)),
