@@ -1,10 +1,12 @@
-use Rattle.std.proofs.Common.{◌≡◌, ◌-◌, ◌^◌, ◌*ℤ◌, FitsSigned, rules, ap, ◌∙◌, lit<}
+use Rattle.std.proofs.Common.{◌≡◌, ◌-◌, ◌^◌, ◌*ℤ◌, FitsSigned, Some, rules, ap, ◌∙◌, lit<}
 use Rattle.std.proofs.lemmas.Int.{to_z-of_z}
 use mir.Syntax.{w64, w128}
 use Rattle.station_curve.specs.declared.year_sums.Sums.{Sums}
 use Rattle.station_curve.proofs.Products.{cast_small, abs_within}
 use Rattle.rate_bound.specs.Rates.{plain_level_rate, blended_level_rate, book_sums}
-use Rattle.rate_bound.proofs.RateCases.{level_rate-within, level_rate-first, level_rate-second}
+use Rattle.rate_bound.proofs.RateCases.{level_rate-at}
+use Rattle.rate_bound.specs.declared.version.Version.TheVariants.{First, Second}
+use Rattle.year_blend.specs.declared.parts.Stretch.TheVariants.{Within, Across}
 use Rattle.station_curve.specs.Levels.{blended}
 use Rattle.rate_bound.proofs.Naming.{needed_sums}
 use Rattle.rate_bound.proofs.mark.MarkCurveCurve.rate.Goals as goal
@@ -17,17 +19,17 @@ returns-in-Within c =
     (abs_within curve.times 1 (10 ^ 8) curve.scale.times_least curve.scale.times_most) (lit< tt) in
     let rate = cast_small w128 c.plain_level_rate.result (10 ^ 27) c.plain_level_rate.ensures.size (lit< tt) in
     let fits : FitsSigned w128 c.scaled.result = search rules in
-    level_rate-within curve.version curve.times curve.station.now.book curve.station.now.station c.args.a c.args.n c.in-Within.year _
-    (rw minute at c.in-Within.ensures.value)
-    (to_z-of_z w128 c.scaled.result fits ∙ rw (times, rate) at c.scaled.ensures.value
+    ap Some (to_z-of_z w128 c.scaled.result fits ∙ rw (times, rate) at c.scaled.ensures.value
     ∙ ap (λ r. curve.times *ℤ r) (c.plain_level_rate.ensures.value ∙ ap plain_level_rate (c.sums.ensures.value ∙ needed_sums curve.station.now c.in-Within.year c.in-Within.ensures.years)))
+    ∙ level_rate-at curve.version curve.times curve.station.now.book curve.station.now.station c.args.a c.args.n (Within c.in-Within.year)
+    (rw minute at c.in-Within.ensures.value)
 
 pub returns-in-First : goal.returns-in-First
 returns-in-First c =
     let curve = c.args.self.now in
     let minute = to_z-of_z w64 c.args.a c.ranges.a in
-    level_rate-first curve.version curve.times curve.station.now.book curve.station.now.station c.args.a c.args.n c.in-Across.year c.in-First.is
-    (rw minute at c.in-Across.ensures.value)
+    rw c.in-First.is (level_rate-at First curve.times curve.station.now.book curve.station.now.station c.args.a c.args.n (Across c.in-Across.year)
+    (rw minute at c.in-Across.ensures.value))
 
 pub returns-in-Second : goal.returns-in-Second
 returns-in-Second c =
@@ -45,6 +47,6 @@ returns-in-Second c =
     let blended : c.blended_level_rate.result ≡ blended_level_rate (book_sums b s (year - 1)) (book_sums b s year) =
     c.blended_level_rate.ensures.value ∙ ap (λ (s : Sums). blended_level_rate s c.sums-in-Second-2.result) earlier
     ∙ ap (blended_level_rate (book_sums b s (year - 1))) later in
-    level_rate-second curve.version curve.times b s c.args.a c.args.n year _ c.in-Second.is (rw minute at c.in-Across.ensures.value)
-    (to_z-of_z w128 c.scaled-in-Second.result fits ∙ rw (times, rate) at c.scaled-in-Second.ensures.value
+    rw c.in-Second.is (ap Some (to_z-of_z w128 c.scaled-in-Second.result fits ∙ rw (times, rate) at c.scaled-in-Second.ensures.value
     ∙ ap (λ r. curve.times *ℤ r) blended)
+    ∙ level_rate-at Second curve.times b s c.args.a c.args.n (Across year) (rw minute at c.in-Across.ensures.value))

@@ -1,9 +1,11 @@
-use Rattle.std.proofs.Common.{◌≡◌, ◌-◌, FitsSigned, rules, ap, ◌∙◌}
+use Rattle.std.proofs.Common.{◌≡◌, ◌-◌, FitsSigned, Some, rules, ap, ◌∙◌}
 use Rattle.std.proofs.lemmas.Int.{to_z-of_z}
 use mir.Syntax.{w64, w128}
 use Rattle.station_curve.specs.declared.year_sums.Sums.{Sums}
 use Rattle.rate_bound.specs.Rates.{plain_slope_rate, blended_slope_rate, limited, book_sums}
-use Rattle.rate_bound.proofs.RateCases.{slope_rate-within, slope_rate-first, slope_rate-second}
+use Rattle.rate_bound.proofs.RateCases.{slope_rate-at}
+use Rattle.rate_bound.specs.declared.version.Version.TheVariants.{First, Second}
+use Rattle.year_blend.specs.declared.parts.Stretch.TheVariants.{Within, Across}
 use Rattle.rate_bound.proofs.Naming.{needed_sums}
 use Rattle.rate_bound.proofs.turn.TurnCurveCurve.rate.Goals as goal
 
@@ -12,15 +14,17 @@ returns-in-Within c =
     let curve = c.args.self.now in
     let minute = to_z-of_z w64 c.args.a c.ranges.a in
     let fits : FitsSigned w128 c.plain_slope_rate.result = search rules in
-    slope_rate-within curve.version curve.station.now.book curve.station.now.station c.args.a c.args.n c.in-Within.year _ (rw minute at c.in-Within.ensures.value)
-    (to_z-of_z w128 c.plain_slope_rate.result fits ∙ c.plain_slope_rate.ensures.value ∙ ap plain_slope_rate (c.sums.ensures.value ∙ needed_sums curve.station.now c.in-Within.year c.in-Within.ensures.years))
+    ap Some (to_z-of_z w128 c.plain_slope_rate.result fits ∙ c.plain_slope_rate.ensures.value
+    ∙ ap plain_slope_rate (c.sums.ensures.value ∙ needed_sums curve.station.now c.in-Within.year c.in-Within.ensures.years))
+    ∙ slope_rate-at curve.version curve.station.now.book curve.station.now.station c.args.a c.args.n (Within c.in-Within.year)
+    (rw minute at c.in-Within.ensures.value)
 
 pub returns-in-First : goal.returns-in-First
 returns-in-First c =
     let curve = c.args.self.now in
     let minute = to_z-of_z w64 c.args.a c.ranges.a in
-    slope_rate-first curve.version curve.station.now.book curve.station.now.station c.args.a c.args.n c.in-Across.year c.in-First.is
-    (rw minute at c.in-Across.ensures.value)
+    rw c.in-First.is (slope_rate-at First curve.station.now.book curve.station.now.station c.args.a c.args.n (Across c.in-Across.year)
+    (rw minute at c.in-Across.ensures.value))
 
 pub returns-in-Second : goal.returns-in-Second
 returns-in-Second c =
@@ -35,5 +39,5 @@ returns-in-Second c =
     let rate : c.blended_slope_rate.result ≡ blended_slope_rate (book_sums b s (year - 1)) (book_sums b s year) =
     c.blended_slope_rate.ensures ∙ ap (λ (s : Sums). blended_slope_rate s c.sums-in-Second-2.result) earlier
     ∙ ap (blended_slope_rate (book_sums b s (year - 1))) later in
-    slope_rate-second curve.version b s c.args.a c.args.n year c.limited.result c.in-Second.is (rw minute at c.in-Across.ensures.value)
-    (rw (to_z-of_z w128 c.blended_slope_rate.result fits) at c.limited.ensures ∙ ap limited rate)
+    rw c.in-Second.is ((rw (to_z-of_z w128 c.blended_slope_rate.result fits) at c.limited.ensures) ∙ ap limited rate
+    ∙ slope_rate-at Second b s c.args.a c.args.n (Across year) (rw minute at c.in-Across.ensures.value))
