@@ -2,6 +2,7 @@
 
 ghost use Rattle.std.specs.Prelude.{◌≡◌, false, IsTrue, IfOk};
 ghost use Rattle.std.specs.List.{list_all};
+ghost use Rattle.tide_edge.specs.Adapters.{held_by};
 ghost use Rattle.tide_edge.specs.Doors.{not_listening};
 ghost use Rattle.tide_edge.specs.Memory.{are_pieces};
 
@@ -79,7 +80,7 @@ fn has_replies(door: &MemoryDoor, first: &str) -> bool {
 /// Returns a door, with room for `room` bytes of each reply, at which the call with the number `failing`
 /// fails.
 fn memory_door(alloc: Global, room: u64, failing: u64) -> Result<MemoryDoor, AllocError>
-    ensures { IfOk result (λ door. door.doorway ≡ not_listening) }
+    ensures { IfOk result (λ door. (held_by door).doorway ≡ not_listening) }
 {
     let fails = [failing].to_vec(alloc)?;
     let requests = requests(alloc)?;
@@ -102,7 +103,7 @@ fn is_served(
 
 /// Returns true if `door`, listening, has those outcomes.
 fn gives(door: &mut MemoryDoor, expected: &[Result<bool, Failed>; 3]) -> bool
-    requires { door.old.doorway ≡ not_listening }
+    requires { (held_by door.old).doorway ≡ not_listening }
 {
     if door.listen(80) != Ok(()) {
         return false;
@@ -120,7 +121,7 @@ fn a_door_in_memory_fails_as_required(rt: HostRuntime) {
 
 /// Returns a door without requests, at which the call with the number `failing` fails.
 fn shut_door(alloc: Global, failing: u64) -> Result<MemoryDoor, AllocError>
-    ensures { IfOk result (λ door. door.doorway ≡ not_listening) }
+    ensures { IfOk result (λ door. (held_by door).doorway ≡ not_listening) }
 {
     MemoryDoor::new(alloc, Vec::new(alloc), 0, [failing].to_vec(alloc)?)
 }

@@ -2,4 +2,6 @@ pub mod PlaceLemmas
 pub mod WritingLemmas
 pub mod ReplyLemmas
 pub mod ReadingLemmas
+pub mod PieceLemmas
+pub mod DoorLemmas
 pub mod MemoryLemmas

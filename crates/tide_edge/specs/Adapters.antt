@@ -1,4 +1,4 @@
--- The streams and files of the machine that adapters own, and how their known bytes constrain the
+-- The streams and files of the machine that adapters own, and the contents of a door in memory, and how their known bytes constrain the
 -- results of calls (this project).
 use Rattle.std.specs.Prelude.{ℕ, ◌≤◌, List, [], length, take, Option, Some, None, Result, Ok, Err}
 use Rattle.std.specs.Io.KnownBytes.{Appends}
@@ -10,6 +10,8 @@ use Rattle.tide_edge.specs.declared.host_door.HostDoor.{HostDoor}
 use Rattle.tide_edge.specs.declared.host_line.HostLine.{HostLine}
 use Rattle.tide_edge.specs.declared.host_files.HostFiles.{HostFiles}
 use Rattle.tide_edge.specs.declared.host_sink.HostSink.{HostSink}
+use Rattle.tide_edge.specs.declared.memory_door.MemoryDoor.{MemoryDoor}
+use Rattle.tide_edge.specs.Memory.{HeldDoor}
 
 -- the machine's writer that a sink of the machine writes to
 abbrev pub writer_of : {W : Type 0} → HostSink W → W
@@ -44,3 +46,7 @@ line_of door = door.line
 abbrev pub known_of : {S : Type 0} → (S → Option (List ℕ)) → Option (HostLine S) → Option (List ℕ)
 known_of known None = None
 known_of known (Some line) = known (stream_of line)
+
+-- the requests, connections and replies of a door in memory
+abbrev pub held_by : MemoryDoor → HeldDoor
+held_by door = door.queue

@@ -15,6 +15,7 @@ use Rattle.std.specs.Prelude.{
   ◌∷◌,
   ◌++◌,
   length,
+  map,
   take,
   drop,
   Option,
@@ -65,14 +66,6 @@ abbrev pub closed : Doorway → Doorway
 closed d =
     record { port = d.port; listens = d.listens; taken = d.taken; is_open = false; is_over = d.is_over }
 
--- The part of a door's state that is observable only for some doors: the waiting requests, each as the
--- nonempty pieces in which it arrives; the unread pieces of the connection accepted last; and the
--- replies, one for each connection, of which the last belongs to the open connection.
-pub record Traffic : Type 0 where
-  pub waiting : List (List (List ℕ))
-  pub rest : List (List ℕ)
-  pub replies : List (List ℕ)
-
 -- the first list, or the empty list if there is none
 abbrev pub first_or_empty : {A : Type 0} → List (List A) → List A
 first_or_empty [] = []
@@ -84,37 +77,20 @@ left_after count [] = []
 left_after count (piece ∷ more) =
     if count == 0 || nat_lt count (length piece) then drop count piece ∷ more else left_after (count - length piece) more
 
--- the effect of `next` if it returns true: the first waiting request becomes the open one, and an empty
--- reply begins
-abbrev pub taken_by : Result Bool Failed → Traffic → Traffic
-taken_by (Ok true) t =
-    record { waiting = drop 1 t.waiting; rest = first_or_empty t.waiting; replies = t.replies ++ [] ∷ [] }
-taken_by (Ok false) t = t
-taken_by (Err failed) t = t
-
--- the effect of `read`: the bytes that it returned are no longer unread
-abbrev pub read_by : Result ℕ Failed → Traffic → Traffic
-read_by (Ok count) t = record { waiting = t.waiting; rest = left_after count t.rest; replies = t.replies }
-read_by (Err failed) t = t
-
 -- the replies with `bytes` appended to the last one
 abbrev pub append_to_last : List (List ℕ) → List ℕ → List (List ℕ)
 append_to_last [] bytes = []
 append_to_last (reply ∷ []) bytes = (reply ++ bytes) ∷ []
 append_to_last (reply ∷ next ∷ more) bytes = reply ∷ append_to_last (next ∷ more) bytes
 
--- the effect of `write`: the bytes that it accepted are appended to the open connection's reply
-abbrev pub written_by : Result ℕ Failed → List ℕ → Traffic → Traffic
-written_by (Ok count) piece t =
-    record { waiting = t.waiting; rest = t.rest; replies = append_to_last t.replies (take count piece) }
-written_by (Err failed) piece t = t
-
 -- ---- the bytes read and written over each connection
 
--- One connection: the bytes received, and whether their end was found; the bytes of its reply that were
--- accepted; and whether a read or a write of it has failed.
+-- One connection: the bytes received; how many of them the last read returned, 0 if it failed or there
+-- was none; whether the end was found; the bytes of its reply that were accepted; and whether a read or
+-- a write of it has failed.
 pub record Connection : Type 0 where
   pub came : List ℕ
+  pub last : ℕ
   pub is_ended : Bool
   pub sent : List ℕ
   pub read_failed : Bool
@@ -138,7 +114,7 @@ IsUntouched doorway connections = (doorway ≡ not_listening) × (connections �
 
 -- a connection that was just accepted: no byte was read or written yet
 abbrev pub just_taken : Connection
-just_taken = record { came = []; is_ended = false; sent = []; read_failed = false; write_failed = false }
+just_taken = record { came = []; last = 0; is_ended = false; sent = []; read_failed = false; write_failed = false }
 
 -- the connections after `next`: another one if it returned true
 abbrev pub connections_after_next : Result Bool Failed → Connections → Connections
@@ -149,8 +125,12 @@ connections_after_next (Err failed) c = c
 -- the connection after a read: the first bytes of `room`, as many as the result says, were received; or
 -- the read failed
 abbrev pub connection_after_read : Result ℕ Failed → List ℕ → Connection → Connection
-connection_after_read (Ok count) room c = record c { came = c.came ++ take count room; is_ended = (count == 0) || c.is_ended }
-connection_after_read (Err failed) room c = record c { read_failed = true }
+connection_after_read (Ok count) room c = record c {
+  came = c.came ++ take count room;
+  last = count;
+  is_ended = (count == 0) || c.is_ended;
+}
+connection_after_read (Err failed) room c = record c { last = 0; read_failed = true }
 
 -- the connection after a write: the first bytes of `piece`, as many as the result says, were accepted;
 -- or the write failed
@@ -164,22 +144,34 @@ change_latest change c = record c { latest = option_map change c.latest }
 
 -- ---- the whole state
 
--- A door: whether the waiting requests and the replies are observable; whether, if they are, a `read`
--- returns bytes of one piece only; the observable part; the connections with their bytes; the traffic,
--- which is meaningful only if it is observable; and two counts of failures, of `listen` and `next` and
--- of `read` and `write`. Both counts saturate at the greatest `u64`.
+-- A door: whether its requests are observable; whether, if they are, a `read` returns bytes of one piece
+-- only; all requests, each as the nonempty pieces in which it arrives, which no call changes and which
+-- are meaningful only if they are observable; the observable part; the connections with their bytes; and
+-- two counts of failures, of `listen` and `next` and of `read` and `write`. Both counts saturate at the
+-- greatest `u64`.
 pub record DoorState : Type 0 where
   pub is_observable : Bool
   pub keeps_pieces : Bool
+  pub requests : List (List (List ℕ))
   pub doorway : Doorway
   pub connections : Connections
-  pub traffic : Traffic
   pub faults : ℕ
   pub line_faults : ℕ
 
--- the traffic after a change, if the requests and replies of the door are observable, else unchanged
-abbrev pub observed_traffic : (Traffic → Traffic) → DoorState → Traffic
-observed_traffic change s = if s.is_observable then change s.traffic else s.traffic
+-- the requests that wait: one for each connection was accepted
+abbrev pub waiting_of : DoorState → List (List (List ℕ))
+waiting_of d = drop (length (connections_of d.connections)) d.requests
+
+-- the replies, one for each connection
+abbrev pub replies_of : DoorState → List (List ℕ)
+replies_of d = map (λ c. c.sent) (connections_of d.connections)
+
+-- the unread pieces of the connection accepted last, from all requests and connections
+unfoldable pub unread_of : List (List (List ℕ)) → List Connection → List (List ℕ)
+unread_of requests [] = []
+unread_of [] (c ∷ more) = []
+unread_of (request ∷ requests) (c ∷ []) = left_after (length c.came) request
+unread_of (request ∷ requests) (c ∷ next ∷ more) = unread_of requests (next ∷ more)
 
 -- the state of a door after `listen` on `port` with this result
 abbrev pub door_after_listen : {T : Type 0} → Result T Failed → ℕ → DoorState → DoorState
@@ -193,7 +185,6 @@ abbrev pub door_after_next : Result Bool Failed → DoorState → DoorState
 door_after_next result s = record s {
   doorway = after_next result s.doorway;
   connections = connections_after_next result s.connections;
-  traffic = observed_traffic (taken_by result) s;
   faults = faults_after (is_err result) s.faults;
 }
 
@@ -201,7 +192,6 @@ door_after_next result s = record s {
 abbrev pub door_after_read : Result ℕ Failed → List ℕ → DoorState → DoorState
 door_after_read result room s = record s {
   connections = change_latest (connection_after_read result room) s.connections;
-  traffic = observed_traffic (read_by result) s;
   line_faults = faults_after (is_err result) s.line_faults;
 }
 
@@ -209,7 +199,6 @@ door_after_read result room s = record s {
 abbrev pub door_after_write : Result ℕ Failed → List ℕ → DoorState → DoorState
 door_after_write result piece s = record s {
   connections = change_latest (connection_after_write result piece) s.connections;
-  traffic = observed_traffic (written_by result piece) s;
   line_faults = faults_after (is_err result) s.line_faults;
 }
 

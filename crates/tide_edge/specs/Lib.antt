@@ -3,6 +3,7 @@ pub mod Faults
 pub mod Calls
 pub mod Clocks
 pub mod Doors
+pub mod DoorLaws
 pub mod FileStates
 pub mod Memory
 pub mod SinkStates

@@ -153,11 +153,12 @@ after_write held piece = record {
   calls = after_call (is_refused held) held.calls;
 }
 
--- A door in memory: the part that is always observable; the bytes of each connection; the waiting
--- requests in their pieces; the unread pieces of the open connection; the replies; the number of bytes
+-- A door in memory: all requests in their pieces; the part that is always observable; the bytes of each
+-- connection; the requests that wait; the unread pieces of the open connection; the replies; the number of bytes
 -- that they may still grow by; the calls, not counting `close`, with the failures of `listen` and
 -- `next`; and the failures of `read` and `write`.
 pub record HeldDoor : Type 0 where
+  pub requests : List (List (List ℕ))
   pub doorway : Doorway
   pub connections : Connections
   pub waiting : List (List (List ℕ))
@@ -176,9 +177,9 @@ abbrev pub door_state : HeldDoor → DoorState
 door_state held = record {
   is_observable = true;
   keeps_pieces = true;
+  requests = held.requests;
   doorway = held.doorway;
   connections = held.connections;
-  traffic = record { waiting = held.waiting; rest = held.coming; replies = held.replies };
   faults = held.calls.faults;
   line_faults = held.line_faults;
 }
@@ -194,28 +195,20 @@ is_taken (Err failed) = false
 
 -- the door in memory after `listen` on `port`
 abbrev pub after_listen : HeldDoor → ℕ → HeldDoor
-after_listen held port = record {
+after_listen held port = record held {
   doorway = asked port (not (is_to_fail held.calls));
-  connections = held.connections;
-  waiting = held.waiting;
-  coming = held.coming;
-  replies = held.replies;
-  room = held.room;
   calls = after_call (is_to_fail held.calls) held.calls;
-  line_faults = held.line_faults;
 }
 
 -- the door in memory after `next`
 abbrev pub after_taking : HeldDoor → HeldDoor
-after_taking held = record {
+after_taking held = record held {
   doorway = after_next (comes held) held.doorway;
   connections = connections_after_next (comes held) held.connections;
   waiting = (if is_taken (comes held) then drop 1 held.waiting else held.waiting);
   coming = (if is_taken (comes held) then first_or_empty held.waiting else held.coming);
   replies = (if is_taken (comes held) then held.replies ++ [] ∷ [] else held.replies);
-  room = held.room;
   calls = after_call (is_to_fail held.calls) held.calls;
-  line_faults = held.line_faults;
 }
 
 -- the calls after a call of `read` or `write`, whose failures are counted separately
@@ -233,13 +226,9 @@ line_read held room = answer (is_to_fail held.calls) (line_count held room)
 
 -- the door in memory after `read` with a buffer of length `room`; `filled` is the buffer after the call
 abbrev pub after_line_read : HeldDoor → ℕ → List ℕ → HeldDoor
-after_line_read held room filled = record {
-  doorway = held.doorway;
+after_line_read held room filled = record held {
   connections = change_latest (connection_after_read (line_read held room) filled) held.connections;
-  waiting = held.waiting;
   coming = (if is_to_fail held.calls then held.coming else left_after (line_count held room) held.coming);
-  replies = held.replies;
-  room = held.room;
   calls = after_line_call held.calls;
   line_faults = faults_after (is_to_fail held.calls) held.line_faults;
 }
@@ -258,11 +247,8 @@ line_write held piece = answer (is_shut held) (reply_count held (length piece))
 
 -- the door in memory after `write` of `piece`
 abbrev pub after_line_write : HeldDoor → List ℕ → HeldDoor
-after_line_write held piece = record {
-  doorway = held.doorway;
+after_line_write held piece = record held {
   connections = change_latest (connection_after_write (line_write held piece) piece) held.connections;
-  waiting = held.waiting;
-  coming = held.coming;
   replies = (if is_shut held then held.replies else append_to_last held.replies (take (reply_count held (length piece)) piece));
   room = held.room - reply_count held (length piece);
   calls = after_line_call held.calls;
@@ -271,16 +257,7 @@ after_line_write held piece = record {
 
 -- the door in memory after `close`
 abbrev pub after_close : HeldDoor → HeldDoor
-after_close held = record {
-  doorway = closed held.doorway;
-  connections = held.connections;
-  waiting = held.waiting;
-  coming = held.coming;
-  replies = held.replies;
-  room = held.room;
-  calls = held.calls;
-  line_faults = held.line_faults;
-}
+after_close held = record held { doorway = closed held.doorway }
 
 -- a clock that always shows one minute, and the minutes returned until now
 pub record HeldClock : Type 0 where

@@ -1,3 +1,4 @@
+pub mod HeldDoors
 pub mod OpenFile
 pub mod Lines
 pub mod Reading

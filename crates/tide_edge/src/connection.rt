@@ -7,11 +7,12 @@ use crate::failed::Failed;
 use ghost_log::Log;
 use std::marker::Model;
 
-/// One connection: the bytes received, and whether their end was found; the bytes of its reply that were
-/// accepted; and whether a read or a write of it has failed.
+/// One connection: the bytes received, and how many of them the last read returned; whether their end was
+/// found; the bytes of its reply that were accepted; and whether a read or a write of it has failed.
 #[derive(Drop)]
 pub(crate) struct OneConnection {
     came: Log<u8>,
+    last: usize,
     is_ended: bool,
     sent: Log<u8>,
     read_failed: bool,
@@ -25,6 +26,7 @@ impl Model for OneConnection {
 
     ghost view = { λ c. record {
       came = c.came.items;
+      last = c.last;
       is_ended = c.is_ended;
       sent = c.sent.items;
       read_failed = c.read_failed;
@@ -42,6 +44,7 @@ impl OneConnection {
     {
         OneConnection {
             came: Log::new(),
+            last: 0,
             is_ended: false,
             sent: Log::new(),
             read_failed: false,
@@ -57,9 +60,13 @@ impl OneConnection {
         match outcome {
             Ok(count) => {
                 self.came = self.came.then(&room[..*count]);
+                self.last = *count;
                 self.is_ended = *count == 0 || self.is_ended;
             }
-            Err(_) => self.read_failed = true,
+            Err(_) => {
+                self.last = 0;
+                self.read_failed = true;
+            }
         }
     }
 

@@ -1,7 +1,7 @@
 //! Listening ports, which serve one connection after the other.
 
-ghost use Rattle.std.specs.Prelude.{◌≡◌, ◌↔◌, ◌<◌, ◌≤◌, false, IsTrue, [], length, take, None, IfOk};
-ghost use Rattle.std.specs.List.{concat};
+ghost use Rattle.std.specs.Prelude.{◌≡◌, ◌<◌, ◌≤◌, false, IsTrue, length, None, IfOk};
+ghost use Rattle.tide_edge.specs.DoorLaws.{IsLawful};
 ghost use Rattle.tide_edge.specs.Doors.{
   DoorState,
   door_after_listen,
@@ -9,7 +9,6 @@ ghost use Rattle.tide_edge.specs.Doors.{
   door_after_read,
   door_after_write,
   door_after_close,
-  first_or_empty,
   IsUntouched,
 };
 
@@ -19,7 +18,7 @@ use crate::failed::Failed;
 /// connection and writes its reply.
 ///
 /// In contracts the state of a door has the bytes read and written over each connection, the state of
-/// its port, and whether the waiting requests and the replies are observable.
+/// its port, and the requests, if they are observable: then the bytes read belong to them.
 pub trait Door {
     ghost state: { Self → DoorState };
 
@@ -39,9 +38,7 @@ pub trait Door {
     fn next(&mut self) -> Result<bool, Failed>
         requires listens { IsTrue (state self.old).doorway.listens }
         requires none_open { (state self.old).doorway.is_open ≡ false }
-        ensures after { state self.new ≡ door_after_next result (state self.old) }
-        ensures comes { IsTrue (state self.old).is_observable
-            → IfOk result (λ comes. IsTrue comes ↔ (0 < length (state self.old).traffic.waiting)) };
+        ensures { state self.new ≡ door_after_next result (state self.old) };
 
     /// Reads the next bytes of the open connection into the first bytes of `room`, and returns their
     /// count: 0 at the end of the request. If the door keeps pieces, one call reads bytes of one piece
@@ -53,13 +50,7 @@ pub trait Door {
         requires room { 0 < length room.old }
         requires open { IsTrue (state self.old).doorway.is_open }
         ensures after { state self.new ≡ door_after_read result room.new (state self.old) }
-        ensures within { IfOk result (λ count. count ≤ length room.old) }
-        ensures next_bytes { IsTrue (state self.old).is_observable
-            → IfOk result (λ count. take count room.new ≡ take count (concat (state self.old).traffic.rest)) }
-        ensures end { IsTrue (state self.old).is_observable
-            → IfOk result (λ count. (count ≡ 0) ↔ (concat (state self.old).traffic.rest ≡ [])) }
-        ensures within_piece { IsTrue (state self.old).is_observable → IsTrue (state self.old).keeps_pieces
-            → IfOk result (λ count. count ≤ length (first_or_empty (state self.old).traffic.rest)) };
+        ensures within { IfOk result (λ count. count ≤ length room.old) };
 
     /// Writes the first bytes of `piece`, at least one, to the open connection, and returns their count.
     ///
@@ -76,4 +67,6 @@ pub trait Door {
     fn close(&mut self)
         requires { IsTrue (state self.old).doorway.is_open }
         ensures { state self.new ≡ door_after_close (state self.old) };
+
+    ghost lawful: { (door : Self) → IsLawful (state door) };
 }

@@ -64,16 +64,19 @@ impl<R: Net + rt::Clock + Drop> HostDoor<R> {
 
 impl<R: Net + rt::Clock + Drop> Door for HostDoor<R> {
     ghost use Rattle.tide_edge.specs.Adapters.{known_of, line_of};
+    ghost use Rattle.std.proofs.Common.{true≢false, sym};
 
     ghost state = { λ h. record {
       is_observable = false;
       keeps_pieces = false;
+      requests = [];
       doorway = h.doorway;
       connections = h.connections;
-      traffic = record { waiting = []; rest = []; replies = [] };
       faults = h.faults;
       line_faults = h.line_faults;
     } };
+
+    ghost lawful = { λ _ is. absurd (true≢false (sym is)) };
 
     fn listen(&mut self, port: u16) -> Result<(), Failed> {
         match TcpListener::bind(&self.system, (Ipv4Addr::LOCALHOST, port)) {

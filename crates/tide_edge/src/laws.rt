@@ -1,11 +1,11 @@
 //! Theorems about files, sinks, clocks and doors.
 
 ghost use Rattle.std.specs.Prelude.{◌≡◌, ◌==◌, true, length};
+ghost use Rattle.tide_edge.specs.Adapters.{held_by};
 ghost use Rattle.tide_edge.specs.Memory.{
   HeldFiles,
   HeldSink,
   HeldClock,
-  HeldDoor,
   files_state,
   folder_of,
   sink_state,
@@ -40,8 +40,8 @@ pub fn fixed_clock_is_observable()
     ensures { (c : HeldClock) → ⟦<FixedClock as Clock>⟧.state c ≡ clock_state c }
 {}
 
-/// Proves that the waiting requests and the replies of a door in memory are observable, and that a read
-/// of it returns bytes of one piece only.
+/// Proves that the requests and the replies of a door in memory are observable, and that a read of it
+/// returns bytes of one piece only.
 pub fn memory_door_is_observable()
-    ensures { (d : HeldDoor) → ⟦<MemoryDoor as Door>⟧.state d ≡ door_state d }
+    ensures { (d : MemoryDoor) → ⟦<MemoryDoor as Door>⟧.state d ≡ door_state (held_by d) }
 {}

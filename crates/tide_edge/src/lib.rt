@@ -38,6 +38,7 @@ mod read_through;
 mod reading;
 mod receiver;
 mod replies;
+mod request_queue;
 mod rest;
 mod rows;
 mod sink;

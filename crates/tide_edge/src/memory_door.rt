@@ -1,78 +1,25 @@
 //! A door in memory.
 
-ghost use Rattle.std.specs.Prelude.{
-  ◌≡◌,
-  ◌↔◌,
-  ◌<◌,
-  ◌≤◌,
-  ◌++◌,
-  false,
-  IsTrue,
-  [],
-  length,
-  map,
-  take,
-  drop,
-  Some,
-  None,
-  IfOk,
-  MatchOption,
-  slice_get,
-};
+ghost use Rattle.std.specs.Prelude.{◌≡◌, ◌↔◌, ◌<◌, ◌≤◌, ◌++◌, false, IsTrue, [], length, map, take, drop, Some, None, IfOk, MatchOption, slice_get};
 ghost use Rattle.std.specs.List.{concat, list_all};
 ghost use Rattle.tide_edge.specs.Memory.{are_pieces};
+ghost use Rattle.tide_edge.specs.Workings.HeldDoors.{IsTiedDoor};
 
-use crate::calls::Calls;
 use crate::door::Door;
-use crate::doorway::Doorway;
 use crate::failed::Failed;
-use crate::host_fault::count_fault;
-use crate::passed::Connections;
-use crate::pieces::Pieces;
-use crate::replies::Replies;
+use crate::request_queue::RequestQueue;
 use decimal_text::Bytes;
 use std::alloc::{AllocError, Global};
-use std::collections::VecDeque;
-use std::marker::Model;
 
-/// A door in memory: its waiting requests and its replies are observable.
+/// A door in memory: its requests and its replies are observable.
 #[derive(Drop)]
 pub struct MemoryDoor {
-    doorway: Doorway,
-    connections: Connections,
-    waiting: VecDeque<Vec<Bytes>>,
-    coming: Pieces,
-    replies: Replies,
-    calls: Calls,
-    line_faults: u64,
-}
-
-impl Model for MemoryDoor {
-    ghost use Rattle.std.specs.Prelude.{◌≡◌, ◌≤◌, IsTrue, None, map};
-    ghost use Rattle.std.specs.List.{list_all};
-    ghost use Rattle.std.specs.VecDeque.{deque_len};
-    ghost use Rattle.tide_edge.specs.Doors.{IsUntouched};
-    ghost use Rattle.tide_edge.specs.Memory.{HeldDoor, are_pieces};
-
-    ghost Value = { HeldDoor };
-
-    ghost view = { λ d. record {
-      doorway = d.doorway;
-      connections = d.connections;
-      waiting = map (λ request. request.items) d.waiting.items;
-      coming = d.coming;
-      replies = d.replies.replies;
-      room = d.replies.room;
-      calls = d.calls;
-      line_faults = d.line_faults;
-    } };
-
-    ghost invariant = { λ d. (deque_len d.waiting ≤ d.replies.more)
-        × IsTrue (list_all (λ request. are_pieces request.items) d.waiting.items)
-        × (d.doorway.port ≡ None → IsUntouched d.doorway d.connections) };
+    queue: RequestQueue,
+    ghost tied: { ∥ IsTiedDoor queue ∥₁ },
 }
 
 impl MemoryDoor {
+    ghost use Rattle.tide_edge.specs.Adapters.{held_by};
     ghost use Rattle.tide_edge.specs.Doors.{no_connections, not_listening};
 
     /// Returns a door at which `requests` wait, each as the pieces in which it arrives; no piece is
@@ -90,7 +37,8 @@ impl MemoryDoor {
         fails: Vec<u64>,
     ) -> Result<MemoryDoor, AllocError>
         requires { IsTrue (list_all (λ request. are_pieces request.items) requests.items) }
-        ensures { IfOk result (λ door. door ≡ record {
+        ensures { IfOk result (λ door. held_by door ≡ record {
+          requests = map (λ request. request.items) requests.items;
           doorway = not_listening;
           connections = no_connections;
           waiting = map (λ request. request.items) requests.items;
@@ -102,27 +50,22 @@ impl MemoryDoor {
         }) }
     {
         Ok(MemoryDoor {
-            doorway: Doorway::not_listening(),
-            connections: Connections::none(),
-            replies: Replies::new(alloc, room, requests.len())?,
-            waiting: VecDeque::from(requests),
-            coming: Pieces::new(Vec::new(alloc)),
-            calls: Calls::new(fails),
-            line_faults: 0,
+            queue: RequestQueue::new(alloc, requests, room, fails)?,
         })
     }
 
     /// Returns the reply of connection `i`, counted from 0, or `None` if at most `i` connections were
     /// accepted.
     pub fn reply(&self, i: u64) -> Option<&[u8]>
-        ensures { MatchOption result (length self.now.replies ≤ i)
-            (λ reply. slice_get self.now.replies i ≡ Some reply.now) }
+        ensures { MatchOption result (length (held_by self.now).replies ≤ i)
+            (λ reply. slice_get (held_by self.now).replies i ≡ Some reply.now) }
     {
-        self.replies.get(i)
+        self.queue.reply(i)
     }
 }
 
 impl Door for MemoryDoor {
+    ghost use Rattle.tide_edge.specs.Adapters.{held_by};
     ghost use Rattle.tide_edge.specs.Calls.{answer, is_to_fail};
     ghost use Rattle.tide_edge.specs.Doors.{IsUntouched};
     ghost use Rattle.tide_edge.specs.Memory.{
@@ -138,79 +81,56 @@ impl Door for MemoryDoor {
       after_line_write,
       after_close,
     };
+    ghost use Rattle.tide_edge.specs.Workings.HeldDoors.{lawful_by};
 
-    ghost state = { λ d. door_state d };
+    ghost state = { λ d. door_state (held_by d) };
+
+    ghost lawful = { λ d _. lawful_by d.queue d.tied };
 
     fn listen(&mut self, port: u16) -> Result<(), Failed>
-        requires { self.old.doorway.port ≡ None }
-        ensures answer { result ≡ answer (is_to_fail self.old.calls) record {} }
-        ensures after { self.new ≡ after_listen self.old port }
-        ensures untouched { IsUntouched self.old.doorway self.old.connections }
+        requires { (held_by self.old).doorway.port ≡ None }
+        ensures answer { result ≡ answer (is_to_fail (held_by self.old).calls) record {} }
+        ensures after { (held_by self.new) ≡ after_listen (held_by self.old) port }
+        ensures untouched { IsUntouched (held_by self.old).doorway (held_by self.old).connections }
     {
-        let outcome = self.calls.next();
-        self.doorway = Doorway::asked(port, outcome.is_ok());
-        outcome
+        self.queue.listen(port)
     }
 
     fn next(&mut self) -> Result<bool, Failed>
-        requires listens { IsTrue self.old.doorway.listens }
-        requires none_open { self.old.doorway.is_open ≡ false }
-        ensures answer { result ≡ comes self.old }
-        ensures after { self.new ≡ after_taking self.old }
+        requires listens { IsTrue (held_by self.old).doorway.listens }
+        requires none_open { (held_by self.old).doorway.is_open ≡ false }
+        ensures answer { result ≡ comes (held_by self.old) }
+        ensures after { (held_by self.new) ≡ after_taking (held_by self.old) }
     {
-        self.calls.next()?;
-        let Some(pieces) = self.waiting.pop_front() else {
-            self.doorway.end();
-            return Ok(false);
-        };
-        self.coming = Pieces::new(pieces);
-        self.replies.begin();
-        self.doorway.open();
-        self.connections.open();
-        Ok(true)
+        self.queue.next()
     }
 
     fn read(&mut self, room: &mut [u8]) -> Result<usize, Failed>
         requires room { 0 < length room.old }
-        requires open { IsTrue self.old.doorway.is_open }
-        ensures answer { result ≡ line_read self.old (length room.old) }
-        ensures after { self.new ≡ after_line_read self.old (length room.old) room.new }
-        ensures filled { room.new ≡ take (line_count self.old (length room.old)) (concat self.old.coming)
-            ++ drop (line_count self.old (length room.old)) room.old }
-        ensures end { IfOk result (λ count. (count ≡ 0) ↔ (concat self.old.coming ≡ [])) }
+        requires open { IsTrue (held_by self.old).doorway.is_open }
+        ensures answer { result ≡ line_read (held_by self.old) (length room.old) }
+        ensures after { (held_by self.new) ≡ after_line_read (held_by self.old) (length room.old) room.new }
+        ensures filled { room.new ≡ take (line_count (held_by self.old) (length room.old)) (concat (held_by self.old).coming)
+            ++ drop (line_count (held_by self.old) (length room.old)) room.old }
+        ensures end { IfOk result (λ count. (count ≡ 0) ↔ (concat (held_by self.old).coming ≡ [])) }
     {
-        let outcome = if self.calls.is_next_to_fail() {
-            Err(count_fault(&mut self.line_faults))
-        } else {
-            Ok(self.coming.read(room))
-        };
-        self.connections.read(room, &outcome);
-        outcome
+        self.queue.read(room)
     }
 
     fn write(&mut self, piece: &[u8]) -> Result<usize, Failed>
         requires piece { 0 < length piece.now }
-        requires open { IsTrue self.old.doorway.is_open }
-        ensures answer { result ≡ line_write self.old piece.now }
-        ensures after { self.new ≡ after_line_write self.old piece.now }
+        requires open { IsTrue (held_by self.old).doorway.is_open }
+        ensures answer { result ≡ line_write (held_by self.old) piece.now }
+        ensures after { (held_by self.new) ≡ after_line_write (held_by self.old) piece.now }
         ensures some { IfOk result (λ count. 0 < count) }
     {
-        let room = self.replies.room();
-        let outcome = if self.calls.is_next_to_fail() || room == 0 {
-            Err(count_fault(&mut self.line_faults))
-        } else {
-            let count = (piece.len() as u64).min(room) as usize;
-            self.replies.append(&piece[..count]);
-            Ok(count)
-        };
-        self.connections.write(piece, &outcome);
-        outcome
+        self.queue.write(piece)
     }
 
     fn close(&mut self)
-        requires { IsTrue self.old.doorway.is_open }
-        ensures { self.new ≡ after_close self.old }
+        requires { IsTrue (held_by self.old).doorway.is_open }
+        ensures { (held_by self.new) ≡ after_close (held_by self.old) }
     {
-        self.doorway.close();
+        self.queue.close();
     }
 }

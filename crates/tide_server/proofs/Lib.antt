@@ -3,10 +3,10 @@ pub mod CompletenessLemmas
 pub mod ConnectionLemmas
 pub mod MemoryLemmas
 pub mod OpeningLemmas
-pub mod PieceLemmas
 pub mod QueryLemmas
 pub mod ReplyLemmas
 pub mod SendingLemmas
+pub mod ServedLemmas
 pub mod ServiceLemmas
 pub mod StepLemmas
 pub mod ServedDataLemmas

@@ -1,38 +1,36 @@
 -- The data of a server, and the reason for which it serves nothing.
-use Rattle.std.proofs.Common.{◌≡◌, ℕ, Bool, true, false, List, [], Option, Some, None, Result, Ok, Err, ap, inl, inr, sym, subst, refl, ◌∙◌}
+use Rattle.std.proofs.Common.{◌≡◌, ℕ, Bool, true, false, List, [], ◌∷◌, Option, Some, None, Result, Ok, Err, ap, inl, inr, sym, subst, refl, ◌∙◌}
 use Rattle.std.specs.Bool.{IsTrue}
-use Rattle.std.specs.Prelude.{codes}
+use Rattle.std.specs.Prelude.{codes, count_by, if◌then◌else◌}
+use Rattle.harmonics_text.specs.declared.fault.BookFault.TheVariants as form
 use Rattle.question.specs.declared.fault.AskFault.TheVariants.{MissingKey, UnknownCommand}
+use Rattle.question.specs.declared.fault.AskFault.TheVariants as ask
+use Rattle.station_table.specs.declared.fault.OffsetFault.TheVariants as table
 use Rattle.question.specs.declared.key.Key.TheVariants as keys
 use Rattle.question.specs.declared.question.Question.{Question}
 use Rattle.tide_fault.specs.declared.fault.Fault.{Fault}
-use Rattle.tide_fault.specs.declared.fault.Fault.TheVariants.{Ask, Refused}
+use Rattle.tide_fault.specs.declared.fault.Fault.TheVariants.{Ask, BadZone, Book, NoSheet, Offsets, Refused, TooLong}
 use Rattle.tide_fault.specs.declared.refusal.Refusal.TheVariants as refusals
 use Rattle.tide_fault.specs.declared.slot.Slot.TheVariants as slots
 use Rattle.tide_fault.specs.declared.status.Status.{Status}
-use Rattle.tide_fault.specs.declared.status.Status.TheVariants.{NoMemory, Words}
+use Rattle.tide_fault.specs.declared.status.Status.TheVariants.{Done, NoMemory, Words}
 use Rattle.tide_fault.specs.Faults.{ask_line, line_of as fault_line_of}
-use Rattle.decimal_text.specs.Expected.{Excuses, Meets}
+use Rattle.decimal_text.specs.Expected.{Excuses}
 use Rattle.tide_edge.specs.Faults.{faults_after}
 use Rattle.tide_edge.specs.FileStates.{FilesState}
 use Rattle.tide_edge.specs.SinkStates.{SinkState, Wrote, WroteBoth, put}
 use Rattle.tide_edge.proofs.WritingLemmas.{put_none}
 use Rattle.tide_edge.specs.Whole.{ReadWithin, both, one_file}
 use Rattle.named_files.specs.declared.no_answer.NoAnswer.{NoAnswer}
-use Rattle.named_files.specs.declared.no_answer.NoAnswer.TheVariants.{Faulty}
-use Rattle.named_files.specs.NoAnswers.{source_of, line_of}
+use Rattle.named_files.specs.declared.no_answer.NoAnswer.TheVariants.{Faulty, Unread}
+use Rattle.named_files.specs.declared.no_answer.NoAnswer.TheVariants as none_of
+use Rattle.named_files.specs.NoAnswers.{source_of, line_of, status_of}
 use Rattle.named_files.specs.Readings.{Folders, allowed_for, limit_of}
 use Rattle.named_files.specs.Reporting.{Reports}
 use Rattle.tide_server.specs.declared.served_data.ServedData.{ServedData}
-use Rattle.tide_server.specs.Openings.{EndedBy, ServerStates, IsRefused, asks_another, files_asked, service_of, served_data_by, served_data_from, served_data_named}
+use Rattle.tide_server.specs.Openings.{EndedBy, ServerStates, IsRefused, asks_another, files_asked, service_of, served_data_by, served_data_from}
 
 -- ---- By the name of a file
-
-pub meets_named : (firm : Type 0) (folders : Folders) (question : Question) (name : List ℕ) (result : Result ServedData NoAnswer)
-    → question.file ≡ Some name → Meets source_of firm (served_data_named folders question name) result
-    → Meets source_of firm (served_data_by folders question question.file) result
-meets_named firm folders question name result is meets =
-    let P : Option (List ℕ) → Type 0 = λ file. Meets source_of firm (served_data_by folders question file) result in subst P (sym is) meets
 
 pub meets_unnamed : (folders : Folders) (question : Question) → question.file ≡ None
     → served_data_by folders question question.file ≡ Err (Faulty (Ask (MissingKey keys.File)))
@@ -70,53 +68,26 @@ wrote_first before after failed text wrote = (after, failed, false, wrote, put_n
 pub never : {G : Type 0} → false ≡ true → G
 never is = cc
 
+one_failed : (failed : Bool) → count_by (λ is. is) (failed ∷ false ∷ false ∷ []) ≡ (if failed then 1 else 0)
+one_failed true = refl
+one_failed false = refl
+
 pub files_failed : (failed : Bool) (before after : ServerStates) → after.files.faults ≡ faults_after failed before.files.faults
     → before.door.doorway.port ≡ None → after.door ≡ before.door → after.clock ≡ before.clock → EndedBy failed before after
-files_failed true before after files unasked door clock = record {
-  files = true;
+files_failed failed before after files unasked door clock = record {
+  files = failed;
   clock = false;
   door = false;
-  one = refl;
+  one = one_failed failed;
   files_count = files;
   files_first = λ is. ap (λ d. d.doorway.port) door ∙ unasked;
   door_count = ap (λ d. d.faults) door;
   door_observable = ap (λ d. d.is_observable) door;
   door_pieces = ap (λ d. d.keeps_pieces) door;
+  door_requests = ap (λ d. d.requests) door;
   given = before.clock.given;
   asked = before.clock.asked;
   clock_state = clock;
-}
-files_failed false before after files unasked door clock = record {
-  files = false;
-  clock = false;
-  door = false;
-  one = refl;
-  files_count = files;
-  files_first = λ is. never is;
-  door_count = ap (λ d. d.faults) door;
-  door_observable = ap (λ d. d.is_observable) door;
-  door_pieces = ap (λ d. d.keeps_pieces) door;
-  given = before.clock.given;
-  asked = before.clock.asked;
-  clock_state = clock;
-}
-
--- the files were read before, and they haven't failed
-pub ended_behind : (failed : Bool) (before after : ServerStates) (files : FilesState) → files.faults ≡ before.files.faults
-    → after.files ≡ files → EndedBy failed record before { files = files } after → EndedBy failed before after
-ended_behind failed before after files count same ended = record {
-  files = ended.files;
-  clock = ended.clock;
-  door = ended.door;
-  one = ended.one;
-  files_count = ended.files_count ∙ ap (faults_after ended.files) count;
-  files_first = ended.files_first;
-  door_count = ended.door_count;
-  door_observable = ended.door_observable;
-  door_pieces = ended.door_pieces;
-  given = ended.given;
-  asked = ended.asked;
-  clock_state = ended.clock_state;
 }
 
 -- ---- No connection was served
@@ -189,3 +160,41 @@ refused_another firm folders words status before after failed another is door cl
   door = door;
   clock = clock;
 }
+
+-- ---- The status
+
+-- the status for a reason why there is no data isn't that of a server that is done
+not_done : (none : NoAnswer) → ¬ (status_of none ≡ Done)
+not_done Unread is = absurd (cc)
+not_done (Faulty (Ask ask.NoMemory)) is = absurd (cc)
+not_done (Faulty (Ask _)) is = absurd (cc)
+not_done (Faulty (NoSheet word)) is = absurd (cc)
+not_done (Faulty (TooLong slot)) is = absurd (cc)
+not_done (Faulty (Book form.NoMemory)) is = absurd (cc)
+not_done (Faulty (Book (form.At line why))) is = absurd (cc)
+not_done (Faulty (Offsets table.NoMemory)) is = absurd (cc)
+not_done (Faulty (Offsets (table.At row why))) is = absurd (cc)
+not_done (Faulty BadZone) is = absurd (cc)
+not_done (Faulty (Refused refusals.NoMemory)) is = absurd (cc)
+not_done (Faulty (Refused _)) is = absurd (cc)
+not_done (none_of.Refused refusals.NoMemory rows) is = absurd (cc)
+not_done (none_of.Refused _ rows) is = absurd (cc)
+
+pub never_done : (none : NoAnswer) (status : Status) (before after : SinkState) → Reports none status before after → ¬ (status ≡ Done)
+never_done none status before after reported is =
+    elim reported [ inl t ↦ not_done none (sym t.0 ∙ is) | inr t ↦ (let out = t.0 in absurd (cc)) ]
+
+pub words_not_done : (status : Status) → status ≡ Words → ¬ (status ≡ Done)
+words_not_done status is done = absurd (cc)
+
+pub full_not_done : (status : Status) → status ≡ NoMemory → ¬ (status ≡ Done)
+full_not_done status is done = absurd (cc)
+
+-- ---- The arguments and the port
+
+pub not_another : (named asks : Bool) → named ≡ asks → named ≡ false → ¬ (IsTrue asks)
+not_another true asks is none another = absurd (cc)
+not_another false asks is none another = absurd (cc)
+
+pub has_port : (port : Option ℕ) (number : ℕ) → port ≡ Some number → ¬ (port ≡ None)
+has_port port number is none = absurd (cc)

@@ -1,28 +1,14 @@
 -- The bytes that were sent over a connection, piece by piece.
-use Rattle.std.proofs.Common.{◌≡◌, ℕ, ◌+◌, ◌≤◌, Bool, false, true, List, [], ◌++◌, length, take, drop, append_assoc, append-nil, length-append, arith, ap, sym, ◌∙◌, refl, Ok, Err, Option, Some, None}
+use Rattle.std.proofs.Common.{◌≡◌, ℕ, ◌+◌, ◌≤◌, Bool, false, true, List, [], ◌++◌, length, take, drop, append_assoc, append-nil, length-append, arith, ap, sym, ◌∙◌, refl, Ok, Option, Some, None}
 use Rattle.std.specs.Option.{option_map}
-use Rattle.std.specs.Prelude.{if◌then◌else◌}
 use Rattle.std.proofs.lemmas.List.{take-append-le}
 use Rattle.std.proofs.Math.Seq.{take-add, take-append-add}
-use Rattle.tide_edge.specs.declared.failed.Failed.{Failed}
-use Rattle.tide_edge.specs.Doors.{Connection, Connections, DoorState, Traffic, append_to_last, connection_after_write, door_after_write}
-use Rattle.tide_edge.specs.Faults.{counted, faults_after}
+use Rattle.tide_edge.specs.Doors.{Connection, DoorState, door_after_write}
+use Rattle.tide_edge.specs.Faults.{faults_after}
 use Rattle.tide_server.specs.Workings.Connections.{SentBy, sending, sent}
-use Rattle.tide_server.proofs.ConnectionLemmas.{append_none, append_twice, unread_again}
 
-with_traffic : DoorState → Connections → ℕ → Traffic → DoorState
-with_traffic d connections lines traffic = record d { connections = connections; traffic = traffic; line_faults = lines }
-
-with_open : Connections → Option Connection → Connections
-with_open all latest = record { earlier = all.earlier; latest = latest }
-
-appended : List ℕ → Traffic → Traffic
-appended text t = record { waiting = t.waiting; rest = t.rest; replies = append_to_last t.replies text }
-
-sent_nothing : (observable : Bool) (t : Traffic) → t ≡ (if observable then appended [] t else t)
-unfolding appended
-sent_nothing true t = ap (λ rs. record { waiting = t.waiting; rest = t.rest; replies = rs }) (sym (append_none t.replies))
-sent_nothing false t = refl
+with_open : DoorState → ℕ → Option Connection → DoorState
+with_open d lines latest = record d { connections = record d.connections { latest = latest }; line_faults = lines }
 
 with_sent : Connection → List ℕ → Connection
 with_sent c bytes = record c { sent = bytes }
@@ -43,34 +29,15 @@ opened_twice true None a b = refl
 opened_twice false (Some c) a b = ap (λ bytes. Some (with_sent c bytes)) (append_assoc c.sent a b)
 opened_twice true (Some c) a b = ap (λ bytes. Some (with_cut c bytes)) (append_assoc c.sent a b)
 
-opened_failed : (latest : Option Connection) (a : List ℕ) (piece : List ℕ) (failed : Failed)
-    → option_map (connection_after_write (Err failed) piece) (option_map (sending a false) latest) ≡ option_map (sending a true) latest
-opened_failed None a piece failed = refl
-opened_failed (Some c) a piece failed = refl
-
 pub sent_none : (d : DoorState) → d ≡ sent [] false d
-unfolding with_traffic with_open appended
-sent_none d =
-    ap (with_traffic d d.connections d.line_faults) (sent_nothing d.is_observable d.traffic)
-    ∙ ap (λ l. with_traffic d (with_open d.connections l) d.line_faults (if d.is_observable then appended [] d.traffic else d.traffic))
-    (opened_none d.connections.latest)
-
-sent_twice : (observable : Bool) (a b : List ℕ) (t : Traffic)
-    → (if observable then appended b (if observable then appended a t else t) else (if observable then appended a t else t))
-    ≡ (if observable then appended (a ++ b) t else t)
-unfolding appended
-sent_twice true a b t = ap (λ rs. record { waiting = t.waiting; rest = t.rest; replies = rs }) (append_twice t.replies a b)
-sent_twice false a b t = refl
+unfolding with_open
+sent_none d = ap (with_open d d.line_faults) (opened_none d.connections.latest)
 
 -- a text that was sent after another one
 sent_behind : (first : DoorState) (a b : List ℕ) (failed : Bool) → sent b failed (sent a false first) ≡ sent (a ++ b) failed first
-unfolding with_traffic with_open appended
+unfolding with_open
 sent_behind first a b failed =
-    ap (with_traffic first
-    (with_open first.connections (option_map (sending b failed) (option_map (sending a false) first.connections.latest)))
-    (faults_after failed first.line_faults)) (sent_twice first.is_observable a b first.traffic)
-    ∙ ap (λ l. with_traffic first (with_open first.connections l) (faults_after failed first.line_faults)
-    (if first.is_observable then appended (a ++ b) first.traffic else first.traffic)) (opened_twice failed first.connections.latest a b)
+    ap (with_open first (faults_after failed first.line_faults)) (opened_twice failed first.connections.latest a b)
 
 -- the state after one more piece
 pub sent_on : (first now after : DoorState) (text : List ℕ) (at count : ℕ) → now ≡ sent (take at text) false first
@@ -80,21 +47,6 @@ sent_on first now after text at count so_far is =
     ∙ ap (door_after_write (Ok count) (drop at text)) so_far
     ∙ sent_behind first (take at text) (take count (drop at text)) false
     ∙ ap (λ xs. sent xs false first) (sym (take-add at count text))
-
-pub sent_failed : (first now after : DoorState) (text : List ℕ) (at : ℕ) (failed : Failed) → now ≡ sent (take at text) false first
-    → after ≡ door_after_write (Err failed) (drop at text) now → after ≡ sent (take at text) true first
-unfolding with_traffic with_open appended
-sent_failed first now after text at failed so_far is =
-    let a = take at text in
-    is
-    ∙ ap (door_after_write (Err failed) (drop at text)) so_far
-    ∙ ap (with_traffic first (with_open first.connections
-    (option_map (connection_after_write (Err failed) (drop at text)) (option_map (sending a false) first.connections.latest)))
-    (counted first.line_faults))
-    (unread_again first.is_observable (if first.is_observable then appended a first.traffic else first.traffic))
-    ∙ ap (λ l. with_traffic first (with_open first.connections l) (counted first.line_faults)
-    (if first.is_observable then appended a first.traffic else first.traffic))
-    (opened_failed first.connections.latest a (drop at text) failed)
 
 -- ---- A text in two parts
 

@@ -1,13 +1,15 @@
 -- The data of a server by what it opened.
 use Rattle.std.proofs.Common.{◌≡◌, ◌∙◌, ap, ℕ, List, [], ◌∷◌, ◌++◌, map, append-nil, append_assoc, Option, Some, None, Result, Ok, Err, inl, refl, sym, subst}
-use Rattle.std.specs.Prelude.{slice_get}
+use Rattle.std.specs.Bool.{IsTrue}
+use Rattle.std.specs.Prelude.{Bool, true, All}
+use Rattle.tide_edge.specs.StoreLaws.{IsLawful, IsOfStore}
 use Rattle.std.specs.Option.{ForSome}
 use Rattle.std.specs.Result.{IsErrAnd}
 use Rattle.decimal_text.specs.Expected.{Excused, Meets}
 use Rattle.harmonics_book.specs.declared.book.Book.{Book}
 use Rattle.question.specs.declared.question.Question.{Question}
 use Rattle.station_table.specs.declared.offsets.Offsets.{Offsets as TableRow}
-use Rattle.tide_edge.specs.FileStates.{Opening, Openings, listed, openings_of}
+use Rattle.tide_edge.specs.FileStates.{FilesState, Opening, Openings, Store, listed, openings_of}
 use Rattle.tide_fault.specs.declared.fault.Fault.{Fault}
 use Rattle.tide_fault.specs.declared.slot.Slot.{Slot}
 use Rattle.tide_fault.specs.declared.slot.Slot.TheVariants.{File, Offsets, Zone, Certificate}
@@ -16,16 +18,18 @@ use Rattle.tide_fault.specs.Faults.{is_out_of_memory as fault_is_out_of_memory}
 use Rattle.named_files.specs.declared.no_answer.NoAnswer.{NoAnswer}
 use Rattle.named_files.specs.declared.no_answer.NoAnswer.TheVariants.{Faulty}
 use Rattle.named_files.specs.NoAnswers.{IsOf, file_of, source_of, faulty}
-use Rattle.named_files.specs.Opened.{IsResultOf, Opened, failing_file, folders_shown, shown}
-use Rattle.named_files.specs.Readings.{book_named, table_named}
-use Rattle.named_files.proofs.OpenedLemmas.{all_named, as_many, book_shown, go_on, last_all, last_names, names_on, shown_at, shown_second, table_shown}
+use Rattle.named_files.specs.Opened.{AreShown, AreShownFor, IsResultOf, Opened, failing_file}
+use Rattle.named_files.specs.Readings.{Folders, book_named, table_named}
+use Rattle.named_files.proofs.OpenedLemmas.{all_named, as_many, book_shown, last_all, last_names, names_on, shown_first, shown_second, shows_itself, shows_own, table_shown}
+use Rattle.std.proofs.lemmas.List.Elements.{All-tail}
+use Rattle.tide_edge.proofs.ReadingLemmas.{all_of_store, go_on}
 use Rattle.named_files.proofs.ReadingLemmas.{meets_at, faulty_excuses}
 use Rattle.named_files.proofs.SettledLemmas.{reported_settles}
 use Rattle.named_files.specs.Reporting.{Reports}
 use Rattle.tide_server.proofs.OpeningLemmas.{refused_for}
 use Rattle.tide_server.specs.declared.served_data.ServedData.{ServedData}
-use Rattle.tide_server.specs.Openings.{EndsAs, ServerStates, IsRefused, service_of, served_data_by, served_data_from, served_data_named}
-use Rattle.tide_server.specs.Shown.{EndsAsShown, names_by, names_served, served_data_by_openings, served_data_names}
+use Rattle.tide_server.specs.Openings.{EndsAs, ServerStates, IsRefused, service_of, served_data_by, served_data_from, served_data_named, served_data_of}
+use Rattle.tide_server.specs.Shown.{EndsAsShown, folders_by, names_by, names_served, served_data_by_openings, served_data_names}
 
 -- ---- The names up to a fault
 
@@ -41,13 +45,13 @@ after_table name question (Some other) is = ap (λ it. served_data_names name qu
 
 -- ---- The files, one after the other
 
-abbrev pub served_data_shown : Question → List ℕ → List Opening → Result ServedData NoAnswer
-served_data_shown question name openings = served_data_named (folders_shown question openings) question name
+abbrev pub served_data_shown : Question → List ℕ → Folders → Result ServedData NoAnswer
+served_data_shown question name folders = served_data_named folders question name
 
 pub stopped_at_book : (question : Question) (name : List ℕ) (before after : Openings) (none : NoAnswer)
     (result : Result ServedData NoAnswer)
     → IsErrAnd result (λ e. e ≡ none) → IsOf File none → Opened File (Some name) (book_shown name) before after (Err none)
-    → IsResultOf (served_data_names name question) (served_data_shown question name) before after result
+    → IsResultOf (served_data_names name question) (AreShown question) (served_data_shown question name) before after result
 unfolding served_data_named
 stopped_at_book question name before after none (Ok served_data) is of_book book = absurd is
 stopped_at_book question name before after none (Err it) is of_book book =
@@ -62,16 +66,16 @@ stopped_at_book question name before after none (Err it) is of_book book =
           to.1
           ∙ ap (λ n. n ++ to.0) (last_names File (Some name) (book_shown name) before after (Err none) book)
           ∙ append_assoc (map (λ o. o.name) openings) book.unopened to.0;
-      answer =
-          meets_at (Unit {0}) (book_named (folders_shown question openings File) name) _ (Err none) none refl
-          (book.answer (shown File (slice_get openings 0)) (shown_at File [] book.openings [] 0 refl));
+      answer = λ firm folders shows.
+          meets_at (IsTrue firm) (book_named (folders File) name) _ (Err none) none refl
+          (book.answer firm (folders File) (shown_first firm folders book.openings [] (shows File)));
     })
 
 pub stopped_at_table : (question : Question) (name : List ℕ) (before between after : Openings) (read : Book) (none : NoAnswer)
     (result : Result ServedData NoAnswer) → IsErrAnd result (λ e. e ≡ none) → IsOf Offsets none
     → Opened File (Some name) (book_shown name) before between (Ok read)
     → Opened Offsets question.offsets (table_shown question.offsets) between after (Err none)
-    → IsResultOf (served_data_names name question) (served_data_shown question name) before after result
+    → IsResultOf (served_data_names name question) (AreShown question) (served_data_shown question name) before after result
 unfolding served_data_named
 stopped_at_table question name before between after read none (Ok served_data) is of_table book table = absurd is
 stopped_at_table question name before between after read none (Err it) is of_table book table =
@@ -90,10 +94,10 @@ stopped_at_table question name before between after read none (Err it) is of_tab
           ∙ names_on book.openings last (name ∷ []) (listed question.offsets) table.unopened
           (all_named File (Some name) (book_shown name) before between read book)
           (last_names Offsets question.offsets (table_shown question.offsets) between after (Err none) table);
-      answer =
-          rw (book.answer (shown File (slice_get openings 0)) (shown_at File [] book.openings last 0 refl))
-          (meets_at (Unit {0}) (table_named (folders_shown question openings Offsets) question.offsets) _ (Err none) none refl
-          (table.answer (shown Offsets (slice_get openings 1)) (shown_second book.openings table.openings [] one)));
+      answer = λ firm folders shows.
+          rw (book.answer firm (folders File) (shown_first firm folders book.openings last (shows File)))
+          (meets_at (IsTrue firm) (table_named (folders Offsets) question.offsets) _ (Err none) none refl
+          (table.answer firm (folders Offsets) (shown_second firm folders book.openings table.openings [] one (shows Offsets))));
     })
 
 pub all_opened : (question : Question) (name : List ℕ) (before between after : Openings) (read : Book)
@@ -101,7 +105,7 @@ pub all_opened : (question : Question) (name : List ℕ) (before between after :
     → served_data ≡ record { book = read; table = rows; port = question.port }
     → Opened File (Some name) (book_shown name) before between (Ok read)
     → Opened Offsets question.offsets (table_shown question.offsets) between after (Ok rows)
-    → IsResultOf (served_data_names name question) (served_data_shown question name) before after (Ok served_data)
+    → IsResultOf (served_data_names name question) (AreShown question) (served_data_shown question name) before after (Ok served_data)
 unfolding served_data_named
 all_opened question name before between after read rows served_data is book table =
     let last = table.openings ++ [] in
@@ -117,60 +121,99 @@ all_opened question name before between after read rows served_data is book tabl
           names_on book.openings last (name ∷ []) (listed question.offsets) table.unopened
           (all_named File (Some name) (book_shown name) before between read book)
           (last_names Offsets question.offsets (table_shown question.offsets) between after (Ok rows) table);
-      answer =
+      answer = λ firm folders shows.
           rw (
             is,
-            book.answer (shown File (slice_get openings 0)) (shown_at File [] book.openings last 0 refl),
-            table.answer (shown Offsets (slice_get openings 1)) (shown_second book.openings table.openings [] one),
+            book.answer firm (folders File) (shown_first firm folders book.openings last (shows File)),
+            table.answer firm (folders Offsets) (shown_second firm folders book.openings table.openings [] one (shows Offsets)),
           )
           refl;
     }
 
 -- ---- The arguments
 
+-- the files that the arguments name were opened, and the result is the data that they name
+abbrev pub AreServedFrom : List (List ℕ) → Openings → Openings → Result ServedData NoAnswer → Type 0
+AreServedFrom words =
+    IsResultOf (names_served (service_of words)) (AreShownFor (service_of words)) (λ folders. served_data_from folders words)
+
 pub shown_unasked : (words : List (List ℕ)) (before : Openings) (fault : Fault) (result : Result ServedData NoAnswer)
     → IsErrAnd result (λ none. none ≡ Faulty fault) → Excused (fault_is_out_of_memory fault) (service_of words) fault
-    → IsResultOf (names_served (service_of words)) (served_data_by_openings words) before before result
+    → AreServedFrom words before before result
 unfolding served_data_from
 shown_unasked words before fault result is excused = record {
   openings = [];
   unopened = names_served (service_of words) (failing_file result);
   all = sym (append-nil (openings_of before));
   names = refl;
-  answer = meets_at (Unit {0}) (faulty (service_of words)) _ result (Faulty fault) is
-      (faulty_excuses (Unit {0}) (service_of words) fault excused);
+  answer = λ firm folders shows.
+      meets_at (IsTrue firm) (faulty (service_of words)) _ result (Faulty fault) is
+      (faulty_excuses (IsTrue firm) (service_of words) fault excused);
 }
 
 pub shown_named : (words : List (List ℕ)) (question : Question) (name : List ℕ) (before after : Openings)
     (result : Result ServedData NoAnswer)
     → service_of words ≡ Ok question → question.file ≡ Some name
-    → IsResultOf (served_data_names name question) (served_data_shown question name) before after result
-    → IsResultOf (names_served (service_of words)) (served_data_by_openings words) before after result
+    → IsResultOf (served_data_names name question) (AreShown question) (served_data_shown question name) before after result
+    → AreServedFrom words before after result
 unfolding served_data_from
 shown_named words question name before after result is named shown =
     let N : Option (List ℕ) → Type 0 =
     λ file. names_by question file (failing_file result) ≡ map (λ o. o.name) shown.openings ++ shown.unopened in
-    let M : Option (List ℕ) → Type 0 = λ file.
-    Meets source_of (Unit {0}) (served_data_by (folders_shown question shown.openings) question file) result in
     record {
       openings = shown.openings;
       unopened = shown.unopened;
       all = shown.all;
       names = rw is (subst N (sym named) shown.names);
-      answer = rw is (subst M (sym named) shown.answer);
+      answer = λ firm folders shows.
+          let M : Option (List ℕ) → Type 0 = λ file. Meets source_of (IsTrue firm) (served_data_by folders question file) result in
+          rw is (subst M (sym named) (shown.answer firm folders (rw is at shows)));
     }
 
 pub shown_nameless : (words : List (List ℕ)) (question : Question) (before : Openings) (result : Result ServedData NoAnswer)
-    → service_of words ≡ Ok question → Meets source_of (Unit {0}) (served_data_by (folders_shown question []) question question.file) result
-    → IsResultOf (names_served (service_of words)) (served_data_by_openings words) before before result
+    → service_of words ≡ Ok question
+    → ((firm : Bool) (folders : Folders) → Meets source_of (IsTrue firm) (served_data_by folders question question.file) result)
+    → AreServedFrom words before before result
 unfolding served_data_from
 shown_nameless words question before result is meets = record {
   openings = [];
   unopened = names_served (service_of words) (failing_file result);
   all = sym (append-nil (openings_of before));
   names = refl;
-  answer = rw is meets;
+  answer = λ firm folders shows. rw is (meets firm folders);
 }
+
+-- the data by the contents that the openings show
+itself : (asked : Result Question Fault) (openings : List Opening) → AreShownFor asked true openings (folders_by asked openings)
+itself (Ok question) openings = shows_itself question openings
+itself (Err fault) openings = tt
+
+own_by : (asked : Result Question Fault) (openings : List Opening) (store : Store) → All (IsOfStore store) openings
+    → AreShownFor asked store.is_steady openings (λ slot. store.folder)
+own_by (Ok question) openings store of = shows_own question store.is_steady openings store (λ steady. steady) of
+own_by (Err fault) openings store of = tt
+
+by_openings : (words : List (List ℕ)) (before after : Openings) (result : Result ServedData NoAnswer)
+    (shown : AreServedFrom words before after result)
+    → Meets source_of (IsTrue true) (served_data_by_openings words shown.openings) result
+by_openings words before after result shown =
+    shown.answer true (folders_by (service_of words) shown.openings) (itself (service_of words) shown.openings)
+
+second : (P : Opening → Type 0) (first more : List Opening) → All P (first ++ more) → All P more
+second P [] more all = all
+second P (o ∷ first) more all = second P first more (All-tail P o (first ++ more) all)
+
+-- the data by the contents of observable files
+pub own_data : (words : List (List ℕ)) (before after : FilesState) (result : Result ServedData NoAnswer)
+    → AreServedFrom words before.openings after.openings result → after.store ≡ before.store → IsLawful after
+    → IsTrue before.store.is_observable
+    → Meets source_of (IsTrue before.store.is_steady) (served_data_of before.store.folder words) result
+own_data words before after result shown same law t =
+    let all : All (IsOfStore before.store) (openings_of after.openings) =
+    rw same at (all_of_store after (law (rw same t))) in
+    let of : All (IsOfStore before.store) shown.openings =
+    second (IsOfStore before.store) (openings_of before.openings) shown.openings (rw shown.all at all) in
+    shown.answer before.store.is_steady (λ slot. before.store.folder) (own_by (service_of words) shown.openings before.store of)
 
 -- ---- The end of a server
 
@@ -189,25 +232,26 @@ wider (Ok question) why = wider_by question question.file why
 wider (Err fault) why = ([], refl)
 
 pub shown_ready : (words : List (List ℕ)) (served_data : ServedData) (status : Status) (before after : ServerStates)
-    → IsResultOf (names_served (service_of words))
-    (served_data_by_openings words) before.files.openings after.files.openings (Ok served_data)
-    → ((expected : Result ServedData NoAnswer) → expected ≡ Ok served_data → EndsAs (Unit {0}) expected status before after)
+    → AreServedFrom words before.files.openings after.files.openings (Ok served_data)
+    → ((expected : Result ServedData NoAnswer) → expected ≡ Ok served_data → EndsAs (IsTrue true) expected status before after)
     → EndsAsShown words status before after
-shown_ready words served_data status before after shown ends = record {
-  openings = shown.openings;
-  all = shown.all;
-  unopened = shown.unopened;
-  names = shown.names;
-  last = λ other. (shown.unopened, rw shown.answer shown.names);
-  ends = ends (served_data_by_openings words shown.openings) shown.answer;
-}
+shown_ready words served_data status before after shown ends =
+    let answer = by_openings words before.files.openings after.files.openings (Ok served_data) shown in record {
+      openings = shown.openings;
+      all = shown.all;
+      unopened = shown.unopened;
+      names = shown.names;
+      last = λ other. (shown.unopened, rw answer shown.names);
+      ends = ends (served_data_by_openings words shown.openings) answer;
+    }
 
 pub shown_refused : (words : List (List ℕ)) (none : NoAnswer) (status : Status) (before after : ServerStates)
-    → IsResultOf (names_served (service_of words)) (served_data_by_openings words) before.files.openings after.files.openings (Err none)
+    → AreServedFrom words before.files.openings after.files.openings (Err none)
     → after.door ≡ before.door → after.clock ≡ before.clock → Reports none status before.err after.err
     → EndsAsShown words status before after
 shown_refused words none status before after shown door clock faulty =
     let expected : Result ServedData NoAnswer = served_data_by_openings words shown.openings in
+    let answer = by_openings words before.files.openings after.files.openings (Err none) shown in
     let to = wider (service_of words) (failing_file {T = ServedData} (Err none)) in
     record {
       openings = shown.openings;
@@ -215,12 +259,12 @@ shown_refused words none status before after shown door clock faulty =
       unopened = shown.unopened ++ to.0;
       names = to.1 ∙ ap (λ n. n ++ to.0) shown.names ∙ append_assoc (map (λ o. o.name) shown.openings) shown.unopened to.0;
       last = λ other.
-          (shown.unopened, rw (reported_settles expected none status before.err after.err shown.answer faulty other) shown.names);
-      ends = inl (refused_for (Unit {0}) expected none status before after shown.answer door clock faulty);
+          (shown.unopened, rw (reported_settles expected none status before.err after.err answer faulty other) shown.names);
+      ends = inl (refused_for (IsTrue true) expected none status before after answer door clock faulty);
     }
 
 pub shown_another : (words : List (List ℕ)) (status : Status) (before after : ServerStates) → after.files ≡ before.files
-    → IsRefused (Unit {0}) (served_data_by_openings words []) status before after → EndsAsShown words status before after
+    → IsRefused (IsTrue true) (served_data_by_openings words []) status before after → EndsAsShown words status before after
 shown_another words status before after same refused = record {
   openings = [];
   all = ap (λ files. openings_of files.openings) same ∙ sym (append-nil (openings_of before.files.openings));

@@ -1,11 +1,13 @@
--- The bytes of each connection of a server: the bytes that were read, the reply to them, and the minute
--- of the reply (this project).
+-- The connections of a server: the bytes that were read over each, the reply to them, and the minute of
+-- the reply (this project).
 use Rattle.std.specs.Prelude.{
   ◌≡◌,
   ◌⊎◌,
   ◌≤◌,
   ◌+◌,
+  ◌-◌,
   ◌&&◌,
+  ◌||◌,
   not,
   ℕ,
   ℤ,
@@ -13,33 +15,34 @@ use Rattle.std.specs.Prelude.{
   true,
   false,
   IsTrue,
+  if◌then◌else◌,
   List,
   [],
   ◌∷◌,
   ◌++◌,
   length,
   take,
+  count_by,
   Option,
   Some,
   None,
   is_some,
+  Ok,
 }
+use Rattle.tide_edge.specs.Clocks.{ClockState, clock_after, next_minute}
 use Rattle.tide_edge.specs.Doors.{Connection, connections_of}
-use Rattle.tide_edge.specs.Faults.{faults_after}
 use Rattle.tide_edge.specs.FileStates.{listed}
 use Rattle.tide_edge.specs.declared.piece.TheConstants.{PIECE}
 use Rattle.tide_server.specs.declared.served_data.ServedData.{ServedData}
-use Rattle.tide_server.specs.Serving.{Answers, Exchange, IsEnough, has_byte}
+use Rattle.tide_server.specs.Serving.{Answers, Exchange, IsEnough, RoseBy, clock_failed, has_byte}
 
 -- ---- One connection
 
 -- The connection was read until its bytes determined the reply, its end was found, or a read failed, and
--- not much further: at some point at most 65,536 bytes before the end of these bytes, the bytes didn't
--- determine the reply.
+-- no further: the bytes before the last read, which returned at most 65,536, didn't determine the reply.
 pub record IsReadEnough (c : Connection) : Type 0 where
-  pub before : ℕ
-  pub waits : ¬ (IsEnough (take before c.came))
-  pub one : length c.came ≤ before + PIECE
+  pub waits : ¬ (IsEnough (take (length c.came - c.last) c.came))
+  pub one : c.last ≤ PIECE
   pub until : (c.is_ended ≡ true) ⊎ ((c.read_failed ≡ true) ⊎ IsEnough c.came)
 
 -- the clock is read for a connection that has a byte and of which no read failed, and for no other
@@ -52,6 +55,10 @@ reads_clock c = not c.read_failed && has_byte c.came
 abbrev pub IsSent : Bool → (List ℕ → Type 0) → List ℕ → Type 0
 IsSent false answers sent = answers sent
 IsSent true answers sent = (rest : List ℕ) × ¬ (rest ≡ []) × answers (sent ++ rest)
+
+-- a read or a write of a connection has failed
+abbrev pub is_cut : Connection → Bool
+is_cut c = c.read_failed || c.write_failed
 
 -- nothing was sent
 pub record IsUnanswered (c : Connection) : Type 0 where
@@ -91,15 +98,29 @@ abbrev pub IsLast : Option Connection → Type 0
 IsLast None = Unit {0}
 IsLast (Some c) = IsLeft c
 
--- The connections of a port and the readings of a clock: the clock was read for nothing else, and failed
--- exactly for the connection that was left without a reply, which is the last one.
+-- the clock after it returned these minutes
+unfoldable pub after_minutes : List ℤ → ClockState → ClockState
+after_minutes [] clock = clock
+after_minutes (minute ∷ more) clock = after_minutes more (clock_after (Ok minute) clock)
+
+-- these are the minutes that the clock returns next
+unfoldable pub AreNext : ClockState → List ℤ → Type 0
+AreNext clock [] = Unit {0}
+AreNext clock (minute ∷ more) = (minute ≡ next_minute clock) × AreNext (clock_after (Ok minute) clock) more
+
+-- The connections of a port and the readings of a clock: as many connections were cut short as the count
+-- of failed reads and writes grew by; the clock was read for nothing else, and failed exactly for the
+-- connection that was left without a reply, which is the last one.
 pub record HasServed (served_data : ServedData) (has_failed : Bool) (before after : Exchange) : Type 0 where
   pub over : List Connection
   pub left : Option Connection
   pub minutes : List ℤ
   pub connections : connections_of after.door.connections ≡ connections_of before.door.connections ++ over ++ listed left
-  pub given : after.clock.given ≡ before.clock.given ++ minutes
-  pub clock_faults : after.clock.faults ≡ faults_after (is_some left) before.clock.faults
+  pub counted : after.door.doorway.taken ≡ length over + length (listed left)
+  pub cut : RoseBy (count_by is_cut over) before.door.line_faults after.door.line_faults
+  pub clock : after.clock
+      ≡ (if is_some left then clock_failed (after_minutes minutes before.clock) else after_minutes minutes before.clock)
+  pub next : IsTrue before.clock.is_observable → AreNext before.clock minutes
   pub served : AreServed served_data over minutes
   pub last : IsLast left
   pub ends : IsTrue (is_some left) → IsTrue has_failed

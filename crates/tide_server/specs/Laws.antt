@@ -1,6 +1,7 @@
 -- The contract of a server over objects in memory (this project).
 use Rattle.std.specs.Prelude.{◌≡◌, ◌⊎◌, ◌<◌, ◌-◌, ◌^◌, ℕ, suc, ℤ, Bool, true, false, All, List, [], ◌∷◌, ◌++◌, length, map}
 use Rattle.std.specs.List.{concat}
+use Rattle.tide_edge.specs.Doors.{replies_of, waiting_of}
 use Rattle.tide_edge.specs.Faults.{faults_after}
 use Rattle.tide_edge.specs.Memory.{HeldClock, HeldDoor, HeldFiles, HeldSink, clock_state, door_state, files_state, sink_state}
 use Rattle.tide_server.specs.declared.served_data.ServedData.{ServedData}
@@ -54,8 +55,8 @@ pub record HasAnswered (served_data : ServedData) (has_failed : Bool) (before af
   pub requests : List (List (List ℕ))
   pub replies : List (List ℕ)
   pub left : List (List (List ℕ))
-  pub taken : before.door.waiting ≡ requests ++ left ++ after.door.waiting
-  pub given : after.door.replies ≡ before.door.replies ++ replies ++ map (λ request. []) left
+  pub taken : waiting_of (door_state before.door) ≡ requests ++ left ++ waiting_of (door_state after.door)
+  pub given : replies_of (door_state after.door) ≡ replies_of (door_state before.door) ++ replies ++ map (λ request. []) left
   pub each : length replies ≡ length requests
   pub answered : after.door.line_faults ≡ before.door.line_faults → before.door.line_faults < 2 ^ 64 - 1
       → AreAnswered served_data before.clock.minute requests replies

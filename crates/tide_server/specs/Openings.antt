@@ -169,7 +169,7 @@ EndsAs firm expected status before after =
 
 -- A server ends with a read fault exactly if one of the files, the clock and the port has failed, once:
 -- its count is one more, and the others are unchanged; the files only if the server hasn't listened.
--- Whether port and clock are observable is unchanged.
+-- The requests, and whether port and clock are observable, are unchanged.
 pub record EndedBy (has_failed : Bool) (before after : ServerStates) : Type 0 where
   pub files : Bool
   pub clock : Bool
@@ -180,6 +180,7 @@ pub record EndedBy (has_failed : Bool) (before after : ServerStates) : Type 0 wh
   pub door_count : after.door.faults ≡ faults_after door before.door.faults
   pub door_observable : after.door.is_observable ≡ before.door.is_observable
   pub door_pieces : after.door.keeps_pieces ≡ before.door.keeps_pieces
+  pub door_requests : after.door.requests ≡ before.door.requests
   pub given : List ℤ
   pub asked : ℕ
   pub clock_state : after.clock ≡ record before.clock { given = given; asked = asked; faults = faults_after clock before.clock.faults }

@@ -27,7 +27,7 @@ use Rattle.std.specs.Prelude.{
 }
 use Rattle.std.specs.List.{concat}
 use Rattle.tide_edge.specs.Clocks.{ClockState, clock_after, next_minute}
-use Rattle.tide_edge.specs.Doors.{Doorway, DoorState, first_or_empty, left_after}
+use Rattle.tide_edge.specs.Doors.{Doorway, DoorState, connections_of, first_or_empty, left_after, replies_of, unread_of, waiting_of}
 use Rattle.tide_edge.specs.Faults.{counted}
 use Rattle.tide_server.specs.declared.served_data.ServedData.{ServedData}
 use Rattle.tide_server.specs.Replies.{IsReply}
@@ -158,12 +158,13 @@ clock_at_end (request ∷ more) clock = clock_failed clock
 pub record Served (served_data : ServedData) (has_failed : Bool) (before after : Exchange) : Type 0 where
   pub served : List Conversation
   pub left : List (List (List ℕ))
-  pub requests : before.door.traffic.waiting ≡ map (λ c. c.request) served ++ left ++ after.door.traffic.waiting
-  pub replies : after.door.traffic.replies ≡ before.door.traffic.replies ++ map (λ c. c.reply) served ++ map (λ request. []) left
+  pub requests : waiting_of before.door ≡ map (λ c. c.request) served ++ left ++ waiting_of after.door
+  pub replies : replies_of after.door ≡ replies_of before.door ++ map (λ c. c.reply) served ++ map (λ request. []) left
   pub counted : after.door.doorway.taken ≡ length served + length left
   pub held : AreHeld served_data before.clock served
   pub read : IsTrue before.door.keeps_pieces
-      → IsLastReadAsNeeded (map (λ c. c.request) served ++ left) after.door.traffic.rest
+      → IsLastReadAsNeeded (map (λ c. c.request) served ++ left)
+      (unread_of after.door.requests (connections_of after.door.connections))
   pub cut : RoseBy (count_by (λ c. c.is_cut) served) before.door.line_faults after.door.line_faults
   pub clock : after.clock ≡ clock_at_end left (clock_after_all served before.clock)
   pub last : MayLeave has_failed left

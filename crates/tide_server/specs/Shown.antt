@@ -1,5 +1,5 @@
 -- The data of a server, from the files that it opened (this project).
-use Rattle.std.specs.Prelude.{◌≡◌, ℕ, List, [], ◌∷◌, ◌++◌, map, Option, Some, None, Result, Ok, Err}
+use Rattle.std.specs.Prelude.{◌≡◌, ℕ, true, IsTrue, List, [], ◌∷◌, ◌++◌, map, Option, Some, None, Result, Ok, Err}
 use Rattle.question.specs.declared.question.Question.{Question}
 use Rattle.tide_edge.specs.FileStates.{Opening, listed, openings_of}
 use Rattle.tide_fault.specs.declared.fault.Fault.{Fault}
@@ -51,4 +51,4 @@ pub record EndsAsShown (words : List (List ℕ)) (status : Status) (before after
   pub names : names_served (service_of words) None ≡ map (λ o. o.name) openings ++ unopened
   pub last : ¬ (status ≡ NoMemory) → (behind : List (List ℕ))
       × (names_served (service_of words) (failing_file (served_data_by_openings words openings)) ≡ map (λ o. o.name) openings ++ behind)
-  pub ends : EndsAs (Unit {0}) (served_data_by_openings words openings) status before after
+  pub ends : EndsAs (IsTrue true) (served_data_by_openings words openings) status before after

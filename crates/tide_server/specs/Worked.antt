@@ -5,7 +5,6 @@ use Rattle.harmonics_book.specs.Worked.{pier_book}
 use Rattle.harmonics_text.specs.Worked.{file_of, pier_lines}
 use Rattle.tide_edge.specs.Calls.{HeldCalls}
 use Rattle.tide_edge.specs.Doors.{no_connections, not_listening}
-use Rattle.tide_edge.specs.FileStates.{no_openings}
 use Rattle.tide_edge.specs.Memory.{HeldClock, HeldDoor, HeldFiles, HeldSink, clock_state, door_state, files_state, sink_state}
 use Rattle.tide_server.specs.declared.served_data.ServedData.{ServedData}
 use Rattle.tide_server.specs.Promises.{ServiceStates, Services, service_states, services}
@@ -18,15 +17,14 @@ no_calls = record { fails = []; made = 0; faults = 0 }
 abbrev pub pier_files : HeldFiles
 pier_files = record {
   files = record { name = codes "f"; bytes = file_of pier_lines } ∷ [];
-  rest = [];
-  openings = no_openings;
-  reads = record { opens = 0; ends = 0; bytes = 0 };
-  calls = no_calls;
+  fails = [];
+  history = [];
 }
 
 -- a port at which no request waits
 abbrev pub quiet_door : HeldDoor
 quiet_door = record {
+  requests = [];
   doorway = not_listening;
   connections = no_connections;
   waiting = [];

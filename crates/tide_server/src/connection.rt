@@ -2,11 +2,10 @@
 
 ghost use Rattle.std.specs.Prelude.{◌≡◌, ◌==◌, ◌||◌, ℕ, List, Some, IsTrue, is_err};
 ghost use Rattle.tide_edge.specs.Clocks.{IsClockMinute};
-ghost use Rattle.tide_edge.specs.Doors.{just_taken};
+ghost use Rattle.tide_edge.specs.Doors.{door_after_close, just_taken};
 ghost use Rattle.http_rows.specs.Responses.{rejection_of, unavailable_to};
 ghost use Rattle.http_rows.specs.Rows.{is_settled};
-ghost use Rattle.tide_server.specs.Serving.{exchange};
-ghost use Rattle.tide_server.specs.Workings.Connections.{Closed, Replies, RowSent, SentBy, WentBy};
+ghost use Rattle.tide_server.specs.Workings.Connections.{Replies, RowSent, SentBy, Went, with_latest};
 ghost use Rattle.http_rows.specs.Workings.Views.{IsAskingRow, row_seen};
 
 use crate::http_reply::asking_reply;
@@ -34,8 +33,8 @@ pub(crate) fn serve_connection<D: Door, K: Clock>(
 ) -> Result<(), Failed>
     requires is_open { IsTrue (D.state door.old).doorway.is_open }
     requires fresh { (D.state door.old).connections.latest ≡ Some just_taken }
-    ensures { Closed (is_err result) served_data.now
-        (exchange (D.state door.old) (K.state clock.old)) (exchange (D.state door.new) (K.state clock.new)) }
+    ensures { Went (is_err result) served_data.now (λ c. door_after_close (with_latest c (D.state door.old))) (D.state door.new)
+        (K.state clock.old) (K.state clock.new) }
 {
     let answered = answer_connection(alloc, served_data, request, door, clock);
     door.close();
@@ -53,8 +52,8 @@ fn answer_connection<D: Door, K: Clock>(
 ) -> Result<(), Failed>
     requires is_open { IsTrue (D.state door.old).doorway.is_open }
     requires fresh { (D.state door.old).connections.latest ≡ Some just_taken }
-    ensures { WentBy (is_err result) served_data.now
-        (exchange (D.state door.old) (K.state clock.old)) (exchange (D.state door.new) (K.state clock.new)) }
+    ensures { Went (is_err result) served_data.now (λ c. with_latest c (D.state door.old)) (D.state door.new)
+        (K.state clock.old) (K.state clock.new) }
 {
     request.clear();
     loop {
@@ -91,7 +90,7 @@ fn answer_row<D: Door, K: Clock>(
     requires is_open { IsTrue (D.state door.old).doorway.is_open }
     requires answered { IsAskingRow (row_seen row.now) }
     ensures { RowSent (is_err result) served_data.now (row_seen row.now)
-        (exchange (D.state door.old) (K.state clock.old)) (exchange (D.state door.new) (K.state clock.new)) }
+        (D.state door.old) (D.state door.new) (K.state clock.old) (K.state clock.new) }
 {
     let now = clock.minute()?;
     let _ = send_reply(alloc, served_data, row, now, door);

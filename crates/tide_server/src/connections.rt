@@ -1,10 +1,9 @@
 //! The connections of a server, one after the other.
 
-ghost use Rattle.std.specs.Prelude.{◌≡◌, false, true, Some, IsTrue, OnOk, is_err};
+ghost use Rattle.std.specs.Prelude.{◌≡◌, false, true, IsTrue};
 ghost use Rattle.tide_edge.specs.Doors.{asked};
-ghost use Rattle.tide_server.specs.Conversations.{HasServed};
-ghost use Rattle.tide_server.specs.Serving.{IsOver, Served, exchange};
-ghost use Rattle.tide_server.specs.Workings.Steps.{IsKept, StepBy, is_clock_outage, is_door_outage};
+ghost use Rattle.tide_server.specs.Serving.{exchange};
+ghost use Rattle.tide_server.specs.Workings.Steps.{Serves, StepBy};
 
 use crate::connection::serve_connection;
 use crate::outage::Outage;
@@ -25,17 +24,8 @@ pub(crate) fn serve_all<D: Door, K: Clock>(
     clock: &mut K,
 ) -> Result<(), Outage>
     requires listens { (D.state door.old).doorway ≡ asked served_data.now.port true }
-    ensures served { IsTrue (D.state door.old).is_observable → IsTrue (K.state clock.old).is_observable
-        → Served served_data.now (is_err result)
+    ensures serves { Serves served_data.now result
         (exchange (D.state door.old) (K.state clock.old)) (exchange (D.state door.new) (K.state clock.new)) }
-    ensures passed { HasServed served_data.now (is_err result)
-        (exchange (D.state door.old) (K.state clock.old)) (exchange (D.state door.new) (K.state clock.new)) }
-    ensures kept { IsKept (is_door_outage result) (is_clock_outage result)
-        (exchange (D.state door.old) (K.state clock.old)) (exchange (D.state door.new) (K.state clock.new)) }
-    ensures over { OnOk result (IsOver (D.state door.new).doorway) }
-    ensures port { (D.state door.new).doorway.port ≡ Some served_data.now.port }
-    ensures listens { (D.state door.new).doorway.listens ≡ true }
-    ensures closed { (D.state door.new).doorway.is_open ≡ false }
     ensures clock_unread { (D.state door.new).doorway.taken ≡ 0 → clock.new ≡ clock.old }
 {
     for _taken in 0..u64::MAX {

@@ -26,10 +26,9 @@ impl Model for Request {
 }
 
 impl Request {
-    ghost use Rattle.std.specs.Prelude.{◌≡◌, ◌↔◌, ◌+◌, ◌<◌, ◌≤◌, ◌++◌, ℕ, List, IsTrue, [], length, take, IfOk};
-    ghost use Rattle.std.specs.List.{concat};
+    ghost use Rattle.std.specs.Prelude.{◌≡◌, ◌+◌, ◌<◌, ◌≤◌, ◌++◌, ℕ, List, IsTrue, [], length, take, IfOk};
     ghost use Rattle.tide_edge.specs.declared.piece.TheConstants.{PIECE};
-    ghost use Rattle.tide_edge.specs.Doors.{door_after_read, first_or_empty};
+    ghost use Rattle.tide_edge.specs.Doors.{door_after_read};
     ghost use Rattle.tide_server.specs.declared.limits.TheConstants.{LONGEST};
 
     /// Returns a request without bytes, with memory for the longest request, of 4,202,496 bytes.
@@ -68,12 +67,6 @@ impl Request {
             × IfOk result (λ count. self.new ≡ self.old ++ take count room) }
         ensures within { IfOk result (λ count. count ≤ PIECE) }
         ensures longer { IfOk result (λ count. length self.new ≡ length self.old + count) }
-        ensures next_bytes { IsTrue (D.state door.old).is_observable
-            → IfOk result (λ count. self.new ≡ self.old ++ take count (concat (D.state door.old).traffic.rest)) }
-        ensures end { IsTrue (D.state door.old).is_observable
-            → IfOk result (λ count. (count ≡ 0) ↔ (concat (D.state door.old).traffic.rest ≡ [])) }
-        ensures within_piece { IsTrue (D.state door.old).is_observable → IsTrue (D.state door.old).keeps_pieces
-            → IfOk result (λ count. count ≤ length (first_or_empty (D.state door.old).traffic.rest)) }
     {
         let count = door.read(&mut self.piece)?;
         self.bytes.extend_from_slice(&self.piece[..count]).unwrap();

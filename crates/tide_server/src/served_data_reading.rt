@@ -1,17 +1,16 @@
 //! The data that a server serves, read from files.
 
-ghost use Rattle.std.specs.Prelude.{◌≡◌, false, IsOk, IsTrue};
+ghost use Rattle.std.specs.Prelude.{◌≡◌, false, IsOk};
 ghost use Rattle.decimal_text.specs.Expected.{ReturnsUnless};
 ghost use Rattle.question.specs.Questions.{is_out_of_memory as ask_is_out_of_memory};
 ghost use Rattle.tide_fault.specs.Faults.{is_out_of_memory};
-ghost use Rattle.decimal_text.specs.Expected.{Meets};
 ghost use Rattle.tide_edge.specs.Whole.{ReadWithin, both, one_file};
-ghost use Rattle.named_files.specs.NoAnswers.{reading_failed, source_of};
-ghost use Rattle.named_files.specs.Opened.{IsResultOf, folders_shown};
+ghost use Rattle.named_files.specs.NoAnswers.{reading_failed};
+ghost use Rattle.named_files.specs.Opened.{AreShown, AreShownFor, IsResultOf};
 ghost use Rattle.named_files.specs.Readings.{allowed_for, limit_of};
 ghost use Rattle.tide_fault.specs.declared.slot.Slot.{Slot};
-ghost use Rattle.tide_server.specs.Openings.{asks_another, files_asked, service_in, service_of, served_data_named, served_data_of};
-ghost use Rattle.tide_server.specs.Shown.{names_served, served_data_by_openings, served_data_names};
+ghost use Rattle.tide_server.specs.Openings.{asks_another, files_asked, service_in, service_of, served_data_from, served_data_named};
+ghost use Rattle.tide_server.specs.Shown.{names_served, served_data_names};
 
 use crate::served_data::{ServedData, ValidServedData};
 use decimal_text::{Text, Words};
@@ -33,10 +32,8 @@ pub(crate) fn read_served_data<F: Files>(
     files: &mut F,
 ) -> Result<ValidServedData, NoAnswer>
     requires { asks_another words.now ≡ false }
-    ensures own { IsTrue (F.state files.old).store.is_observable → Meets source_of (IsTrue (F.state files.old).store.is_steady)
-        (served_data_of (F.state files.old).store.folder words.now) result }
-    ensures shown { IsResultOf (names_served (service_of words.now)) (served_data_by_openings words.now)
-        (F.state files.old).openings (F.state files.new).openings result }
+    ensures shown { IsResultOf (names_served (service_of words.now)) (AreShownFor (service_of words.now))
+        (λ folders. served_data_from folders words.now) (F.state files.old).openings (F.state files.new).openings result }
     ensures read { ReadWithin (files_asked (service_of words.now)) (reading_failed result) (F.state files.old) (F.state files.new) }
     ensures unopened { ¬ (IsOk (service_of words.now)) → files.new ≡ files.old }
 {
@@ -62,11 +59,8 @@ fn read_named<F: Files>(
     question: &Question,
     name: &Text,
 ) -> Result<ValidServedData, NoAnswer>
-    ensures own { IsTrue (F.state files.old).store.is_observable → Meets source_of (IsTrue (F.state files.old).store.is_steady)
-        (served_data_named (λ slot. (F.state files.old).store.folder) question.now name.now) result }
-    ensures shown { IsResultOf (served_data_names name.now question.now)
-        (λ openings. served_data_named (folders_shown question.now openings) question.now name.now)
-        (F.state files.old).openings (F.state files.new).openings result }
+    ensures shown { IsResultOf (served_data_names name.now question.now) (AreShown question.now)
+        (λ folders. served_data_named folders question.now name.now) (F.state files.old).openings (F.state files.new).openings result }
     ensures read { ReadWithin (both (one_file (limit_of Slot.File)) (allowed_for Slot.Offsets question.now.offsets))
         (reading_failed result) (F.state files.old) (F.state files.new) }
 {

@@ -1,27 +1,11 @@
 //! The server, from the arguments to the exit status.
 
-ghost use Rattle.std.specs.Prelude.{◌≡◌, ◌++◌, ◌≤◌, ◌+◌, Bool, false, true, IsTrue, [], IsOk, None, decimal};
+ghost use Rattle.std.specs.Prelude.{◌≡◌, ◌++◌, ◌≤◌, ◌+◌, Bool, false, true, [], None, decimal};
 ghost use Rattle.arrayvec.specs.ArrayString.{array_string_len};
 ghost use Rattle.tide_edge.specs.Doors.{asked};
 ghost use Rattle.tide_edge.specs.SinkStates.{Wrote};
-ghost use Rattle.tide_edge.specs.Whole.{ReadWithin};
-ghost use Rattle.tide_fault.specs.declared.status.Status.{Status};
-ghost use Rattle.named_files.specs.NoAnswers.{is_read_fault};
-ghost use Rattle.tide_server.specs.Openings.{
-  EndedBy,
-  EndsAs,
-  RefusesCommand,
-  TookNone,
-  asks_another,
-  files_asked,
-  server_states,
-  notice_of,
-  service_of,
-  served_data_of,
-};
+ghost use Rattle.tide_server.specs.Openings.{notice_of};
 ghost use Rattle.tide_server.specs.Promises.{ServesAs, service_states, services};
-ghost use Rattle.tide_server.specs.Serving.{IsOver};
-ghost use Rattle.tide_server.specs.Shown.{EndsAsShown};
 ghost use Rattle.tide_server.specs.Workings.Ends.{Ended, unread};
 
 use crate::connections::serve_all;
@@ -68,38 +52,6 @@ pub fn serve<F: Files, D: Door, E: Sink, K: Clock>(
     ensures { ServesAs (service_states F.state D.state E.state K.state) words.now result
         (services files.old door.old err.old clock.old) (services files.new door.new err.new clock.new) }
 {
-    serve_words(alloc, words, files, door, err, clock)
-}
-
-/// Does the same as [`serve`]; its contract has a separate clause for each property.
-fn serve_words<F: Files, D: Door, E: Sink, K: Clock>(
-    alloc: Global,
-    words: &Words,
-    files: &mut F,
-    door: &mut D,
-    err: &mut E,
-    clock: &mut K,
-) -> Status
-    requires { (D.state door.old).doorway.port ≡ None }
-    ensures own_files { IsTrue (F.state files.old).store.is_observable
-        → EndsAs (IsTrue (F.state files.old).store.is_steady) (served_data_of (F.state files.old).store.folder words.now) result
-        (server_states (F.state files.old) (D.state door.old) (E.state err.old) (K.state clock.old))
-        (server_states (F.state files.new) (D.state door.new) (E.state err.new) (K.state clock.new)) }
-    ensures shown { EndsAsShown words.now result
-        (server_states (F.state files.old) (D.state door.old) (E.state err.old) (K.state clock.old))
-        (server_states (F.state files.new) (D.state door.new) (E.state err.new) (K.state clock.new)) }
-    ensures another { IsTrue (asks_another words.now) → RefusesCommand result (E.state err.old) (E.state err.new) }
-    ensures done { result ≡ Status.Done → IsOver (D.state door.new).doorway }
-    ensures read_fault { EndedBy (is_read_fault result)
-        (server_states (F.state files.old) (D.state door.old) (E.state err.old) (K.state clock.old))
-        (server_states (F.state files.new) (D.state door.new) (E.state err.new) (K.state clock.new)) }
-    ensures read { (failed : Bool) × ReadWithin (files_asked (service_of words.now)) failed (F.state files.old) (F.state files.new) }
-    ensures read_first { ¬ ((D.state door.new).doorway.port ≡ None) → (F.state files.new).faults ≡ (F.state files.old).faults }
-    ensures unopened { ¬ (IsOk (service_of words.now)) → files.new ≡ files.old }
-    ensures unlistened { (D.state door.new).doorway.port ≡ None → door.new ≡ door.old }
-    ensures clock_unread { TookNone (D.state door.new).doorway → clock.new ≡ clock.old }
-    ensures closed { ¬ ((D.state door.new).doorway.port ≡ None) → (D.state door.new).doorway.is_open ≡ false }
-{
     if names_another(words) {
         return refuse(err, Status::Words, b"words: unknown command\n");
     }
@@ -133,7 +85,7 @@ fn serve_data<D: Door, E: Sink, K: Clock>(
     ensures ended { Ended served_data.now result
         (unread (D.state door.old) (E.state err.old) (K.state clock.old))
         (unread (D.state door.new) (E.state err.new) (K.state clock.new)) }
-    ensures unasked { (D.state door.new).doorway.taken ≡ 0 → clock.new ≡ clock.old }
+    ensures clock_unread { (D.state door.new).doorway.taken ≡ 0 → clock.new ≡ clock.old }
 {
     match door.listen(served_data.port()) {
         Ok(()) => serve_open(alloc, served_data, request, door, err, clock),

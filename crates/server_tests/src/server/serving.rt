@@ -2,6 +2,7 @@
 //! program.
 
 ghost use Rattle.std.specs.Prelude.{◌≡◌, IfOk, None};
+ghost use Rattle.tide_edge.specs.Adapters.{held_by};
 
 use super::coming::{Coming, requests_of};
 use super::serving_texts::*;
@@ -79,7 +80,7 @@ fn door_of(
     room: u64,
     fails: u64,
 ) -> Result<MemoryDoor, AllocError>
-    ensures { IfOk result (λ door. door.doorway.port ≡ None) }
+    ensures { IfOk result (λ door. (held_by door).doorway.port ≡ None) }
 {
     let fails = [fails].to_vec(alloc)?;
     MemoryDoor::new(alloc, requests_of(alloc, requests)?, room, fails)

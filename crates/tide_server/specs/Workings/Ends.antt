@@ -1,15 +1,17 @@
 -- The end of a server that has data.
-use Rattle.std.specs.Prelude.{◌≡◌, false}
+use Rattle.std.specs.Prelude.{◌≡◌, ◌⊎◌, Bool, false, if◌then◌else◌, [], ◌∷◌, count_by, Some}
 use Rattle.tide_edge.specs.Clocks.{ClockState}
 use Rattle.tide_edge.specs.Doors.{DoorState}
 use Rattle.tide_edge.specs.FileStates.{FilesState}
-use Rattle.tide_edge.specs.SinkStates.{SinkState}
+use Rattle.tide_edge.specs.SinkStates.{SinkState, WroteBoth}
 use Rattle.tide_fault.specs.declared.status.Status.{Status}
-use Rattle.tide_fault.specs.declared.status.Status.TheVariants.{Done}
+use Rattle.tide_fault.specs.declared.status.Status.TheVariants.{Done, ReadFault}
 use Rattle.named_files.specs.NoAnswers.{is_read_fault}
 use Rattle.tide_server.specs.declared.served_data.ServedData.{ServedData}
-use Rattle.tide_server.specs.Openings.{EndedBy, ServerStates, HasListened, server_states}
-use Rattle.tide_server.specs.Serving.{IsOver}
+use Rattle.tide_server.specs.Conversations.{HasServed}
+use Rattle.tide_server.specs.Openings.{ServerStates, end_line, notice_at, server_states}
+use Rattle.tide_server.specs.Serving.{IsOver, exchange}
+use Rattle.tide_server.specs.Workings.Steps.{IsKept}
 
 -- the states of the objects that are used after the files were read
 pub record Unread : Type 0 where
@@ -25,10 +27,15 @@ unread door err clock = record { door = door; err = err; clock = clock }
 abbrev pub with_files : FilesState → Unread → ServerStates
 with_files files left = server_states files left.door left.err left.clock
 
--- the end of a server that has data; the files are no longer read
+-- the end of a server that has data, by a failure of the port or of the clock or by none
 pub record Ended (served_data : ServedData) (status : Status) (before after : Unread) : Type 0 where
-  pub listened : (files left : FilesState) → HasListened served_data status (with_files files before) (with_files left after)
+  pub port : after.door.doorway.port ≡ Some served_data.port
+  pub ends : (status ≡ Done) ⊎ (status ≡ ReadFault)
   pub done : status ≡ Done → IsOver after.door.doorway
   pub closed : after.door.doorway.is_open ≡ false
-  pub ended : (files left : FilesState) → left.faults ≡ files.faults
-      → EndedBy (is_read_fault status) (with_files files before) (with_files left after)
+  pub passed : HasServed served_data (is_read_fault status) (exchange before.door before.clock) (exchange after.door after.clock)
+  pub wrote : WroteBoth before.err after.err (notice_at served_data.port after.door.doorway) (end_line status)
+  pub clock_failed : Bool
+  pub door_failed : Bool
+  pub one : count_by (λ failed. failed) (clock_failed ∷ door_failed ∷ []) ≡ (if is_read_fault status then 1 else 0)
+  pub kept : IsKept door_failed clock_failed (exchange before.door before.clock) (exchange after.door after.clock)

@@ -4,7 +4,7 @@ use Rattle.std.proofs.lemmas.Grind.{common_steps}
 use Rattle.http_rows.specs.Rows.{is_settled}
 use Rattle.http_rows.specs.Workings.Views.{row_seen}
 use Rattle.tide_server.proofs.AnswerLemmas.{went_by_row, went_silent, went_unread}
-use Rattle.tide_server.proofs.ConnectionLemmas.{OneMore, all_read, few, goes_on, has_failed, has_read, none_came, not_enough, not_settled, over_none, over_row, read_none, row_found, still_open, still_open_after, unsettled}
+use Rattle.tide_server.proofs.ConnectionLemmas.{OneMore, few, goes_on, has_failed, has_read, not_enough, not_settled, over_none, over_row, read_none, still_open, still_open_after, unsettled}
 use Rattle.tide_server.proofs.connection.answer_connection.Goals as goal
 
 pub loop-count-init : goal.loop-count-init
@@ -15,7 +15,7 @@ loop-count-init g c =
 pub read_more-requires-clause-open : goal.read_more-requires-clause-open
 read_more-requires-clause-open g c =
     rw (still_open (g.D.Door.state c.args.door.now)
-    (g.D.Door.state c.loop-count.door) c.loop-count.request false c.loop-count.invariant.read)
+    (g.D.Door.state c.loop-count.door) c.loop-count.request c.loop-count.invariant.read)
     c.requires.is_open
 
 pub returns-in_default : goal.returns-in_default
@@ -39,7 +39,6 @@ returns-then-is_empty g c =
       came = c.in-Ok.ensures.after.2;
       longer = c.in-Ok.ensures.longer;
       within = c.in-Ok.ensures.within;
-      bytes = c.in-Ok.ensures.next_bytes;
     } in
     let empty : c.read_more.new.self ≡ [] =
     sym c.as_slice-bytes.ensures ∙ grind (arith, common_steps, c.is_empty.ensures, c.if-is_empty.true) in
@@ -47,9 +46,7 @@ returns-then-is_empty g c =
     rw c.loop-count.invariant.clock
     (went_silent c.args.served_data.now first after (g.K.Clock.state c.args.clock.now)
     (rw empty at (has_read first now after c.loop-count.request c.read_more.new.self c.in-Ok.count c.loop-count.invariant.read
-    c.loop-count.invariant.waits more (over_none c.in-Ok.count c.read_more.new.self none) c.in-Ok.ensures.within_piece))
-    (λ t. none_came _ (rw empty at (all_read first now after c.loop-count.request c.read_more.new.self c.in-Ok.count
-    c.loop-count.invariant.read more t (λ u. (c.in-Ok.ensures.end u).0 none)))))
+    c.loop-count.invariant.waits more (over_none c.in-Ok.count c.read_more.new.self none))))
 
 pub answer_row-requires-clause-is_open : goal.answer_row-requires-clause-is_open
 answer_row-requires-clause-is_open g c =
@@ -61,7 +58,6 @@ answer_row-requires-clause-is_open g c =
       came = c.in-Ok.ensures.after.2;
       longer = c.in-Ok.ensures.longer;
       within = c.in-Ok.ensures.within;
-      bytes = c.in-Ok.ensures.next_bytes;
     } in
     rw (still_open_after (g.D.Door.state c.args.door.now) now
     (g.D.Door.state c.read_more.new.door) c.loop-count.request c.read_more.new.self
@@ -80,7 +76,6 @@ returns-then-ends_reading g c =
       came = c.in-Ok.ensures.after.2;
       longer = c.in-Ok.ensures.longer;
       within = c.in-Ok.ensures.within;
-      bytes = c.in-Ok.ensures.next_bytes;
     } in
     let some : c.read_more.new.self ≢ [] =
     λ none. grind (arith, common_steps, c.is_empty.ensures, c.if-is_empty.false, c.as_slice-bytes.ensures, none) in
@@ -90,10 +85,8 @@ returns-then-ends_reading g c =
     (g.D.Door.state c.answer_row.new.door)
     (g.K.Clock.state c.args.clock.now) (g.K.Clock.state c.answer_row.new.clock)
     (has_read first now after c.loop-count.request c.read_more.new.self c.in-Ok.count c.loop-count.invariant.read
-    c.loop-count.invariant.waits more (over_row c.in-Ok.count c.read_more.new.self row ends row_is) c.in-Ok.ensures.within_piece)
+    c.loop-count.invariant.waits more (over_row c.in-Ok.count c.read_more.new.self row ends row_is))
     some row_is
-    (λ t. row_found first now after c.loop-count.request c.read_more.new.self c.in-Ok.count row c.loop-count.invariant.read more ends
-    c.in-Ok.ensures.end some row_is t)
     (rw c.loop-count.invariant.clock at c.answer_row.ensures)
 
 pub loop-count-preserved : goal.loop-count-preserved
@@ -114,7 +107,6 @@ loop-count-preserved g c =
             came = c.in-Ok.ensures.after.2;
             longer = c.in-Ok.ensures.longer;
             within = c.in-Ok.ensures.within;
-            bytes = c.in-Ok.ensures.next_bytes;
           })
           (sym c.ends_reading.ensures ∙ c.if-ends_reading.false);
     }

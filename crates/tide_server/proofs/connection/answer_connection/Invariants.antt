@@ -1,4 +1,4 @@
-use Rattle.std.proofs.Common.{◌≡◌, ◌<◌, ◌-◌, false, length}
+use Rattle.std.proofs.Common.{◌≡◌, ◌<◌, ◌-◌, length}
 use Rattle.tide_server.specs.declared.limits.TheConstants.{LONGEST}
 use Rattle.tide_server.specs.Serving.{IsEnough}
 use Rattle.tide_server.proofs.ConnectionLemmas.{ReadSoFar}
@@ -9,7 +9,7 @@ invariant-loop-count g l = record {
   waits : ¬ (IsEnough l.request);
   short : length l.request < LONGEST;
   clock : l.clock ≡ l.initial.clock;
-  read : ReadSoFar (g.D.Door.state l.initial.door) l.request false (g.D.Door.state l.door);
+  read : ReadSoFar (g.D.Door.state l.initial.door) l.request (g.D.Door.state l.door);
 }
 
 abbrev pub decreases-loop-count : goal.decreases-loop-count

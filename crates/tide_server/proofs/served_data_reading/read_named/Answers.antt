@@ -1,18 +1,6 @@
 use Rattle.std.proofs.Common.{Err, refl}
-use Rattle.std.specs.Bool.{IsTrue}
-use Rattle.named_files.specs.Readings.{book_named, table_named}
-use Rattle.named_files.proofs.ReadingLemmas.{meets_at}
 use Rattle.tide_server.proofs.ServedDataLemmas.{all_opened, stopped_at_book, stopped_at_table}
-use Rattle.tide_server.specs.Openings.{served_data_named}
 use Rattle.tide_server.proofs.served_data_reading.read_named.Goals as goal
-
-pub returns-in_err-book-clause-own : goal.returns-in_err-book-clause-own
-unfolding served_data_named
-returns-in_err-book-clause-own g c =
-    let book = c.in_err-book.ensures.own in
-    λ t. meets_at (IsTrue (g.F.Files.state c.args.files.now).store.is_steady)
-    (book_named (g.F.Files.state c.args.files.now).store.folder c.args.name.now) _ c.from_residual.result _
-    c.from_residual.ensures.1 (book t)
 
 pub returns-in_err-book-clause-shown : goal.returns-in_err-book-clause-shown
 returns-in_err-book-clause-shown g c =
@@ -20,15 +8,6 @@ returns-in_err-book-clause-shown g c =
     (g.F.Files.state c.args.files.now).openings
     (g.F.Files.state c.read_book.new.files).openings
     _ c.from_residual.result c.from_residual.ensures.1 c.in_err-book.ensures.fault c.in_err-book.ensures.opened
-
-pub returns-in-Err-clause-own : goal.returns-in-Err-clause-own
-unfolding served_data_named
-returns-in-Err-clause-own g c =
-    let book = c.in_ok-book.ensures.own in
-    let table = rw c.read_book.ensures.read.store at c.in-Err.ensures.own in
-    λ t. rw (book t) (meets_at (IsTrue (g.F.Files.state c.args.files.now).store.is_steady)
-    (table_named (g.F.Files.state c.args.files.now).store.folder c.args.question.now.offsets) _
-    (Err c.in-Err.none) _ refl (table t))
 
 pub returns-in-Err-clause-shown : goal.returns-in-Err-clause-shown
 returns-in-Err-clause-shown g c =
@@ -38,13 +17,6 @@ returns-in-Err-clause-shown g c =
     (g.F.Files.state c.read_table.new.files).openings
     c.in_ok-book.book
     _ (Err c.in-Err.none) refl c.in-Err.ensures.fault c.in_ok-book.ensures.opened c.in-Err.ensures.opened
-
-pub returns-in-Ok-clause-own : goal.returns-in-Ok-clause-own
-unfolding served_data_named
-returns-in-Ok-clause-own g c =
-    let book = c.in_ok-book.ensures.own in
-    let table = rw c.read_book.ensures.read.store at c.in-Ok.ensures.own in
-    λ t. rw (book t, table t, c.new.ensures) refl
 
 pub returns-in-Ok-clause-shown : goal.returns-in-Ok-clause-shown
 returns-in-Ok-clause-shown g c =

@@ -1,5 +1,5 @@
 use Rattle.std.proofs.Common.{◌≡◌, ◌∙◌, ◌++◌, take, ap}
-use Rattle.tide_server.proofs.PieceLemmas.{first_of_room}
+use Rattle.tide_server.proofs.ConnectionLemmas.{first_of_room}
 use Rattle.tide_server.proofs.request.Request.read_more.Given.{Over}
 use Rattle.tide_server.proofs.request.Request.read_more.Goals as goal
 
@@ -15,13 +15,3 @@ read_behind g c =
 
 pub returns-clause-after : goal.returns-clause-after
 returns-clause-after g c = (c.read.new.room, c.in_ok-count.ensures.after, read_behind g c)
-
-pub returns-clause-next_bytes : goal.returns-clause-next_bytes
-returns-clause-next_bytes g c =
-    λ t. read_behind g c ∙ ap (λ bytes. c.args.self.now ++ bytes) (c.in_ok-count.ensures.next_bytes t)
-
-pub returns-clause-end : goal.returns-clause-end
-returns-clause-end g c = c.in_ok-count.ensures.end
-
-pub returns-clause-within_piece : goal.returns-clause-within_piece
-returns-clause-within_piece g c = c.in_ok-count.ensures.within_piece

@@ -1,13 +1,12 @@
 -- The pieces of a connection that are left.
-use Rattle.std.proofs.Common.{◌≡◌, ℕ, ◌+◌, ◌-◌, ◌≤◌, Bool, false, true, List, [], ◌∷◌, ◌++◌, length, take, drop, arith, ap, sym, ◌∙◌, refl}
+use Rattle.std.proofs.Common.{◌≡◌, ℕ, ◌+◌, ◌-◌, ◌≤◌, Bool, false, true, List, [], ◌∷◌, ◌++◌, length, drop, arith, ap, sym, ◌∙◌, refl}
 use Rattle.std.specs.List.{concat}
 use Rattle.std.specs.Prelude.{◌==◌, ◌||◌, nat_lt}
 use Rattle.std.proofs.lemmas.Bool.Decides.{nat_tests}
 use Rattle.std.proofs.lemmas.Grind.{common_steps}
-use Rattle.std.proofs.lemmas.List.{drop-append-le, take-append-le, take-take}
+use Rattle.std.proofs.lemmas.List.{drop-append-le}
 use Rattle.std.proofs.Math.Seq.{drop-append-add}
 use Rattle.tide_edge.specs.Doors.{left_after}
-use Rattle.tide_server.specs.Serving.{IsLastReadAsNeeded, IsReadAsNeeded}
 
 -- the first piece isn't read to its end
 abbrev is_within : ℕ → List ℕ → Bool
@@ -79,19 +78,3 @@ left_on count next (piece ∷ more) =
 pub all_left : (pieces : List (List ℕ)) → pieces ≡ left_after 0 pieces
 all_left [] = refl
 all_left (piece ∷ more) = refl
-
--- ---- The last connection
-
-pub last_read : (before : List (List (List ℕ))) (request left : List (List ℕ)) → IsReadAsNeeded request left
-    → IsLastReadAsNeeded (before ++ request ∷ []) left
-last_read [] request left read = read
-last_read (first ∷ []) request left read = read
-last_read (first ∷ next ∷ more) request left read = last_read (next ∷ more) request left read
-
--- ---- The room for a piece
-
--- the first bytes of a room that is as long as the piece
-pub first_of_room : (room more piece : List ℕ) (long count : ℕ) → piece ≡ take long (room ++ more) → length room ≡ long
-    → count ≤ long → take count piece ≡ take count room
-first_of_room room more piece long count is fills within =
-    ap (take count) is ∙ take-take count long (room ++ more) within ∙ take-append-le count room more (rw fills within)

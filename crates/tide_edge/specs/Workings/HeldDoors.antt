@@ -1,0 +1,101 @@
+-- The requests of a door in memory, and its connections (this project).
+use Rattle.std.specs.Prelude.{◌≡◌, ◌+◌, ℕ, Bool, true, IsTrue, List, [], ◌∷◌, ◌++◌, length, map, drop, Option, Some, None}
+use Rattle.std.proofs.Common.{append_assoc, length-append, ap, sym, ◌∙◌, subst, refl, arith}
+use mathlib.Core.Logic.{∥∥₁_elim}
+use Rattle.std.proofs.Props.{props}
+use Rattle.tide_edge.specs.Doors.{Connection, Connections, DoorState, connections_of, left_after}
+use Rattle.tide_edge.specs.DoorLaws.{AreOfRequests, IsOfRequest, IsOfRequests}
+use Rattle.tide_edge.specs.FileStates.{listed}
+use Rattle.tide_edge.specs.Memory.{HeldDoor, door_state}
+
+-- the connection accepted last is of the current request, whose other pieces are unread; or none was
+-- accepted
+abbrev pub IsCurrent : List (List (List ℕ)) → List (List (List ℕ)) → Option Connection → List (List ℕ) → Type 0
+IsCurrent passed current None coming = (passed ≡ []) × (current ≡ [])
+IsCurrent passed current (Some c) coming =
+    (request : List (List ℕ)) × (current ≡ request ∷ []) × IsOfRequest true request c × (coming ≡ left_after (length c.came) request)
+
+-- All requests are those of the earlier connections, the current one and the waiting ones; the
+-- connections are of these, and the replies are the bytes sent over them.
+pub record IsTied (requests waiting : List (List (List ℕ))) (all : Connections) (coming replies : List (List ℕ)) : Type 0 where
+  pub passed : List (List (List ℕ))
+  pub current : List (List (List ℕ))
+  pub parts : requests ≡ passed ++ current ++ waiting
+  pub many : length passed ≡ length all.earlier
+  pub earlier : AreOfRequests true passed all.earlier
+  pub latest : IsCurrent passed current all.latest coming
+  pub sent : replies ≡ map (λ c. c.sent) (connections_of all)
+
+-- the requests of a door in memory are tied to its connections, and none waits if there are no more
+-- connections
+abbrev pub IsTiedDoor : HeldDoor → Type 0
+IsTiedDoor held =
+    IsTied held.requests held.waiting held.connections held.coming held.replies × (IsTrue held.doorway.is_over → held.waiting ≡ [])
+
+-- ---- Such a door is lawful
+
+pub of_both : (a b : List (List (List ℕ))) (cs ds : List Connection) → length a ≡ length cs → AreOfRequests true a cs
+    → AreOfRequests true b ds → AreOfRequests true (a ++ b) (cs ++ ds)
+unfolding AreOfRequests
+of_both [] b [] ds many first more = more
+of_both (r ∷ a) b [] ds many first more = absurd (omega (arith, many))
+of_both [] b (c ∷ cs) ds many first more = absurd first
+of_both (r ∷ a) b (c ∷ cs) ds many first more = (first.0, of_both a b cs ds (omega (arith, many)) first.1 more)
+
+pub of_latest : (passed current waiting : List (List (List ℕ))) (latest : Option Connection) (coming : List (List ℕ))
+    → IsCurrent passed current latest coming → AreOfRequests true (current ++ waiting) (listed latest)
+unfolding AreOfRequests
+of_latest passed current waiting None coming is = tt
+of_latest passed current waiting (Some c) coming is =
+    subst (λ (rs : List (List (List ℕ))). AreOfRequests true (rs ++ waiting) (c ∷ [])) (sym is.1) (is.2, tt)
+
+pub as_many : (passed current : List (List (List ℕ))) (latest : Option Connection) (coming : List (List ℕ))
+    → IsCurrent passed current latest coming → length current ≡ length (listed latest)
+as_many passed current None coming is = ap length is.1
+as_many passed current (Some c) coming is = ap length is.1
+
+behind : (xs waiting : List (List (List ℕ))) → drop (length xs) (xs ++ waiting) ≡ waiting
+behind [] waiting = refl
+behind (x ∷ xs) waiting = behind xs waiting
+
+-- the number of requests that don't wait
+pub all_many : (requests waiting : List (List (List ℕ))) (all : Connections) (coming replies : List (List ℕ))
+    (t : IsTied requests waiting all coming replies) → length (t.passed ++ t.current) ≡ length (connections_of all)
+all_many requests waiting all coming replies t =
+    length-append t.passed t.current
+    ∙ ap (λ n. n + length t.current) t.many
+    ∙ ap (λ n. length all.earlier + n) (as_many t.passed t.current all.latest coming t.latest)
+    ∙ sym (length-append all.earlier (listed all.latest))
+
+lawful_of : (held : HeldDoor) → IsTiedDoor held → IsOfRequests (door_state held)
+lawful_of held (t, over) = record {
+  connections =
+      subst (λ (rs : List (List (List ℕ))). AreOfRequests true rs (connections_of held.connections))
+      (sym (t.parts ∙ append_assoc t.passed t.current held.waiting))
+      (of_both t.passed (t.current ++ held.waiting) held.connections.earlier (listed held.connections.latest) t.many t.earlier
+      (of_latest t.passed t.current held.waiting held.connections.latest held.coming t.latest));
+  over = λ is.
+      ap (λ n. drop n held.requests) (sym (all_many held.requests held.waiting held.connections held.coming held.replies t))
+      ∙ ap (drop (length (t.passed ++ t.current))) t.parts
+      ∙ behind (t.passed ++ t.current) held.waiting
+      ∙ over is;
+}
+
+-- ---- A fact, of which there is one proof at most
+
+of_prop : (keeps_pieces : Bool) (request : List (List ℕ)) (c : Connection) → IsProp (IsOfRequest keeps_pieces request c)
+of_prop keeps_pieces request c = hlevel props
+
+are_prop : (keeps_pieces : Bool) (requests : List (List (List ℕ))) (all : List Connection)
+    → IsProp (AreOfRequests keeps_pieces requests all)
+unfolding AreOfRequests
+are_prop keeps_pieces requests [] = hlevel props
+are_prop keeps_pieces [] (c ∷ more) = hlevel props
+are_prop keeps_pieces (request ∷ requests) (c ∷ more) =
+    hlevel (props, of_prop keeps_pieces request c, are_prop keeps_pieces requests more)
+
+one_law : (d : DoorState) → IsProp (IsOfRequests d)
+one_law d = hlevel (props, are_prop d.keeps_pieces d.requests (connections_of d.connections))
+
+pub lawful_by : (held : HeldDoor) → ∥ IsTiedDoor held ∥₁ → IsOfRequests (door_state held)
+lawful_by held tied = ∥∥₁_elim tied (one_law (door_state held)) (lawful_of held)

@@ -1,0 +1,231 @@
+//! The requests of a door in memory, and its connections.
+
+ghost use Rattle.std.specs.Prelude.{
+  ◌≡◌,
+  ◌↔◌,
+  ◌<◌,
+  ◌≤◌,
+  ◌++◌,
+  false,
+  IsTrue,
+  [],
+  length,
+  map,
+  take,
+  drop,
+  Some,
+  None,
+  IfOk,
+  MatchOption,
+  slice_get,
+};
+ghost use Rattle.std.specs.List.{concat, list_all};
+ghost use Rattle.tide_edge.specs.Memory.{are_pieces};
+
+use crate::calls::Calls;
+use crate::doorway::Doorway;
+use crate::failed::Failed;
+use crate::host_fault::count_fault;
+use crate::passed::Connections;
+use crate::pieces::Pieces;
+use crate::replies::Replies;
+use decimal_text::Bytes;
+use ghost_log::Log;
+use std::alloc::{AllocError, Global};
+use std::collections::VecDeque;
+use std::marker::Model;
+
+/// The requests of a door in memory, the connections over which they come, and their replies.
+#[derive(Drop)]
+pub(crate) struct RequestQueue {
+    requests: Log<Vec<Bytes>>,
+    doorway: Doorway,
+    connections: Connections,
+    waiting: VecDeque<Vec<Bytes>>,
+    coming: Pieces,
+    replies: Replies,
+    calls: Calls,
+    line_faults: u64,
+}
+
+impl Model for RequestQueue {
+    ghost use Rattle.std.specs.Prelude.{◌≡◌, ◌≤◌, IsTrue, None, map};
+    ghost use Rattle.std.specs.List.{list_all};
+    ghost use Rattle.std.specs.VecDeque.{deque_len};
+    ghost use Rattle.tide_edge.specs.Doors.{IsUntouched};
+    ghost use Rattle.tide_edge.specs.Memory.{HeldDoor, are_pieces};
+
+    ghost Value = { HeldDoor };
+
+    ghost view = { λ d. record {
+      requests = map (λ request. request.items) d.requests.items;
+      doorway = d.doorway;
+      connections = d.connections;
+      waiting = map (λ request. request.items) d.waiting.items;
+      coming = d.coming;
+      replies = d.replies.replies;
+      room = d.replies.room;
+      calls = d.calls;
+      line_faults = d.line_faults;
+    } };
+
+    ghost invariant = { λ d. (deque_len d.waiting ≤ d.replies.more)
+        × IsTrue (list_all (λ request. are_pieces request.items) d.waiting.items)
+        × (d.doorway.port ≡ None → IsUntouched d.doorway d.connections) };
+}
+
+impl RequestQueue {
+    ghost use Rattle.tide_edge.specs.Calls.{answer, is_to_fail};
+    ghost use Rattle.tide_edge.specs.Doors.{IsUntouched, no_connections, not_listening};
+    ghost use Rattle.tide_edge.specs.Memory.{
+      comes,
+      after_listen,
+      after_taking,
+      line_count,
+      line_read,
+      after_line_read,
+      is_shut,
+      line_write,
+      after_line_write,
+      after_close,
+    };
+
+    /// Returns a queue in which `requests` wait, each as the pieces in which it arrives; no piece is
+    /// empty. All replies together have at most `room` bytes. The calls with a number in `fails`,
+    /// counted from 1 without calls of `close`, fail, and so does a write if `room` is used up.
+    ///
+    /// It allocates the memory for all replies here, and none later.
+    ///
+    /// # Errors
+    /// [`AllocError`] if memory runs out.
+    pub(crate) fn new(
+        alloc: Global,
+        requests: Vec<Vec<Bytes>>,
+        room: u64,
+        fails: Vec<u64>,
+    ) -> Result<RequestQueue, AllocError>
+        requires { IsTrue (list_all (λ request. are_pieces request.items) requests.items) }
+        ensures { IfOk result (λ queue. queue ≡ record {
+          requests = map (λ request. request.items) requests.items;
+          doorway = not_listening;
+          connections = no_connections;
+          waiting = map (λ request. request.items) requests.items;
+          coming = [];
+          replies = [];
+          room = room;
+          calls = record { fails = fails.items; made = 0; faults = 0 };
+          line_faults = 0;
+        }) }
+    {
+        Ok(RequestQueue {
+            requests: Log::new().then(&requests),
+            doorway: Doorway::not_listening(),
+            connections: Connections::none(),
+            replies: Replies::new(alloc, room, requests.len())?,
+            waiting: VecDeque::from(requests),
+            coming: Pieces::new(Vec::new(alloc)),
+            calls: Calls::new(fails),
+            line_faults: 0,
+        })
+    }
+
+    /// Returns the reply of connection `i`, counted from 0, or `None` if at most `i` connections were
+    /// accepted.
+    pub(crate) fn reply(&self, i: u64) -> Option<&[u8]>
+        ensures { MatchOption result (length self.now.replies ≤ i)
+            (λ reply. slice_get self.now.replies i ≡ Some reply.now) }
+    {
+        self.replies.get(i)
+    }
+
+    /// Records a call of `listen` with `port`, and returns its outcome.
+    ///
+    /// # Errors
+    /// [`Failed`] if this call is one of those that are to fail.
+    pub(crate) fn listen(&mut self, port: u16) -> Result<(), Failed>
+        requires { self.old.doorway.port ≡ None }
+        ensures answer { result ≡ answer (is_to_fail self.old.calls) record {} }
+        ensures after { self.new ≡ after_listen self.old port }
+        ensures untouched { IsUntouched self.old.doorway self.old.connections }
+    {
+        let outcome = self.calls.next();
+        self.doorway = Doorway::asked(port, outcome.is_ok());
+        outcome
+    }
+
+    /// Accepts the next request that waits, and returns true; returns false if none waits.
+    ///
+    /// # Errors
+    /// [`Failed`] if this call is one of those that are to fail.
+    pub(crate) fn next(&mut self) -> Result<bool, Failed>
+        requires listens { IsTrue self.old.doorway.listens }
+        requires none_open { self.old.doorway.is_open ≡ false }
+        ensures answer { result ≡ comes self.old }
+        ensures after { self.new ≡ after_taking self.old }
+    {
+        self.calls.next()?;
+        let Some(pieces) = self.waiting.pop_front() else {
+            self.doorway.end();
+            return Ok(false);
+        };
+        self.coming = Pieces::new(pieces);
+        self.replies.begin();
+        self.doorway.open();
+        self.connections.open();
+        Ok(true)
+    }
+
+    /// Reads the next bytes of the current request into the first bytes of `room`, and returns their
+    /// count.
+    ///
+    /// # Errors
+    /// [`Failed`] if this call is one of those that are to fail.
+    pub(crate) fn read(&mut self, room: &mut [u8]) -> Result<usize, Failed>
+        requires room { 0 < length room.old }
+        requires open { IsTrue self.old.doorway.is_open }
+        ensures answer { result ≡ line_read self.old (length room.old) }
+        ensures after { self.new ≡ after_line_read self.old (length room.old) room.new }
+        ensures filled { room.new ≡ take (line_count self.old (length room.old)) (concat self.old.coming)
+            ++ drop (line_count self.old (length room.old)) room.old }
+        ensures end { IfOk result (λ count. (count ≡ 0) ↔ (concat self.old.coming ≡ [])) }
+    {
+        let outcome = if self.calls.is_next_to_fail() {
+            Err(count_fault(&mut self.line_faults))
+        } else {
+            Ok(self.coming.read(room))
+        };
+        self.connections.read(room, &outcome);
+        outcome
+    }
+
+    /// Appends the first bytes of `piece` to the current reply, and returns their count.
+    ///
+    /// # Errors
+    /// [`Failed`] if this call is one of those that are to fail, or if no room is left.
+    pub(crate) fn write(&mut self, piece: &[u8]) -> Result<usize, Failed>
+        requires piece { 0 < length piece.now }
+        requires open { IsTrue self.old.doorway.is_open }
+        ensures answer { result ≡ line_write self.old piece.now }
+        ensures after { self.new ≡ after_line_write self.old piece.now }
+        ensures some { IfOk result (λ count. 0 < count) }
+    {
+        let room = self.replies.room();
+        let outcome = if self.calls.is_next_to_fail() || room == 0 {
+            Err(count_fault(&mut self.line_faults))
+        } else {
+            let count = (piece.len() as u64).min(room) as usize;
+            self.replies.append(&piece[..count]);
+            Ok(count)
+        };
+        self.connections.write(piece, &outcome);
+        outcome
+    }
+
+    /// Closes the open connection.
+    pub(crate) fn close(&mut self)
+        requires { IsTrue self.old.doorway.is_open }
+        ensures { self.new ≡ after_close self.old }
+    {
+        self.doorway.close();
+    }
+}
