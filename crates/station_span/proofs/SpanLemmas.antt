@@ -49,14 +49,6 @@ reached_span reach book basis begin end forward some inside in_range beside =
 pub has_offsets : (stations : ℕ) (basis : Basis) → IsBasis stations basis → HasOffsets basis
 has_offsets stations basis is = record { high = is.high; low = is.low; slack = is.slack }
 
-pub book_years : (book : Book) → IsBook book → AreYears book.first_year book.years
-book_years book is = record {
-  least = is.first_year.least;
-  most = is.first_year.most;
-  some = is.some_years;
-  few = is.few_years;
-}
-
 pub moment : (first_year : ℤ) (years : ℕ) (m : ℤ) → AreYears first_year years → InDomain first_year years m → IsMoment m
 moment first_year years m are inside =
     let file = file_minute first_year years m are inside in
