@@ -91,7 +91,6 @@ AnswersArguments s arguments status before after =
 -- nothing was done yet: no file opened, no byte accepted, the clock not read, and the port not listened to
 pub record IsFresh {F D O E K : Type 0} (s : WorldStates F D O E K) (w : World F D O E K) : Type 0 where
   pub openings : (s.files w.files).openings ≡ no_openings
-  pub reads : (s.files w.files).reads ≡ record { opens = 0; ends = 0; bytes = 0 }
   pub files_faults : (s.files w.files).faults ≡ 0
   pub doorway : (s.door w.door).doorway ≡ not_listening
   pub connections : (s.door w.door).connections ≡ no_connections
