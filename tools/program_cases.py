@@ -42,35 +42,51 @@ def with_line(text, line, other):
     return '\n'.join(lines)
 
 
+def unescaped(text):
+    """A field of changes.tsv: `<32>` is 32 letters, and `\\xe9` a byte."""
+    parts = text.replace('<', '>').split('>')
+    letters = [it if at % 2 == 0 else 'a' * int(it) for at, it in enumerate(parts)]
+    return ''.join(letters).encode('ascii').decode('unicode_escape')
+
+
 def changes(kind):
-    """The rows of a kind in changes.tsv: a line, the text in its place, and what is printed, or `-`."""
+    """The rows of a kind in changes.tsv: a line, the text in its place, and what the run prints."""
     rows = [it.split('\t') for it in (EXPECTED / 'changes.tsv').read_text(encoding='ascii').splitlines() if not it.startswith('#')]
-    for _, line, text, printed in (it for it in rows if it[0] == kind):
-        parts = text.replace('<', '>').split('>')
-        letters = [it if at % 2 == 0 else 'a' * int(it) for at, it in enumerate(parts)]
-        yield int(line), ''.join(letters).encode('ascii').decode('unicode_escape'), printed
+    for _, line, text, *printed in (it for it in rows if it[0] == kind):
+        yield int(line), unescaped(text), printed[0] if len(printed) == 1 else (int(printed[1]), *map(unescaped, printed[2:]))
 
 
 def said(place, slot, printed, *words):
-    """What differs in a run over a file that is read, if nothing is said of it, or that is refused with a line."""
+    """What differs in a run over a file that is refused with a line, or that is read: then the status is given, and what is printed."""
     return differs_from_said(place.run(*words), slot, printed)
 
 
 def differs_from_said(ended, slot, printed):
-    if printed != '-':
+    if isinstance(printed, str):
         return difference(ended, 3, b'', f'{slot}: {printed}\n'.encode())
-    is_read = ended.returncode != 3 and not ended.stderr.startswith(f'{slot}:'.encode())
-    return '' if is_read else f'status {ended.returncode}, {ended.stderr}'
+    status, *texts = printed
+    text = texts[0].encode() if texts else ended.stdout
+    return difference(ended, status, *((text, b'') if status < 2 else (b'', text)))
+
+
+def differs_in_values(place, printed, command, *words):
+    """What differs in a run for the last station of a list: what it prints shows the values that were read."""
+    if isinstance(printed, str) or len(printed) < 3:
+        return ''
+    name = printed[1].splitlines()[-1].split(' ', 2)[2].removesuffix(' (Pier)')
+    ended = place.run(command, *words, f'station={name}', 'begin=2000-01-10T00:00Z', 'end=2000-01-10T12:00Z', 'layout=csv')
+    came = (ended.stdout + ended.stderr).decode()
+    return '' if came == printed[2] else f'{command}: {came!r} in place of {printed[2]!r}'
 
 
 def books(place):
     """Files of constants, each whole, byte by byte, and in pieces of seven bytes."""
     text, seen = (place.folder / 'pier.txt').read_text(encoding='ascii'), []
-    rows = [('as people write it', REAL, '-'), ('eleven years', ELEVEN_YEARS, '-')]
+    rows = [('as people write it', REAL, (0, 'Ref feet Port\xe9, Bay\n')), ('eleven years', ELEVEN_YEARS, (0, 'Ref feet Pier\n'))]
     rows += [(other, with_line(text, line, other).encode('latin-1'), printed) for line, other, printed in changes('book')]
     for case, data, printed in rows:
         words = ('stations', f'file={write(place, "book.txt", data)}')
-        seen.append(said(place, 'file', printed, *words))
+        seen.append(said(place, 'file', printed, *words) or differs_in_values(place, printed, 'heights', words[1], 'step=300'))
         for count in (1, 7) if len(data) < 1000 else (4096,):
             seen.append(differs_from_said(fed(place, data, count, words[0]), 'file', printed))
         if seen[-1]:
@@ -110,7 +126,8 @@ def tables(place):
     seen = []
     for line, text, printed in changes('table'):
         write(place, 'table.csv', ((HEADER if line else '') + text).encode('latin-1'))
-        seen.append(said(place, 'offsets', printed, 'stations', 'file=pier.txt', 'offsets=table.csv'))
+        words = ('file=pier.txt', 'offsets=table.csv')
+        seen.append(said(place, 'offsets', printed, 'stations', *words) or differs_in_values(place, printed, 'predict', *words))
     return joined(seen)
 
 
@@ -132,10 +149,10 @@ def arguments(place):
     seen = []
     for _, text, printed in changes('words'):
         ended = place.run(*text.replace('file=pier.txt', 'file=no-pier.txt').split('|'))
-        if printed != '-':
+        if isinstance(printed, str):
             seen.append(difference(ended, 2, b'', f'words: {printed}\n'.encode()))
-        elif (ended.returncode, ended.stderr) not in ((0, b''), (6, b'read fault\n')):
-            seen.append(f'{text[:40]}: status {ended.returncode}, {ended.stderr}')
+        else:
+            seen.append(differs_from_said(ended, 'words', printed))
     return joined(seen)
 
 
@@ -161,7 +178,7 @@ def peak_certificates(place):
     seen = []
     for line, other, printed in changes('peak'):
         seen.append(certificate(place, 'peakcheck', with_line(PEAK, line, other.encode('latin-1').decode()), printed))
-    for left_out, printed in ((0, '-'), (1, 'line 31'), (4, 'line 31'), (5, 'line 31'), (6, 'line 30'), (len(PEAK), 'line 1')):
+    for left_out, printed in ((0, (0, 'Accepted\nPier\nHighest 2000-01-10 00:00 UTC       1.00 feet\n')), (1, 'line 31'), (4, 'line 31'), (5, 'line 31'), (6, 'line 30'), (len(PEAK), 'line 1')):
         seen.append(certificate(place, 'peakcheck', PEAK[:len(PEAK) - left_out], printed))
     for more in ('done\n', 'm\n', '\n', 'm'):
         seen.append(certificate(place, 'peakcheck', PEAK + more, 'line 32'))
