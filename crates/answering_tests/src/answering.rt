@@ -23,7 +23,7 @@ use std::test::Fail;
 use tide_answer::{
     Fault, Slot, accepted_is_short, accepted_is_true, accepted_peak_is_short,
     accepted_peak_is_true, answer_alone, certified_is_accepted, fault_line, fault_status,
-    highest_is_reported, peak_certified_is_accepted, peak_certified_is_short, worked_rows,
+    highest_is_reported, peak_certified_is_accepted, peak_certified_is_short, sample_row_counts,
 };
 use tide_edge::MemorySink;
 use tide_fault::worked_lines;
@@ -55,7 +55,7 @@ fn table(alloc: Global) -> Result<OffsetTable, OffsetFault> {
 fn pier_case(alloc: Global, line: &str) -> Result<Case, Fail>
     ensures book { IfOk result (λ case. IsBook case.book) }
     ensures question { IfOk result (λ case. IsAsked case.question) }
-    ensures given { IfOk result (λ case. IsGiven case.given) }
+    ensures inputs { IfOk result (λ case. IsGiven case.inputs) }
 {
     let question = asked(alloc, line)?;
     let table = table(alloc)?;
@@ -232,7 +232,7 @@ fn faults_of_files_have_their_lines(rt: HostRuntime) -> Result<(), Fail> {
 fn laws_and_rows_stand(_rt: HostRuntime) {
     worked_lines();
     worked_spans();
-    worked_rows();
+    sample_row_counts();
     worked_levels();
     certified_is_accepted();
     accepted_is_true();

@@ -14,7 +14,7 @@ use harmonics_text::read_book;
 use listing::plain_events;
 use question::{AskFault, Question, pairs_of_words, read_question};
 use station_span::{
-    Asked, Reach, StationData, StationRequest, find_events, find_level, find_station,
+    Purpose, SpanRequest, StationData, StationRequest, find_events, find_level, find_station,
     highest_minute, level_at, moved_minute,
 };
 use station_table::OffsetTable;
@@ -86,15 +86,15 @@ fn find_day(
 ) -> Result<(), Refusal>
     requires { IsBook book.now }
 {
-    let asked = Asked {
+    let span_request = SpanRequest {
         begin: 15_791_040,
         end: 15_792_480,
         mark: None,
     };
     let stations = StationData::new(&book, &table);
-    let request = StationRequest::new(&name, asked);
-    let found = find_station(alloc, &stations, Reach::Events, &request)?;
-    let listed = find_events(alloc, &found)?;
+    let request = StationRequest::new(&name, span_request);
+    let found_station = find_station(alloc, &stations, Purpose::Events, &request)?;
+    let listed = find_events(alloc, &found_station)?;
     assert_eq!(rt; listed.events.as_slice().len(), 4);
     Ok(())
 }
@@ -117,16 +117,16 @@ fn find_highest_water(
 ) -> Result<(), Refusal>
     requires { IsBook book.now }
 {
-    let asked = Asked {
+    let span_request = SpanRequest {
         begin: 15_791_040,
         end: 15_792_480,
         mark: None,
     };
     let stations = StationData::new(&book, &table);
-    let request = StationRequest::new(&name, asked);
-    let found = find_level(alloc, &stations, &request)?;
-    let minute = moved_minute(&found, highest_minute(&found));
-    let level = level_at(&found, minute);
+    let request = StationRequest::new(&name, span_request);
+    let found_station = find_level(alloc, &stations, &request)?;
+    let minute = moved_minute(&found_station, highest_minute(&found_station));
+    let level = level_at(&found_station, minute);
     assert_eq!(rt; (minute, level), (15_791_040, 1_000_000));
     Ok(())
 }
@@ -150,12 +150,12 @@ fn answer_day(
     requires book { IsBook book.now }
     requires question { IsAsked question.now }
 {
-    let given = Given {
+    let inputs = Given {
         zone: Zone::Utc,
         certificate: Bytes::from_vec(Vec::new(alloc)),
         now: 0,
     };
-    let answered = answer(alloc, &book, &table, &question, &given)?;
+    let answered = answer(alloc, &book, &table, &question, &inputs)?;
     assert_eq!(rt; answered.text.as_slice(), DAY.as_bytes());
     Ok(())
 }
@@ -181,12 +181,12 @@ fn check_certificate(
     requires { IsBook book.now }
 {
     let question = request(alloc, "check|file=f|certificate=c")?;
-    let given = Given {
+    let inputs = Given {
         zone: Zone::Utc,
         certificate: Bytes::from_vec(CERTIFICATE.as_bytes().to_vec(alloc)?),
         now: 0,
     };
-    let checked = answer(alloc, &book, &table, &question, &given)?;
+    let checked = answer(alloc, &book, &table, &question, &inputs)?;
     assert!(rt; !checked.rejected);
     assert_bytes(rt, checked.text.as_slice(), b"Accepted\nPier\n", "check");
     Ok(())
@@ -205,13 +205,13 @@ fn list_day(
     book: &Book,
     table: &OffsetTable,
     question: &Question,
-    given: &Given,
+    inputs: &Given,
 ) -> Result<(), Refusal>
     requires book { IsBook book.now }
     requires question { IsAsked question.now }
-    requires given { IsGiven given.now }
+    requires inputs { IsGiven inputs.now }
 {
-    let listed = station_events(alloc, &book, &table, &question, &given)?;
+    let listed = station_events(alloc, &book, &table, &question, &inputs)?;
     let (name, units, events) = (&listed.name, listed.units, &listed.events);
     let lines = plain_events(alloc, name, units, events, &Zone::Utc)?;
     assert_eq!(rt; lines.as_slice(), DAY.as_bytes());
@@ -224,13 +224,13 @@ fn list_dates(
     book: &Book,
     table: &OffsetTable,
     question: &Question,
-    given: &Given,
+    inputs: &Given,
 ) -> Result<(), Refusal>
     requires book { IsBook book.now }
     requires question { IsAsked question.now }
-    requires given { IsGiven given.now }
+    requires inputs { IsGiven inputs.now }
 {
-    let listed = station_events(alloc, book, table, question, given)?;
+    let listed = station_events(alloc, book, table, question, inputs)?;
     let (name, units, events) = (&listed.name, listed.units, &listed.events);
     let (begin, end) = (15_791_040, 15_792_480);
     let dates = calendar_text(alloc, name, units, events, &Zone::Utc, begin, end)?;
@@ -243,14 +243,14 @@ fn list_dates(
 fn events_are_laid_out(rt: HostRuntime) -> Result<(), Refusal> {
     let alloc = rt.alloc();
     let sources = pier_sources(alloc)?;
-    let given = Given {
+    let inputs = Given {
         zone: Zone::Utc,
         certificate: Bytes::from_vec(Vec::new(alloc)),
         now: 0,
     };
     let (book, table, question) = (&sources.book, &sources.table, &sources.question);
-    list_day(&rt, alloc, book, table, question, &given)?;
-    list_dates(&rt, alloc, book, table, question, &given)
+    list_day(&rt, alloc, book, table, question, &inputs)?;
+    list_dates(&rt, alloc, book, table, question, &inputs)
 }
 
 #[test]

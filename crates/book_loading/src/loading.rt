@@ -50,11 +50,11 @@ pub fn load_book<F: Files>(
     limit: u64,
 ) -> Result<Book, LoadFault>
     requires { limit ≤ MOST_BYTES }
-    ensures own { IsTrue (F.state files.old).store.is_observable
-        → Meets source_of (IsTrue (F.state files.old).store.is_steady) (loaded limit ((F.state files.old).store.folder name.now)) result }
-    ensures came { OpenedOnce source_of (loaded limit) limit name.now (F.state files.old).openings (F.state files.new).openings result }
+    ensures own { IsTrue (F.state files.old).file_contents.is_observable
+        → Meets source_of (IsTrue (F.state files.old).file_contents.is_steady) (loaded limit ((F.state files.old).file_contents.folder name.now)) result }
+    ensures came { OpenedOnce source_of (loaded limit) limit name.now (F.state files.old).open_log (F.state files.new).open_log result }
     ensures valid { IfOk result IsBook }
-    ensures too_long { (result ≡ Err LoadFault.TooLong) ↔ HasPassed limit (F.state files.old).openings (F.state files.new).openings }
+    ensures too_long { (result ≡ Err LoadFault.TooLong) ↔ HasPassed limit (F.state files.old).open_log (F.state files.new).open_log }
     ensures read { ReadWithin (one_file limit) (is_outside_fault source_of result) (F.state files.old) (F.state files.new) }
 {
     let mut feeder = Feeder {
@@ -76,7 +76,7 @@ struct Feeder {
 impl Receiver for Feeder {
     ghost use Rattle.decimal_text.specs.declared.limits.TheConstants.{MOST_BYTES};
 
-    ghost taken = { λ feeder. feeder.reader.bytes };
+    ghost accepted = { λ feeder. feeder.reader.bytes };
 
     ghost most = { λ feeder. MOST_BYTES };
 

@@ -25,13 +25,13 @@ unfolding days_from
 length-days_from day zero = refl
 length-days_from day (suc n) = ap (λ k. suc k) (length-days_from (day +ℤ pos 1) n)
 
-pub get_or-days_from : (day : ℤ) (n place : ℕ) (d : ℤ) → place < n → get_or (days_from day n) place d ≡ day +ℤ pos place
+pub get_or-days_from : (day : ℤ) (n index : ℕ) (d : ℤ) → index < n → get_or (days_from day n) index d ≡ day +ℤ pos index
 unfolding days_from
-get_or-days_from day zero place d within = absurd (omega arith)
+get_or-days_from day zero index d within = absurd (omega arith)
 get_or-days_from day (suc n) zero d within = omega (arith, ints)
-get_or-days_from day (suc n) (suc place) d within =
-    let later : (day +ℤ pos 1) +ℤ pos place ≡ day +ℤ pos (suc place) = omega (arith, ints) in
-    get_or-days_from (day +ℤ pos 1) n place d (omega arith) ∙ later
+get_or-days_from day (suc n) (suc index) d within =
+    let later : (day +ℤ pos 1) +ℤ pos index ≡ day +ℤ pos (suc index) = omega (arith, ints) in
+    get_or-days_from (day +ℤ pos 1) n index d (omega arith) ∙ later
 
 -- a range with one more day
 pub wider : (first last day : ℤ) → AreDays first last → IsDay day → AreDays (int_min first day) (int_max last day)

@@ -47,50 +47,50 @@ pages-later zone events event first (suc n) before =
     cons_equal head tail
 
 -- one more event changes the page of its date alone
-pages-push : (zone : Zone) (events : List Event) (event : Event) (first : ℤ) (n place : ℕ) → place < n
-    → day_in zone event.minute ≡ first +ℤ pos place
+pages-push : (zone : Zone) (events : List Event) (event : Event) (first : ℤ) (n index : ℕ) → index < n
+    → day_in zone event.minute ≡ first +ℤ pos index
     → map (page_of zone (events ++ event ∷ [])) (days_from first n)
-    ≡ set (map (page_of zone events) (days_from first n)) place
-    (page (first +ℤ pos place) (events_on zone events (first +ℤ pos place) ++ event ∷ []))
+    ≡ set (map (page_of zone events) (days_from first n)) index
+    (page (first +ℤ pos index) (events_on zone events (first +ℤ pos index) ++ event ∷ []))
 unfolding days_from
-pages-push zone events event first zero place within at = absurd (omega arith)
+pages-push zone events event first zero index within at = absurd (omega arith)
 pages-push zone events event first (suc n) zero within at =
     let start : first +ℤ pos 0 ≡ first = omega (arith, ints) in
     let head = page_of-here zone events event first (at ∙ start) in
     let tail = pages-later zone events event (first +ℤ pos 1) n (omega (arith, ints, at)) in
     rw start (cons_equal head tail)
-pages-push zone events event first (suc n) (suc place) within at =
-    let later : (first +ℤ pos 1) +ℤ pos place ≡ first +ℤ pos (suc place) = omega (arith, ints) in
+pages-push zone events event first (suc n) (suc index) within at =
+    let later : (first +ℤ pos 1) +ℤ pos index ≡ first +ℤ pos (suc index) = omega (arith, ints) in
     let head = page_of-elsewhere zone events event first (λ same. omega (arith, ints, same, at)) in
-    let tail = pages-push zone events event (first +ℤ pos 1) n place (omega arith) (at ∙ sym later) in
+    let tail = pages-push zone events event (first +ℤ pos 1) n index (omega arith) (at ∙ sym later) in
     cons_equal head (rw later at tail)
 
 -- the page at the index of a day
-page_at : (zone : Zone) (events : List Event) (first : ℤ) (n place : ℕ) (found : CalendarPage) → place < n
-    → get_or (map (page_of zone events) (days_from first n)) place found ≡ found → found ≡ page_of zone events (first +ℤ pos place)
-page_at zone events first n place found within at =
-    let many : place < length (days_from first n) = rw (length-days_from first n) within in
-    sym at ∙ get_or-map (page_of zone events) (days_from first n) place first found many
-    ∙ ap (page_of zone events) (get_or-days_from first n place first within)
+page_at : (zone : Zone) (events : List Event) (first : ℤ) (n index : ℕ) (found : CalendarPage) → index < n
+    → get_or (map (page_of zone events) (days_from first n)) index found ≡ found → found ≡ page_of zone events (first +ℤ pos index)
+page_at zone events first n index found within at =
+    let many : index < length (days_from first n) = rw (length-days_from first n) within in
+    sym at ∙ get_or-map (page_of zone events) (days_from first n) index first found many
+    ∙ ap (page_of zone events) (get_or-days_from first n index first within)
 
 pub length-pages_of : (zone : Zone) (events : List Event) (first last : ℤ)
     → length (pages_of zone events first last) ≡ unsigned_abs (last -ℤ first) + 1
 length-pages_of zone events first last = rw length-map (length-days_from first (unsigned_abs (last -ℤ first) + 1))
 
 -- one more event is put on the page of its date
-pub pages_of-push : (zone : Zone) (events : List Event) (event : Event) (first last : ℤ) (place : ℕ)
+pub pages_of-push : (zone : Zone) (events : List Event) (event : Event) (first last : ℤ) (index : ℕ)
     (pages : List CalendarPage) (found pushed : CalendarPage)
     → pages ≡ pages_of zone events first last
-    → pos place ≡ day_in zone event.minute -ℤ first
+    → pos index ≡ day_in zone event.minute -ℤ first
     → IsAmong zone first last event
-    → get_or pages place found ≡ found
+    → get_or pages index found ≡ found
     → pushed ≡ page found.day (found.events ++ event ∷ [])
-    → set pages place pushed ≡ pages_of zone (events ++ event ∷ []) first last
-pages_of-push zone events event first last place pages found pushed are at among old new =
-    let at_day : day_in zone event.minute ≡ first +ℤ pos place = omega (arith, ints, at) in
-    let within : place < unsigned_abs (last -ℤ first) + 1 = omega (arith, ints, among.least, among.most, at) in
-    let here = page_at zone events first (unsigned_abs (last -ℤ first) + 1) place found within (rw are at old) in
-    rw (are, new, here) (sym (pages-push zone events event first (unsigned_abs (last -ℤ first) + 1) place within at_day))
+    → set pages index pushed ≡ pages_of zone (events ++ event ∷ []) first last
+pages_of-push zone events event first last index pages found pushed are at among old new =
+    let at_day : day_in zone event.minute ≡ first +ℤ pos index = omega (arith, ints, at) in
+    let within : index < unsigned_abs (last -ℤ first) + 1 = omega (arith, ints, among.least, among.most, at) in
+    let here = page_at zone events first (unsigned_abs (last -ℤ first) + 1) index found within (rw are at old) in
+    rw (are, new, here) (sym (pages-push zone events event first (unsigned_abs (last -ℤ first) + 1) index within at_day))
 
 -- each page has a date that can be written
 pub dated_pages : (zone : Zone) (events : List Event) (first last : ℤ) → AreDays first last

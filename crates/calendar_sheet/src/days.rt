@@ -67,20 +67,20 @@ impl Days {
         ensures value { result ≡ unsigned_abs (self.last -ℤ self.first) + 1 }
         ensures small { result ≤ 3652425 }
     {
-        self.place_of(self.last) + 1
+        self.day_index(self.last) + 1
     }
 
-    /// Returns the day number at index `place` of the range: `place` days after the first day.
-    pub fn day_at(self, place: usize) -> i64
+    /// Returns the day number at index `index` of the range: `index` days after the first day.
+    pub fn day_at(self, index: usize) -> i64
         requires days { AreDays self.first self.last }
-        requires place { pos place ≤ℤ (self.last -ℤ self.first) }
-        ensures { result ≡ self.first +ℤ pos place }
+        requires index { pos index ≤ℤ (self.last -ℤ self.first) }
+        ensures { result ≡ self.first +ℤ pos index }
     {
-        self.first + place as i64
+        self.first + index as i64
     }
 
     /// Returns the index of `day`, which is in the range: the number of days from the first day to it.
-    pub fn place_of(self, day: i64) -> usize
+    pub fn day_index(self, day: i64) -> usize
         requires days { AreDays self.first self.last }
         requires least { self.first ≤ℤ day }
         requires most { day ≤ℤ self.last }

@@ -51,8 +51,8 @@ fn pages_of(
 {
     let mut pages = empty_pages(alloc, days)?;
     for event in events {
-        let place = place_of(event, zone, days);
-        pages[place].push(*event)?;
+        let index = day_index(event, zone, days);
+        pages[index].push(*event)?;
     }
     Ok(pages)
 }
@@ -63,18 +63,18 @@ fn empty_pages(alloc: Global, days: Days) -> Result<Vec<CalendarPage>, AllocErro
     ensures { IfOk result (λ pages. pages.items ≡ map empty_page (days_through days.first days.last)) }
 {
     let mut pages = Vec::new(alloc);
-    for place in 0..days.count() {
-        pages.push(CalendarPage::new(alloc, days.day_at(place)))?;
+    for index in 0..days.count() {
+        pages.push(CalendarPage::new(alloc, days.day_at(index)))?;
     }
     Ok(pages)
 }
 
 /// Returns the index in `days`, counted from 0, of the local date of `event`.
-fn place_of(event: &Event, zone: &ZoneClock<'_>, days: Days) -> usize
+fn day_index(event: &Event, zone: &ZoneClock<'_>, days: Days) -> usize
     requires days { AreDays days.first days.last }
     requires year { InZoneYears event.now.minute }
     requires among { IsAmong zone.now days.first days.last event.now }
     ensures { pos result ≡ day_in zone.now event.now.minute -ℤ days.first }
 {
-    days.place_of(local_day(zone, event.minute))
+    days.day_index(local_day(zone, event.minute))
 }

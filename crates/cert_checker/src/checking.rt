@@ -3,7 +3,7 @@
 ghost use Rattle.std.specs.Prelude.{◌≡◌, ◌+◌, ◌<◌, ◌≤◌, ◌^◌, pos, ◌+ℤ◌, ◌-ℤ◌, ◌≤ℤ◌, unsigned_abs, length};
 ghost use Rattle.curve_law.specs.declared.verdict.Verdict.{Verdict};
 ghost use Rattle.curve_law.specs.Track.{plain_list};
-ghost use Rattle.curve_law.specs.Meaning.{IsSpan};
+ghost use Rattle.curve_law.specs.CurveSpec.{IsSpan};
 ghost use Rattle.curve_law.specs.CurveStates.{evaluated_once};
 ghost use Rattle.curve_law.specs.Cells.{minutes_of, all_minutes, cell_events};
 ghost use Rattle.curve_law.specs.Verdicts.{cells_verdict, verdict};
@@ -32,15 +32,15 @@ use curve_law::{Cell, Cells, Curve, Point, Verdict, approximate_point_at};
 /// ```
 pub fn check_track<C: Curve>(curve: &mut C, cells: &Cells, begin: i64, end: i64) -> Verdict
     requires forward { begin ≤ℤ end }
-    requires first { (C.state curve.old).facts.meaning.first ≤ℤ begin }
-    requires last { end ≤ℤ (C.state curve.old).facts.meaning.last }
+    requires first { (C.state curve.old).curve_model.curve_spec.first ≤ℤ begin }
+    requires last { end ≤ℤ (C.state curve.old).curve_model.curve_spec.last }
     requires count_bound { length cells.now < 2 ^ 32 }
     requires count { (C.state curve.old).count + length cells.now ≤ 2 ^ 62 }
-    ensures verdict { result ≡ verdict (C.state curve.old).facts.meaning begin (unsigned_abs (end -ℤ begin)) cells.now }
+    ensures verdict { result ≡ verdict (C.state curve.old).curve_model.curve_spec begin (unsigned_abs (end -ℤ begin)) cells.now }
     ensures exact { result ≡ Verdict.Accepted →
-        cell_events begin cells.now ≡ plain_list (C.state curve.old).facts.meaning.track begin (unsigned_abs (end -ℤ begin)) }
+        cell_events begin cells.now ≡ plain_list (C.state curve.old).curve_model.curve_spec.track begin (unsigned_abs (end -ℤ begin)) }
     ensures count { (C.state curve.new).count ≤ (C.state curve.old).count + length cells.now + 1 }
-    ensures unchanged { (C.state curve.new).facts ≡ (C.state curve.old).facts }
+    ensures unchanged { (C.state curve.new).curve_model ≡ (C.state curve.old).curve_model }
 {
     let wanted = end - begin;
     let covered = covered_by(cells.as_slice());
@@ -53,12 +53,12 @@ pub fn check_track<C: Curve>(curve: &mut C, cells: &Cells, begin: i64, end: i64)
 /// Returns the first fault of `cells`, of which the first begins at minute `begin`, or
 /// [`Verdict::Accepted`] if there is none.
 fn first_finding<C: Curve>(curve: &mut C, cells: &[Cell], begin: i64) -> Verdict
-    requires span { IsSpan (C.state curve.old).facts.meaning begin (all_minutes cells.now) }
+    requires span { IsSpan (C.state curve.old).curve_model.curve_spec begin (all_minutes cells.now) }
     requires count_bound { length cells.now < 2 ^ 32 }
     requires count { (C.state curve.old).count + length cells.now ≤ 2 ^ 62 }
-    ensures verdict { result ≡ cells_verdict (C.state curve.old).facts.meaning begin 1 cells.now }
+    ensures verdict { result ≡ cells_verdict (C.state curve.old).curve_model.curve_spec begin 1 cells.now }
     ensures count { (C.state curve.new).count ≤ (C.state curve.old).count + length cells.now + 1 }
-    ensures unchanged { (C.state curve.new).facts ≡ (C.state curve.old).facts }
+    ensures unchanged { (C.state curve.new).curve_model ≡ (C.state curve.old).curve_model }
 {
     let mut at = approximate_point_at(curve, begin);
     let mut number: u32 = 0;
@@ -76,10 +76,10 @@ fn first_finding<C: Curve>(curve: &mut C, cells: &[Cell], begin: i64) -> Verdict
 /// Evaluates `curve` approximately at the end of `cell`, which begins at minute `begin`, and returns
 /// the point.
 fn end_of<C: Curve>(curve: &mut C, begin: i64, cell: Cell) -> Point
-    requires span { IsSpan (C.state curve.old).facts.meaning begin (minutes_of cell) }
+    requires span { IsSpan (C.state curve.old).curve_model.curve_spec begin (minutes_of cell) }
     requires count_bound { (C.state curve.old).count < 2 ^ 63 }
     ensures minute { result.minute ≡ begin +ℤ pos (minutes_of cell) }
-    ensures value { result.value ≡ (C.state curve.old).facts.approximate result.minute }
+    ensures value { result.value ≡ (C.state curve.old).curve_model.approximate result.minute }
     ensures after { C.state curve.new ≡ evaluated_once (C.state curve.old) }
 {
     approximate_point_at(curve, begin + i64::from(minutes_of(cell)))

@@ -1,7 +1,7 @@
 //! The verdict on one cell.
 
 ghost use Rattle.std.specs.Prelude.{◌≡◌, pos, ◌+ℤ◌};
-ghost use Rattle.curve_law.specs.Meaning.{IsSpan};
+ghost use Rattle.curve_law.specs.CurveSpec.{IsSpan};
 ghost use Rattle.curve_law.specs.Cells.{minutes_of};
 ghost use Rattle.curve_law.specs.Cover.{is_quiet};
 ghost use Rattle.curve_law.specs.Verdicts.{cell_verdict};
@@ -23,10 +23,10 @@ pub fn finding_on<C: Curve>(
     at: Point,
     end_value: i128,
 ) -> Verdict
-    requires span { IsSpan (C.state curve.now).facts.meaning at.minute (minutes_of cell) }
-    requires value { at.value ≡ (C.state curve.now).facts.approximate at.minute }
-    requires end_value { end_value ≡ (C.state curve.now).facts.approximate (at.minute +ℤ pos (minutes_of cell)) }
-    ensures { result ≡ cell_verdict (C.state curve.now).facts.meaning at.minute number cell }
+    requires span { IsSpan (C.state curve.now).curve_model.curve_spec at.minute (minutes_of cell) }
+    requires value { at.value ≡ (C.state curve.now).curve_model.approximate at.minute }
+    requires end_value { end_value ≡ (C.state curve.now).curve_model.approximate (at.minute +ℤ pos (minutes_of cell)) }
+    ensures { result ≡ cell_verdict (C.state curve.now).curve_model.curve_spec at.minute number cell }
 {
     match cell {
         Cell::Quiet(minutes) => quiet_finding(number, is_quiet_cell(curve, minutes, at, end_value)),
@@ -41,10 +41,10 @@ pub fn finding_on<C: Curve>(
 /// Returns true if the `minutes` minutes from the point `at` on can be one quiet cell. `at` has the
 /// approximate value there, and `end_value` is the one at the end.
 fn is_quiet_cell<C: Curve>(curve: &C, minutes: u32, at: Point, end_value: i128) -> bool
-    requires span { IsSpan (C.state curve.now).facts.meaning at.minute minutes }
-    requires value { at.value ≡ (C.state curve.now).facts.approximate at.minute }
-    requires end_value { end_value ≡ (C.state curve.now).facts.approximate (at.minute +ℤ pos minutes) }
-    ensures { result ≡ is_quiet (C.state curve.now).facts.meaning at.minute minutes }
+    requires span { IsSpan (C.state curve.now).curve_model.curve_spec at.minute minutes }
+    requires value { at.value ≡ (C.state curve.now).curve_model.approximate at.minute }
+    requires end_value { end_value ≡ (C.state curve.now).curve_model.approximate (at.minute +ℤ pos minutes) }
+    ensures { result ≡ is_quiet (C.state curve.now).curve_model.curve_spec at.minute minutes }
 {
     if minutes > MOST_MINUTES {
         return false;

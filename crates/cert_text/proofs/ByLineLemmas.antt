@@ -3,7 +3,7 @@ use Rattle.std.proofs.Common.{◌≡◌, ℕ, suc, ◌+◌, ◌≤◌, List, [],
 use Rattle.std.proofs.lemmas.Bool.{cases_order}
 use Rattle.std.proofs.lemmas.List.{length-take-le, take_at}
 use Rattle.std.proofs.lemmas.List.Concat.{flat_map-append}
-use Rattle.decimal_text.specs.Expected.{ReturnsUnless}
+use Rattle.decimal_text.specs.Expected.{EqualsUnlessNoMemory}
 use Rattle.cert_text.specs.declared.fault.CertFault.{CertFault}
 use Rattle.cert_text.specs.declared.fault.CertFault.TheVariants.{NoMemory, NotACertificate}
 use Rattle.cert_text.specs.Texts.{ended, joined, IsTextBy, BeginsBy, IsFaultBy, RefusedBy, ReadsBy}
@@ -24,17 +24,17 @@ one_fault_line spells bytes m n hm hn =
 -- a part after another that has returned
 pub then_takes : {A B : Type 0} (part : Part A) (next : A → Part B) (old here new : Place) (value : A) (result : Result B CertFault)
     → part old ≡ Ok (value, here) → Takes (next value) here new result → Takes (part >>= next) old new result
-then_takes part next old here new value (Ok said) h k = ap (handed next) h ∙ k
+then_takes part next old here new value (Ok decoded) h k = ap (handed next) h ∙ k
 then_takes part next old here new value (Err fault) h k = λ m. ap (handed next) h ∙ k m
 
 pub then_takes_exactly : {A B : Type 0} (part : Part A) (next : A → Part B) (old here new : Place) (value : A) (result : Result B CertFault)
     → part old ≡ Ok (value, here) → TakesExactly (next value) here new result → TakesExactly (part >>= next) old new result
-then_takes_exactly part next old here new value (Ok said) h k = ap (handed next) h ∙ k
+then_takes_exactly part next old here new value (Ok decoded) h k = ap (handed next) h ∙ k
 then_takes_exactly part next old here new value (Err fault) h k = ap (handed next) h ∙ k
 
 -- what a function returns, without the place where it stops
 pub returned_by : {C : Type 0} (part : Part C) (old new : Place) (result : Result C CertFault) → Takes part old new result
-    → ReturnsUnless is_out_of_memory (without_place (part old)) result
+    → EqualsUnlessNoMemory is_out_of_memory (without_place (part old)) result
 returned_by part old new (Ok c) h = ap without_place h
 returned_by part old new (Err NoMemory) h = tt
 returned_by part old new (Err (NotACertificate line)) h = ap without_place (h refl)
@@ -45,13 +45,13 @@ same_Ok c d x h k = cc
 -- a part that returns the value of each text of a grammar, of which no line has an LF
 pub record IsReaderOf {C : Type 0} (spells : C → Lines → Type 0) (part : Part C) : Type 0 where
   pub reader : IsReader spells part
-  pub taken : (c : C) (lines : Lines) → spells c lines → (left : Place) × (part (at 0 lines []) ≡ Ok (c, left))
+  pub lines_read : (c : C) (lines : Lines) → spells c lines → (left : Place) × (part (at 0 lines []) ≡ Ok (c, left))
   pub free : (c : C) (lines : Lines) → spells c lines → AreFree lines
 
 module _ {C : Type 0} (spells : C → Lines → Type 0) (part : Part C) (reads : IsReaderOf spells part) where
   one_spelling : (c d : C) (lines : Lines) → spells c lines → spells d lines → c ≡ d
   one_spelling c d lines hc hd =
-      let tc = reads.taken c lines hc in let td = reads.taken d lines hd in
+      let tc = reads.lines_read c lines hc in let td = reads.lines_read d lines hd in
       same_Ok c d (without_place (part (at 0 lines []))) (ap without_place tc.1) (ap without_place td.1)
 
   -- the lines of a text
@@ -71,20 +71,20 @@ module _ {C : Type 0} (spells : C → Lines → Type 0) (part : Part C) (reads :
   text_taken : (c : C) (bytes : List ℕ) → IsTextBy spells c bytes → (left : Place) × (part (place_at 0 bytes) ≡ Ok (c, left))
   text_taken c bytes h =
       let lines = text_lines c bytes h in
-      let taken = reads.taken c h.0 h.1 in (taken.0, rw (lines.0, lines.1) taken.1)
+      let lines_read = reads.lines_read c h.0 h.1 in (lines_read.0, rw (lines.0, lines.1) lines_read.1)
 
   -- ---- a fault
 
   none_goes_on : (bytes : List ℕ) (b : Broken spells part 0 (lines_in bytes) (last_in bytes)) → BeginsBy spells bytes (1 + b.count) → ⊥
   none_goes_on bytes b begins =
       let lines = begins.lines in let rest = lines_in begins.rest in
-      let free = are_free_prefix lines begins.more (reads.free begins.said (lines ++ begins.more) begins.spelled) in
+      let free = are_free_prefix lines begins.more (reads.free begins.decoded (lines ++ begins.more) begins.spelled) in
       let cut = ap (λ (bs : List ℕ). lines_in bs) begins.prefix ∙ (lines_in-joined lines begins.rest free).0 in
       let same : take (suc b.count) (lines_in bytes) ≡ lines =
       ap (λ (ls : Lines). take (suc b.count) ls) cut ∙ take_at lines rest (suc b.count) (omega (arith, begins.counted)) in
-      let taken = reads.taken begins.said (lines ++ begins.more) begins.spelled in
-      b.stops begins.more begins.said taken.0 (omega (arith, ap length cut, length-append lines rest, begins.counted))
-      (ap (λ (ls : Lines). part (at 0 (ls ++ begins.more) [])) same ∙ taken.1)
+      let lines_read = reads.lines_read begins.decoded (lines ++ begins.more) begins.spelled in
+      b.stops begins.more begins.decoded lines_read.0 (omega (arith, ap length cut, length-append lines rest, begins.counted))
+      (ap (λ (ls : Lines). part (at 0 (ls ++ begins.more) [])) same ∙ lines_read.1)
 
   begins_before : (bytes : List ℕ) (b : Broken spells part 0 (lines_in bytes) (last_in bytes)) (count : ℕ)
       → count ≤ b.count → BeginsBy spells bytes count
@@ -95,10 +95,10 @@ module _ {C : Type 0} (spells : C → Lines → Type 0) (part : Part C) (reads :
       let whole : lines ≡ front ++ (back ++ after) =
       sym (take-append-drop b.count lines) ∙ ap (λ ls. ls ++ after) (sym apart) ∙ append_assoc front back after in
       record {
-        said = b.said;
+        decoded = b.decoded;
         lines = front;
         more = back ++ b.more;
-        spelled = subst (spells b.said) (ap (λ ls. ls ++ b.more) (sym apart) ∙ append_assoc front back b.more) b.spelled;
+        spelled = subst (spells b.decoded) (ap (λ ls. ls ++ b.more) (sym apart) ∙ append_assoc front back b.more) b.spelled;
         counted = length-take-le count before (omega (arith, h, length-take-le b.count lines b.few));
         rest = joined (back ++ after) ++ last_in bytes;
         prefix = bytes_of_lines bytes ∙ ap (λ (ls : Lines). joined ls ++ last_in bytes) whole
@@ -109,15 +109,15 @@ module _ {C : Type 0} (spells : C → Lines → Type 0) (part : Part C) (reads :
   broken_reads : (bytes : List ℕ) (b : Broken spells part 0 (lines_in bytes) (last_in bytes)) → RefusedBy spells bytes (1 + b.count)
   broken_reads bytes b = (
     λ c text.
-        let taken = text_taken c bytes text in
-        let both = sym b.returned ∙ taken.1 in absurd cc,
+        let lines_read = text_taken c bytes text in
+        let both = sym b.returned ∙ lines_read.1 in absurd cc,
     record {
       none = none_goes_on bytes b;
       least = λ count lt. begins_before bytes b count (omega (arith, lt));
     },
   )
 
-  whole_reads : (bytes : List ℕ) (w : Whole spells part 0 (lines_in bytes) (last_in bytes)) → IsTextBy spells w.said bytes
+  whole_reads : (bytes : List ℕ) (w : Whole spells part 0 (lines_in bytes) (last_in bytes)) → IsTextBy spells w.decoded bytes
   whole_reads bytes w = (
     lines_in bytes,
     w.spelled,
@@ -145,7 +145,7 @@ module _ {C : Type 0} (spells : C → Lines → Type 0) (part : Part C) (reads :
   text_reads c bytes text = ap without_place (text_taken c bytes text).1
 
   -- the result of reading follows the grammar
-  pub reads_given : (bytes : List ℕ) (result : Result C CertFault) → ReturnsUnless is_out_of_memory (read_by part bytes) result
+  pub reads_given : (bytes : List ℕ) (result : Result C CertFault) → EqualsUnlessNoMemory is_out_of_memory (read_by part bytes) result
       → ReadsBy spells bytes result
   reads_given bytes (Ok c) h = subst (ReadsBy spells bytes) h (reads_bytes bytes)
   reads_given bytes (Err NoMemory) h = tt

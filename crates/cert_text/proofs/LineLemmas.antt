@@ -26,10 +26,10 @@ use Rattle.cert_text.specs.Certificates.{IsStationName, IsMark, IsLevel}
 use Rattle.cert_text.specs.Lines.{heading_of, prefix_of, last_line}
 use Rattle.cert_text.specs.Spelling.{SpellsVersion, SpellsStation, SpellsMoment, SpellsMark, SpellsCell}
 use Rattle.cert_text.specs.declared.numbers.TheConstants.{LEVEL_DIGITS}
-use Rattle.cert_text.specs.Workings.LineReading.{after, size_of, number_of, version_of, named, station_of, moment_after, mark_within, mark_of, quiet_for, quiet_of, event_cell_of, first_kind, second_kind, cell_of}
+use Rattle.cert_text.specs.Workings.LineReading.{after, size_of, parse_number, version_of, named, station_of, moment_after, mark_within, mark_of, quiet_for, quiet_of, event_cell_of, first_kind, second_kind, cell_of}
 use Rattle.cert_text.proofs.OptionLemmas.{option_map_some, option_or_some}
 use Rattle.cert_text.proofs.PartLemmas.{same_bytes, bytes_eq-same}
-use Rattle.cert_text.proofs.NumberLemmas.{size_is, size_of-decimal, number_is, number_of-signed, first_digit}
+use Rattle.cert_text.proofs.NumberLemmas.{size_is, size_of-decimal, number_is, parse_number-signed, first_digit}
 
 -- ---- words
 
@@ -58,11 +58,11 @@ one_of_two {A} {P} line first second x y z e is_first is_second =
 
 -- ---- numbers of a level's digits
 
-level_is : (text : List ℕ) (z : ℤ) → number_of LEVEL_DIGITS text ≡ Some z → IsLevel z × (signed_decimal z ≡ text)
+level_is : (text : List ℕ) (z : ℤ) → parse_number LEVEL_DIGITS text ≡ Some z → IsLevel z × (signed_decimal z ≡ text)
 level_is text z e = let got = number_is LEVEL_DIGITS text z (lit≤ tt) e in (omega (arith, got.0), got.1)
 
-level_read : (z : ℤ) → IsLevel z → number_of LEVEL_DIGITS (signed_decimal z) ≡ Some z
-level_read z h = number_of-signed LEVEL_DIGITS z (lit< tt) (lit≤ tt) (omega (arith, h))
+level_read : (z : ℤ) → IsLevel z → parse_number LEVEL_DIGITS (signed_decimal z) ≡ Some z
+level_read z h = parse_number-signed LEVEL_DIGITS z (lit< tt) (lit≤ tt) (omega (arith, h))
 
 -- ---- the title
 
@@ -177,11 +177,11 @@ mark_within_is z mark e =
     (leb-true _ _ got.0, got.1)
 
 mark_number_is : (line : List ℕ) (mark : Option ℤ)
-    → option_and_then mark_within (option_and_then (number_of LEVEL_DIGITS) (after (codes "mark ") line)) ≡ Some mark
+    → option_and_then mark_within (option_and_then (parse_number LEVEL_DIGITS) (after (codes "mark ") line)) ≡ Some mark
     → SpellsMark mark line
 mark_number_is line mark e =
-    option_and_then_some mark_within (option_and_then (number_of LEVEL_DIGITS) (after (codes "mark ") line)) mark e (λ z found is.
-    option_and_then_some (number_of LEVEL_DIGITS) (after (codes "mark ") line) z found (λ text prefix number.
+    option_and_then_some mark_within (option_and_then (parse_number LEVEL_DIGITS) (after (codes "mark ") line)) mark e (λ z found is.
+    option_and_then_some (parse_number LEVEL_DIGITS) (after (codes "mark ") line) z found (λ text prefix number.
     let within = mark_within_is z mark is in
     let line_is : line ≡ codes "mark " ++ signed_decimal z =
     rw (level_is text z number).1 (after_is (codes "mark ") line text prefix) in
@@ -191,7 +191,7 @@ pub mark_is : (line : List ℕ) (mark : Option ℤ) → mark_of line ≡ Some ma
 unfolding mark_of
 mark_is line mark e =
     elim (bytes_eq line (codes "mark none")) as (λ v. bytes_eq line (codes "mark none") ≡ v → cond v (Some None)
-    (option_and_then mark_within (option_and_then (number_of LEVEL_DIGITS) (after (codes "mark ") line)))
+    (option_and_then mark_within (option_and_then (parse_number LEVEL_DIGITS) (after (codes "mark ") line)))
     ≡ Some mark → SpellsMark mark line) [
       | true ↦ λ b k. subst (λ mark. SpellsMark mark line) (same_Some None mark k) (same_bytes _ _ b)
       | false ↦ λ b k. mark_number_is line mark k
@@ -240,8 +240,8 @@ event_cell_is : (track : TrackName) (kind : Kind) (line : List ℕ) (cell : Cell
 unfolding event_cell_of
 event_cell_is track kind line cell of_track e =
     option_map_some (λ level. cells.Turn kind level)
-    (option_and_then (number_of LEVEL_DIGITS) (after (prefix_of kind) line)) cell e (λ z found is.
-    option_and_then_some (number_of LEVEL_DIGITS) (after (prefix_of kind) line) z found (λ text prefix number.
+    (option_and_then (parse_number LEVEL_DIGITS) (after (prefix_of kind) line)) cell e (λ z found is.
+    option_and_then_some (parse_number LEVEL_DIGITS) (after (prefix_of kind) line) z found (λ text prefix number.
     let written = level_is text z number in
     let line_is : line ≡ prefix_of kind ++ signed_decimal z = rw written.1 (after_is (prefix_of kind) line text prefix) in
     subst (λ cell. SpellsCell track cell line) is (of_track, written.0, line_is)))

@@ -14,7 +14,7 @@ use Rattle.std.proofs.lemmas.Option.{cond_some, same_Some, option_and_then_some}
 use Rattle.std.proofs.lemmas.Str.{digit_value_digit}
 use Rattle.std.proofs.lemmas.Str.Parse.{IsNumeralModel, numerals_by_value, digits_value_short, digit_from_value}
 use Rattle.decimal_text.specs.Digits.{digits_of}
-use Rattle.cert_text.specs.Workings.LineReading.{after, size_of, negative, number_from, number_of}
+use Rattle.cert_text.specs.Workings.LineReading.{after, size_of, negative, number_from, parse_number}
 use Rattle.cert_text.proofs.OptionLemmas.{cond_none, option_map_some}
 
 digit_is : (b : ℕ) → is_ascii_digit b ≡ true → (48 ≤ b) × (b ≤ 57)
@@ -207,13 +207,13 @@ minus_prefix : (digits : List ℕ) → after (codes "-") (45 ∷ digits) ≡ Som
 unfolding after
 minus_prefix digits = refl
 
-pub number_of-signed : (most : ℕ) (z : ℤ) → 0 < most → most ≤ 38 → unsigned_abs z < 10 ^ most → number_of most (signed_decimal z) ≡ Some z
-unfolding number_of
-number_of-signed most (pos n) some few h =
+pub parse_number-signed : (most : ℕ) (z : ℤ) → 0 < most → most ≤ 38 → unsigned_abs z < 10 ^ most → parse_number most (signed_decimal z) ≡ Some z
+unfolding parse_number
+parse_number-signed most (pos n) some few h =
     let first = first_digit n (within most n few h) in
     let none : get_or (decimal n) 0 0 ≡ 45 → ⊥ = λ e. absurd (omega (arith, first, e)) in
     rw (no_minus (decimal n) none, size_of-decimal most n some few h) refl
-number_of-signed most (negsuc n) some few h =
+parse_number-signed most (negsuc n) some few h =
     let found : after (codes "-") (45 ∷ decimal (suc n)) ≡ Some (decimal (suc n)) = minus_prefix (decimal (suc n)) in
     rw (found, size_of-decimal most (suc n) some few h) refl
 
@@ -235,7 +235,7 @@ number_from_is most text z (Some digits) few prefix e =
     let sign = negative_is n z is in
     (omega (arith, sign.0, got.0), sign.1 ∙ ap (λ ds. 45 ∷ ds) got.1 ∙ sym (minus_then text digits prefix)))
 
-pub number_is : (most : ℕ) (text : List ℕ) (z : ℤ) → most ≤ 38 → number_of most text ≡ Some z
+pub number_is : (most : ℕ) (text : List ℕ) (z : ℤ) → most ≤ 38 → parse_number most text ≡ Some z
     → (unsigned_abs z < 10 ^ most) × (signed_decimal z ≡ text)
-unfolding number_of
+unfolding parse_number
 number_is most text z few e = number_from_is most text z (after (codes "-") text) few refl e

@@ -16,7 +16,7 @@ Lines = List (List ℕ)
 
 -- a place by its parts
 abbrev pub at : ℕ → Lines → List ℕ → Place
-at taken lines last = record { taken = taken; lines = lines; last = last }
+at lines_read lines last = record { lines_read = lines_read; lines = lines; last = last }
 
 abbrev pub refused : {A : Type 0} → ℕ → Result (A × Place) CertFault
 refused line = Err (NotACertificate line)
@@ -39,20 +39,20 @@ word_read word = rw (bytes_eq-same word) refl
 
 -- the part returns a value, which the lines spell, and nothing follows them
 pub record Whole {C : Type 0} (spells : C → Lines → Type 0) (part : Part C) (n : ℕ) (lines : Lines) (last : List ℕ) : Type 0 where
-  pub said : C
+  pub decoded : C
   pub left : Place
-  pub returned : part (at n lines last) ≡ Ok (said, left)
-  pub spelled : spells said lines
+  pub returned : part (at n lines last) ≡ Ok (decoded, left)
+  pub spelled : spells decoded lines
   pub over : last ≡ []
 
 -- the part stops after a number of lines, which begin lines that spell a value; with the next line they don't
 pub record Broken {C : Type 0} (spells : C → Lines → Type 0) (part : Part C) (n : ℕ) (lines : Lines) (last : List ℕ) : Type 0 where
   pub count : ℕ
   pub few : count ≤ length lines
-  pub said : C
+  pub decoded : C
   pub more : Lines
   pub returned : part (at n lines last) ≡ refused (n + 1 + count)
-  pub spelled : spells said (take count lines ++ more)
+  pub spelled : spells decoded (take count lines ++ more)
   pub stops : (other : Lines) (c : C) (left : Place) → count < length lines
       → part (at n (take (suc count) lines ++ other) []) ≡ Ok (c, left) → ⊥
 
@@ -61,9 +61,9 @@ Outcome spells part n lines last = Whole spells part n lines last ⊎ Broken spe
 
 -- a part that takes a whole text: some lines spell a value, and each text has an outcome
 pub record IsReader {C : Type 0} (spells : C → Lines → Type 0) (part : Part C) : Type 0 where
-  pub said : C
+  pub decoded : C
   pub lines : Lines
-  pub spelled : spells said lines
+  pub spelled : spells decoded lines
   pub outcome : (n : ℕ) (lines : Lines) (last : List ℕ) → Outcome spells part n lines last
 
 module _ {C : Type 0} (spells : C → Lines → Type 0) (part : Part C) where
@@ -72,7 +72,7 @@ module _ {C : Type 0} (spells : C → Lines → Type 0) (part : Part C) where
       → ((more : Lines) (rest : List ℕ) → part (at n (line ∷ more) rest) ≡ next (at (n + 1) more rest))
       → Outcome (λ c more. spells c (line ∷ more)) next (n + 1) lines last → Outcome spells part n (line ∷ lines) last
   moved next n line lines last step (inl w) = inl (record {
-    said = w.said;
+    decoded = w.decoded;
     left = w.left;
     returned = step lines last ∙ w.returned;
     spelled = w.spelled;
@@ -81,7 +81,7 @@ module _ {C : Type 0} (spells : C → Lines → Type 0) (part : Part C) where
   moved next n line lines last step (inr b) = inr (record {
     count = suc b.count;
     few = omega (arith, b.few);
-    said = b.said;
+    decoded = b.decoded;
     more = b.more;
     returned = step lines last ∙ b.returned ∙ ap refused (omega arith);
     spelled = b.spelled;
@@ -89,12 +89,12 @@ module _ {C : Type 0} (spells : C → Lines → Type 0) (part : Part C) where
   })
 
   -- the outcome at a bad line
-  pub stopped : (n : ℕ) (line : List ℕ) (lines : Lines) (last : List ℕ) (said : C) (more : Lines) → spells said more
+  pub stopped : (n : ℕ) (line : List ℕ) (lines : Lines) (last : List ℕ) (decoded : C) (more : Lines) → spells decoded more
       → ((more : Lines) (rest : List ℕ) → part (at n (line ∷ more) rest) ≡ refused (n + 1)) → Outcome spells part n (line ∷ lines) last
-  stopped n line lines last said more spelled step = inr (record {
+  stopped n line lines last decoded more spelled step = inr (record {
     count = 0;
     few = omega arith;
-    said = said;
+    decoded = decoded;
     more = more;
     returned = step lines last ∙ ap refused (omega arith);
     spelled = spelled;
@@ -102,12 +102,12 @@ module _ {C : Type 0} (spells : C → Lines → Type 0) (part : Part C) where
   })
 
   -- the outcome where a line is missing, or bytes follow
-  pub ended : (n : ℕ) (last : List ℕ) (said : C) (more : Lines) → spells said more
+  pub ended : (n : ℕ) (last : List ℕ) (decoded : C) (more : Lines) → spells decoded more
       → part (at n [] last) ≡ refused (n + 1) → Outcome spells part n [] last
-  ended n last said more spelled step = inr (record {
+  ended n last decoded more spelled step = inr (record {
     count = 0;
     few = omega arith;
-    said = said;
+    decoded = decoded;
     more = more;
     returned = step ∙ ap refused (omega arith);
     spelled = spelled;
@@ -120,7 +120,7 @@ module _ {C : Type 0} (spells : C → Lines → Type 0) (part other : Part C) wh
       → ((more : Lines) (rest : List ℕ) → part (at n (line ∷ more) rest) ≡ other (at n (line ∷ more) rest))
       → Outcome spells other n (line ∷ lines) last → Outcome spells part n (line ∷ lines) last
   like_at n line lines last same (inl w) = inl (record {
-    said = w.said;
+    decoded = w.decoded;
     left = w.left;
     returned = same lines last ∙ w.returned;
     spelled = w.spelled;
@@ -129,7 +129,7 @@ module _ {C : Type 0} (spells : C → Lines → Type 0) (part other : Part C) wh
   like_at n line lines last same (inr b) = inr (record {
     count = b.count;
     few = b.few;
-    said = b.said;
+    decoded = b.decoded;
     more = b.more;
     returned = same lines last ∙ b.returned;
     spelled = b.spelled;
@@ -140,11 +140,11 @@ module _ {C : Type 0} (spells : C → Lines → Type 0) (part other : Part C) wh
   pub like_ended : (n : ℕ) (last : List ℕ) → part (at n [] last) ≡ other (at n [] last)
       → Outcome spells other n [] last → Outcome spells part n [] last
   like_ended n last same (inl w) =
-      inl (record { said = w.said; left = w.left; returned = same ∙ w.returned; spelled = w.spelled; over = w.over })
+      inl (record { decoded = w.decoded; left = w.left; returned = same ∙ w.returned; spelled = w.spelled; over = w.over })
   like_ended n last same (inr b) = inr (record {
     count = b.count;
     few = b.few;
-    said = b.said;
+    decoded = b.decoded;
     more = b.more;
     returned = same ∙ b.returned;
     spelled = b.spelled;
@@ -154,47 +154,47 @@ module _ {C : Type 0} (spells : C → Lines → Type 0) (part other : Part C) wh
 -- ---- lines
 
 -- a part that begins with a line of a meaning
-pub record StartsWith {A C : Type 0} (part : Part C) (meaning : List ℕ → Option A) (next : A → Part C) : Type 0 where
+pub record StartsWith {A C : Type 0} (part : Part C) (item_of : List ℕ → Option A) (next : A → Part C) : Type 0 where
   pub missing : (n : ℕ) (last : List ℕ) → part (at n [] last) ≡ refused (n + 1)
-  pub good : (n : ℕ) (line : List ℕ) (value : A) (more : Lines) (last : List ℕ) → meaning line ≡ Some value
+  pub good : (n : ℕ) (line : List ℕ) (value : A) (more : Lines) (last : List ℕ) → item_of line ≡ Some value
       → part (at n (line ∷ more) last) ≡ next value (at (n + 1) more last)
-  pub bad : (n : ℕ) (line : List ℕ) (more : Lines) (last : List ℕ) → meaning line ≡ None
+  pub bad : (n : ℕ) (line : List ℕ) (more : Lines) (last : List ℕ) → item_of line ≡ None
       → part (at n (line ∷ more) last) ≡ refused (n + 1)
 
-pub line_starts : {A C : Type 0} (meaning : List ℕ → Option A) (next : A → Part C) → StartsWith (line_of meaning >>= next) meaning next
-line_starts meaning next = record {
+pub line_starts : {A C : Type 0} (item_of : List ℕ → Option A) (next : A → Part C) → StartsWith (line_of item_of >>= next) item_of next
+line_starts item_of next = record {
   missing = λ n last. refl;
   good = λ n line value more last is. rw is refl;
   bad = λ n line more last is. rw is refl;
 }
 
-pub then_starts : {A B C : Type 0} (part : Part B) (meaning : List ℕ → Option A) (next : A → Part B) (last : B → Part C)
-    → StartsWith part meaning next → StartsWith (part >>= last) meaning (λ value. next value >>= last)
-then_starts part meaning next last starts = record {
+pub then_starts : {A B C : Type 0} (part : Part B) (item_of : List ℕ → Option A) (next : A → Part B) (last : B → Part C)
+    → StartsWith part item_of next → StartsWith (part >>= last) item_of (λ value. next value >>= last)
+then_starts part item_of next last starts = record {
   missing = λ n rest. ap (handed last) (starts.missing n rest);
   good = λ n line value more rest is. ap (handed last) (starts.good n line value more rest is);
   bad = λ n line more rest is. ap (handed last) (starts.bad n line more rest is);
 }
 
 -- a part that begins with a line is a reader, if what follows each good line is, and there is a good line
-pub line_reader : {A C : Type 0} (spells : C → Lines → Type 0) (part : Part C) (meaning : List ℕ → Option A) (next : A → Part C)
-    → StartsWith part meaning next → (line : List ℕ) (value : A) → meaning line ≡ Some value
-    → ((line : List ℕ) (value : A) → meaning line ≡ Some value → IsReader (λ c more. spells c (line ∷ more)) (next value))
+pub line_reader : {A C : Type 0} (spells : C → Lines → Type 0) (part : Part C) (item_of : List ℕ → Option A) (next : A → Part C)
+    → StartsWith part item_of next → (line : List ℕ) (value : A) → item_of line ≡ Some value
+    → ((line : List ℕ) (value : A) → item_of line ≡ Some value → IsReader (λ c more. spells c (line ∷ more)) (next value))
     → IsReader spells part
-line_reader {A} {C} spells part meaning next starts line value is readers =
+line_reader {A} {C} spells part item_of next starts line value is readers =
     let some = readers line value is in
-    record { said = some.said; lines = line ∷ some.lines; spelled = some.spelled; outcome = outcome } where
+    record { decoded = some.decoded; lines = line ∷ some.lines; spelled = some.spelled; outcome = outcome } where
       outcome : (n : ℕ) (lines : Lines) (last : List ℕ) → Outcome spells part n lines last
       outcome n [] last =
           let some = readers line value is in
-          ended spells part n last some.said (line ∷ some.lines) some.spelled (starts.missing n last)
+          ended spells part n last some.decoded (line ∷ some.lines) some.spelled (starts.missing n last)
       outcome n (first ∷ lines) last =
-          elim (meaning first) as (λ v. meaning first ≡ v → Outcome spells part n (first ∷ lines) last) [
+          elim (item_of first) as (λ v. item_of first ≡ v → Outcome spells part n (first ∷ lines) last) [
             | Some got ↦ λ e. moved spells part (next got) n first lines last (λ more rest. starts.good n first got more rest e)
                 ((readers first got e).outcome (n + 1) lines last)
             | None ↦ λ e.
                 let some = readers line value is in
-                stopped spells part n first lines last some.said (line ∷ some.lines) some.spelled
+                stopped spells part n first lines last some.decoded (line ∷ some.lines) some.spelled
                 (λ more rest. starts.bad n first more rest e)
           ] refl
 
@@ -202,7 +202,7 @@ line_reader {A} {C} spells part meaning next starts line value is readers =
 
 -- the lines mean the items
 abbrev pub Mean : {A : Type 0} → (List ℕ → Option A) → List A → Lines → Type 0
-Mean meaning items lines = AllZip (λ item line. meaning line ≡ Some item) items lines
+Mean item_of items lines = AllZip (λ item line. item_of line ≡ Some item) items lines
 
 pub all_zip : {A B : Type 0} (R S : A → B → Type 0) → ((x : A) (y : B) → R x y → S x y) → (xs : List A) (ys : List B)
     → AllZip R xs ys → AllZip S xs ys
@@ -211,103 +211,103 @@ all_zip R S f [] (y ∷ ys) all = all
 all_zip R S f (x ∷ xs) [] all = all
 all_zip R S f (x ∷ xs) (y ∷ ys) all = (f x y all.0, all_zip R S f xs ys all.1)
 
-items_outcome : {A C : Type 0} (meaning : List ℕ → Option A) (lines : Lines) (spells : C → Lines → Type 0) (next : List A → Part C)
-    → ((items : List A) (lines : Lines) → Mean meaning items lines → IsReader (λ c more. spells c (lines ++ more)) (next items))
-    → (n : ℕ) (last : List ℕ) → Outcome spells (items_of meaning >>= next) n lines last
-items_outcome meaning [] spells next readers n last =
-    like_ended spells (items_of meaning >>= next) (next []) n last refl ((readers [] [] tt).outcome n [] last)
-items_outcome {A} {C} meaning (line ∷ lines) spells next readers n last =
-    elim (meaning line) as (λ v. meaning line ≡ v → Outcome spells (items_of meaning >>= next) n (line ∷ lines) last) [
-      | Some item ↦ λ is. moved spells (items_of meaning >>= next) (items_of meaning >>= λ items. next (item ∷ items)) n
+items_outcome : {A C : Type 0} (item_of : List ℕ → Option A) (lines : Lines) (spells : C → Lines → Type 0) (next : List A → Part C)
+    → ((items : List A) (lines : Lines) → Mean item_of items lines → IsReader (λ c more. spells c (lines ++ more)) (next items))
+    → (n : ℕ) (last : List ℕ) → Outcome spells (items_of item_of >>= next) n lines last
+items_outcome item_of [] spells next readers n last =
+    like_ended spells (items_of item_of >>= next) (next []) n last refl ((readers [] [] tt).outcome n [] last)
+items_outcome {A} {C} item_of (line ∷ lines) spells next readers n last =
+    elim (item_of line) as (λ v. item_of line ≡ v → Outcome spells (items_of item_of >>= next) n (line ∷ lines) last) [
+      | Some item ↦ λ is. moved spells (items_of item_of >>= next) (items_of item_of >>= λ items. next (item ∷ items)) n
           line lines last (λ more rest. rw is refl)
-          (items_outcome meaning lines (λ c more. spells c (line ∷ more)) (λ items. next (item ∷ items))
+          (items_outcome item_of lines (λ c more. spells c (line ∷ more)) (λ items. next (item ∷ items))
           (λ items more all. readers (item ∷ items) (line ∷ more) (is, all)) (n + 1) last)
-      | None ↦ λ is. like_at spells (items_of meaning >>= next) (next []) n line lines last (λ more rest. rw is refl)
+      | None ↦ λ is. like_at spells (items_of item_of >>= next) (next []) n line lines last (λ more rest. rw is refl)
           ((readers [] [] tt).outcome n (line ∷ lines) last)
     ] refl
 
 -- a part that begins with items is a reader, if what follows any items is
-pub items_reader : {A C : Type 0} (spells : C → Lines → Type 0) (meaning : List ℕ → Option A) (next : List A → Part C)
-    → ((items : List A) (lines : Lines) → Mean meaning items lines → IsReader (λ c more. spells c (lines ++ more)) (next items))
-    → IsReader spells (items_of meaning >>= next)
-items_reader spells meaning next readers =
+pub items_reader : {A C : Type 0} (spells : C → Lines → Type 0) (item_of : List ℕ → Option A) (next : List A → Part C)
+    → ((items : List A) (lines : Lines) → Mean item_of items lines → IsReader (λ c more. spells c (lines ++ more)) (next items))
+    → IsReader spells (items_of item_of >>= next)
+items_reader spells item_of next readers =
     let none = readers [] [] tt in
     record {
-      said = none.said;
+      decoded = none.decoded;
       lines = none.lines;
       spelled = none.spelled;
-      outcome = λ n lines last. items_outcome meaning lines spells next readers n last;
+      outcome = λ n lines last. items_outcome item_of lines spells next readers n last;
     }
 
 -- a line that is no item, or none
 abbrev pub IsPast : {A : Type 0} → (List ℕ → Option A) → Lines → Type 0
-IsPast meaning [] = Unit {0}
-IsPast meaning (line ∷ lines) = meaning line ≡ None
+IsPast item_of [] = Unit {0}
+IsPast item_of (line ∷ lines) = item_of line ≡ None
 
 -- the items of all lines up to one that is none
-pub items_read : {A : Type 0} (meaning : List ℕ → Option A) (items : List A) (lines rest : Lines) (n : ℕ) (last : List ℕ)
-    → Mean meaning items lines → IsPast meaning rest
-    → (m : ℕ) × (items_at meaning n (lines ++ rest) last ≡ (items, at m rest last))
-items_read meaning [] [] [] n last all past = (n, refl)
-items_read meaning [] [] (line ∷ rest) n last all past = (n, rw past refl)
-items_read meaning [] (line ∷ lines) rest n last all past = absurd all
-items_read meaning (item ∷ items) [] rest n last all past = absurd all
-items_read meaning (item ∷ items) (line ∷ lines) rest n last all past =
-    let more = items_read meaning items lines rest (n + 1) last all.1 past in (more.0, rw (all.0, more.1) refl)
+pub items_read : {A : Type 0} (item_of : List ℕ → Option A) (items : List A) (lines rest : Lines) (n : ℕ) (last : List ℕ)
+    → Mean item_of items lines → IsPast item_of rest
+    → (m : ℕ) × (items_at item_of n (lines ++ rest) last ≡ (items, at m rest last))
+items_read item_of [] [] [] n last all past = (n, refl)
+items_read item_of [] [] (line ∷ rest) n last all past = (n, rw past refl)
+items_read item_of [] (line ∷ lines) rest n last all past = absurd all
+items_read item_of (item ∷ items) [] rest n last all past = absurd all
+items_read item_of (item ∷ items) (line ∷ lines) rest n last all past =
+    let more = items_read item_of items lines rest (n + 1) last all.1 past in (more.0, rw (all.0, more.1) refl)
 
 -- one item and the items after it
-pub items_next : {A : Type 0} (meaning : List ℕ → Option A) (here after : Place) (item : A) → first_item meaning here ≡ Some (item, after)
-    → (items_at meaning here.taken here.lines here.last
-    ≡ (item ∷ (items_at meaning after.taken after.lines after.last).0, (items_at meaning after.taken after.lines after.last).1))
+pub items_next : {A : Type 0} (item_of : List ℕ → Option A) (here after : Place) (item : A) → first_item item_of here ≡ Some (item, after)
+    → (items_at item_of here.lines_read here.lines here.last
+    ≡ (item ∷ (items_at item_of after.lines_read after.lines after.last).0, (items_at item_of after.lines_read after.lines after.last).1))
     × (length after.lines < length here.lines)
-items_next {A} meaning here after item = next here.taken here.lines here.last where
-  next : (n : ℕ) (lines : Lines) (last : List ℕ) → item_in meaning (at n lines last) lines ≡ Some (item, after)
-      → (items_at meaning n lines last
-      ≡ (item ∷ (items_at meaning after.taken after.lines after.last).0, (items_at meaning after.taken after.lines after.last).1))
+items_next {A} item_of here after item = next here.lines_read here.lines here.last where
+  next : (n : ℕ) (lines : Lines) (last : List ℕ) → item_in item_of (at n lines last) lines ≡ Some (item, after)
+      → (items_at item_of n lines last
+      ≡ (item ∷ (items_at item_of after.lines_read after.lines after.last).0, (items_at item_of after.lines_read after.lines after.last).1))
       × (length after.lines < length lines)
   next n [] last e = absurd cc
   next n (line ∷ lines) last e =
-      option_map_some (λ item. (item, at (n + 1) lines last)) (meaning line) (item, after) e (λ x found is.
-      subst (λ (p : A × Place). (items_at meaning n (line ∷ lines) last
-      ≡ (p.0 ∷ (items_at meaning p.1.taken p.1.lines p.1.last).0, (items_at meaning p.1.taken p.1.lines p.1.last).1))
+      option_map_some (λ item. (item, at (n + 1) lines last)) (item_of line) (item, after) e (λ x found is.
+      subst (λ (p : A × Place). (items_at item_of n (line ∷ lines) last
+      ≡ (p.0 ∷ (items_at item_of p.1.lines_read p.1.lines p.1.last).0, (items_at item_of p.1.lines_read p.1.lines p.1.last).1))
       × (length p.1.lines < length (line ∷ lines))) is (rw found refl, omega arith))
 
 -- no item
-pub items_none : {A : Type 0} (meaning : List ℕ → Option A) (here : Place) → first_item meaning here ≡ None
-    → items_at meaning here.taken here.lines here.last ≡ ([], here)
-items_none {A} meaning here = none here.taken here.lines here.last where
-  none : (n : ℕ) (lines : Lines) (last : List ℕ) → item_in meaning (at n lines last) lines ≡ None
-      → items_at meaning n lines last ≡ ([], at n lines last)
+pub items_none : {A : Type 0} (item_of : List ℕ → Option A) (here : Place) → first_item item_of here ≡ None
+    → items_at item_of here.lines_read here.lines here.last ≡ ([], here)
+items_none {A} item_of here = none here.lines_read here.lines here.last where
+  none : (n : ℕ) (lines : Lines) (last : List ℕ) → item_in item_of (at n lines last) lines ≡ None
+      → items_at item_of n lines last ≡ ([], at n lines last)
   none n [] last e = refl
   none n (line ∷ lines) last e =
       let f : A → A × Place = λ item. (item, at (n + 1) lines last) in
-      elim (meaning line) as (λ v. meaning line ≡ v → option_map f v ≡ None
-      → items_at meaning n (line ∷ lines) last ≡ ([], at n (line ∷ lines) last)) [
+      elim (item_of line) as (λ v. item_of line ≡ v → option_map f v ≡ None
+      → items_at item_of n (line ∷ lines) last ≡ ([], at n (line ∷ lines) last)) [
         | Some item ↦ λ is none. let no : Some (f item) ≡ None = none in absurd cc
         | None ↦ λ is none. rw is refl
       ] refl e
 
 -- all items, of which some are gathered
-pub items_gathered : {A : Type 0} (meaning : List ℕ → Option A) (here after : Place) (item : A) (items more : List A) (all : List A × Place)
-    → first_item meaning here ≡ Some (item, after)
-    → all ≡ (items ++ (items_at meaning here.taken here.lines here.last).0, (items_at meaning here.taken here.lines here.last).1)
+pub items_gathered : {A : Type 0} (item_of : List ℕ → Option A) (here after : Place) (item : A) (items more : List A) (all : List A × Place)
+    → first_item item_of here ≡ Some (item, after)
+    → all ≡ (items ++ (items_at item_of here.lines_read here.lines here.last).0, (items_at item_of here.lines_read here.lines here.last).1)
     → more ≡ items ++ item ∷ []
-    → all ≡ (more ++ (items_at meaning after.taken after.lines after.last).0, (items_at meaning after.taken after.lines after.last).1)
-items_gathered {A} meaning here after item items more all is so_far pushed =
-    let rest = items_at meaning after.taken after.lines after.last in
-    so_far ∙ ap (λ (found : List A × Place). let x : List A × Place = (items ++ found.0, found.1) in x) (items_next meaning here after item is).0
+    → all ≡ (more ++ (items_at item_of after.lines_read after.lines after.last).0, (items_at item_of after.lines_read after.lines after.last).1)
+items_gathered {A} item_of here after item items more all is so_far pushed =
+    let rest = items_at item_of after.lines_read after.lines after.last in
+    so_far ∙ ap (λ (found : List A × Place). let x : List A × Place = (items ++ found.0, found.1) in x) (items_next item_of here after item is).0
     ∙ ap (λ xs. let x : List A × Place = (xs, rest.1) in x)
     (sym (ap (λ xs. xs ++ rest.0) pushed ∙ append_assoc items (item ∷ []) rest.0))
 
 abbrev this : {A : Type 0} → A → Result A CertFault
 this value = Ok value
 
-pub items_finished : {A : Type 0} (meaning : List ℕ → Option A) (here left : Place) (items : List A) (all : List A × Place)
-    → first_item meaning here ≡ None → left ≡ here
-    → all ≡ (items ++ (items_at meaning here.taken here.lines here.last).0, (items_at meaning here.taken here.lines here.last).1)
+pub items_finished : {A : Type 0} (item_of : List ℕ → Option A) (here left : Place) (items : List A) (all : List A × Place)
+    → first_item item_of here ≡ None → left ≡ here
+    → all ≡ (items ++ (items_at item_of here.lines_read here.lines here.last).0, (items_at item_of here.lines_read here.lines here.last).1)
     → this all ≡ Ok (items, left)
-items_finished {A} meaning here left items all none same so_far =
-    ap Ok (so_far ∙ rw (items_none meaning here none, append-nil items, same) refl)
+items_finished {A} item_of here left items all none same so_far =
+    ap Ok (so_far ∙ rw (items_none item_of here none, append-nil items, same) refl)
 
 -- ---- a part after a heading
 
@@ -318,7 +318,7 @@ pub choice_reader : {A C : Type 0} (spells : C → Lines → Type 0) (heading : 
     → IsReader (λ c more. spells c (line ∷ more)) ((rest >>= λ value. returned (Some value)) >>= next))
     → IsReader spells (part_after heading part >>= next)
 choice_reader {A} {C} spells heading part rest next starts none some =
-    record { said = none.said; lines = none.lines; spelled = none.spelled; outcome = outcome } where
+    record { decoded = none.decoded; lines = none.lines; spelled = none.spelled; outcome = outcome } where
       outcome : (n : ℕ) (lines : Lines) (last : List ℕ) → Outcome spells (part_after heading part >>= next) n lines last
       outcome n [] last = like_ended spells (part_after heading part >>= next) (next None) n last refl (none.outcome n [] last)
       outcome n (line ∷ lines) last =
@@ -338,9 +338,9 @@ choice_reader {A} {C} spells heading part rest next starts none some =
 -- the end of the text, if nothing spells what was read
 pub end_reader : {C : Type 0} (spells : C → Lines → Type 0) (value : C) → spells value []
     → IsReader spells (end_of_text >>= λ end. returned value)
-end_reader {C} spells value spelled = record { said = value; lines = []; spelled = spelled; outcome = outcome } where
+end_reader {C} spells value spelled = record { decoded = value; lines = []; spelled = spelled; outcome = outcome } where
   outcome : (n : ℕ) (lines : Lines) (last : List ℕ) → Outcome spells (end_of_text >>= λ end. returned value) n lines last
-  outcome n [] [] = inl (record { said = value; left = at n [] []; returned = refl; spelled = spelled; over = refl })
+  outcome n [] [] = inl (record { decoded = value; left = at n [] []; returned = refl; spelled = spelled; over = refl })
   outcome n [] (byte ∷ last) = ended spells (end_of_text >>= λ end. returned value) n (byte ∷ last) value [] spelled refl
   outcome n (line ∷ lines) last =
       stopped spells (end_of_text >>= λ end. returned value) n line lines last value [] spelled (λ more rest. refl)
@@ -352,7 +352,7 @@ pub mapped_reader : {A C : Type 0} (spells : A → Lines → Type 0) (says : C �
     → ((value : A) (lines : Lines) → spells value lines → says (f value) lines) → IsReader spells part
     → IsReader says (part >>= λ value. returned (f value))
 mapped_reader {A} {C} spells says part f put reader =
-    record { said = f reader.said; lines = reader.lines; spelled = put reader.said reader.lines reader.spelled; outcome = outcome } where
+    record { decoded = f reader.decoded; lines = reader.lines; spelled = put reader.decoded reader.lines reader.spelled; outcome = outcome } where
       failed : (result : Result (A × Place) CertFault) (c : C) (left : Place) → ((a : A) (l : Place) → result ≡ Ok (a, l) → ⊥)
           → handed (λ value. returned (f value)) result ≡ Ok (c, left) → ⊥
       failed (Ok done) c left never k = never done.0 done.1 refl
@@ -361,19 +361,19 @@ mapped_reader {A} {C} spells says part f put reader =
       mapped : (n : ℕ) (lines : Lines) (last : List ℕ) → Outcome spells part n lines last
           → Outcome says (part >>= λ value. returned (f value)) n lines last
       mapped n lines last (inl w) = inl (record {
-        said = f w.said;
+        decoded = f w.decoded;
         left = w.left;
         returned = ap (handed (λ value. returned (f value))) w.returned;
-        spelled = put w.said lines w.spelled;
+        spelled = put w.decoded lines w.spelled;
         over = w.over;
       })
       mapped n lines last (inr b) = inr (record {
         count = b.count;
         few = b.few;
-        said = f b.said;
+        decoded = f b.decoded;
         more = b.more;
         returned = ap (handed (λ value. returned (f value))) b.returned;
-        spelled = put b.said (take b.count lines ++ b.more) b.spelled;
+        spelled = put b.decoded (take b.count lines ++ b.more) b.spelled;
         stops = λ other c left lt. failed (part (at n (take (suc b.count) lines ++ other) [])) c left
             (λ a l. b.stops other a l lt);
       })

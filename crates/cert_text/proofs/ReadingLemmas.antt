@@ -25,11 +25,11 @@ use Rattle.cert_text.proofs.LineLemmas.{x_is_name, moment_zero, version_is, vers
 -- ---- parts that begin with a line
 
 -- a line, and what follows it
-pub then_reader : {A C : Type 0} (spells : C → Lines → Type 0) (meaning : List ℕ → Option A) (next : A → Part C) (line : List ℕ)
-    (value : A) → meaning line ≡ Some value
-    → ((line : List ℕ) (value : A) → meaning line ≡ Some value → IsReader (λ c more. spells c (line ∷ more)) (next value))
-    → IsReader spells (line_of meaning >>= next)
-then_reader spells meaning next = line_reader spells (line_of meaning >>= next) meaning next (line_starts meaning next)
+pub then_reader : {A C : Type 0} (spells : C → Lines → Type 0) (item_of : List ℕ → Option A) (next : A → Part C) (line : List ℕ)
+    (value : A) → item_of line ≡ Some value
+    → ((line : List ℕ) (value : A) → item_of line ≡ Some value → IsReader (λ c more. spells c (line ∷ more)) (next value))
+    → IsReader spells (line_of item_of >>= next)
+then_reader spells item_of next = line_reader spells (line_of item_of >>= next) item_of next (line_starts item_of next)
 
 -- a line of a moment, and what follows it
 pub moment_reader : {C : Type 0} (spells : C → Lines → Type 0) (word : List ℕ) (next : ℤ → Part C)
@@ -204,8 +204,8 @@ mark_taken : (mark : Option ℤ) (turn : List Cell) (slack crossings : Option (L
 unfolding last_line
 mark_taken None turn slack None lines n h = (at (n + 1) [] [], rw h refl)
 mark_taken (Some z) turn slack (Some cells) lines n h =
-    let taken = track_taken Mark cells lines (codes "done" ∷ []) n h (last_past Mark) in
-    (at (taken.0 + 1) [] [], rw taken.1 refl)
+    let lines_read = track_taken Mark cells lines (codes "done" ∷ []) n h (last_past Mark) in
+    (at (lines_read.0 + 1) [] [], rw lines_read.1 refl)
 mark_taken None turn slack (Some cells) lines n h = absurd h
 mark_taken (Some z) turn slack None lines n h = absurd h
 
@@ -228,13 +228,13 @@ slack_taken : (mark : Option ℤ) (turn : List Cell) (slack crossings : Option (
     → (left : Place) × (slack_tail mark turn (at n (lines ++ (more ++ codes "done" ∷ [])) [])
     ≡ Ok (record { turn = turn; slack = slack; mark = crossings }, left))
 slack_taken mark turn None crossings lines more n none h =
-    let taken = mark_taken mark turn None crossings more n h in
-    (taken.0, rw (none, not_slack mark crossings more h) taken.1)
+    let lines_read = mark_taken mark turn None crossings more n h in
+    (lines_read.0, rw (none, not_slack mark crossings more h) lines_read.1)
 slack_taken mark turn (Some cells) crossings lines more n some h =
     let rest = more ++ codes "done" ∷ [] in
     let track = track_taken Slack cells lines rest n some (crossings_past Slack mark crossings more h) in
-    let taken = mark_taken mark turn (Some cells) crossings more track.0 h in
-    (taken.0, rw (is_slack cells lines rest some, track.1) taken.1)
+    let lines_read = mark_taken mark turn (Some cells) crossings more track.0 h in
+    (lines_read.0, rw (is_slack cells lines rest some, track.1) lines_read.1)
 
 tracks_taken : (mark : Option ℤ) (tracks : Tracks) (lines : Lines) (n : ℕ) → SpellsTracks mark tracks lines
     → (left : Place) × (tracks_part mark (at n lines []) ≡ Ok (tracks, left))
@@ -242,8 +242,8 @@ tracks_taken mark tracks lines n h =
     let past = slack_past Turn tracks.slack h.slack (h.crossings ++ codes "done" ∷ []) h.slack_spelled
     (crossings_past Turn mark tracks.mark h.crossings h.crossings_spelled) in
     let track = track_taken Turn tracks.turn h.turn (h.slack ++ (h.crossings ++ codes "done" ∷ [])) n h.turn_spelled past in
-    let taken = slack_taken mark tracks.turn tracks.slack tracks.mark h.slack h.crossings track.0 h.slack_spelled h.crossings_spelled in
-    (taken.0, rw (h.all, track.1) taken.1)
+    let lines_read = slack_taken mark tracks.turn tracks.slack tracks.mark h.slack h.crossings track.0 h.slack_spelled h.crossings_spelled in
+    (lines_read.0, rw (h.all, track.1) lines_read.1)
 
 certificate_taken : (c : Certificate) (lines : Lines) → Spells c lines
     → (left : Place) × (certificate_part (at 0 lines []) ≡ Ok (c, left))
@@ -280,7 +280,7 @@ certificate_by old p q r s t new version station name begin end mark tracks firs
 pub reader : IsReaderOf Spells certificate_part
 reader = record {
   reader = certificate_reader;
-  taken = certificate_taken;
+  lines_read = certificate_taken;
   free = λ c lines h. let is = lines_of-spelled c lines h in subst AreFree (sym is.1) (lines_free c is.0);
 }
 

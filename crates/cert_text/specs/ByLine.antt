@@ -39,17 +39,17 @@ last_in bytes = last_of (pieces bytes)
 
 -- a position in a text: the number of lines read, the unread lines, and the bytes after the last LF
 pub record Place : Type 0 where
-  pub taken : ℕ
+  pub lines_read : ℕ
   pub lines : List (List ℕ)
   pub last : List ℕ
 
--- the position after `taken` lines were read, with these bytes unread
+-- the position after `lines_read` lines were read, with these bytes unread
 abbrev pub place_at : ℕ → List ℕ → Place
-place_at taken bytes = record { taken = taken; lines = lines_in bytes; last = last_in bytes }
+place_at lines_read bytes = record { lines_read = lines_read; lines = lines_in bytes; last = last_in bytes }
 
 -- the position after one more line was read, with these lines unread
 abbrev pub past_line : Place → List (List ℕ) → Place
-past_line at lines = record { taken = at.taken + 1; lines = lines; last = at.last }
+past_line at lines = record { lines_read = at.lines_read + 1; lines = lines; last = at.last }
 
 -- ---- parts
 
@@ -74,11 +74,11 @@ returned value at = Ok (value, at)
 -- a part that reads no line: it has the value, or else the line read last is the fault
 abbrev pub required : {A : Type 0} → Option A → Part A
 required (Some value) at = Ok (value, at)
-required None at = Err (NotACertificate at.taken)
+required None at = Err (NotACertificate at.lines_read)
 
 -- the first of the unread lines, or the fault that there is none
 abbrev pub first_line : Place → List (List ℕ) → Result (List ℕ × Place) CertFault
-first_line at [] = Err (NotACertificate (at.taken + 1))
+first_line at [] = Err (NotACertificate (at.lines_read + 1))
 first_line at (line ∷ lines) = Ok (line, past_line at lines)
 
 -- a part that is any one line
@@ -87,7 +87,7 @@ any_line at = first_line at at.lines
 
 -- a part that is one line with a meaning; the fault is at a line without one
 abbrev pub line_of : {A : Type 0} → (List ℕ → Option A) → Part A
-line_of meaning = any_line >>= λ line. required (meaning line)
+line_of item_of = any_line >>= λ line. required (item_of line)
 
 -- the meaning of a line that must be this word
 abbrev pub is_word : List ℕ → List ℕ → Option (Unit {0})
@@ -100,12 +100,12 @@ is_next word (line ∷ lines) = bytes_eq line word
 
 -- the item on the first of the unread lines, and the position after it
 abbrev pub item_in : {A : Type 0} → (List ℕ → Option A) → Place → List (List ℕ) → Option (A × Place)
-item_in meaning at [] = None
-item_in meaning at (line ∷ lines) = option_map (λ item. (item, past_line at lines)) (meaning line)
+item_in item_of at [] = None
+item_in item_of at (line ∷ lines) = option_map (λ item. (item, past_line at lines)) (item_of line)
 
 -- the item on the next line, and the position after it, or None if the line isn't an item
 abbrev pub first_item : {A : Type 0} → (List ℕ → Option A) → Place → Option (A × Place)
-first_item meaning at = item_in meaning at at.lines
+first_item item_of at = item_in item_of at at.lines
 
 -- the items from a line on, given the items of the lines after it
 abbrev pub items_from : {A : Type 0} → Place → Option A → List A × Place → List A × Place
@@ -115,13 +115,13 @@ items_from at (Some item) rest = (item ∷ rest.0, rest.1)
 -- the items of the next lines, up to the first line that isn't an item, and the position before that
 -- line
 abbrev pub items_at : {A : Type 0} → (List ℕ → Option A) → ℕ → List (List ℕ) → List ℕ → List A × Place
-items_at meaning taken [] last = ([], record { taken = taken; lines = []; last = last })
-items_at meaning taken (line ∷ lines) last =
-    items_from (record { taken = taken; lines = line ∷ lines; last = last }) (meaning line) (items_at meaning (taken + 1) lines last)
+items_at item_of lines_read [] last = ([], record { lines_read = lines_read; lines = []; last = last })
+items_at item_of lines_read (line ∷ lines) last =
+    items_from (record { lines_read = lines_read; lines = line ∷ lines; last = last }) (item_of line) (items_at item_of (lines_read + 1) lines last)
 
 -- a part that is as many items as possible, one on each line
 abbrev pub items_of : {A : Type 0} → (List ℕ → Option A) → Part (List A)
-items_of meaning at = Ok (items_at meaning at.taken at.lines at.last)
+items_of item_of at = Ok (items_at item_of at.lines_read at.lines at.last)
 
 -- an optional part, present if the Bool is true
 abbrev pub part_if : {A : Type 0} → Bool → Part A → Part (Option A)
@@ -140,7 +140,7 @@ is_over (line ∷ lines) last = false
 
 -- the end of the text: no byte may be unread, else the fault is at the next line
 abbrev pub end_of_text : Part (Unit {0})
-end_of_text at = if is_over at.lines at.last then Ok (tt, at) else Err (NotACertificate (at.taken + 1))
+end_of_text at = if is_over at.lines at.last then Ok (tt, at) else Err (NotACertificate (at.lines_read + 1))
 
 -- ---- results
 

@@ -19,14 +19,14 @@ joined lines = flat_map ended lines
 
 -- the bytes are lines that spell the value, each with its LF, and nothing more
 abbrev pub IsTextBy : {C : Type 0} → (C → List (List ℕ) → Type 0) → C → List ℕ → Type 0
-IsTextBy spells said bytes = (lines : List (List ℕ)) × spells said lines × (bytes ≡ joined lines)
+IsTextBy spells decoded bytes = (lines : List (List ℕ)) × spells decoded lines × (bytes ≡ joined lines)
 
 -- the bytes begin with `count` lines, each with its LF, that begin some text
 pub record BeginsBy {C : Type 0} (spells : C → List (List ℕ) → Type 0) (bytes : List ℕ) (count : ℕ) : Type 0 where
-  pub said : C
+  pub decoded : C
   pub lines : List (List ℕ)
   pub more : List (List ℕ)
-  pub spelled : spells said (lines ++ more)
+  pub spelled : spells decoded (lines ++ more)
   pub counted : length lines ≡ count
   pub rest : List ℕ
   pub prefix : bytes ≡ joined lines ++ rest
@@ -40,7 +40,7 @@ pub record IsFaultBy {C : Type 0} (spells : C → List (List ℕ) → Type 0) (b
 
 -- the bytes aren't a text, and `line` is the line of their first fault
 abbrev pub RefusedBy : {C : Type 0} → (C → List (List ℕ) → Type 0) → List ℕ → ℕ → Type 0
-RefusedBy {C} spells bytes line = ((said : C) → ¬ (IsTextBy spells said bytes)) × IsFaultBy spells bytes line
+RefusedBy {C} spells bytes line = ((decoded : C) → ¬ (IsTextBy spells decoded bytes)) × IsFaultBy spells bytes line
 
 -- ---- what reading says
 
@@ -52,5 +52,5 @@ RefusesBy spells bytes (NotACertificate line) = RefusedBy spells bytes line
 
 -- the result of reading is right: the value that the bytes are the text of, or a right fault
 abbrev pub ReadsBy : {C : Type 0} → (C → List (List ℕ) → Type 0) → List ℕ → Result C CertFault → Type 0
-ReadsBy spells bytes (Ok said) = IsTextBy spells said bytes
+ReadsBy spells bytes (Ok decoded) = IsTextBy spells decoded bytes
 ReadsBy spells bytes (Err fault) = RefusesBy spells bytes fault

@@ -33,7 +33,7 @@ pub use line_writing::{
     begin_line, cell_line, end_line, heading_line, last_line, mark_line, push_cell_line, title_line,
 };
 pub use lines::after;
-pub use numbers::{number_of, size_of};
+pub use numbers::{parse_number, size_of};
 pub use parts::{items, moment, station, word};
 pub use reading::{read_certificate, read_last};
 pub use track_name::TrackName;

@@ -14,11 +14,11 @@ pub trait ItemForm {
     type Item: Drop;
 
     /// The item on a line, or `None` if the line isn't an item.
-    ghost meaning: { Self → List ℕ → Option Self.Item };
+    ghost item_of: { Self → List ℕ → Option Self.Item };
 
     /// Reads the item on `line`, or returns `None` if `line` isn't an item.
     fn read_item(&self, line: &[u8]) -> Option<Self::Item>
-        ensures { result ≡ meaning self.now line.now };
+        ensures { result ≡ item_of self.now line.now };
 }
 
 /// A position in a text that is read line by line. In contracts its value is the number of lines read,
@@ -26,7 +26,7 @@ pub trait ItemForm {
 #[derive(Drop)]
 pub struct LineCursor<'a> {
     rest: &'a [u8],
-    taken: u32,
+    lines_read: u32,
 }
 
 impl<'a> Model for LineCursor<'a> {
@@ -36,9 +36,9 @@ impl<'a> Model for LineCursor<'a> {
 
     ghost Value = { Place };
 
-    ghost view = { λ c. place_at c.taken c.rest.now };
+    ghost view = { λ c. place_at c.lines_read c.rest.now };
 
-    ghost invariant = { λ c. c.taken + length c.rest.now ≤ MOST_BYTES };
+    ghost invariant = { λ c. c.lines_read + length c.rest.now ≤ MOST_BYTES };
 }
 
 impl<'a> LineCursor<'a> {
@@ -49,7 +49,7 @@ impl<'a> LineCursor<'a> {
     {
         LineCursor {
             rest: bytes,
-            taken: 0,
+            lines_read: 0,
         }
     }
 
@@ -62,19 +62,21 @@ impl<'a> LineCursor<'a> {
     {
         let Some((line, rest)) = next_line(self.rest) else {
             return Err(CertFault::NotACertificate {
-                line: self.taken + 1,
+                line: self.lines_read + 1,
             });
         };
         self.rest = rest;
-        self.taken += 1;
+        self.lines_read += 1;
         Ok(line)
     }
 
     /// Returns the fault of the line that was read last.
     pub fn fault(&self) -> CertFault
-        ensures { result ≡ CertFault.NotACertificate self.now.taken }
+        ensures { result ≡ CertFault.NotACertificate self.now.lines_read }
     {
-        CertFault::NotACertificate { line: self.taken }
+        CertFault::NotACertificate {
+            line: self.lines_read,
+        }
     }
 
     /// Returns true if the next line is `word`.
@@ -90,13 +92,13 @@ impl<'a> LineCursor<'a> {
     /// Reads the next line if it is an item of `form`, and returns the item; otherwise reads nothing and
     /// returns `None`.
     pub fn take_item<F: ItemForm>(&mut self, form: &F) -> Option<F::Item>
-        ensures item { MatchOption result (first_item (F.meaning form.now) self.old ≡ None) (λ item. first_item (F.meaning form.now) self.old ≡ Some (item, self.new)) }
+        ensures item { MatchOption result (first_item (F.item_of form.now) self.old ≡ None) (λ item. first_item (F.item_of form.now) self.old ≡ Some (item, self.new)) }
         ensures none { IfNone result (self.new ≡ self.old) }
     {
         let (line, rest) = next_line(self.rest)?;
         let item = form.read_item(line)?;
         self.rest = rest;
-        self.taken += 1;
+        self.lines_read += 1;
         Some(item)
     }
 
@@ -111,7 +113,7 @@ impl<'a> LineCursor<'a> {
             Ok(())
         } else {
             Err(CertFault::NotACertificate {
-                line: self.taken + 1,
+                line: self.lines_read + 1,
             })
         }
     }

@@ -1,7 +1,7 @@
 //! Whole numbers read from text.
 
 ghost use Rattle.std.specs.Prelude.{◌≡◌, ◌<◌, ◌≤◌, ◌^◌, IfSome, option_and_then, unsigned_abs};
-ghost use Rattle.cert_text.specs.Workings.LineReading.{after, size_of, negative, number_of};
+ghost use Rattle.cert_text.specs.Workings.LineReading.{after, size_of, negative, parse_number};
 
 use crate::lines::after;
 use decimal_text::wide_digits;
@@ -38,10 +38,10 @@ fn negative(size: u128) -> Option<i128>
 
 /// Reads a decimal number of 1 to `most` digits without leading zeros, with `-` before it if it is
 /// negative, or returns `None` if `text` isn't one; `-0` isn't. `most` is at most 38.
-#[tactic(auto, unfolding(crate::specs::Workings::LineReading::number_of))]
-pub fn number_of(text: &[u8], most: usize) -> Option<i128>
+#[tactic(auto, unfolding(crate::specs::Workings::LineReading::parse_number))]
+pub fn parse_number(text: &[u8], most: usize) -> Option<i128>
     requires { most ≤ 38 }
-    ensures value { result ≡ number_of most text.now }
+    ensures value { result ≡ parse_number most text.now }
     ensures small { IfSome result (λ z. unsigned_abs z < 10 ^ most) }
 {
     match after(b"-".as_slice(), text) {
@@ -53,8 +53,8 @@ pub fn number_of(text: &[u8], most: usize) -> Option<i128>
 /// Reads the level, in millionths of the station's unit, that follows `word` on `line`, a number of at
 /// most 14 digits, or returns `None` unless `line` is `word` and such a number.
 pub fn level_after(word: &[u8], line: &[u8]) -> Option<i64>
-    ensures { result ≡ option_and_then (number_of LEVEL_DIGITS) (after word.now line.now) }
+    ensures { result ≡ option_and_then (parse_number LEVEL_DIGITS) (after word.now line.now) }
 {
-    let level = number_of(after(word, line)?, LEVEL_DIGITS)?;
+    let level = parse_number(after(word, line)?, LEVEL_DIGITS)?;
     Some(level as i64)
 }

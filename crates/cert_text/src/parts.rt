@@ -63,7 +63,7 @@ pub fn items<F: ItemForm>(
     lines: &mut LineCursor<'_>,
     form: &F,
 ) -> Result<Vec<F::Item>, AllocError>
-    ensures { IfOk result (λ items. items_of (F.meaning form.now) lines.old ≡ Ok (items.items, lines.new)) }
+    ensures { IfOk result (λ items. items_of (F.item_of form.now) lines.old ≡ Ok (items.items, lines.new)) }
 {
     let mut items = Vec::new(alloc);
     while let Some(item) = lines.take_item(form) {

@@ -1,7 +1,7 @@
 //! Certificates read from text.
 
 ghost use Rattle.std.specs.Prelude.{◌≡◌, ◌≤◌, length, IfOk, is_some};
-ghost use Rattle.decimal_text.specs.Expected.{ReturnsUnless};
+ghost use Rattle.decimal_text.specs.Expected.{EqualsUnlessNoMemory};
 ghost use Rattle.decimal_text.specs.declared.limits.TheConstants.{MOST_BYTES};
 ghost use Rattle.cert_text.specs.ByLine.{Takes, TakesExactly, part_if, part_after};
 ghost use Rattle.cert_text.specs.Certificates.{IsCertificate};
@@ -24,7 +24,7 @@ impl ItemForm for TrackName {
 
     type Item = Cell;
 
-    ghost meaning = { cell_of };
+    ghost item_of = { cell_of };
 
     fn read_item(&self, line: &[u8]) -> Option<Cell> {
         cell_of(*self, line)
@@ -141,7 +141,7 @@ fn read_lines(alloc: Global, lines: &mut LineCursor<'_>) -> Result<Certificate, 
 /// ```
 pub fn read_certificate(alloc: Global, bytes: &[u8]) -> Result<Certificate, CertFault>
     requires { length bytes.now ≤ MOST_BYTES }
-    ensures exact { ReturnsUnless is_out_of_memory (certificate_of bytes.now) result }
+    ensures exact { EqualsUnlessNoMemory is_out_of_memory (certificate_of bytes.now) result }
     ensures reads { Reads bytes.now result }
     ensures valid { IfOk result IsCertificate }
 {

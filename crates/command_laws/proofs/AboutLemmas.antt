@@ -7,7 +7,7 @@ use Rattle.std.proofs.lemmas.List.Elements.{All-nil, All-cons, All-weaker, All-a
 use Rattle.std.proofs.lemmas.Option.{get_or_from_slice_get, slice_get_within}
 use Rattle.curve_law.specs.declared.event.Event.{Event}
 use Rattle.curve_law.specs.declared.kind.Kind.{Kind}
-use Rattle.curve_law.specs.Meaning.{Meaning}
+use Rattle.curve_law.specs.CurveSpec.{CurveSpec}
 use Rattle.curve_law.specs.Track.{Track, side_at, has_event, event_at, plain_list}
 use Rattle.curve_law.proofs.CoverLemmas.{by_test}
 use Rattle.curve_law.proofs.TrackLemmas.{plain_list-zero, plain_list-one, plain_list-suc}
@@ -25,12 +25,12 @@ use Rattle.question.specs.declared.command.Command.TheVariants.{About, Predict}
 use Rattle.question.specs.declared.layout.Layout.{Layout}
 use Rattle.question.specs.declared.question.Question.{Question}
 use Rattle.rate_bound.specs.declared.version.Version.TheVariants.{Second}
-use Rattle.rate_bound.specs.Meanings.{predicted_turn, predicted_mark}
+use Rattle.rate_bound.specs.CurveSpecs.{predicted_turn, predicted_mark}
 use Rattle.slope_agreement.specs.Agreements.{IsPlainMinute, predicted_agreement, predicted_gap, predicted_gap_before}
 use Rattle.station_curve.specs.Curves.{curve_of, first_fault}
 use Rattle.station_curve.specs.Schureman.{predicted_slope}
-use Rattle.station_span.specs.declared.asked.Asked.{Asked}
-use Rattle.station_span.specs.declared.reach.Reach.TheVariants.{Events}
+use Rattle.station_span.specs.declared.span_request.SpanRequest.{SpanRequest}
+use Rattle.station_span.specs.declared.purpose.Purpose.TheVariants.{Events}
 use Rattle.station_span.specs.Following.{asks_slack, events_of as site_events, followed, followed_by, if_asked, slack_plus, slack_times}
 use Rattle.station_span.specs.Sites.{Site, basis_from, level_unit, site_in, station_in, curve_from}
 use Rattle.decimal_text.proofs.ExpectedLemmas.{then_ok}
@@ -121,20 +121,20 @@ turn_at book station bound m keeps turns = by_test (int_lt (pos 0) (predicted_sl
 
 -- ---- every event of a curve, one minute after the other
 
-one_event : (P : Event → Type 0) (c : Meaning) (a : ℤ) → (has_event c.track a ≡ true → P (event_at c.track a))
+one_event : (P : Event → Type 0) (c : CurveSpec) (a : ℤ) → (has_event c.track a ≡ true → P (event_at c.track a))
     → All P (plain_list c.track a 1)
 one_event P c a holds = by_test (has_event c.track a)
     (λ turns. rw (plain_list-one c.track a, turns) (All-cons P (event_at c.track a) [] (holds turns) (All-nil P)))
     (λ still. rw (plain_list-one c.track a, still) (All-nil P))
 
-each_event : (P : Event → Type 0) (c : Meaning) (a : ℤ) (n : ℕ)
+each_event : (P : Event → Type 0) (c : CurveSpec) (a : ℤ) (n : ℕ)
     → ((m : ℤ) → has_event c.track m ≡ true → P (event_at c.track m)) → All P (plain_list c.track a n)
 each_event P c a zero holds = rw (plain_list-zero c.track a) (All-nil P)
 each_event P c a (suc n) holds = rw (plain_list-suc c.track a n)
     (All-append P (plain_list c.track a 1) (plain_list c.track (a +ℤ pos 1) n) (one_event P c a (holds a))
     (each_event P c (a +ℤ pos 1) n holds))
 
-curve_events : (P : Event → Type 0) (s : Span) (c : Meaning)
+curve_events : (P : Event → Type 0) (s : Span) (c : CurveSpec)
     → ((m : ℤ) → has_event c.track m ≡ true → P (event_at c.track m))
     → All P (flat_map (events_over s) (option_to_list (Some c)))
 curve_events P s c holds = All-append P (events_over s c) [] (each_event P c s.begin (span_minutes s) holds) (All-nil P)
@@ -174,19 +174,19 @@ mark_events book station bound times plus s (Some level) =
 
 -- ---- every event of a station
 
-reference_events : (book : Book) (site : Site) (asked : Asked) (bound : ℤ) (s : Span) → KeepTo book site.station bound
-    → All (IsTurn book site.station bound) (events_of s (followed book site asked))
+reference_events : (book : Book) (site : Site) (span_request : SpanRequest) (bound : ℤ) (s : Span) → KeepTo book site.station bound
+    → All (IsTurn book site.station bound) (events_of s (followed book site span_request))
 unfolding followed_by
-reference_events book site asked bound s keeps =
+reference_events book site span_request bound s keeps =
     let P = IsTurn book site.station bound in
     let turn = predicted_turn Second book site.station in
-    let f = followed book site asked in
+    let f = followed book site span_request in
     All-append P (events_over s turn)
     (flat_map (events_over s) (option_to_list f.slack) ++ flat_map (events_over s) (option_to_list f.mark))
     (each_event P turn s.begin (span_minutes s) (λ m turns. turn_at book site.station bound m keeps turns))
     (All-append P (flat_map (events_over s) (option_to_list f.slack)) (flat_map (events_over s) (option_to_list f.mark))
     (slack_events book site.station bound (slack_times site.basis) (slack_plus site.basis) s (asks_slack site.station.units site.basis))
-    (mark_events book site.station bound site.basis.high.times site.basis.high.plus s asked.mark))
+    (mark_events book site.station bound site.basis.high.times site.basis.high.plus s span_request.mark))
 
 back_again : (minute add : ℤ) → (minute +ℤ add) -ℤ add ≡ minute
 back_again minute add = omega (arith, ints)
@@ -195,19 +195,19 @@ moved_turn : (book : Book) (site : Site) (bound : ℤ) (e : Event) → IsTurn bo
     → IsBounded book site bound (moved site.basis e)
 moved_turn book site bound e is = rw (back_again e.minute (offset_of site.basis e.kind).add) is
 
-pub station_turns : (book : Book) (site : Site) (asked : Asked) (bound : ℤ) → KeepTo book site.station bound
-    → All (IsBounded book site bound) (site_events book site asked)
+pub station_turns : (book : Book) (site : Site) (span_request : SpanRequest) (bound : ℤ) → KeepTo book site.station bound
+    → All (IsBounded book site bound) (site_events book site span_request)
 unfolding site_events
-station_turns book site asked bound keeps =
+station_turns book site span_request bound keeps =
     let P = IsBounded book site bound in
-    let s = widened_of site.basis asked.begin asked.end in
-    let all = events_of s (followed book site asked) in
-    rw (events-parts (followed book site asked) site.basis asked.begin asked.end)
-    (All-ordered P (moved_within site.basis asked.begin asked.end all)
-    (All-filter (is_within asked.begin asked.end) P (map (moved site.basis) all)
+    let s = widened_of site.basis span_request.begin span_request.end in
+    let all = events_of s (followed book site span_request) in
+    rw (events-parts (followed book site span_request) site.basis span_request.begin span_request.end)
+    (All-ordered P (moved_within site.basis span_request.begin span_request.end all)
+    (All-filter (is_within span_request.begin span_request.end) P (map (moved site.basis) all)
     (All-map P (moved site.basis) all
     (All-weaker (IsTurn book site.station bound) (λ e. P (moved site.basis e)) (moved_turn book site bound) all
-    (reference_events book site asked bound s keeps)))))
+    (reference_events book site span_request bound s keeps)))))
 
 -- ---- the outputs of the runs
 
@@ -249,25 +249,25 @@ went_over_name question next answer ok =
     (name.0, name_ok question.station name.0 name.1, name.2)
 
 -- the listing of a station that was found
-record Lists (book : Book) (table : List Offsets) (name : List ℕ) (asked : Asked) (layout : Layout) (zone : Zone)
+record Lists (book : Book) (table : List Offsets) (name : List ℕ) (span_request : SpanRequest) (layout : Layout) (zone : Zone)
     (listing : Answer) : Type 0 where
   site : Site
-  place : site_in Events book table name asked ≡ Ok site
-  found : WasFound book table name asked site
-  listed : listing.text ≡ events_text layout name site.station.units (site_events book site asked) zone
+  place : site_in Events book table name span_request ≡ Ok site
+  found : WasFound book table name span_request site
+  listed : listing.text ≡ events_text layout name site.station.units (site_events book site span_request) zone
 
-lists : (book : Book) (table : List Offsets) (name : List ℕ) (asked : Asked) (layout : Layout) (zone : Zone) (listing : Answer)
-    → predicted book table name asked layout zone ≡ Ok listing → Lists book table name asked layout zone listing
+lists : (book : Book) (table : List Offsets) (name : List ℕ) (span_request : SpanRequest) (layout : Layout) (zone : Zone) (listing : Answer)
+    → predicted book table name span_request layout zone ≡ Ok listing → Lists book table name span_request layout zone listing
 unfolding predicted
-lists book table name asked layout zone listing ok =
-    let site = then_ok (site_in Events book table name asked) _ listing ok in
-    let same : text_of_events book site.0 asked
-    (events_text layout name site.0.station.units (site_events book site.0 asked) zone) ≡ listing =
+lists book table name span_request layout zone listing ok =
+    let site = then_ok (site_in Events book table name span_request) _ listing ok in
+    let same : text_of_events book site.0 span_request
+    (events_text layout name site.0.station.units (site_events book site.0 span_request) zone) ≡ listing =
     (let last = site.2 in cc) in
     record {
       site = site.0;
       place = site.1;
-      found = was_found Events book table name asked site.0 site.1;
+      found = was_found Events book table name span_request site.0 site.1;
       listed = sym (ap (λ (a : Answer). a.text) same);
     }
 
@@ -313,10 +313,10 @@ one_station book basis same station other one got again =
     cc
 
 -- the text has the bound of the station of the listing
-bound_of : (book : Book) (table : List Offsets) (name : List ℕ) (asked : Asked) (site : Site) (facts : Answer)
-    → WasFound book table name asked site → PrintsBound book table name facts → facts ≡ text_alone (about_text_of name
+bound_of : (book : Book) (table : List Offsets) (name : List ℕ) (span_request : SpanRequest) (site : Site) (facts : Answer)
+    → WasFound book table name span_request site → PrintsBound book table name facts → facts ≡ text_alone (about_text_of name
     site.station.name site.station.units (constituent_count site.station) (predicted_agreement book site.station))
-bound_of book table name asked site facts found prints =
+bound_of book table name span_request site facts found prints =
     let basis = one_basis book table name site.basis prints.site.basis found.basis prints.basis in
     let station = one_station book site.basis prints.site.basis site.station prints.site.station basis found.station prints.station in
     subst (λ (s : Station). facts
@@ -338,7 +338,7 @@ bounds_turns law before sheets folder minute later words more about predict fact
     let named = went_over_name about (λ name. station_about was.read.book was.read.table name) facts text in
     let list = text_at predict.command Predict read predict
     (given_with read (minute_for predict.command later)) listing asks_predict.is here.text in
-    let over = went_over_span predict (λ name asked. predicted read.book read.table name asked predict.layout read.zone) listing list in
+    let over = went_over_span predict (λ name span_request. predicted read.book read.table name span_request predict.layout read.zone) listing list in
     let shown = lists read.book read.table over.0 over.1 predict.layout read.zone listing over.3 in
     let site = shown.site in
     let book = one_book folder predict.file about.file here.name was.name read.book was.read.book files.file here.file
@@ -358,7 +358,7 @@ bounds_turns law before sheets folder minute later words more about predict fact
       table = read.table;
       zone = read.zone;
       name = over.0;
-      asked = over.1;
+      span_request = over.1;
       site = site;
       constituents = constituent_count site.station;
       bound = predicted_agreement read.book site.station;

@@ -22,10 +22,10 @@ use Rattle.question.specs.declared.question.ZoneWord.TheVariants.{Utc}
 use Rattle.question.specs.Forms.{zone_of}
 use Rattle.question.specs.Layouts.{layout_of}
 use Rattle.question.specs.Keys.{all_keys, has_key, key_named, name_of}
-use Rattle.question.specs.Questions.{Said, nothing_said, also, asked, command_of, complete, has_form, missing_key, question_of, refuse_if, with_item, with_items}
+use Rattle.question.specs.Questions.{KeyTexts, no_key_texts, also, question_from, command_of, complete, has_form, missing_key, question_of, refuse_if, with_item, with_items}
 use Rattle.question.specs.Words.{pairs_of}
 use Rattle.report_sheets.specs.Pages.{missing_of}
-use Rattle.report_sheets.specs.Sheets.{SheetMeaning}
+use Rattle.report_sheets.specs.Sheets.{SheetSpec}
 use Rattle.decimal_text.proofs.ExpectedLemmas.{then_ok}
 use Rattle.tide_desk.specs.Answers.{question_of_words, found_in, wanted_by}
 use Rattle.command_laws.specs.Checks.{TakesItsArguments}
@@ -99,7 +99,7 @@ key_too name k is =
 
 -- ---- the key has the same value
 
-item_too : (place : ℕ) (item : Item) (said more : Said) → with_item Line Certify place item said ≡ Ok more
+item_too : (place : ℕ) (item : Item) (said more : KeyTexts) → with_item Line Certify place item said ≡ Ok more
     → with_item Line Predict place item said ≡ Ok more
 unfolding with_item
 item_too place item said more ok =
@@ -110,7 +110,7 @@ item_too place item said more ok =
     let key = key_too item.key new.0 (got_ok (key_named Line Certify item.key) (UnknownKey place) new.0 new.1) in
     rw (text.1, key, once.1, good.1) good.2
 
-items_too : (place : ℕ) (items : List Item) (said more : Said) → with_items Line Certify place items said ≡ Ok more
+items_too : (place : ℕ) (items : List Item) (said more : KeyTexts) → with_items Line Certify place items said ≡ Ok more
     → with_items Line Predict place items said ≡ Ok more
 unfolding with_items
 items_too place [] said more ok = ok
@@ -131,7 +131,7 @@ found_passes {X} test (y ∷ ys) x is =
       | false ↦ λ fails later. found_passes test ys x later
     ] refl is
 
-key_unsaid : (command : Command) (k new : Key) (name text : List ℕ) (said : Said) → Lacks command k
+key_unsaid : (command : Command) (k new : Key) (name text : List ℕ) (said : KeyTexts) → Lacks command k
     → key_named Line command name ≡ Some new → said k ≡ None → also new text said k ≡ None
 key_unsaid command k new name text said lacks found none = by_test (bytes_eq (name_of k) (name_of new))
     (λ same.
@@ -142,7 +142,7 @@ key_unsaid command k new name text said lacks found none = by_test (bytes_eq (na
     absurd cc)
     (λ other. rw other none)
 
-item_unsaid : (command : Command) (k : Key) (place : ℕ) (item : Item) (said more : Said) → Lacks command k
+item_unsaid : (command : Command) (k : Key) (place : ℕ) (item : Item) (said more : KeyTexts) → Lacks command k
     → with_item Line command place item said ≡ Ok more → said k ≡ None → more k ≡ None
 unfolding with_item
 item_unsaid command k place item said more lacks ok none =
@@ -152,40 +152,40 @@ item_unsaid command k place item said more lacks ok none =
     let good = then_ok (refuse_if (not (has_form Line new.0 text.0)) (BadValue place)) _ more once.2 in
     let same : also new.0 text.0 said ≡ more = (let last = good.2 in cc) in
     let found = got_ok (key_named Line command item.key) (UnknownKey place) new.0 new.1 in
-    subst (λ (s : Said). s k ≡ None) same (key_unsaid command k new.0 item.key text.0 said lacks found none)
+    subst (λ (s : KeyTexts). s k ≡ None) same (key_unsaid command k new.0 item.key text.0 said lacks found none)
 
-items_unsaid : (command : Command) (k : Key) (items : List Item) (place : ℕ) (said more : Said) → Lacks command k
+items_unsaid : (command : Command) (k : Key) (items : List Item) (place : ℕ) (said more : KeyTexts) → Lacks command k
     → with_items Line command place items said ≡ Ok more → said k ≡ None → more k ≡ None
 unfolding with_items
-items_unsaid command k [] place said more lacks ok none = let same : said ≡ more = cc in subst (λ (s : Said). s k ≡ None) same none
+items_unsaid command k [] place said more lacks ok none = let same : said ≡ more = cc in subst (λ (s : KeyTexts). s k ≡ None) same none
 items_unsaid command k (item ∷ items) place said more lacks ok none =
     let one = then_ok (with_item Line command place item said) _ more ok in
     items_unsaid command k items (place + 1) one.0 more lacks one.2 (item_unsaid command k place item said one.0 lacks one.1 none)
 
 -- ---- the request
 
-same_question : (said : Said) → said key.Zone ≡ None → said key.Layout ≡ None
-    → asked Line Predict said ≡ record (asked Line Certify said) { command = Predict; zone = Utc; layout = Plain }
+same_question : (said : KeyTexts) → said key.Zone ≡ None → said key.Layout ≡ None
+    → question_from Line Predict said ≡ record (question_from Line Certify said) { command = Predict; zone = Utc; layout = Plain }
 same_question said zone layout =
     let utc : unwrap_or (option_and_then (zone_of Line) (said key.Zone)) Utc ≡ Utc =
     ap (λ (text : Option (List ℕ)). unwrap_or (option_and_then (zone_of Line) text) Utc) zone in
     let plain : unwrap_or (option_and_then layout_of (said key.Layout)) Plain ≡ Plain =
     ap (λ (text : Option (List ℕ)). unwrap_or (option_and_then layout_of text) Plain) layout in
-    ap (λ (z : ZoneWord). record (asked Line Certify said) {
+    ap (λ (z : ZoneWord). record (question_from Line Certify said) {
       command = Predict;
       zone = z;
       layout = unwrap_or (option_and_then layout_of (said key.Layout)) Plain;
     }) utc
-    ∙ ap (λ (l : Layout). record (asked Line Certify said) { command = Predict; zone = Utc; layout = l }) plain
+    ∙ ap (λ (l : Layout). record (question_from Line Certify said) { command = Predict; zone = Utc; layout = l }) plain
 
-predict_asks : (arguments : List (List ℕ)) (said : Said)
-    → with_items Line Predict 1 (pairs_of (codes "certify" ∷ arguments)).items nothing_said ≡ Ok said
+predict_asks : (arguments : List (List ℕ)) (said : KeyTexts)
+    → with_items Line Predict 1 (pairs_of (codes "certify" ∷ arguments)).items no_key_texts ≡ Ok said
     → complete (missing_key Line Predict said) ≡ Ok tt
-    → question_of (pairs_of (codes "predict" ∷ arguments)) ≡ Ok (asked Line Predict said)
+    → question_of (pairs_of (codes "predict" ∷ arguments)) ≡ Ok (question_from Line Predict said)
 unfolding question_of
 predict_asks arguments said items whole = rw (items, whole) refl
 
-asks_with : (sheets : List SheetMeaning) (arguments : List (List ℕ)) (question : Question)
+asks_with : (sheets : List SheetSpec) (arguments : List (List ℕ)) (question : Question)
     → question_of (pairs_of (codes "predict" ∷ arguments)) ≡ Ok question
     → found_in (wanted_by question) (missing_of sheets (wanted_by question)) ≡ Ok tt
     → question_of_words sheets (codes "predict" ∷ arguments) ≡ Ok question
@@ -203,15 +203,15 @@ takes_its_arguments sheets arguments certify ok =
     let items = rw command at was.items in
     let whole = rw command at was.whole in
     let is = rw command at was.is in
-    let zone = items_unsaid Certify key.Zone (pairs_of (codes "certify" ∷ arguments)).items 1 nothing_said said refl items refl in
-    let layout = items_unsaid Certify key.Layout (pairs_of (codes "certify" ∷ arguments)).items 1 nothing_said said refl items refl in
-    let question : asked Line Predict said ≡ record certify { command = Predict; zone = Utc; layout = Plain } =
+    let zone = items_unsaid Certify key.Zone (pairs_of (codes "certify" ∷ arguments)).items 1 no_key_texts said refl items refl in
+    let layout = items_unsaid Certify key.Layout (pairs_of (codes "certify" ∷ arguments)).items 1 no_key_texts said refl items refl in
+    let question : question_from Line Predict said ≡ record certify { command = Predict; zone = Utc; layout = Plain } =
     same_question said zone layout ∙ ap (λ (q : Question). record q { command = Predict; zone = Utc; layout = Plain }) is
     in
-    let asks = predict_asks arguments said (items_too 1 (pairs_of (codes "certify" ∷ arguments)).items nothing_said said items) whole in
+    let asks = predict_asks arguments said (items_too 1 (pairs_of (codes "certify" ∷ arguments)).items no_key_texts said items) whole in
     asks_with sheets arguments (record certify { command = Predict; zone = Utc; layout = Plain }) (asks ∙ ap Ok question) was.known
 
-pub certify_asked : (sheets : List SheetMeaning) (arguments : List (List ℕ)) (certify : Question)
+pub certify_asked : (sheets : List SheetSpec) (arguments : List (List ℕ)) (certify : Question)
     → question_of_words sheets (codes "certify" ∷ arguments) ≡ Ok certify → certify.command ≡ Certify
 certify_asked sheets arguments certify ok =
     let was = words_ask sheets (codes "certify" ∷ arguments) certify ok in

@@ -11,8 +11,8 @@ use Rattle.listing.specs.Listings.{clock_text_of, plain_events_of, plain_heights
 use Rattle.question.specs.declared.command.Command.TheVariants.{Clock, Heights, Predict}
 use Rattle.question.specs.declared.layout.Layout.TheVariants.{Plain}
 use Rattle.question.specs.declared.question.Question.{Question}
-use Rattle.station_span.specs.declared.asked.Asked.{Asked}
-use Rattle.station_span.specs.declared.reach.Reach.TheVariants.{Events, Levels}
+use Rattle.station_span.specs.declared.span_request.SpanRequest.{SpanRequest}
+use Rattle.station_span.specs.declared.purpose.Purpose.TheVariants.{Events, Levels}
 use Rattle.station_span.specs.Following.{events_of}
 use Rattle.station_span.specs.Levels.{is_rising_at, level_at, level_in}
 use Rattle.station_span.specs.Sites.{Site, has_minute, lacks_minute, length_in, site_in, span_in}
@@ -22,10 +22,10 @@ use Rattle.decimal_text.proofs.ExpectedLemmas.{then_ok}
 use Rattle.station_table.specs.declared.basis.Basis.{Basis}
 use Rattle.station_table.specs.declared.offsets.Offsets.{Offsets}
 use Rattle.station_table.specs.Bases.{is_equal}
-use Rattle.tide_answer.specs.declared.given.Given.{Given}
+use Rattle.tide_answer.specs.declared.inputs.Given.{Given}
 use Rattle.tide_answer.specs.declared.text.Answer.{Answer}
 use Rattle.tide_answer.specs.Answers.{answered, asks_name, heights, named_by, on_clock, predicted, row_count, rows_in, rows_of, text_alone, text_of_events, text_over}
-use Rattle.tide_answer.specs.Asking.{asked_from_minute}
+use Rattle.tide_answer.specs.Asking.{request_from_minute}
 use Rattle.tide_fault.specs.declared.refusal.Refusal.TheVariants.{NoStation}
 use Rattle.zone_time.specs.declared.zone.Zone.{Zone}
 use Rattle.zone_time.specs.Zones.{local_in}
@@ -54,18 +54,18 @@ unfolding length_in
 level_length now = let none : now -ℤ now ≡ pos 0 = omega (arith, ints) in rw none refl
 
 level_site : (book : Book) (table : List Offsets) (name : List ℕ) (now : ℤ) (site : Site)
-    → site_in Events book table name (asked_from_minute now) ≡ Ok site → IsTrue (is_equal site.basis)
+    → site_in Events book table name (request_from_minute now) ≡ Ok site → IsTrue (is_equal site.basis)
     → site_in Levels book table name (record { begin = now; end = now; mark = None }) ≡ Ok site
 level_site book table name now site ok equal =
-    let was = has_passed Events book table name (asked_from_minute now) site ok in
+    let was = has_passed Events book table name (request_from_minute now) site ok in
     let reaches = reaches_span book site.basis now (now +ℤ pos 1440) was.curve.span in
     let least = (adds site.basis).0 in
     let greatest = (adds site.basis).1 in
     let source = now -ℤ site.basis.high.add in
     let inside = minute_between book _ source _ reaches.begins reaches.ends (omega (arith, ints, greatest)) (omega (arith, ints, least)) in
-    let asked : Asked = record { begin = now; end = now; mark = None } in
-    found_by Levels book table name asked site.basis site.station (rw was.basis refl) was.station
-    ∙ found_whole Levels book site asked was.units was.whole
+    let span_request : SpanRequest = record { begin = now; end = now; mark = None } in
+    found_by Levels book table name span_request site.basis site.station (rw was.basis refl) was.station
+    ∙ found_whole Levels book site span_request was.units was.whole
     (record { unit = was.curve.unit; span = level_span book site.basis now equal inside; curve = was.curve.curve })
     (level_length now) refl
 
@@ -85,7 +85,7 @@ row_alone book site now step some =
     rw (one_row now step some) (ap (λ (m : ℤ). record { minute = m; level = level_at book site m } ∷ []) at)
 
 level_text : (book : Book) (table : List Offsets) (name : List ℕ) (now step : ℤ) (site : Site) (zone : Zone)
-    → site_in Events book table name (asked_from_minute now) ≡ Ok site → level_in site.basis ≡ Ok tt → pos 1 ≤ℤ step
+    → site_in Events book table name (request_from_minute now) ≡ Ok site → level_in site.basis ≡ Ok tt → pos 1 ≤ℤ step
     → heights book table name (record { begin = now; end = now; mark = None }) step Plain zone
     ≡ Ok (text_alone (plain_heights_of name site.station.units (record { minute = now; level = level_at book site now } ∷ []) zone))
 unfolding heights
@@ -105,38 +105,38 @@ height_text name units row zone = ap (λ text. name ++ codes "\n" ++ text) (appe
 -- ---- the law
 
 day_text : (book : Book) (table : List Offsets) (name : List ℕ) (now : ℤ) (site : Site) (zone : Zone)
-    → site_in Events book table name (asked_from_minute now) ≡ Ok site
-    → predicted book table name (asked_from_minute now) Plain zone
-    ≡ Ok (text_of_events book site (asked_from_minute now) (name ++ codes "\n"
-    ++ flat_map (event_line_in zone site.station.units) (events_of book site (asked_from_minute now))))
+    → site_in Events book table name (request_from_minute now) ≡ Ok site
+    → predicted book table name (request_from_minute now) Plain zone
+    ≡ Ok (text_of_events book site (request_from_minute now) (name ++ codes "\n"
+    ++ flat_map (event_line_in zone site.station.units) (events_of book site (request_from_minute now))))
 unfolding predicted plain_events_of
 day_text book table name now site zone ok = rw ok refl
 
-answers_clock : (book : Book) (table : List Offsets) (question : Question) (given : Given) → question.command ≡ Clock
-    → answered book table question given ≡ asks_name question (λ name. on_clock book table name given.now given.zone)
+answers_clock : (book : Book) (table : List Offsets) (question : Question) (inputs : Given) → question.command ≡ Clock
+    → answered book table question inputs ≡ asks_name question (λ name. on_clock book table name inputs.now inputs.zone)
 unfolding answered
-answers_clock book table question given is = rw is refl
+answers_clock book table question inputs is = rw is refl
 
 abbrev clock_line : Book → Site → ℤ → Zone → List ℕ
 clock_line book site now zone = height_line_of (local_in zone now) (level_at book site now) site.station.units
 
-record WasShown (book : Book) (table : List Offsets) (question : Question) (given : Given) (answer : Answer) : Type 0 where
+record WasShown (book : Book) (table : List Offsets) (question : Question) (inputs : Given) (answer : Answer) : Type 0 where
   pub name : List ℕ
   pub site : Site
   pub named : question.station ≡ Some name
-  pub found : site_in Events book table name (asked_from_minute given.now) ≡ Ok site
+  pub found : site_in Events book table name (request_from_minute inputs.now) ≡ Ok site
   pub level : level_in site.basis ≡ Ok tt
-  pub answer_is : answer ≡ text_of_events book site (asked_from_minute given.now)
-      (clock_text_of name site.station.units given.now (level_at book site given.now) (is_rising_at book site given.now)
-      (events_of book site (asked_from_minute given.now)) given.zone)
+  pub answer_is : answer ≡ text_of_events book site (request_from_minute inputs.now)
+      (clock_text_of name site.station.units inputs.now (level_at book site inputs.now) (is_rising_at book site inputs.now)
+      (events_of book site (request_from_minute inputs.now)) inputs.zone)
 
-was_shown : (book : Book) (table : List Offsets) (question : Question) (given : Given) (answer : Answer)
-    → asks_name question (λ name. on_clock book table name given.now given.zone) ≡ Ok answer
-    → WasShown book table question given answer
+was_shown : (book : Book) (table : List Offsets) (question : Question) (inputs : Given) (answer : Answer)
+    → asks_name question (λ name. on_clock book table name inputs.now inputs.zone) ≡ Ok answer
+    → WasShown book table question inputs answer
 unfolding asks_name on_clock
-was_shown book table question given answer ok =
+was_shown book table question inputs answer ok =
     let name = then_ok (named_by question.station) _ answer ok in
-    let site = then_ok (site_in Events book table name.0 (asked_from_minute given.now)) _ answer name.2 in
+    let site = then_ok (site_in Events book table name.0 (request_from_minute inputs.now)) _ answer name.2 in
     let level = then_ok (level_in site.0.basis) _ answer site.2 in
     record {
       name = name.0;
@@ -147,54 +147,54 @@ was_shown book table question given answer ok =
       answer_is = (let last = level.2 in cc);
     }
 
-day_answer : (book : Book) (table : List Offsets) (clock : Question) (given : Given) (answer : Answer)
-    (was : WasShown book table clock given answer) (predict : Question) (there : Given)
-    → AsksDay clock given.now predict → there.zone ≡ given.zone
+day_answer : (book : Book) (table : List Offsets) (clock : Question) (inputs : Given) (answer : Answer)
+    (was : WasShown book table clock inputs answer) (predict : Question) (there : Given)
+    → AsksDay clock inputs.now predict → there.zone ≡ inputs.zone
     → answered book table predict there ≡ Ok (record answer {
-      text = was.name ++ codes "\n" ++ flat_map (event_line_in given.zone was.site.station.units)
-          (events_of book was.site (asked_from_minute given.now));
+      text = was.name ++ codes "\n" ++ flat_map (event_line_in inputs.zone was.site.station.units)
+          (events_of book was.site (request_from_minute inputs.now));
     })
-day_answer book table clock given answer was predict there asks zone =
-    let text = was.name ++ codes "\n" ++ flat_map (event_line_in given.zone was.site.station.units)
-    (events_of book was.site (asked_from_minute given.now)) in
+day_answer book table clock inputs answer was predict there asks zone =
+    let text = was.name ++ codes "\n" ++ flat_map (event_line_in inputs.zone was.site.station.units)
+    (events_of book was.site (request_from_minute inputs.now)) in
     answers_predict book table predict there asks.command
-    ∙ asks_of predict (text_over Predict book table predict there.zone) was.name given.now (given.now +ℤ pos 1440) None
+    ∙ asks_of predict (text_over Predict book table predict there.zone) was.name inputs.now (inputs.now +ℤ pos 1440) None
     (asks.station ∙ was.named) asks.begin asks.end asks.no_mark
-    ∙ rw (asks.layout, zone) (day_text book table was.name given.now was.site given.zone was.found)
+    ∙ rw (asks.layout, zone) (day_text book table was.name inputs.now was.site inputs.zone was.found)
     ∙ ap (λ (a : Answer). Ok (record a { text = text })) (sym was.answer_is)
 
-level_answer : (book : Book) (table : List Offsets) (clock : Question) (given : Given) (answer : Answer)
-    (was : WasShown book table clock given answer) (levels : Question) (there : Given)
-    → AsksLevel clock given.now levels → there.zone ≡ given.zone → answered book table levels there
-    ≡ Ok (text_alone (was.name ++ codes "\n" ++ (clock_line book was.site given.now given.zone ++ codes "\n")))
-level_answer book table clock given answer was levels there asks zone =
-    let row : Row = record { minute = given.now; level = level_at book was.site given.now } in
+level_answer : (book : Book) (table : List Offsets) (clock : Question) (inputs : Given) (answer : Answer)
+    (was : WasShown book table clock inputs answer) (levels : Question) (there : Given)
+    → AsksLevel clock inputs.now levels → there.zone ≡ inputs.zone → answered book table levels there
+    ≡ Ok (text_alone (was.name ++ codes "\n" ++ (clock_line book was.site inputs.now inputs.zone ++ codes "\n")))
+level_answer book table clock inputs answer was levels there asks zone =
+    let row : Row = record { minute = inputs.now; level = level_at book was.site inputs.now } in
     answers_heights book table levels there asks.command
-    ∙ asks_of levels (text_over Heights book table levels there.zone) was.name given.now given.now None
+    ∙ asks_of levels (text_over Heights book table levels there.zone) was.name inputs.now inputs.now None
     (asks.station ∙ was.named) asks.begin asks.end asks.no_mark
-    ∙ rw (asks.layout, zone) (level_text book table was.name given.now levels.step was.site given.zone was.found was.level asks.step)
-    ∙ ap (λ text. Ok (text_alone text)) (height_text was.name was.site.station.units row given.zone)
+    ∙ rw (asks.layout, zone) (level_text book table was.name inputs.now levels.step was.site inputs.zone was.found was.level asks.step)
+    ∙ ap (λ text. Ok (text_alone text)) (height_text was.name was.site.station.units row inputs.zone)
 
 pub clock_shows : ShowsThePresentAndTheNextDay
 unfolding clock_text_of
-clock_shows book table clock given answer command ok =
-    let was = was_shown book table clock given answer (sym (answers_clock book table clock given command) ∙ ok) in
+clock_shows book table clock inputs answer command ok =
+    let was = was_shown book table clock inputs answer (sym (answers_clock book table clock inputs command) ∙ ok) in
     let site = was.site in
-    let now = given.now in
-    let events = events_of book site (asked_from_minute now) in
+    let now = inputs.now in
+    let events = events_of book site (request_from_minute now) in
     record {
       name = was.name;
-      line = clock_line book site now given.zone;
-      lines = flat_map (event_line_in given.zone site.station.units) events;
+      line = clock_line book site now inputs.zone;
+      lines = flat_map (event_line_in inputs.zone site.station.units) events;
       rising = is_rising_at book site now;
       units = site.station.units;
       events = events;
       text = ap (λ (a : Answer). a.text) was.answer_is;
-      day = day_answer book table clock given answer was;
-      level = level_answer book table clock given answer was;
+      day = day_answer book table clock inputs answer was;
+      level = level_answer book table clock inputs answer was;
       events_are = λ predict asks.
           lists_of book table predict was.name now (now +ℤ pos 1440) None site
           (asks.station ∙ was.named) asks.begin asks.end asks.no_mark was.found;
       lines_are = refl;
-      first_turn = first_turn book site (asked_from_minute now) (level_equal site.basis was.level) (omega (arith, ints));
+      first_turn = first_turn book site (request_from_minute now) (level_equal site.basis was.level) (omega (arith, ints));
     }

@@ -4,8 +4,8 @@ use Rattle.std.specs.Prelude.{slice_get}
 use Rattle.harmonics_book.specs.declared.book.Book.{Book}
 use Rattle.question.specs.declared.command.Command.TheVariants.{Heights}
 use Rattle.question.specs.declared.question.Question.{Question}
-use Rattle.station_span.specs.declared.asked.Asked.{Asked}
-use Rattle.station_span.specs.declared.reach.Reach.TheVariants.{Levels}
+use Rattle.station_span.specs.declared.span_request.SpanRequest.{SpanRequest}
+use Rattle.station_span.specs.declared.purpose.Purpose.TheVariants.{Levels}
 use Rattle.station_span.specs.Levels.{level_at, level_in}
 use Rattle.station_span.specs.Sites.{Site, site_in}
 use Rattle.decimal_text.proofs.ExpectedLemmas.{then_ok}
@@ -32,20 +32,20 @@ RowsAreLevels = (level : ℤ → ℤ) (begin end step : ℤ) → begin ≤ℤ en
     → slice_get (rows_over level begin end step) index ≡ row_until level begin end step index
 
 -- the station that was found, and the text of its rows
-record PrintsRows (book : Book) (table : List Offsets) (name : List ℕ) (asked : Asked) (step : ℤ) (layout : Layout)
+record PrintsRows (book : Book) (table : List Offsets) (name : List ℕ) (span_request : SpanRequest) (step : ℤ) (layout : Layout)
     (zone : Zone) (answer : Answer) : Type 0 where
   site : Site
-  found : site_in Levels book table name asked ≡ Ok site
-  printed : answer ≡ text_alone (heights_text layout name site.station.units (rows_of book site asked.begin asked.end step) zone)
+  found : site_in Levels book table name span_request ≡ Ok site
+  printed : answer ≡ text_alone (heights_text layout name site.station.units (rows_of book site span_request.begin span_request.end step) zone)
 
-prints_rows : (book : Book) (table : List Offsets) (name : List ℕ) (asked : Asked) (step : ℤ) (layout : Layout)
-    (zone : Zone) (answer : Answer) → heights book table name asked step layout zone ≡ Ok answer
-    → PrintsRows book table name asked step layout zone answer
+prints_rows : (book : Book) (table : List Offsets) (name : List ℕ) (span_request : SpanRequest) (step : ℤ) (layout : Layout)
+    (zone : Zone) (answer : Answer) → heights book table name span_request step layout zone ≡ Ok answer
+    → PrintsRows book table name span_request step layout zone answer
 unfolding heights
-prints_rows book table name asked step layout zone answer ok =
-    let site = then_ok (site_in Levels book table name asked) _ answer ok in
+prints_rows book table name span_request step layout zone answer ok =
+    let site = then_ok (site_in Levels book table name span_request) _ answer ok in
     let level = then_ok (level_in site.0.basis) _ answer site.2 in
-    let few = then_ok (rows_in asked.begin asked.end step) _ answer level.2 in
+    let few = then_ok (rows_in span_request.begin span_request.end step) _ answer level.2 in
     record { site = site.0; found = site.1; printed = (let last = few.2 in cc) }
 
 heights_read : (question : Question) → question.command ≡ Heights → ReadsFiles question
@@ -58,25 +58,25 @@ prints_levels rows sheets folder minute words question answer asks ok =
     let text = text_at question.command Heights read question
     (given_with read (minute_for question.command minute)) answer asks.is was.text in
     let over = went_over_span question
-    (λ name asked. heights read.book read.table name asked question.step question.layout read.zone) answer text in
-    let asked = over.1 in
-    let prints = prints_rows read.book read.table over.0 asked question.step question.layout read.zone answer over.3 in
-    let found = was_found Levels read.book read.table over.0 asked prints.site prints.found in
+    (λ name span_request. heights read.book read.table name span_request question.step question.layout read.zone) answer text in
+    let span_request = over.1 in
+    let prints = prints_rows read.book read.table over.0 span_request question.step question.layout read.zone answer over.3 in
+    let found = was_found Levels read.book read.table over.0 span_request prints.site prints.found in
     record {
       book = read.book;
       table = read.table;
       zone = read.zone;
       name = over.0;
-      asked = asked;
+      span_request = span_request;
       site = prints.site;
-      rows = rows_of read.book prints.site asked.begin asked.end question.step;
+      rows = rows_of read.book prints.site span_request.begin span_request.end question.step;
       file = named_read folder question.file was.name read.book was.file was.files.book;
       offsets = was.files.table;
       shown = was.files.zone;
       station = over.2.station;
-      span = span_named question over.0 asked over.2;
+      span = span_named question over.0 span_request over.2;
       found = prints.found;
       printed = prints.printed;
-      levels = rows (level_at read.book prints.site) asked.begin asked.end question.step found.forward
+      levels = rows (level_at read.book prints.site) span_request.begin span_request.end question.step found.forward
           (step_asked sheets words question asks.asked);
     }

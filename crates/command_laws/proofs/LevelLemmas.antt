@@ -7,7 +7,7 @@ use Rattle.std.proofs.lemmas.List.Elements.{All-nil, All-cons, All-head, All-tai
 use Rattle.curve_law.specs.declared.event.Event.{Event}
 use Rattle.curve_law.specs.declared.kind.Kind.{Kind}
 use Rattle.curve_law.specs.declared.kind.Kind.TheVariants.{High, Low, FloodBegins, EbbBegins, MarkRising, MarkFalling}
-use Rattle.curve_law.specs.Meaning.{Meaning}
+use Rattle.curve_law.specs.CurveSpec.{CurveSpec}
 use Rattle.curve_law.specs.Track.{Track, plain_list}
 use Rattle.curve_law.proofs.CoverLemmas.{by_test}
 use Rattle.event_list.specs.declared.span.Span.{Span}
@@ -18,7 +18,7 @@ use Rattle.event_list.proofs.OrderLemmas.{All-ordered}
 use Rattle.event_list.proofs.PlainLemmas.{within-lies}
 use Rattle.harmonics_book.specs.declared.book.Book.{Book}
 use Rattle.station_curve.specs.Schureman.{predicted_millionths}
-use Rattle.station_span.specs.declared.asked.Asked.{Asked}
+use Rattle.station_span.specs.declared.span_request.SpanRequest.{SpanRequest}
 use Rattle.station_span.specs.Following.{asks_slack, events_of, followed, followed_by, if_asked}
 use Rattle.station_span.specs.Levels.{level_at}
 use Rattle.station_span.specs.Sites.{Site}
@@ -75,15 +75,15 @@ list-noted t a n = plain_list-all (HasNote t.note) t (λ m. refl) a n
 abbrev HasLevel : Book → Site → Event → Type 0
 HasLevel book site = HasNote (predicted_millionths book site.station)
 
-asked-noted : (book : Book) (site : Site) (s : Span) (asks : Bool) (c : Meaning)
+span_request-noted : (book : Book) (site : Site) (s : Span) (asks : Bool) (c : CurveSpec)
     → c.track.note ≡ predicted_millionths book site.station
     → All (HasLevel book site) (flat_map (events_over s) (option_to_list (if_asked asks c)))
-asked-noted book site s true c same =
+span_request-noted book site s true c same =
     All-append (HasLevel book site) (events_over s c) [] (subst (λ note. All (HasNote note) (events_over s c)) same
     (list-noted c.track s.begin (span_minutes s))) (All-nil (HasLevel book site))
-asked-noted book site s false c same = All-nil (HasLevel book site)
+span_request-noted book site s false c same = All-nil (HasLevel book site)
 
-marked-noted : (book : Book) (site : Site) (s : Span) (f : ℤ → Meaning) (mark : Option ℤ)
+marked-noted : (book : Book) (site : Site) (s : Span) (f : ℤ → CurveSpec) (mark : Option ℤ)
     → ((level : ℤ) → (f level).track.note ≡ predicted_millionths book site.station)
     → All (HasLevel book site) (flat_map (events_over s) (option_to_list (option_map f mark)))
 marked-noted book site s f (Some level) same =
@@ -91,56 +91,56 @@ marked-noted book site s f (Some level) same =
     (same level) (list-noted (f level).track s.begin (span_minutes s))) (All-nil (HasLevel book site))
 marked-noted book site s f None same = All-nil (HasLevel book site)
 
-pub all-noted : (book : Book) (site : Site) (asked : Asked) (s : Span) → All (HasLevel book site) (all_events s (followed book site asked))
+pub all-noted : (book : Book) (site : Site) (span_request : SpanRequest) (s : Span) → All (HasLevel book site) (all_events s (followed book site span_request))
 unfolding followed_by
-all-noted book site asked s =
-    let f = followed book site asked in
+all-noted book site span_request s =
+    let f = followed book site span_request in
     let slack = flat_map (events_over s) (option_to_list f.slack) in
     let mark = flat_map (events_over s) (option_to_list f.mark) in
     All-append (HasLevel book site) (events_over s f.turn) (slack ++ mark) (list-noted f.turn.track s.begin (span_minutes s))
     (All-append (HasLevel book site) slack mark
-    (asked-noted book site s (asks_slack site.station.units site.basis) _ refl)
-    (marked-noted book site s _ asked.mark (λ level. refl)))
+    (span_request-noted book site s (asks_slack site.station.units site.basis) _ refl)
+    (marked-noted book site s _ span_request.mark (λ level. refl)))
 
 -- ---- below the greatest level of a span
 
-abbrev pub IsMost : Book → Site → Asked → ℤ → Type 0
-IsMost book site asked level =
-    (minute : ℤ) → asked.begin ≤ℤ minute → minute <ℤ asked.end → level_at book site minute ≤ℤ level
+abbrev pub IsMost : Book → Site → SpanRequest → ℤ → Type 0
+IsMost book site span_request level =
+    (minute : ℤ) → span_request.begin ≤ℤ minute → minute <ℤ span_request.end → level_at book site minute ≤ℤ level
 
-one-below : (book : Book) (site : Site) (asked : Asked) (level : ℤ) (event : Event) → IsTrue (is_equal site.basis)
-    → IsMost book site asked level → HasLevel book site event → is_within asked.begin asked.end (moved site.basis event)
+one-below : (book : Book) (site : Site) (span_request : SpanRequest) (level : ℤ) (event : Event) → IsTrue (is_equal site.basis)
+    → IsMost book site span_request level → HasLevel book site event → is_within span_request.begin span_request.end (moved site.basis event)
     ≡ true → IsEventBelow site.basis level (moved site.basis event)
-one-below book site asked level event equal most noted within own =
+one-below book site span_request level event equal most noted within own =
     let high = site.basis.high in
     let offset = one_offset site.basis event.kind equal own in
     let is : moved site.basis event ≡ moved_by high event = ap (λ o. moved_by o event) offset in
-    let lies = within-lies asked.begin asked.end (moved_by high event) (ap (is_within asked.begin asked.end) (sym is) ∙ within) in
+    let lies = within-lies span_request.begin span_request.end (moved_by high event) (ap (is_within span_request.begin span_request.end) (sym is) ∙ within) in
     let back : (event.minute +ℤ high.add) -ℤ high.add ≡ event.minute = omega (arith, ints) in
     let same : event.level ≡ predicted_millionths book site.station ((event.minute +ℤ high.add) -ℤ high.add) =
     noted ∙ ap (predicted_millionths book site.station) (sym back) in
     let below = most (event.minute +ℤ high.add) lies.0 lies.1 in
     subst (λ (e : Event). e.level ≤ℤ level) (sym is) (subst (λ (l : ℤ). scaled high l ≤ℤ level) (sym same) below)
 
-moved-below : (book : Book) (site : Site) (asked : Asked) (level : ℤ) (es : List Event) → IsTrue (is_equal site.basis)
-    → IsMost book site asked level → All (HasLevel book site) es
-    → All (IsEventBelow site.basis level) (moved_within site.basis asked.begin asked.end es)
-moved-below book site asked level [] equal most all = All-nil (IsEventBelow site.basis level)
-moved-below book site asked level (e ∷ es) equal most all =
+moved-below : (book : Book) (site : Site) (span_request : SpanRequest) (level : ℤ) (es : List Event) → IsTrue (is_equal site.basis)
+    → IsMost book site span_request level → All (HasLevel book site) es
+    → All (IsEventBelow site.basis level) (moved_within site.basis span_request.begin span_request.end es)
+moved-below book site span_request level [] equal most all = All-nil (IsEventBelow site.basis level)
+moved-below book site span_request level (e ∷ es) equal most all =
     let here = All-head (HasLevel book site) e es all in
-    let rest = moved-below book site asked level es equal most (All-tail (HasLevel book site) e es all) in
-    by_test (is_within asked.begin asked.end (moved site.basis e))
+    let rest = moved-below book site span_request level es equal most (All-tail (HasLevel book site) e es all) in
+    by_test (is_within span_request.begin span_request.end (moved site.basis e))
     (λ kept. rw kept (All-cons (IsEventBelow site.basis level) (moved site.basis e)
-    (moved_within site.basis asked.begin asked.end es) (one-below book site asked level e equal most here kept) rest))
+    (moved_within site.basis span_request.begin span_request.end es) (one-below book site span_request level e equal most here kept) rest))
     (λ dropped. rw dropped rest)
 
-pub events-below : (book : Book) (site : Site) (asked : Asked) (level : ℤ) → IsTrue (is_equal site.basis)
-    → IsMost book site asked level → All (IsEventBelow site.basis level) (events_of book site asked)
+pub events-below : (book : Book) (site : Site) (span_request : SpanRequest) (level : ℤ) → IsTrue (is_equal site.basis)
+    → IsMost book site span_request level → All (IsEventBelow site.basis level) (events_of book site span_request)
 unfolding events_of
-events-below book site asked level equal most =
-    let s = widened_of site.basis asked.begin asked.end in
-    let f = followed book site asked in
+events-below book site span_request level equal most =
+    let s = widened_of site.basis span_request.begin span_request.end in
+    let f = followed book site span_request in
     let all = all_events s f in
-    rw (events-parts f site.basis asked.begin asked.end)
-    (All-ordered (IsEventBelow site.basis level) (moved_within site.basis asked.begin asked.end all)
-    (moved-below book site asked level all equal most (all-noted book site asked s)))
+    rw (events-parts f site.basis span_request.begin span_request.end)
+    (All-ordered (IsEventBelow site.basis level) (moved_within site.basis span_request.begin span_request.end all)
+    (moved-below book site span_request level all equal most (all-noted book site span_request s)))

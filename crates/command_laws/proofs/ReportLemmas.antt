@@ -13,7 +13,7 @@ use Rattle.curve_law.specs.declared.event.Event.{Event}
 use Rattle.curve_law.proofs.CoverLemmas.{by_test}
 use Rattle.harmonics_book.specs.declared.book.Book.{Book}
 use Rattle.named_files.specs.declared.materials.Materials.{Materials}
-use Rattle.named_files.specs.NoAnswers.{refused_over}
+use Rattle.named_files.specs.RunFaults.{refused_over}
 use Rattle.named_files.specs.Readings.{book_named, certificate_named, files_in, table_named, zone_named}
 use Rattle.question.specs.declared.command.Command.{Command}
 use Rattle.question.specs.declared.command.Command.TheVariants.{Predict, Report}
@@ -21,9 +21,9 @@ use Rattle.question.specs.declared.layout.Layout.{Layout}
 use Rattle.question.specs.declared.question.Question.{Question}
 use Rattle.report_sheets.specs.declared.head.Head.{Head}
 use Rattle.report_sheets.specs.Pages.{has_sheet, is_wanted, missing_of, page_of, pages_of}
-use Rattle.report_sheets.specs.Sheets.{SheetMeaning}
-use Rattle.station_span.specs.declared.asked.Asked.{Asked}
-use Rattle.station_span.specs.declared.reach.Reach.TheVariants.{Events}
+use Rattle.report_sheets.specs.Sheets.{SheetSpec}
+use Rattle.station_span.specs.declared.span_request.SpanRequest.{SpanRequest}
+use Rattle.station_span.specs.declared.purpose.Purpose.TheVariants.{Events}
 use Rattle.station_span.specs.Following.{events_of}
 use Rattle.station_span.specs.Sites.{Site, site_in}
 use Rattle.decimal_text.proofs.ExpectedLemmas.{then_ok}
@@ -32,7 +32,7 @@ use Rattle.tide_answer.specs.declared.listed.Listed.{Listed}
 use Rattle.tide_answer.specs.declared.text.Answer.{Answer}
 use Rattle.listing.specs.ByLayout.{events_text}
 use Rattle.tide_answer.specs.Answers.{answered_without_files, listed, named_by, predicted, text_alone, text_by, text_from, text_of_events}
-use Rattle.tide_answer.specs.Asking.{asked_by_question}
+use Rattle.tide_answer.specs.Asking.{request_by_question}
 use Rattle.tide_desk.specs.Answers.{answered_over_optional_file, answered_over_file, answered_over_book, given_with, head_of, is_report, found_in, minute_for, reported, wanted_by}
 use Rattle.tide_desk.specs.Laws.{NameSameFiles, subject_of}
 use Rattle.tide_desk.proofs.AskedLemmas.{NamesSpan, goes_over_span, names_no_certificate}
@@ -47,10 +47,10 @@ use Rattle.command_laws.proofs.RequestLemmas.{name_ok, names_span, words_ask}
 
 -- ---- the pages
 
-abbrev pub page_on : List Event → SheetMeaning → ReportPage
+abbrev pub page_on : List Event → SheetSpec → ReportPage
 page_on events sheet = record { sheet = sheet; events = take sheet.limit events }
 
-page_is : (events : List Event) (sheet : SheetMeaning) → IsPage events (page_on events sheet)
+page_is : (events : List Event) (sheet : SheetSpec) → IsPage events (page_on events sheet)
 page_is events sheet =
     let few = length-take sheet.limit events in
     record {
@@ -59,17 +59,17 @@ page_is events sheet =
       complete = λ short. take_all sheet.limit events (omega (arith, few, short));
     }
 
-pages_are : (events : List Event) (sheets : List SheetMeaning) → All (IsPage events) (map (page_on events) sheets)
+pages_are : (events : List Event) (sheets : List SheetSpec) → All (IsPage events) (map (page_on events) sheets)
 pages_are events [] = All-nil (IsPage events)
 pages_are events (sheet ∷ sheets) = All-cons (IsPage events) (page_on events sheet) (map (page_on events) sheets)
     (page_is events sheet) (pages_are events sheets)
 
-sheets_of_pages : (events : List Event) (sheets : List SheetMeaning)
+sheets_of_pages : (events : List Event) (sheets : List SheetSpec)
     → map (λ (page : ReportPage). page.sheet) (map (page_on events) sheets) ≡ sheets
 sheets_of_pages events [] = refl
 sheets_of_pages events (sheet ∷ sheets) = ap (λ rest. sheet ∷ rest) (sheets_of_pages events sheets)
 
-text_of_pages : (head : Head) (events : List Event) (wanted : List (List ℕ)) (sheets : List SheetMeaning)
+text_of_pages : (head : Head) (events : List Event) (wanted : List (List ℕ)) (sheets : List SheetSpec)
     → pages_of sheets wanted head events
     ≡ flat_map (text_of head) (map (page_on events) (filter (is_wanted wanted) sheets))
 unfolding pages_of page_of
@@ -92,14 +92,14 @@ all_fail p (x ∷ xs) none = by_test (p x)
     (λ passes. absurd (let some = rw passes at none in cc))
     (λ fails. All-cons (λ y. p y ≡ false) x xs fails (all_fail p xs (rw fails at none)))
 
-abbrev pub sheet_words : List Event → (SheetMeaning → Bool) → List SheetMeaning → List (List ℕ)
+abbrev pub sheet_words : List Event → (SheetSpec → Bool) → List SheetSpec → List (List ℕ)
 sheet_words events kept sheets = map (λ (page : ReportPage). page.sheet.word) (map (page_on events) (filter kept sheets))
 
 later_word : (x y : List ℕ) (xs : List (List ℕ)) → Contains xs y → Contains (x ∷ xs) y
 later_word x y xs there = (suc there.0, omega (arith, there.1), there.2)
 
-word_shown : (events : List Event) (kept : SheetMeaning → Bool) (word : List ℕ) (sheets : List SheetMeaning)
-    → ((sheet : SheetMeaning) → bytes_eq word sheet.word ≡ true → kept sheet ≡ true) → has_sheet sheets word ≡ true
+word_shown : (events : List Event) (kept : SheetSpec → Bool) (word : List ℕ) (sheets : List SheetSpec)
+    → ((sheet : SheetSpec) → bytes_eq word sheet.word ≡ true → kept sheet ≡ true) → has_sheet sheets word ≡ true
     → Contains (sheet_words events kept sheets) word
 word_shown events kept word [] keeps has = absurd cc
 word_shown events kept word (sheet ∷ sheets) keeps has = by_test (bytes_eq word sheet.word)
@@ -131,7 +131,7 @@ not_false : (b : Bool) → not b ≡ false → b ≡ true
 not_false true is = refl
 not_false false is = absurd cc
 
-words_shown : (events : List Event) (wanted : List (List ℕ)) (sheets : List SheetMeaning)
+words_shown : (events : List Event) (wanted : List (List ℕ)) (sheets : List SheetSpec)
     → found_in wanted (missing_of sheets wanted) ≡ Ok tt
     → All (Contains (sheet_words events (is_wanted wanted) sheets)) wanted
 unfolding missing_of
@@ -142,7 +142,7 @@ words_shown events wanted sheets known = λ k d within.
     not_false (has_sheet sheets word) (all_fail (λ w. not (has_sheet sheets w)) wanted none k d within) in
     word_shown events (is_wanted wanted) word sheets (λ sheet same. any_at (λ w. bytes_eq w sheet.word) wanted k d within same) has
 
-report_is : (sheets : List SheetMeaning) (wanted : List (List ℕ)) (head : Head) (events : List Event)
+report_is : (sheets : List SheetSpec) (wanted : List (List ℕ)) (head : Head) (events : List Event)
     → found_in wanted (missing_of sheets wanted) ≡ Ok tt
     → IsReport sheets wanted head events (pages_of sheets wanted head events)
 report_is sheets wanted head events known = record {
@@ -162,32 +162,32 @@ unrefused table (Err refusal) answer ok = absurd cc
 
 -- the list of a request
 record WasListed (book : Book) (table : List Offsets) (question : Question) (list : Listed) : Type 0 where
-  asked : Asked
-  names : NamesSpan question list.name asked
+  span_request : SpanRequest
+  names : NamesSpan question list.name span_request
   site : Site
-  found : site_in Events book table list.name asked ≡ Ok site
-  is : list ≡ record { name = list.name; units = site.station.units; events = events_of book site asked }
+  found : site_in Events book table list.name span_request ≡ Ok site
+  is : list ≡ record { name = list.name; units = site.station.units; events = events_of book site span_request }
 
 was_listed : (book : Book) (table : List Offsets) (question : Question) (list : Listed)
     → listed book table question ≡ Ok list → WasListed book table question list
 unfolding listed
 was_listed book table question list ok =
     let name = then_ok (named_by question.station) _ list ok in
-    let asked = then_ok (named_by (asked_by_question question)) _ list name.2 in
-    let site = then_ok (site_in Events book table name.0 asked.0) _ list asked.2 in
-    let same : record { name = name.0; units = site.0.station.units; events = events_of book site.0 asked.0 } ≡ list =
+    let span_request = then_ok (named_by (request_by_question question)) _ list name.2 in
+    let site = then_ok (site_in Events book table name.0 span_request.0) _ list span_request.2 in
+    let same : record { name = name.0; units = site.0.station.units; events = events_of book site.0 span_request.0 } ≡ list =
     (let last = site.2 in cc) in
     subst (WasListed book table question) same (record {
-      asked = asked.0;
-      names = names_span question name.0 asked.0 (name_ok question.station name.0 name.1)
-          (name_ok (asked_by_question question) asked.0 asked.1);
+      span_request = span_request.0;
+      names = names_span question name.0 span_request.0 (name_ok question.station name.0 name.1)
+          (name_ok (request_by_question question) span_request.0 span_request.1);
       site = site.0;
       found = site.1;
       is = refl;
     })
 
 was_reported :
-    (sheets : List SheetMeaning) (book : Book) (table : List Offsets) (report : Question) (now : ℤ) (pages : Answer)
+    (sheets : List SheetSpec) (book : Book) (table : List Offsets) (report : Question) (now : ℤ) (pages : Answer)
     → reported sheets book table report now ≡ Ok pages → (list : Listed) × (listed book table report ≡ Ok list)
     × (pages ≡ text_alone (pages_of sheets (wanted_by report) (head_of list now) list.events))
 unfolding reported
@@ -195,7 +195,7 @@ was_reported sheets book table report now pages ok =
     let list = then_ok (listed book table report) _ pages ok in
     (list.0, list.1, (let last = list.2 in cc))
 
-record WasReported (sheets : List SheetMeaning) (folder : Folder) (now : ℤ) (report : Question) (pages : Answer) : Type 0 where
+record WasReported (sheets : List SheetSpec) (folder : Folder) (now : ℤ) (report : Question) (pages : Answer) : Type 0 where
   file : List ℕ
   named : report.file ≡ Some file
   read : Materials
@@ -219,7 +219,7 @@ files_read folder question name read ok =
     subst (λ (r : Materials). (book_named folder name ≡ Ok r.book) × (table_named folder question.offsets ≡ Ok r.table))
     same (book.1, table.1)
 
-report_over : (sheets : List SheetMeaning) (folder : Folder) (now : ℤ) (report : Question) (name : List ℕ)
+report_over : (sheets : List SheetSpec) (folder : Folder) (now : ℤ) (report : Question) (name : List ℕ)
     (pages : Answer) → report.file ≡ Some name → report.command ≡ Report
     → answered_over_file sheets (λ slot. folder) now report name ≡ Ok pages → WasReported sheets folder now report pages
 unfolding answered_over_file
@@ -246,7 +246,7 @@ report_over sheets folder now report name pages file is ok =
 alone : (command : Command) (seed : Option ℕ) → command ≡ Report → text_from command seed ≡ Err NoStation
 alone command seed is = rw is refl
 
-report_by : (sheets : List SheetMeaning) (folder : Folder) (now : ℤ) (report : Question) (file : Option (List ℕ))
+report_by : (sheets : List SheetSpec) (folder : Folder) (now : ℤ) (report : Question) (file : Option (List ℕ))
     (pages : Answer) → report.file ≡ file → report.command ≡ Report
     → answered_over_optional_file sheets (λ slot. folder) now report file ≡ Ok pages
     → WasReported sheets folder now report pages
@@ -256,23 +256,23 @@ report_by sheets folder now report None pages file is ok = absurd (let none = rw
 
 -- ---- the listing of the same station
 
-predicted_is : (book : Book) (table : List Offsets) (name : List ℕ) (asked : Asked) (layout : Layout) (zone : Zone)
-    (site : Site) → site_in Events book table name asked ≡ Ok site → predicted book table name asked layout zone
-    ≡ Ok (text_of_events book site asked (events_text layout name site.station.units (events_of book site asked) zone))
+predicted_is : (book : Book) (table : List Offsets) (name : List ℕ) (span_request : SpanRequest) (layout : Layout) (zone : Zone)
+    (site : Site) → site_in Events book table name span_request ≡ Ok site → predicted book table name span_request layout zone
+    ≡ Ok (text_of_events book site span_request (events_text layout name site.station.units (events_of book site span_request) zone))
 unfolding predicted
-predicted_is book table name asked layout zone site found = rw found refl
+predicted_is book table name span_request layout zone site found = rw found refl
 
-listing_text : (predict : Question) (read : Materials) (later : ℤ) (name : List ℕ) (asked : Asked) (site : Site)
-    → predict.command ≡ Predict → NamesSpan predict name asked
-    → site_in Events read.book read.table name asked ≡ Ok site
+listing_text : (predict : Question) (read : Materials) (later : ℤ) (name : List ℕ) (span_request : SpanRequest) (site : Site)
+    → predict.command ≡ Predict → NamesSpan predict name span_request
+    → site_in Events read.book read.table name span_request ≡ Ok site
     → text_by predict.command read.book read.table predict (given_with read (minute_for predict.command later))
-    ≡ Ok (text_of_events read.book site asked
-    (events_text predict.layout name site.station.units (events_of read.book site asked) read.zone))
-listing_text predict read later name asked site is names found =
-    let given = given_with read (minute_for predict.command later) in
-    ap (λ (c : Command). text_by c read.book read.table predict given) is
-    ∙ goes_over_span predict (λ name asked. predicted read.book read.table name asked predict.layout read.zone) name asked names
-    ∙ predicted_is read.book read.table name asked predict.layout read.zone site found
+    ≡ Ok (text_of_events read.book site span_request
+    (events_text predict.layout name site.station.units (events_of read.book site span_request) read.zone))
+listing_text predict read later name span_request site is names found =
+    let inputs = given_with read (minute_for predict.command later) in
+    ap (λ (c : Command). text_by c read.book read.table predict inputs) is
+    ∙ goes_over_span predict (λ name span_request. predicted read.book read.table name span_request predict.layout read.zone) name span_request names
+    ∙ predicted_is read.book read.table name span_request predict.layout read.zone site found
 
 listing_files : (folder : Folder) (predict report : Question) (file : List ℕ) (read : Materials) (zone : Zone)
     → NameSameFiles predict report → book_named folder file ≡ Ok read.book
@@ -293,16 +293,16 @@ complete_reports sheets folder now later words more report predict pages zone as
     let list = was.list in
     let of = was.listed in
     let read : Materials = record was.read { zone = zone; certificate = [] } in
-    let names = names_subject predict (subject_of report) list.name of.asked subject (subject_named report list.name of.asked of.names) in
-    let listing = text_of_events read.book of.site of.asked
-    (events_text predict.layout list.name of.site.station.units (events_of read.book of.site of.asked) zone) in
+    let names = names_subject predict (subject_of report) list.name of.span_request subject (subject_named report list.name of.span_request of.names) in
+    let listing = text_of_events read.book of.site of.span_request
+    (events_text predict.layout list.name of.site.station.units (events_of read.book of.site of.span_request) zone) in
     let none = names_no_certificate sheets more predict Predict refl asks_predict.asked asks_predict.is in
     let answered = is_answered sheets folder later predict listing (ap is_report asks_predict.is) (record {
       name = was.file;
       file = files.file ∙ was.named;
       read = read;
       files = listing_files folder predict report was.file was.read zone files was.book was.table shown none;
-      text = listing_text predict read later list.name of.asked of.site asks_predict.is names of.found;
+      text = listing_text predict read later list.name of.span_request of.site asks_predict.is names of.found;
     }) in (
       listing,
       ◌∙◌ {c = Ok listing} (words_answer sheets folder later more predict asks_predict.asked) answered,

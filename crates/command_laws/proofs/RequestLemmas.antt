@@ -13,21 +13,21 @@ use Rattle.question.specs.declared.key.Key.TheVariants as key
 use Rattle.question.specs.declared.pairs.Pairs.{Pairs}
 use Rattle.question.specs.declared.question.Question.{Question}
 use Rattle.question.specs.Forms.{step_of}
-use Rattle.question.specs.Questions.{Said, nothing_said, command_of, with_items, missing_key, complete, asked, question_of}
+use Rattle.question.specs.Questions.{KeyTexts, no_key_texts, command_of, with_items, missing_key, complete, question_from, question_of}
 use Rattle.question.specs.Words.{asks_to_serve, pairs_of}
 use Rattle.question.proofs.FormLemmas.{step_of-range}
 use Rattle.report_sheets.specs.Pages.{missing_of}
-use Rattle.report_sheets.specs.Sheets.{SheetMeaning}
+use Rattle.report_sheets.specs.Sheets.{SheetSpec}
 use Rattle.station_curve.specs.Curves.{curve_of, first_fault}
 use Rattle.station_span.proofs.SiteLemmas.{curve_none}
-use Rattle.station_span.specs.declared.asked.Asked.{Asked}
-use Rattle.station_span.specs.declared.reach.Reach.{Reach}
+use Rattle.station_span.specs.declared.span_request.SpanRequest.{SpanRequest}
+use Rattle.station_span.specs.declared.purpose.Purpose.{Purpose}
 use Rattle.station_span.specs.Sites.{Site, basis_from, length_in, level_unit, mark_in, site_at, site_in, span_in, curve_from}
 use Rattle.decimal_text.proofs.ExpectedLemmas.{then_ok}
 use Rattle.station_table.specs.declared.offsets.Offsets.{Offsets}
 use Rattle.station_table.specs.Bases.{basis_of}
 use Rattle.tide_answer.specs.Answers.{named_by}
-use Rattle.tide_answer.specs.Asking.{asked_by_question}
+use Rattle.tide_answer.specs.Asking.{request_by_question}
 use Rattle.tide_desk.specs.Answers.{question_of_words, ask_from, found_in, question_in, wanted_by}
 use Rattle.tide_desk.proofs.AskedLemmas.{NamesSpan}
 use Rattle.tide_fault.specs.declared.refusal.Refusal.TheVariants.{NoStation}
@@ -35,30 +35,30 @@ use Rattle.tide_fault.specs.declared.refusal.Refusal.TheVariants.{NoStation}
 -- ---- the request of arguments
 
 -- the request is what the items of the arguments say of a command, and each of its sheets exists
-pub record WasAsked (sheets : List SheetMeaning) (pairs : Pairs) (question : Question) : Type 0 where
+pub record WasAsked (sheets : List SheetSpec) (pairs : Pairs) (question : Question) : Type 0 where
   pub command : Command
   pub named : command_of pairs.origin pairs.command ≡ Ok command
-  pub said : Said
-  pub items : with_items pairs.origin command 1 pairs.items nothing_said ≡ Ok said
+  pub said : KeyTexts
+  pub items : with_items pairs.origin command 1 pairs.items no_key_texts ≡ Ok said
   pub whole : complete (missing_key pairs.origin command said) ≡ Ok tt
-  pub is : asked pairs.origin command said ≡ question
+  pub is : question_from pairs.origin command said ≡ question
   pub known : found_in (wanted_by question) (missing_of sheets (wanted_by question)) ≡ Ok tt
 
-ask_ok : (asked : Result Question AskFault) (question : Question) → ask_from asked ≡ Ok question → asked ≡ Ok question
+ask_ok : (span_request : Result Question AskFault) (question : Question) → ask_from span_request ≡ Ok question → span_request ≡ Ok question
 ask_ok (Ok found) question ok = cc
 ask_ok (Err fault) question ok = absurd cc
 
-unserved : (serves : Bool) (asked : Result Question AskFault) (question : Question)
-    → cond serves (Err UnknownCommand) asked ≡ Ok question → asked ≡ Ok question
-unserved true asked question ok = absurd cc
-unserved false asked question ok = ok
+unserved : (serves : Bool) (span_request : Result Question AskFault) (question : Question)
+    → cond serves (Err UnknownCommand) span_request ≡ Ok question → span_request ≡ Ok question
+unserved true span_request question ok = absurd cc
+unserved false span_request question ok = ok
 
-pairs_ask : (sheets : List SheetMeaning) (pairs : Pairs) (question : Question) → question_of pairs ≡ Ok question
+pairs_ask : (sheets : List SheetSpec) (pairs : Pairs) (question : Question) → question_of pairs ≡ Ok question
     → found_in (wanted_by question) (missing_of sheets (wanted_by question)) ≡ Ok tt → WasAsked sheets pairs question
 unfolding question_of
 pairs_ask sheets pairs question ok known =
     let command = then_ok (command_of pairs.origin pairs.command) _ question ok in
-    let said = then_ok (with_items pairs.origin command.0 1 pairs.items nothing_said) _ question command.2 in
+    let said = then_ok (with_items pairs.origin command.0 1 pairs.items no_key_texts) _ question command.2 in
     let whole = then_ok (complete (missing_key pairs.origin command.0 said.0)) _ question said.2 in
     record {
       command = command.0;
@@ -70,7 +70,7 @@ pairs_ask sheets pairs question ok known =
       known = known;
     }
 
-pub words_ask : (sheets : List SheetMeaning) (words : List (List ℕ)) (question : Question)
+pub words_ask : (sheets : List SheetSpec) (words : List (List ℕ)) (question : Question)
     → question_of_words sheets words ≡ Ok question → WasAsked sheets (pairs_of words) question
 unfolding question_of_words
 words_ask sheets words question ok =
@@ -92,7 +92,7 @@ step_least : (said : Option (List ℕ)) → pos 1 ≤ℤ unwrap_or (option_and_t
 step_least None = omega (arith, ints)
 step_least (Some text) = step_read text (step_of text) refl
 
-pub step_asked : (sheets : List SheetMeaning) (words : List (List ℕ)) (question : Question)
+pub step_asked : (sheets : List SheetSpec) (words : List (List ℕ)) (question : Question)
     → question_of_words sheets words ≡ Ok question → pos 1 ≤ℤ question.step
 step_asked sheets words question ok =
     let was = words_ask sheets words question ok in
@@ -100,29 +100,29 @@ step_asked sheets words question ok =
 
 -- ---- the span of a request
 
-pub span_named : (question : Question) (name : List ℕ) (asked : Asked) → NamesSpan question name asked
-    → asked_by_question question ≡ Some asked
-unfolding asked_by_question
-span_named question name asked names = rw (names.begin, names.end, names.mark) refl
+pub span_named : (question : Question) (name : List ℕ) (span_request : SpanRequest) → NamesSpan question name span_request
+    → request_by_question question ≡ Some span_request
+unfolding request_by_question
+span_named question name span_request names = rw (names.begin, names.end, names.mark) refl
 
 pub name_ok : {A : Type 0} (said : Option A) (value : A) → named_by said ≡ Ok value → said ≡ Some value
 name_ok (Some found) value ok = cc
 name_ok None value ok = absurd cc
 
-span_parts : (question : Question) (begin end : Option ℤ) (asked : Asked) → question.begin ≡ begin → question.end ≡ end
-    → asked_by_question question ≡ Some asked
-    → (begin ≡ Some asked.begin) × (end ≡ Some asked.end) × (question.mark ≡ asked.mark)
-unfolding asked_by_question
-span_parts question (Some begin) (Some end) asked b e is =
-    let same : record { begin = begin; end = end; mark = question.mark } ≡ asked = (let some = rw (b, e) at is in cc) in
-    (ap (λ (a : Asked). Some a.begin) same, ap (λ (a : Asked). Some a.end) same, ap (λ (a : Asked). a.mark) same)
-span_parts question (Some begin) None asked b e is = absurd (let none = rw (b, e) at is in cc)
-span_parts question None end asked b e is = absurd (let none = rw b at is in cc)
+span_parts : (question : Question) (begin end : Option ℤ) (span_request : SpanRequest) → question.begin ≡ begin → question.end ≡ end
+    → request_by_question question ≡ Some span_request
+    → (begin ≡ Some span_request.begin) × (end ≡ Some span_request.end) × (question.mark ≡ span_request.mark)
+unfolding request_by_question
+span_parts question (Some begin) (Some end) span_request b e is =
+    let same : record { begin = begin; end = end; mark = question.mark } ≡ span_request = (let some = rw (b, e) at is in cc) in
+    (ap (λ (a : SpanRequest). Some a.begin) same, ap (λ (a : SpanRequest). Some a.end) same, ap (λ (a : SpanRequest). a.mark) same)
+span_parts question (Some begin) None span_request b e is = absurd (let none = rw (b, e) at is in cc)
+span_parts question None end span_request b e is = absurd (let none = rw b at is in cc)
 
-pub names_span : (question : Question) (name : List ℕ) (asked : Asked) → question.station ≡ Some name
-    → asked_by_question question ≡ Some asked → NamesSpan question name asked
-names_span question name asked station span =
-    let parts = span_parts question question.begin question.end asked refl refl span in
+pub names_span : (question : Question) (name : List ℕ) (span_request : SpanRequest) → question.station ≡ Some name
+    → request_by_question question ≡ Some span_request → NamesSpan question name span_request
+names_span question name span_request station span =
+    let parts = span_parts question question.begin question.end span_request refl refl span in
     record { station = station; begin = parts.0; end = parts.1; mark = parts.2 }
 
 -- ---- the station that was found
@@ -132,39 +132,39 @@ got_ok (Some y) fault x ok = cc
 got_ok None fault x ok = absurd cc
 
 -- the first step of a span
-forward_span : (reach : Reach) (book : Book) (site : Site) (asked : Asked)
-    → span_in reach book site.basis asked.begin asked.end ≡ Ok tt → asked.begin ≤ℤ asked.end
+forward_span : (purpose : Purpose) (book : Book) (site : Site) (span_request : SpanRequest)
+    → span_in purpose book site.basis span_request.begin span_request.end ≡ Ok tt → span_request.begin ≤ℤ span_request.end
 unfolding span_in
-forward_span reach book site asked ok = by_test (int_lt asked.end asked.begin)
+forward_span purpose book site span_request ok = by_test (int_lt span_request.end span_request.begin)
     (λ backward. absurd (let none = rw backward at ok in cc))
     (λ forward. grind (arith, ints))
 
-pub record WasFound (book : Book) (table : List Offsets) (name : List ℕ) (asked : Asked) (site : Site) : Type 0 where
+pub record WasFound (book : Book) (table : List Offsets) (name : List ℕ) (span_request : SpanRequest) (site : Site) : Type 0 where
   pub basis : basis_from (basis_of book table name) ≡ Ok site.basis
   pub station : slice_get book.stations site.basis.station ≡ Some site.station
-  pub forward : asked.begin ≤ℤ asked.end
+  pub forward : span_request.begin ≤ℤ span_request.end
   pub limits : first_fault book site.station book.years ≡ None
 
-site_steps : (reach : Reach) (book : Book) (site result : Site) (asked : Asked) → site_at reach book site asked
-    ≡ Ok result → (asked.begin ≤ℤ asked.end) × (first_fault book site.station book.years ≡ None) × (site ≡ result)
+site_steps : (purpose : Purpose) (book : Book) (site result : Site) (span_request : SpanRequest) → site_at purpose book site span_request
+    ≡ Ok result → (span_request.begin ≤ℤ span_request.end) × (first_fault book site.station book.years ≡ None) × (site ≡ result)
 unfolding site_at
-site_steps reach book site result asked ok =
+site_steps purpose book site result span_request ok =
     let unit = then_ok (level_unit site.station.units) _ result ok in
-    let span = then_ok (span_in reach book site.basis asked.begin asked.end) _ result unit.2 in
+    let span = then_ok (span_in purpose book site.basis span_request.begin span_request.end) _ result unit.2 in
     let curve = then_ok (curve_from (curve_of book site.station)) _ result span.2 in
-    let few = then_ok (length_in asked.begin asked.end) _ result curve.2 in
-    let mark = then_ok (mark_in site.basis asked.mark) _ result few.2 in (
-      forward_span reach book site asked span.1,
+    let few = then_ok (length_in span_request.begin span_request.end) _ result curve.2 in
+    let mark = then_ok (mark_in site.basis span_request.mark) _ result few.2 in (
+      forward_span purpose book site span_request span.1,
       curve_none book site.station _ curve.0 refl curve.1,
       (let last = mark.2 in cc),
     )
 
-pub was_found : (reach : Reach) (book : Book) (table : List Offsets) (name : List ℕ) (asked : Asked) (site : Site)
-    → site_in reach book table name asked ≡ Ok site → WasFound book table name asked site
+pub was_found : (purpose : Purpose) (book : Book) (table : List Offsets) (name : List ℕ) (span_request : SpanRequest) (site : Site)
+    → site_in purpose book table name span_request ≡ Ok site → WasFound book table name span_request site
 unfolding site_in
-was_found reach book table name asked site ok =
+was_found purpose book table name span_request site ok =
     let basis = then_ok (basis_from (basis_of book table name)) _ site ok in
     let station = then_ok (ok_or (slice_get book.stations basis.0.station) NoStation) _ site basis.2 in
-    let steps = site_steps reach book (record { basis = basis.0; station = station.0 }) site asked station.2 in
-    subst (WasFound book table name asked) steps.2
+    let steps = site_steps purpose book (record { basis = basis.0; station = station.0 }) site span_request station.2 in
+    subst (WasFound book table name span_request) steps.2
     (record { basis = basis.1; station = got_ok _ NoStation station.0 station.1; forward = steps.0; limits = steps.1 })

@@ -8,9 +8,9 @@ use Rattle.event_list.specs.Shifts.{widened_of}
 use Rattle.harmonics_book.specs.declared.book.Book.{Book}
 use Rattle.harmonics_book.specs.declared.book.Units.{Units}
 use Rattle.station_curve.specs.Curves.{Prediction, curve_of}
-use Rattle.station_span.specs.declared.asked.Asked.{Asked}
-use Rattle.station_span.specs.declared.reach.Reach.{Reach}
-use Rattle.station_span.specs.declared.reach.Reach.TheVariants.{Events}
+use Rattle.station_span.specs.declared.span_request.SpanRequest.{SpanRequest}
+use Rattle.station_span.specs.declared.purpose.Purpose.{Purpose}
+use Rattle.station_span.specs.declared.purpose.Purpose.TheVariants.{Events}
 use Rattle.station_span.specs.Sites.{Site, basis_from, has_minute, has_span, lacks_minute, level_unit, length_in, mark_in, site_at, site_in, span_in, curve_from}
 use Rattle.station_span.proofs.FoundLemmas.{HasCurve}
 use Rattle.decimal_text.proofs.ExpectedLemmas.{then_ok}
@@ -36,29 +36,29 @@ basis_ok (Err fault) basis ok = absurd cc
 -- ---- the steps
 
 -- the station and the offsets that a name finds, for any purpose, and the steps before the answer
-pub record HasPassed (reach : Reach) (book : Book) (table : List Offsets) (name : List ℕ) (asked : Asked) (site : Site) : Type 0 where
+pub record HasPassed (purpose : Purpose) (book : Book) (table : List Offsets) (name : List ℕ) (span_request : SpanRequest) (site : Site) : Type 0 where
   pub basis : basis_of book table name ≡ Ok site.basis
   pub station : slice_get book.stations site.basis.station ≡ Some site.station
   pub units : Units
   pub whole : Prediction
-  pub curve : HasCurve reach book site asked units whole
-  pub few : length_in asked.begin asked.end ≡ Ok tt
-  pub mark : mark_in site.basis asked.mark ≡ Ok tt
+  pub curve : HasCurve purpose book site span_request units whole
+  pub few : length_in span_request.begin span_request.end ≡ Ok tt
+  pub mark : mark_in site.basis span_request.mark ≡ Ok tt
 
-pub has_passed : (reach : Reach) (book : Book) (table : List Offsets) (name : List ℕ) (asked : Asked) (site : Site)
-    → site_in reach book table name asked ≡ Ok site → HasPassed reach book table name asked site
+pub has_passed : (purpose : Purpose) (book : Book) (table : List Offsets) (name : List ℕ) (span_request : SpanRequest) (site : Site)
+    → site_in purpose book table name span_request ≡ Ok site → HasPassed purpose book table name span_request site
 unfolding site_in site_at
-has_passed reach book table name asked site ok =
+has_passed purpose book table name span_request site ok =
     let basis = then_ok (basis_from (basis_of book table name)) _ site ok in
     let station = then_ok (ok_or (slice_get book.stations basis.0.station) NoStation) _ site basis.2 in
     let unit = then_ok (level_unit station.0.units) _ site station.2 in
-    let span = then_ok (span_in reach book basis.0 asked.begin asked.end) _ site unit.2 in
+    let span = then_ok (span_in purpose book basis.0 span_request.begin span_request.end) _ site unit.2 in
     let curve = then_ok (curve_from (curve_of book station.0)) _ site span.2 in
-    let few = then_ok (length_in asked.begin asked.end) _ site curve.2 in
-    let mark = then_ok (mark_in basis.0 asked.mark) _ site few.2 in
+    let few = then_ok (length_in span_request.begin span_request.end) _ site curve.2 in
+    let mark = then_ok (mark_in basis.0 span_request.mark) _ site few.2 in
     let found : Site = record { basis = basis.0; station = station.0 } in
     let same : found ≡ site = (let last = mark.2 in cc) in
-    subst (HasPassed reach book table name asked) same (record {
+    subst (HasPassed purpose book table name span_request) same (record {
       basis = basis_ok _ basis.0 basis.1;
       station = some_of _ NoStation station.0 station.1;
       units = unit.0;
@@ -74,10 +74,10 @@ same_site site found basis station =
 
 -- a name finds one station
 pub one_site :
-    (reach other : Reach) (book : Book) (table : List Offsets) (name : List ℕ) (asked there : Asked) (site found : Site)
-    → site_in reach book table name asked ≡ Ok site → site_in other book table name there ≡ Ok found → found ≡ site
-one_site reach other book table name asked there site found ok ok_there =
-    let here = has_passed reach book table name asked site ok in
+    (purpose other : Purpose) (book : Book) (table : List Offsets) (name : List ℕ) (span_request there : SpanRequest) (site found : Site)
+    → site_in purpose book table name span_request ≡ Ok site → site_in other book table name there ≡ Ok found → found ≡ site
+one_site purpose other book table name span_request there site found ok ok_there =
+    let here = has_passed purpose book table name span_request site ok in
     let again = has_passed other book table name there found ok_there in
     let basis : found.basis ≡ site.basis = (let left = here.basis in let right = again.basis in cc) in
     let station : found.station ≡ site.station =

@@ -9,7 +9,7 @@ use borrow.Author.Differences.{up, down}
 use Rattle.curve_law.specs.declared.event.Event.{Event}
 use Rattle.curve_law.specs.declared.kind.Kind.{Kind}
 use Rattle.curve_law.specs.declared.kind.Kind.TheVariants.{High, Low, FloodBegins, EbbBegins, MarkRising, MarkFalling}
-use Rattle.curve_law.specs.Meaning.{Meaning}
+use Rattle.curve_law.specs.CurveSpec.{CurveSpec}
 use Rattle.curve_law.specs.Track.{Track, event_at, plain_list, side_at}
 use Rattle.curve_law.proofs.CoverLemmas.{by_test}
 use Rattle.curve_law.proofs.TrackLemmas.{plain_list-one, plain_list-suc, plain_list-zero}
@@ -27,9 +27,9 @@ use Rattle.harmonics_book.specs.declared.book.Station.{Station}
 use Rattle.harmonics_book.specs.declared.book.Units.{Units}
 use Rattle.harmonics_book.specs.declared.book.Units.TheVariants.{Feet, Meters, Knots, KnotsSquared}
 use Rattle.rate_bound.specs.declared.version.Version.TheVariants.{Second}
-use Rattle.rate_bound.specs.Meanings.{over_mark, predicted_mark}
+use Rattle.rate_bound.specs.CurveSpecs.{over_mark, predicted_mark}
 use Rattle.station_curve.specs.Schureman.{predicted_level, predicted_millionths}
-use Rattle.station_span.specs.declared.asked.Asked.{Asked}
+use Rattle.station_span.specs.declared.span_request.SpanRequest.{SpanRequest}
 use Rattle.station_span.specs.Following.{asks_slack, events_of, followed, followed_by, if_asked, slack_plus, slack_times}
 use Rattle.station_span.specs.Sites.{Site}
 use Rattle.station_table.specs.declared.basis.Basis.{Basis}
@@ -134,7 +134,7 @@ had : (units : Units) (basis : Basis) (event : Event) → is_slack event.kind �
 had units basis event other = rw other (or-true (asks_slack units basis))
 
 -- the events of a track without slacks are events of the station too
-had-over : (units : Units) (basis : Basis) (s : Span) (c : Meaning) → is_slack c.track.rising ≡ false
+had-over : (units : Units) (basis : Basis) (s : Span) (c : CurveSpec) → is_slack c.track.rising ≡ false
     → is_slack c.track.falling ≡ false → filter (has_too units basis) (events_over s c) ≡ events_over s c
 had-over units basis s c rising falling =
     filter-all (has_too units basis) (events_over s c)
@@ -142,10 +142,10 @@ had-over units basis s c rising falling =
     (λ m. had units basis (event_at c.track m) (by_test (side_at c.track m) (λ above. rw above falling) (λ below. rw below rising)))
     s.begin (span_minutes s))
 
-abbrev slack_curve : Book → Station → Basis → Meaning
+abbrev slack_curve : Book → Station → Basis → CurveSpec
 slack_curve book station basis = predicted_mark Second book station (slack_times basis) (slack_plus basis) (pos 0) true
 
-abbrev mark_curve : Book → Station → Basis → ℤ → Meaning
+abbrev mark_curve : Book → Station → Basis → ℤ → CurveSpec
 mark_curve book station basis level = predicted_mark Second book station basis.high.times basis.high.plus level false
 
 -- the slacks of the station are the reference's
@@ -251,7 +251,7 @@ had-all book site s mark there some own one =
 
 -- ---- both lists
 
-abbrev pub over_span : Span → Option ℤ → Asked
+abbrev pub over_span : Span → Option ℤ → SpanRequest
 over_span s mark = record { begin = s.begin; end = s.end; mark = mark }
 
 pub forward_span : (b : Basis) (begin end : ℤ) → begin ≤ℤ end → (widened_of b begin end).begin ≤ℤ (widened_of b begin end).end
@@ -259,24 +259,24 @@ forward_span b begin end forward =
     let least = (adds b).0 in
     let greatest = (adds b).1 in omega (arith, ints, least, greatest, forward)
 
-pub all-steps : (book : Book) (site : Site) (asked : Asked) (there : Option ℤ) → asked.begin ≤ℤ asked.end
+pub all-steps : (book : Book) (site : Site) (span_request : SpanRequest) (there : Option ℤ) → span_request.begin ≤ℤ span_request.end
     → pos 1 ≤ℤ site.basis.high.times → has_own_slack site.station.units site.basis ≡ false
-    → MeansOneMark site.basis asked.mark there
-    → events_of book site asked ≡ second_step site.station.units site.basis asked.begin asked.end
-    (events_of book (reference_of site) (over_span (widened_of site.basis asked.begin asked.end) there))
+    → MeansOneMark site.basis span_request.mark there
+    → events_of book site span_request ≡ second_step site.station.units site.basis span_request.begin span_request.end
+    (events_of book (reference_of site) (over_span (widened_of site.basis span_request.begin span_request.end) there))
 unfolding events_of shifted_of
-all-steps book site asked there forward some own one =
+all-steps book site span_request there forward some own one =
     let b = site.basis in
-    let s = widened_of b asked.begin asked.end in
+    let s = widened_of b span_request.begin span_request.end in
     let k : Event → Bool = has_too site.station.units b in
     let all = all_events s (followed_by Second book (reference_of site) there) in
     let first = reference-events (followed_by Second book (reference_of site) there) b.station s
-    (forward_span b asked.begin asked.end forward) in
-    events-parts (followed book site asked) b asked.begin asked.end
-    ∙ ap (λ es. ordered (moved_within b asked.begin asked.end es)) (sym (had-all book site s asked.mark there some own one))
-    ∙ sym (shifted-ordered b asked.begin asked.end (filter k all))
-    ∙ ap (λ es. ordered (moved_within b asked.begin asked.end es)) (sym (filter-ordered k all))
-    ∙ ap (λ es. ordered (moved_within b asked.begin asked.end (filter k es))) (sym first)
+    (forward_span b span_request.begin span_request.end forward) in
+    events-parts (followed book site span_request) b span_request.begin span_request.end
+    ∙ ap (λ es. ordered (moved_within b span_request.begin span_request.end es)) (sym (had-all book site s span_request.mark there some own one))
+    ∙ sym (shifted-ordered b span_request.begin span_request.end (filter k all))
+    ∙ ap (λ es. ordered (moved_within b span_request.begin span_request.end es)) (sym (filter-ordered k all))
+    ∙ ap (λ es. ordered (moved_within b span_request.begin span_request.end (filter k es))) (sym first)
 
 reference-turns : (book : Book) (site : Site) (s : Span) (there : Option ℤ) → s.begin ≤ℤ s.end
     → turns_in (events_of book (reference_of site) (over_span s there)) ≡ ordered (events_over s (turn_of book site))
@@ -291,14 +291,14 @@ reference-turns book site s there forward =
     ∙ reference-events alone site.basis.station s forward
     ∙ ap ordered (append-nil (events_over s turn))
 
-pub turn-steps : (book : Book) (site : Site) (asked : Asked) (there : Option ℤ) → asked.begin ≤ℤ asked.end
-    → turns_in (events_of book site asked) ≡ ordered (moved_within site.basis asked.begin asked.end
-    (turns_in (events_of book (reference_of site) (over_span (widened_of site.basis asked.begin asked.end) there))))
+pub turn-steps : (book : Book) (site : Site) (span_request : SpanRequest) (there : Option ℤ) → span_request.begin ≤ℤ span_request.end
+    → turns_in (events_of book site span_request) ≡ ordered (moved_within site.basis span_request.begin span_request.end
+    (turns_in (events_of book (reference_of site) (over_span (widened_of site.basis span_request.begin span_request.end) there))))
 unfolding shifted_of
-turn-steps book site asked there forward =
+turn-steps book site span_request there forward =
     let b = site.basis in
-    let s = widened_of b asked.begin asked.end in
-    turns_of book site asked
-    ∙ sym (shifted-ordered b asked.begin asked.end (events_over s (turn_of book site)))
-    ∙ ap (λ es. ordered (moved_within b asked.begin asked.end es))
-    (sym (reference-turns book site s there (forward_span b asked.begin asked.end forward)))
+    let s = widened_of b span_request.begin span_request.end in
+    turns_of book site span_request
+    ∙ sym (shifted-ordered b span_request.begin span_request.end (events_over s (turn_of book site)))
+    ∙ ap (λ es. ordered (moved_within b span_request.begin span_request.end es))
+    (sym (reference-turns book site s there (forward_span b span_request.begin span_request.end forward)))

@@ -9,8 +9,8 @@ use Rattle.harmonics_book.specs.declared.book.Book.{Book}
 use Rattle.question.specs.declared.command.Command.TheVariants.{Predict}
 use Rattle.question.specs.declared.layout.Layout.{Layout}
 use Rattle.question.specs.declared.question.Question.{Question}
-use Rattle.station_span.specs.declared.asked.Asked.{Asked}
-use Rattle.station_span.specs.declared.reach.Reach.TheVariants.{Events}
+use Rattle.station_span.specs.declared.span_request.SpanRequest.{SpanRequest}
+use Rattle.station_span.specs.declared.purpose.Purpose.TheVariants.{Events}
 use Rattle.station_span.specs.Following.{events_of}
 use Rattle.station_span.specs.Sites.{Site, has_span, length_in, mark_in, site_in, span_in, span_limit}
 use Rattle.station_span.proofs.FoundLemmas.{found_by, found_whole}
@@ -21,7 +21,7 @@ use Rattle.station_table.specs.declared.finding.FindFault.TheVariants.{NoReferen
 use Rattle.station_table.specs.declared.offsets.Offsets.{Offsets}
 use Rattle.station_table.specs.Bases.{basis_in, basis_of, basis_over, reference_basis, reference_or, row_at, station_at, subordinate_basis}
 use Rattle.station_table.specs.Offsets.{IsTable}
-use Rattle.tide_answer.specs.declared.given.Given.{Given}
+use Rattle.tide_answer.specs.declared.inputs.Given.{Given}
 use Rattle.tide_answer.specs.declared.text.Answer.{Answer}
 use Rattle.listing.specs.ByLayout.{events_text}
 use Rattle.tide_answer.specs.Answers.{answered, predicted, text_of_events, text_over}
@@ -79,12 +79,12 @@ of_reference book table name station is = rw is refl
 -- ---- both answers
 
 -- the first request finds the reference itself
-finds_reference : (book : Book) (table : List Offsets) (name reference : List ℕ) (asked there : Asked)
-    (site found : Site) → site_in Events book table name asked ≡ Ok site
+finds_reference : (book : Book) (table : List Offsets) (name reference : List ℕ) (span_request there : SpanRequest)
+    (site found : Site) → site_in Events book table name span_request ≡ Ok site
     → basis_of book table reference ≡ Ok (reference_basis site.basis.station)
     → site_in Events book table reference there ≡ Ok found → found ≡ reference_of site
-finds_reference book table name reference asked there site found ok is ok_there =
-    let here = has_passed Events book table name asked site ok in
+finds_reference book table name reference span_request there site found ok is ok_there =
+    let here = has_passed Events book table name span_request site ok in
     let first = has_passed Events book table reference there found ok_there in
     let basis : found.basis ≡ reference_basis site.basis.station = (let left = first.basis in cc) in
     let station : found.station ≡ site.station =
@@ -92,25 +92,25 @@ finds_reference book table name reference asked there site found ok is ok_there 
     (ap (λ (b : Basis). slice_get book.stations b.station) (sym basis) ∙ first.station) here.station in
     same_site (reference_of site) found basis station
 
-two_steps : (book : Book) (table : List Offsets) (question reference : Question) (given there : Given) (row : Offsets)
-    (name : List ℕ) (begin end : ℤ) (answer first : Answer) (was : WasPredicted book table question given name
+two_steps : (book : Book) (table : List Offsets) (question reference : Question) (inputs there : Given) (row : Offsets)
+    (name : List ℕ) (begin end : ℤ) (answer first : Answer) (was : WasPredicted book table question inputs name
     (record { begin = begin; end = end; mark = question.mark }) answer) → IsTable table → question.station ≡ Some name
     → basis_of book table row.reference ≡ Ok (reference_basis was.site.basis.station)
     → AsksReference row was.site.basis begin end reference → answered book table reference there ≡ Ok first
-    → AreTwoSteps book table question reference given there row was.site.basis begin end answer first
-two_steps book table question reference given there row name begin end answer first was rows named is asks ok =
+    → AreTwoSteps book table question reference inputs there row was.site.basis begin end answer first
+two_steps book table question reference inputs there row name begin end answer first was rows named is asks ok =
     let site = was.site in
-    let asked : Asked = record { begin = begin; end = end; mark = question.mark } in
+    let span_request : SpanRequest = record { begin = begin; end = end; mark = question.mark } in
     let over = over_span (widened_of site.basis begin end) reference.mark in
     let was_first = predicts book table reference there first row.reference over.begin over.end asks.command asks.named
     asks.begins asks.ends ok in
-    let one = finds_reference book table name row.reference asked over site was_first.site was.found is was_first.found in
-    let forward = (reaches_span book site.basis begin end (has_passed Events book table name asked site was.found).curve.span).forward in
-    let times = (site_basis Events book table name asked site rows was.found).high.times.least in
+    let one = finds_reference book table name row.reference span_request over site was_first.site was.found is was_first.found in
+    let forward = (reaches_span book site.basis begin end (has_passed Events book table name span_request site was.found).curve.span).forward in
+    let times = (site_basis Events book table name span_request site rows was.found).high.times.least in
     record {
       name = name;
       units = site.station.units;
-      events = events_of book site asked;
+      events = events_of book site span_request;
       of_reference = events_of book (reference_of site) over;
       named = named;
       events_are = was.events_are;
@@ -119,21 +119,21 @@ two_steps book table question reference given there row name begin end answer fi
       text = was.text;
       first_text = was_first.text ∙ ap (λ (s : Site).
           events_text reference.layout row.reference s.station.units (events_of book s over) there.zone) one;
-      turns = turn-steps book site asked reference.mark forward;
-      all = λ shared one. all-steps book site asked reference.mark forward times shared one;
+      turns = turn-steps book site span_request reference.mark forward;
+      all = λ shared one. all-steps book site span_request reference.mark forward times shared one;
     }
 
 pub lists_in_two_steps : ListsInTwoSteps
-lists_in_two_steps book table question reference given there row basis begin end answer first rows asks asks_first ok ok_first =
-    let was = predicts book table question given answer asks.name begin end asks.command asks.named asks.begins asks.ends ok in
+lists_in_two_steps book table question reference inputs there row basis begin end answer first rows asks asks_first ok ok_first =
+    let was = predicts book table question inputs answer asks.name begin end asks.command asks.named asks.begins asks.ends ok in
     let passed = has_passed Events book table asks.name (record { begin = begin; end = end; mark = question.mark }) was.site was.found in
     let same : was.site.basis ≡ basis = (let left = passed.basis in let right = asks.found in cc) in
     let at_reference = reference_at book table asks.name basis asks.index row asks.found asks.is_row asks.at in
     let is : basis_of book table row.reference ≡ Ok (reference_basis was.site.basis.station) =
     of_reference book table row.reference was.site.basis.station (at_reference ∙ ap (λ (b : Basis). Some b.station) (sym same)) in
     subst (λ b. AsksReference row b begin end reference
-    → AreTwoSteps book table question reference given there row b begin end answer first) same
-    (λ asks_there. two_steps book table question reference given there row asks.name begin end answer first was rows
+    → AreTwoSteps book table question reference inputs there row b begin end answer first) same
+    (λ asks_there. two_steps book table question reference inputs there row asks.name begin end answer first was rows
     asks.named is asks_there ok_first)
     asks_first
 
@@ -158,40 +158,40 @@ reference_span book basis begin end ok =
     reached_span book (reference_basis basis.station) s.begin s.end (forward_span basis begin end reaches.forward)
     (ap (has_span book) (plain-span (reference_basis basis.station) s.begin s.end refl) ∙ has)
 
-reference_site : (book : Book) (table : List Offsets) (name reference : List ℕ) (asked : Asked) (mark : Option ℤ)
-    (site : Site) → site_in Events book table name asked ≡ Ok site
+reference_site : (book : Book) (table : List Offsets) (name reference : List ℕ) (span_request : SpanRequest) (mark : Option ℤ)
+    (site : Site) → site_in Events book table name span_request ≡ Ok site
     → basis_of book table reference ≡ Ok (reference_basis site.basis.station)
-    → ((widened_of site.basis asked.begin asked.end).end -ℤ (widened_of site.basis asked.begin asked.end).begin)
-    ≤ℤ span_limit → site_in Events book table reference (over_span (widened_of site.basis asked.begin asked.end) mark)
+    → ((widened_of site.basis span_request.begin span_request.end).end -ℤ (widened_of site.basis span_request.begin span_request.end).begin)
+    ≤ℤ span_limit → site_in Events book table reference (over_span (widened_of site.basis span_request.begin span_request.end) mark)
     ≡ Ok (reference_of site)
-reference_site book table name reference asked mark site ok is short =
-    let here = has_passed Events book table name asked site ok in
-    let s = widened_of site.basis asked.begin asked.end in
+reference_site book table name reference span_request mark site ok is short =
+    let here = has_passed Events book table name span_request site ok in
+    let s = widened_of site.basis span_request.begin span_request.end in
     let b = reference_basis site.basis.station in
     let over = over_span s mark in
     found_by Events book table reference over b site.station (rw is refl) here.station
     ∙ found_whole Events book (reference_of site) over here.units here.whole (record {
       unit = here.curve.unit;
-      span = reference_span book site.basis asked.begin asked.end here.curve.span;
+      span = reference_span book site.basis span_request.begin span_request.end here.curve.span;
       curve = here.curve.curve;
     }) (short_span s.begin s.end short) (no_mark_fault site.basis.station mark)
 
-predicted_by : (book : Book) (table : List Offsets) (name : List ℕ) (asked : Asked) (layout : Layout) (zone : Zone)
-    (site : Site) → site_in Events book table name asked ≡ Ok site → predicted book table name asked layout zone
-    ≡ Ok (text_of_events book site asked (events_text layout name site.station.units (events_of book site asked) zone))
+predicted_by : (book : Book) (table : List Offsets) (name : List ℕ) (span_request : SpanRequest) (layout : Layout) (zone : Zone)
+    (site : Site) → site_in Events book table name span_request ≡ Ok site → predicted book table name span_request layout zone
+    ≡ Ok (text_of_events book site span_request (events_text layout name site.station.units (events_of book site span_request) zone))
 unfolding predicted
-predicted_by book table name asked layout zone site ok = rw ok refl
+predicted_by book table name span_request layout zone site ok = rw ok refl
 
 pub reference_answered : ReferenceIsAnswered
-reference_answered book table question reference given there row basis begin end answer asks asks_first ok short =
-    let was = predicts book table question given answer asks.name begin end asks.command asks.named asks.begins asks.ends ok in
-    let asked : Asked = record { begin = begin; end = end; mark = question.mark } in
-    let passed = has_passed Events book table asks.name asked was.site was.found in
+reference_answered book table question reference inputs there row basis begin end answer asks asks_first ok short =
+    let was = predicts book table question inputs answer asks.name begin end asks.command asks.named asks.begins asks.ends ok in
+    let span_request : SpanRequest = record { begin = begin; end = end; mark = question.mark } in
+    let passed = has_passed Events book table asks.name span_request was.site was.found in
     let same : was.site.basis ≡ basis = (let left = passed.basis in let right = asks.found in cc) in
     let at_reference = reference_at book table asks.name basis asks.index row asks.found asks.is_row asks.at in
     let is : basis_of book table row.reference ≡ Ok (reference_basis was.site.basis.station) =
     of_reference book table row.reference was.site.basis.station (at_reference ∙ ap (λ (b : Basis). Some b.station) (sym same)) in
-    let site = reference_site book table asks.name row.reference asked reference.mark was.site was.found is (rw same short) in
+    let site = reference_site book table asks.name row.reference span_request reference.mark was.site was.found is (rw same short) in
     let s = widened_of basis begin end in
     let there_is = rw same at site in (
       _,

@@ -8,7 +8,7 @@ use Rattle.std.proofs.lemmas.Int.{ints, fold-int_max_bounds, fold-int_min_bounds
 use Rattle.std.proofs.lemmas.List.{map-append}
 use Rattle.std.proofs.lemmas.List.Elements.{All-nil, All-head, All-tail, All-append, All-filter, All-map, All-weaker, filter-append}
 use Rattle.curve_law.specs.declared.event.Event.{Event}
-use Rattle.curve_law.specs.Meaning.{Meaning}
+use Rattle.curve_law.specs.CurveSpec.{CurveSpec}
 use Rattle.curve_law.specs.Track.{Track, event_at, has_event, plain_list, side_at}
 use Rattle.curve_law.proofs.CoverLemmas.{by_test}
 use Rattle.curve_law.proofs.TrackLemmas.{plain_list-add, plain_list-one, plain_list-suc, plain_list-zero}
@@ -21,8 +21,8 @@ use Rattle.event_list.proofs.EventLemmas.{events_of as all_events, events-parts}
 use Rattle.event_list.proofs.PlainLemmas.{LiesIn, plain_list-lies}
 use Rattle.harmonics_book.specs.declared.book.Book.{Book}
 use Rattle.rate_bound.specs.declared.version.Version.TheVariants.{Second}
-use Rattle.rate_bound.specs.Meanings.{predicted_turn}
-use Rattle.station_span.specs.declared.asked.Asked.{Asked}
+use Rattle.rate_bound.specs.CurveSpecs.{predicted_turn}
+use Rattle.station_span.specs.declared.span_request.SpanRequest.{SpanRequest}
 use Rattle.station_span.specs.Following.{asks_slack, events_of, followed, followed_by, if_asked}
 use Rattle.station_span.specs.Levels.{is_rising_at}
 use Rattle.station_span.specs.Sites.{Site}
@@ -47,18 +47,18 @@ turn_kind t m rising falling = by_test (side_at t m) (λ above. rw above falling
 other_kind : (t : Track) (m : ℤ) → is_turn t.rising ≡ false → is_turn t.falling ≡ false → IsOther (event_at t m)
 other_kind t m rising falling = by_test (side_at t m) (λ above. rw above falling) (λ below. rw below rising)
 
-over-other : (s : Span) (c : Meaning) → is_turn c.track.rising ≡ false → is_turn c.track.falling ≡ false
+over-other : (s : Span) (c : CurveSpec) → is_turn c.track.rising ≡ false → is_turn c.track.falling ≡ false
     → All IsOther (flat_map (events_over s) (c ∷ []))
 over-other s c rising falling =
     All-append IsOther (events_over s c) [] (plain_list-all IsOther c.track
     (λ m. other_kind c.track m rising falling) s.begin (span_minutes s)) (All-nil IsOther)
 
-asked-other : (s : Span) (asks : Bool) (c : Meaning) → is_turn c.track.rising ≡ false → is_turn c.track.falling ≡ false
+span_request-other : (s : Span) (asks : Bool) (c : CurveSpec) → is_turn c.track.rising ≡ false → is_turn c.track.falling ≡ false
     → All IsOther (flat_map (events_over s) (option_to_list (if_asked asks c)))
-asked-other s true c rising falling = over-other s c rising falling
-asked-other s false c rising falling = All-nil IsOther
+span_request-other s true c rising falling = over-other s c rising falling
+span_request-other s false c rising falling = All-nil IsOther
 
-marked-other : (s : Span) (f : ℤ → Meaning) (mark : Option ℤ) → ((level : ℤ) → is_turn (f level).track.rising ≡ false)
+marked-other : (s : Span) (f : ℤ → CurveSpec) (mark : Option ℤ) → ((level : ℤ) → is_turn (f level).track.rising ≡ false)
     → ((level : ℤ) → is_turn (f level).track.falling ≡ false)
     → All IsOther (flat_map (events_over s) (option_to_list (option_map f mark)))
 marked-other s f (Some level) rising falling = over-other s (f level) (rising level) (falling level)
@@ -66,25 +66,25 @@ marked-other s f None rising falling = All-nil IsOther
 
 -- ---- the turns of a station
 
-abbrev pub turn_of : Book → Site → Meaning
+abbrev pub turn_of : Book → Site → CurveSpec
 turn_of book site = predicted_turn Second book site.station
 
-abbrev others_of : Span → Book → Site → Asked → List Event
-others_of s book site asked =
-    flat_map (events_over s) (option_to_list (followed book site asked).slack)
-    ++ flat_map (events_over s) (option_to_list (followed book site asked).mark)
+abbrev others_of : Span → Book → Site → SpanRequest → List Event
+others_of s book site span_request =
+    flat_map (events_over s) (option_to_list (followed book site span_request).slack)
+    ++ flat_map (events_over s) (option_to_list (followed book site span_request).mark)
 
-parts-turn : (s : Span) (book : Book) (site : Site) (asked : Asked) → (followed book site asked).turn ≡ turn_of book site
+parts-turn : (s : Span) (book : Book) (site : Site) (span_request : SpanRequest) → (followed book site span_request).turn ≡ turn_of book site
 unfolding followed_by
-parts-turn s book site asked = refl
+parts-turn s book site span_request = refl
 
-others-other : (s : Span) (book : Book) (site : Site) (asked : Asked) → All IsOther (others_of s book site asked)
+others-other : (s : Span) (book : Book) (site : Site) (span_request : SpanRequest) → All IsOther (others_of s book site span_request)
 unfolding followed_by
-others-other s book site asked =
-    All-append IsOther (flat_map (events_over s) (option_to_list (followed book site asked).slack))
-    (flat_map (events_over s) (option_to_list (followed book site asked).mark))
-    (asked-other s (asks_slack site.station.units site.basis) _ refl refl)
-    (marked-other s _ asked.mark (λ level. refl) (λ level. refl))
+others-other s book site span_request =
+    All-append IsOther (flat_map (events_over s) (option_to_list (followed book site span_request).slack))
+    (flat_map (events_over s) (option_to_list (followed book site span_request).mark))
+    (span_request-other s (asks_slack site.station.units site.basis) _ refl refl)
+    (marked-other s _ span_request.mark (λ level. refl) (λ level. refl))
 
 turns-turn : (s : Span) (book : Book) (site : Site) → All IsTurn (events_over s (turn_of book site))
 turns-turn s book site =
@@ -100,26 +100,26 @@ moved-append : (b : Basis) (begin end : ℤ) (xs ys : List Event)
     → moved_within b begin end (xs ++ ys) ≡ moved_within b begin end xs ++ moved_within b begin end ys
 moved-append b begin end xs ys = rw (map-append, filter-append)
 
-pub turns_of : (book : Book) (site : Site) (asked : Asked)
-    → turns_in (events_of book site asked) ≡ ordered (moved_within site.basis asked.begin asked.end
-    (events_over (widened_of site.basis asked.begin asked.end) (turn_of book site)))
+pub turns_of : (book : Book) (site : Site) (span_request : SpanRequest)
+    → turns_in (events_of book site span_request) ≡ ordered (moved_within site.basis span_request.begin span_request.end
+    (events_over (widened_of site.basis span_request.begin span_request.end) (turn_of book site)))
 unfolding events_of
-turns_of book site asked =
+turns_of book site span_request =
     let b = site.basis in
-    let s = widened_of b asked.begin asked.end in
+    let s = widened_of b span_request.begin span_request.end in
     let test : Event → Bool = λ event. is_turn event.kind in
-    let turns = moved_within b asked.begin asked.end (events_over s (turn_of book site)) in
-    let others = moved_within b asked.begin asked.end (others_of s book site asked) in
+    let turns = moved_within b span_request.begin span_request.end (events_over s (turn_of book site)) in
+    let others = moved_within b span_request.begin span_request.end (others_of s book site span_request) in
     let kept : filter test turns ≡ turns =
-    filter-all test turns (moved-all IsTurn b asked.begin asked.end _ (λ e is. is) (turns-turn s book site)) in
+    filter-all test turns (moved-all IsTurn b span_request.begin span_request.end _ (λ e is. is) (turns-turn s book site)) in
     let dropped : filter test others ≡ [] = filter-none test others
-    (moved-all IsOther b asked.begin asked.end _ (λ e is. is) (others-other s book site asked)) in
-    let parts : moved_within b asked.begin asked.end (all_events s (followed book site asked)) ≡ turns ++ others =
-    rw (parts-turn s book site asked)
-    (moved-append b asked.begin asked.end (events_over s (turn_of book site)) (others_of s book site asked)) in
+    (moved-all IsOther b span_request.begin span_request.end _ (λ e is. is) (others-other s book site span_request)) in
+    let parts : moved_within b span_request.begin span_request.end (all_events s (followed book site span_request)) ≡ turns ++ others =
+    rw (parts-turn s book site span_request)
+    (moved-append b span_request.begin span_request.end (events_over s (turn_of book site)) (others_of s book site span_request)) in
     let alone : filter test (turns ++ others) ≡ turns = rw (filter-append test turns others, kept, dropped) (append-nil turns) in
-    ap turns_in (events-parts (followed book site asked) b asked.begin asked.end)
-    ∙ filter-ordered test (moved_within b asked.begin asked.end (all_events s (followed book site asked)))
+    ap turns_in (events-parts (followed book site span_request) b span_request.begin span_request.end)
+    ∙ filter-ordered test (moved_within b span_request.begin span_request.end (all_events s (followed book site span_request)))
     ∙ ap (λ es. ordered (filter test es)) parts
     ∙ ap ordered alone
 
@@ -270,26 +270,26 @@ adds b = (
 )
 
 -- the first turn of a span is determined by the side of the slope at its begin
-pub first_turn : (book : Book) (site : Site) (asked : Asked) → IsTrue (is_equal site.basis) → asked.begin ≤ℤ asked.end
-    → ForSome (slice_get (turns_in (events_of book site asked)) 0)
-    (λ turn. turn.kind ≡ next_turn (is_rising_at book site asked.begin))
-first_turn book site asked equal forward =
+pub first_turn : (book : Book) (site : Site) (span_request : SpanRequest) → IsTrue (is_equal site.basis) → span_request.begin ≤ℤ span_request.end
+    → ForSome (slice_get (turns_in (events_of book site span_request)) 0)
+    (λ turn. turn.kind ≡ next_turn (is_rising_at book site span_request.begin))
+first_turn book site span_request equal forward =
     let b = site.basis in
-    let s = widened_of b asked.begin asked.end in
+    let s = widened_of b span_request.begin span_request.end in
     let t = (turn_of book site).track in
-    let source = asked.begin -ℤ b.high.add in
+    let source = span_request.begin -ℤ b.high.add in
     let least = (adds b).0 in
     let greatest = (adds b).1 in
     let early : ℕ = unsigned_abs (source -ℤ s.begin) in
     let rest : ℕ = span_minutes s - early in
     let parts : span_minutes s ≡ early + rest = omega (arith, ints, least, greatest, forward) in
     let at : s.begin +ℤ pos early ≡ source = omega (arith, ints, greatest) in
-    let list : turns_in (events_of book site asked) ≡ kept b.high asked.begin asked.end (plain_list t source rest) =
-    turns_of book site asked
-    ∙ ap ordered (moved-kept book site asked.begin asked.end s.begin (span_minutes s) equal)
-    ∙ ascending-ordered (kept b.high asked.begin asked.end (plain_list t s.begin (span_minutes s)))
-    (kept-ascending t b.high asked.begin asked.end s.begin (span_minutes s))
-    ∙ ap (λ n. kept b.high asked.begin asked.end (plain_list t s.begin n)) parts
-    ∙ kept-from t b.high asked.begin asked.end s.begin early rest (omega (arith, ints, at))
-    ∙ ap (λ m. kept b.high asked.begin asked.end (plain_list t m rest)) at in
-    rw list (first_kept t b.high asked.begin asked.end source rest (is_rising_at book site asked.begin) (omega (arith, ints)) refl)
+    let list : turns_in (events_of book site span_request) ≡ kept b.high span_request.begin span_request.end (plain_list t source rest) =
+    turns_of book site span_request
+    ∙ ap ordered (moved-kept book site span_request.begin span_request.end s.begin (span_minutes s) equal)
+    ∙ ascending-ordered (kept b.high span_request.begin span_request.end (plain_list t s.begin (span_minutes s)))
+    (kept-ascending t b.high span_request.begin span_request.end s.begin (span_minutes s))
+    ∙ ap (λ n. kept b.high span_request.begin span_request.end (plain_list t s.begin n)) parts
+    ∙ kept-from t b.high span_request.begin span_request.end s.begin early rest (omega (arith, ints, at))
+    ∙ ap (λ m. kept b.high span_request.begin span_request.end (plain_list t m rest)) at in
+    rw list (first_kept t b.high span_request.begin span_request.end source rest (is_rising_at book site span_request.begin) (omega (arith, ints)) refl)

@@ -10,7 +10,7 @@ use Rattle.named_files.specs.Readings.{book_named, certificate_named, files_in, 
 use Rattle.question.specs.declared.question.Question.{Question}
 use Rattle.question.specs.declared.question.ZoneWord.TheVariants as words
 use Rattle.question.specs.Worked.{is_space}
-use Rattle.report_sheets.specs.Sheets.{SheetMeaning}
+use Rattle.report_sheets.specs.Sheets.{SheetSpec}
 use Rattle.tide_answer.specs.declared.text.Answer.{Answer}
 use Rattle.tide_desk.specs.Answers.{answer_of, answered_over_optional_file, answered_over_file, answered_over_book, question_of_words, given_with, is_report, minute_for}
 use Rattle.tide_desk.proofs.FileLemmas.{words_answer}
@@ -36,7 +36,7 @@ reads_pier : (folder : Folder) (question : Question) → folder (codes "p") ≡ 
 unfolding files_in book_named table_named zone_named certificate_named
 reads_pier folder question held names = rw (names.offsets, names.zone, names.certificate, held, pier_is) refl
 
-over_pier : (sheets : List SheetMeaning) (folder : Folder) (question : Question) (answer : Answer) → folder (codes "p")
+over_pier : (sheets : List SheetSpec) (folder : Folder) (question : Question) (answer : Answer) → folder (codes "p")
     ≡ Some (file_of pier_lines) → NamesPier question → answered_over_book (is_report question.command) sheets pier_book
     [] question (given_with pier_read (minute_for question.command (pos 0))) ≡ Ok answer
     → answered_over_file sheets (λ slot. folder) (pos 0) question (codes "p") ≡ Ok answer
@@ -44,7 +44,7 @@ unfolding answered_over_file
 over_pier sheets folder question answer held names text = rw (reads_pier folder question held names, text) refl
 
 -- the answer in a folder that has the pier's file under this name
-pub answers_over : (sheets : List SheetMeaning) (folder : Folder) (said : List (List ℕ)) (question : Question)
+pub answers_over : (sheets : List SheetSpec) (folder : Folder) (said : List (List ℕ)) (question : Question)
     (answer : Answer) → folder (codes "p") ≡ Some (file_of pier_lines) → question_of_words sheets said ≡ Ok question
     → NamesPier question → answered_over_book (is_report question.command) sheets pier_book [] question
     (given_with pier_read (minute_for question.command (pos 0))) ≡ Ok answer
@@ -54,7 +54,7 @@ answers_over sheets folder said question answer held asked names text =
     ∙ ap (answered_over_optional_file sheets (λ slot. folder) (pos 0) question) names.file
     ∙ over_pier sheets folder question answer held names text
 
-pub pier_answers : (sheets : List SheetMeaning) (said : List ℕ) (question : Question) (answer : Answer)
+pub pier_answers : (sheets : List SheetSpec) (said : List ℕ) (question : Question) (answer : Answer)
     → question_of_words sheets (slice_split is_space said) ≡ Ok question → NamesPier question
     → answered_over_book (is_report question.command) sheets pier_book [] question
     (given_with pier_read (minute_for question.command (pos 0))) ≡ Ok answer → pier_answer sheets said ≡ Ok answer

@@ -12,17 +12,17 @@ use Rattle.listing.specs.Abouts.{about_text_of}
 use Rattle.named_files.specs.Readings.{book_named, table_named}
 use Rattle.question.specs.declared.command.Command.TheVariants.{About, Predict}
 use Rattle.question.specs.declared.question.Question.{Question}
-use Rattle.report_sheets.specs.Sheets.{SheetMeaning}
+use Rattle.report_sheets.specs.Sheets.{SheetSpec}
 use Rattle.slope_agreement.specs.Agreements.{IsPlainMinute}
 use Rattle.station_curve.specs.Schureman.{predicted_level}
-use Rattle.station_span.specs.declared.asked.Asked.{Asked}
-use Rattle.station_span.specs.declared.reach.Reach.TheVariants.{Events}
+use Rattle.station_span.specs.declared.span_request.SpanRequest.{SpanRequest}
+use Rattle.station_span.specs.declared.purpose.Purpose.TheVariants.{Events}
 use Rattle.station_span.specs.Sites.{Site, site_in}
 use Rattle.station_table.specs.declared.offsets.Offsets.{Offsets}
 use Rattle.tide_answer.specs.declared.text.Answer.{Answer}
 use Rattle.listing.specs.ByLayout.{events_text}
 use Rattle.tide_answer.specs.Answers.{text_alone}
-use Rattle.tide_answer.specs.Asking.{asked_by_question}
+use Rattle.tide_answer.specs.Asking.{request_by_question}
 use Rattle.tide_desk.specs.Answers.{answer_of}
 use Rattle.tide_desk.specs.Laws.{Asks, NameSameFiles}
 use Rattle.tide_edge.specs.FileStates.{Folder}
@@ -88,7 +88,7 @@ pub record BoundsTurns (folder : Folder) (predict : Question) (facts listing : A
   pub table : List Offsets
   pub zone : Zone
   pub name : List ℕ
-  pub asked : Asked
+  pub span_request : SpanRequest
   pub site : Site
   pub constituents : ℕ
   pub bound : ℤ
@@ -96,15 +96,15 @@ pub record BoundsTurns (folder : Folder) (predict : Question) (facts listing : A
   pub file : IsSomeAnd predict.file (λ file. book_named folder file ≡ Ok book)
   pub offsets : table_named folder predict.offsets ≡ Ok table
   pub station : predict.station ≡ Some name
-  pub span : asked_by_question predict ≡ Some asked
-  pub found : site_in Events book table name asked ≡ Ok site
+  pub span : request_by_question predict ≡ Some span_request
+  pub found : site_in Events book table name span_request ≡ Ok site
   pub printed : facts ≡ text_alone (about_text_of name site.station.name site.station.units constituents bound)
   pub listed : listing.text ≡ events_text predict.layout name site.station.units events zone
   pub each : All (IsBounded book site bound) events
 
 -- the law for runs of `about` and `predict` that request one station, with the same files
 abbrev pub AboutBoundsTurns : Type 0
-AboutBoundsTurns = (sheets : List SheetMeaning) (folder : Folder) (minute later : ℤ) (words more : List (List ℕ))
+AboutBoundsTurns = (sheets : List SheetSpec) (folder : Folder) (minute later : ℤ) (words more : List (List ℕ))
     (about predict : Question) (facts listing : Answer) →
     Asks sheets words About about → answer_of sheets folder minute words ≡ Ok facts →
     Asks sheets more Predict predict → answer_of sheets folder later more ≡ Ok listing →

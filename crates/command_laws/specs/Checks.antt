@@ -1,12 +1,12 @@
 -- The output of `check` after `Accepted`, and the output of `predict` (this project).
 use Rattle.std.specs.Prelude.{◌≡◌, ℕ, ℤ, List, ◌∷◌, codes, Result, Ok}
-use Rattle.named_files.specs.declared.no_answer.NoAnswer.{NoAnswer}
+use Rattle.named_files.specs.declared.run_fault.RunFault.{RunFault}
 use Rattle.named_files.specs.Readings.{zone_named}
 use Rattle.question.specs.declared.command.Command.TheVariants.{Predict, Certify, Check}
 use Rattle.question.specs.declared.layout.Layout.TheVariants.{Plain}
 use Rattle.question.specs.declared.question.Question.{Question}
 use Rattle.question.specs.declared.question.ZoneWord.TheVariants.{Utc}
-use Rattle.report_sheets.specs.Sheets.{SheetMeaning}
+use Rattle.report_sheets.specs.Sheets.{SheetSpec}
 use Rattle.tide_answer.specs.declared.text.Answer.{Answer}
 use Rattle.tide_answer.specs.Answers.{text_accepted}
 use Rattle.tide_desk.specs.Answers.{answer_of, question_of_words}
@@ -15,14 +15,14 @@ use Rattle.tide_edge.specs.FileStates.{Folder}
 use Rattle.zone_time.specs.declared.zone.Zone.{Zone}
 
 -- `predict` has an answer, and `check` prints `Accepted` and then its text
-abbrev pub PrintsAccepted : Result Answer NoAnswer → Result Answer NoAnswer → Type 0
+abbrev pub PrintsAccepted : Result Answer RunFault → Result Answer RunFault → Type 0
 PrintsAccepted predicted checked = (listing : Answer) × (predicted ≡ Ok listing) × (checked ≡ Ok (text_accepted listing.text))
 
 -- For the text that `certify` returned, `check` prints `Accepted`, and then what `predict` prints for
 -- the certificate's station, span and mark, with the files of the check and in its zone. The certificate
 -- may be checked in another folder.
 abbrev pub CheckShowsPredict : Type 0
-CheckShowsPredict = (sheets : List SheetMeaning) (before after : Folder) (minute later last : ℤ) (words more others : List (List ℕ))
+CheckShowsPredict = (sheets : List SheetSpec) (before after : Folder) (minute later last : ℤ) (words more others : List (List ℕ))
     (certify check predict : Question) (certificate : Answer) (zone : Zone) →
     Asks sheets words Certify certify → answer_of sheets before minute words ≡ Ok certificate →
     Asks sheets more Check check → HoldsCertificate before after certify check certificate.text →
@@ -33,14 +33,14 @@ CheckShowsPredict = (sheets : List SheetMeaning) (before after : Folder) (minute
 -- with the command `predict`, the arguments of a `certify` are a request for the same station, span,
 -- mark and files, in universal time and as text
 abbrev pub TakesItsArguments : Type 0
-TakesItsArguments = (sheets : List SheetMeaning) (arguments : List (List ℕ)) (certify : Question) →
+TakesItsArguments = (sheets : List SheetSpec) (arguments : List (List ℕ)) (certify : Question) →
     question_of_words sheets (codes "certify" ∷ arguments) ≡ Ok certify →
     question_of_words sheets (codes "predict" ∷ arguments) ≡ Ok (record certify { command = Predict; zone = Utc; layout = Plain })
 
 -- For the text that `certify` returned, `check` prints `Accepted`, and then what `predict` prints with
 -- the arguments of `certify`, if the check names the same files and universal time.
 abbrev pub CheckShowsSameArguments : Type 0
-CheckShowsSameArguments = (sheets : List SheetMeaning) (before after : Folder) (minute later last : ℤ) (arguments more : List (List ℕ))
+CheckShowsSameArguments = (sheets : List SheetSpec) (before after : Folder) (minute later last : ℤ) (arguments more : List (List ℕ))
     (certify check : Question) (certificate : Answer) →
     question_of_words sheets (codes "certify" ∷ arguments) ≡ Ok certify →
     answer_of sheets before minute (codes "certify" ∷ arguments) ≡ Ok certificate →

@@ -32,7 +32,7 @@ use Rattle.question.specs.declared.command.Command.TheVariants.{Clock, Heights, 
 use Rattle.question.specs.declared.layout.Layout.TheVariants.{Plain}
 use Rattle.question.specs.declared.question.Question.{Question}
 use Rattle.station_table.specs.declared.offsets.Offsets.{Offsets}
-use Rattle.tide_answer.specs.declared.given.Given.{Given}
+use Rattle.tide_answer.specs.declared.inputs.Given.{Given}
 use Rattle.tide_answer.specs.declared.text.Answer.{Answer}
 use Rattle.tide_answer.specs.Answers.{answered, listed, text_alone}
 
@@ -75,7 +75,7 @@ next_turn rising = if rising then High else Low
 
 -- the answer of `clock`: `line` is the line that `heights` prints for the level, and `lines` are the
 -- lines that `predict` prints for the events
-pub record IsClock (book : Book) (table : List Offsets) (clock : Question) (given : Given) (answer : Answer) : Type 0 where
+pub record IsClock (book : Book) (table : List Offsets) (clock : Question) (inputs : Given) (answer : Answer) : Type 0 where
   pub name : List ℕ
   pub line : List ℕ
   pub lines : List ℕ
@@ -84,17 +84,17 @@ pub record IsClock (book : Book) (table : List Offsets) (clock : Question) (give
   pub events : List Event
   pub text : answer.text ≡ name ++ codes "\n"
       ++ (codes "Now " ++ line ++ codes "  " ++ direction_of rising ++ codes "\n") ++ lines
-  pub day : (predict : Question) (there : Given) → AsksDay clock given.now predict → there.zone ≡ given.zone →
+  pub day : (predict : Question) (there : Given) → AsksDay clock inputs.now predict → there.zone ≡ inputs.zone →
       answered book table predict there ≡ Ok (record answer { text = name ++ codes "\n" ++ lines })
-  pub level : (heights : Question) (there : Given) → AsksLevel clock given.now heights → there.zone ≡ given.zone →
+  pub level : (heights : Question) (there : Given) → AsksLevel clock inputs.now heights → there.zone ≡ inputs.zone →
       answered book table heights there ≡ Ok (text_alone (name ++ codes "\n" ++ (line ++ codes "\n")))
-  pub events_are : (predict : Question) → AsksDay clock given.now predict →
+  pub events_are : (predict : Question) → AsksDay clock inputs.now predict →
       listed book table predict ≡ Ok (record { name = name; units = units; events = events })
-  pub lines_are : lines ≡ flat_map (event_line_in given.zone units) events
+  pub lines_are : lines ≡ flat_map (event_line_in inputs.zone units) events
   pub first_turn : ForSome (slice_get (turns_in events) 0) (λ turn. turn.kind ≡ next_turn rising)
 
 -- each answer of `clock` has the line that `heights` prints for the present minute, and the lines that
 -- `predict` prints for the 1,440 minutes from there on
 abbrev pub ShowsThePresentAndTheNextDay : Type 0
-ShowsThePresentAndTheNextDay = (book : Book) (table : List Offsets) (clock : Question) (given : Given) (answer : Answer) →
-    clock.command ≡ Clock → answered book table clock given ≡ Ok answer → IsClock book table clock given answer
+ShowsThePresentAndTheNextDay = (book : Book) (table : List Offsets) (clock : Question) (inputs : Given) (answer : Answer) →
+    clock.command ≡ Clock → answered book table clock inputs ≡ Ok answer → IsClock book table clock inputs answer

@@ -5,9 +5,9 @@ use Rattle.listing.specs.declared.row.Row.{Row}
 use Rattle.named_files.specs.Readings.{book_named, table_named, zone_named}
 use Rattle.question.specs.declared.command.Command.TheVariants.{Heights}
 use Rattle.question.specs.declared.question.Question.{Question}
-use Rattle.report_sheets.specs.Sheets.{SheetMeaning}
-use Rattle.station_span.specs.declared.asked.Asked.{Asked}
-use Rattle.station_span.specs.declared.reach.Reach.TheVariants.{Levels}
+use Rattle.report_sheets.specs.Sheets.{SheetSpec}
+use Rattle.station_span.specs.declared.span_request.SpanRequest.{SpanRequest}
+use Rattle.station_span.specs.declared.purpose.Purpose.TheVariants.{Levels}
 use Rattle.station_span.specs.Levels.{level_at}
 use Rattle.station_span.specs.Sites.{Site, site_in}
 use Rattle.station_table.specs.declared.offsets.Offsets.{Offsets}
@@ -15,7 +15,7 @@ use Rattle.text_laws.specs.Heights.{row_until}
 use Rattle.tide_answer.specs.declared.text.Answer.{Answer}
 use Rattle.listing.specs.ByLayout.{heights_text}
 use Rattle.tide_answer.specs.Answers.{text_alone}
-use Rattle.tide_answer.specs.Asking.{asked_by_question}
+use Rattle.tide_answer.specs.Asking.{request_by_question}
 use Rattle.tide_desk.specs.Answers.{answer_of}
 use Rattle.tide_desk.specs.Laws.{Asks}
 use Rattle.tide_edge.specs.FileStates.{Folder}
@@ -33,21 +33,21 @@ pub record PrintsLevels (folder : Folder) (question : Question) (answer : Answer
   pub table : List Offsets
   pub zone : Zone
   pub name : List ℕ
-  pub asked : Asked
+  pub span_request : SpanRequest
   pub site : Site
   pub rows : List Row
   pub file : IsSomeAnd question.file (λ file. book_named folder file ≡ Ok book)
   pub offsets : table_named folder question.offsets ≡ Ok table
   pub shown : zone_named folder question.zone ≡ Ok zone
   pub station : question.station ≡ Some name
-  pub span : asked_by_question question ≡ Some asked
-  pub found : site_in Levels book table name asked ≡ Ok site
+  pub span : request_by_question question ≡ Some span_request
+  pub found : site_in Levels book table name span_request ≡ Ok site
   pub printed : answer ≡ text_alone (heights_text question.layout name site.station.units rows zone)
-  pub levels : AreLevels book site asked.begin asked.end question.step rows
+  pub levels : AreLevels book site span_request.begin span_request.end question.step rows
 
 -- each answer of `heights` is the text of the levels of its station and span
 abbrev pub HeightsAreLevels : Type 0
-HeightsAreLevels = (sheets : List SheetMeaning) (folder : Folder) (minute : ℤ) (words : List (List ℕ))
+HeightsAreLevels = (sheets : List SheetSpec) (folder : Folder) (minute : ℤ) (words : List (List ℕ))
     (question : Question) (answer : Answer) →
     Asks sheets words Heights question → answer_of sheets folder minute words ≡ Ok answer →
     PrintsLevels folder question answer

@@ -19,7 +19,7 @@ use Rattle.station_table.specs.declared.basis.Basis.{Basis}
 use Rattle.station_table.specs.declared.offset.Offset.{Offset}
 use Rattle.station_table.specs.declared.offsets.Offsets.{Offsets}
 use Rattle.station_table.specs.Offsets.{IsTable}
-use Rattle.tide_answer.specs.declared.given.Given.{Given}
+use Rattle.tide_answer.specs.declared.inputs.Given.{Given}
 use Rattle.tide_answer.specs.declared.text.Answer.{Answer}
 use Rattle.listing.specs.ByLayout.{events_text, heights_text}
 use Rattle.tide_answer.specs.Answers.{answered, rows_of}
@@ -57,7 +57,7 @@ pub record ListsRowsBelow (heights : Question) (there : Given) (name : List ℕ)
 
 -- the answer of `highest`, with its minute and the level there, and the answers of `predict` and
 -- `heights` about the same station and span
-pub record IsAboveAll (book : Book) (table : List Offsets) (highest : Question) (given : Given) (answer : Answer) : Type 0 where
+pub record IsAboveAll (book : Book) (table : List Offsets) (highest : Question) (inputs : Given) (answer : Answer) : Type 0 where
   pub name : List ℕ
   pub begin : ℤ
   pub end : ℤ
@@ -67,7 +67,7 @@ pub record IsAboveAll (book : Book) (table : List Offsets) (highest : Question) 
   pub begins : highest.begin ≡ Some begin
   pub ends : highest.end ≡ Some end
   pub found : highest_site book table name (record { begin = begin; end = end; mark = highest.mark }) ≡ Ok site
-  pub text : answer.text ≡ highest_text_of name site.station.units minute (level_at book site minute) given.zone
+  pub text : answer.text ≡ highest_text_of name site.station.units minute (level_at book site minute) inputs.zone
   pub events : (predict : Question) (there : Given) (listing : Answer) →
       predict.command ≡ Predict → AskOneSpan highest predict → answered book table predict there ≡ Ok listing →
       ListsEventsBelow predict there name site (level_at book site minute)
@@ -78,9 +78,9 @@ pub record IsAboveAll (book : Book) (table : List Offsets) (highest : Question) 
 
 -- no event and no level of the span is above the highest water
 abbrev pub NothingIsHigher : Type 0
-NothingIsHigher = (book : Book) (table : List Offsets) (highest : Question) (given : Given) (answer : Answer) →
-    IsTable table → highest.command ≡ Highest → answered book table highest given ≡ Ok answer →
-    IsAboveAll book table highest given answer
+NothingIsHigher = (book : Book) (table : List Offsets) (highest : Question) (inputs : Given) (answer : Answer) →
+    IsTable table → highest.command ≡ Highest → answered book table highest inputs ≡ Ok answer →
+    IsAboveAll book table highest inputs answer
 
 -- ---- a small station
 

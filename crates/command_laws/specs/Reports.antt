@@ -7,7 +7,7 @@ use Rattle.question.specs.declared.command.Command.TheVariants.{Predict, Report}
 use Rattle.question.specs.declared.question.Question.{Question}
 use Rattle.report_sheets.specs.declared.head.Head.{Head}
 use Rattle.report_sheets.specs.Pages.{is_wanted}
-use Rattle.report_sheets.specs.Sheets.{SheetMeaning}
+use Rattle.report_sheets.specs.Sheets.{SheetSpec}
 use Rattle.tide_answer.specs.declared.listed.Listed.{Listed}
 use Rattle.tide_answer.specs.declared.text.Answer.{Answer}
 use Rattle.listing.specs.ByLayout.{events_text}
@@ -18,7 +18,7 @@ use Rattle.zone_time.specs.declared.zone.Zone.{Zone}
 
 -- a sheet, and the events that its page shows
 pub record ReportPage : Type 0 where
-  pub sheet : SheetMeaning
+  pub sheet : SheetSpec
   pub events : List Event
 
 -- the text of a page
@@ -34,7 +34,7 @@ pub record IsPage (events : List Event) (page : ReportPage) : Type 0 where
 
 -- the text of a report: a page of each requested sheet, one after the other in the order of `sheets`,
 -- not of the request
-pub record IsReport (sheets : List SheetMeaning) (wanted : List (List ℕ)) (head : Head) (events : List Event) (text : List ℕ) : Type 0 where
+pub record IsReport (sheets : List SheetSpec) (wanted : List (List ℕ)) (head : Head) (events : List Event) (text : List ℕ) : Type 0 where
   pub pages : List ReportPage
   pub text_is : text ≡ flat_map (text_of head) pages
   pub requested : map (λ page. page.sheet) pages ≡ filter (is_wanted wanted) sheets
@@ -43,7 +43,7 @@ pub record IsReport (sheets : List SheetMeaning) (wanted : List (List ℕ)) (hea
 
 -- a report and a listing show one list of events: the listing prints all of them, and the pages of the
 -- report show them
-pub record ShowOneList (sheets : List SheetMeaning) (report predict : Question) (now : ℤ) (zone : Zone)
+pub record ShowOneList (sheets : List SheetSpec) (report predict : Question) (now : ℤ) (zone : Zone)
     (pages listing : Answer) : Type 0 where
   pub listed : Listed
   pub all : listing.text ≡ events_text predict.layout listed.name listed.units listed.events zone
@@ -52,7 +52,7 @@ pub record ShowOneList (sheets : List SheetMeaning) (report predict : Question) 
 -- If `report` has an answer at a minute, `predict` has an answer for the same station, span, mark and
 -- files at any minute, in any zone that can be read and in any layout; and both show one list of events.
 abbrev pub ReportsAreComplete : Type 0
-ReportsAreComplete = (sheets : List SheetMeaning) (folder : Folder) (now later : ℤ) (words more : List (List ℕ))
+ReportsAreComplete = (sheets : List SheetSpec) (folder : Folder) (now later : ℤ) (words more : List (List ℕ))
     (report predict : Question) (pages : Answer) (zone : Zone) →
     Asks sheets words Report report → answer_of sheets folder now words ≡ Ok pages →
     Asks sheets more Predict predict → NameSameFiles predict report → subject_of predict ≡ subject_of report →

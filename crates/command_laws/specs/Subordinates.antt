@@ -40,7 +40,7 @@ use Rattle.station_table.specs.declared.offset.Offset.{Offset}
 use Rattle.station_table.specs.declared.offsets.Offsets.{Offsets}
 use Rattle.station_table.specs.Bases.{basis_of}
 use Rattle.station_table.specs.Offsets.{IsTable}
-use Rattle.tide_answer.specs.declared.given.Given.{Given}
+use Rattle.tide_answer.specs.declared.inputs.Given.{Given}
 use Rattle.tide_answer.specs.declared.text.Answer.{Answer}
 use Rattle.listing.specs.ByLayout.{events_text}
 use Rattle.tide_answer.specs.Answers.{answered, listed}
@@ -97,7 +97,7 @@ second_step units basis begin end events = ordered (moved_within basis begin end
 
 -- the answers to both requests: the station's turns are the reference's, moved and scaled; and so are
 -- all its events, if both marks mean one and the station has no slacks at minutes of its own
-pub record AreTwoSteps (book : Book) (table : List Offsets) (question reference : Question) (given there : Given)
+pub record AreTwoSteps (book : Book) (table : List Offsets) (question reference : Question) (inputs there : Given)
     (row : Offsets) (basis : Basis) (begin end : ℤ) (answer first : Answer) : Type 0 where
   pub name : List ℕ
   pub units : Units
@@ -106,7 +106,7 @@ pub record AreTwoSteps (book : Book) (table : List Offsets) (question reference 
   pub named : question.station ≡ Some name
   pub events_are : listed book table question ≡ Ok (record { name = name; units = units; events = events })
   pub first_are : listed book table reference ≡ Ok (record { name = row.reference; units = units; events = of_reference })
-  pub text : answer.text ≡ events_text question.layout name units events given.zone
+  pub text : answer.text ≡ events_text question.layout name units events inputs.zone
   pub first_text : first.text ≡ events_text reference.layout row.reference units of_reference there.zone
   pub turns : turns_in events ≡ ordered (moved_within basis begin end (turns_in of_reference))
   pub all : has_own_slack units basis ≡ false → MeansOneMark basis question.mark reference.mark →
@@ -114,19 +114,19 @@ pub record AreTwoSteps (book : Book) (table : List Offsets) (question reference 
 
 -- the list of a subordinate station is the list of its reference, moved and scaled
 abbrev pub ListsInTwoSteps : Type 0
-ListsInTwoSteps = (book : Book) (table : List Offsets) (question reference : Question) (given there : Given) →
+ListsInTwoSteps = (book : Book) (table : List Offsets) (question reference : Question) (inputs there : Given) →
     (row : Offsets) (basis : Basis) (begin end : ℤ) (answer first : Answer) →
     IsTable table → AsksSubordinate book table row basis begin end question → AsksReference row basis begin end reference →
-    answered book table question given ≡ Ok answer → answered book table reference there ≡ Ok first →
-    AreTwoSteps book table question reference given there row basis begin end answer first
+    answered book table question inputs ≡ Ok answer → answered book table reference there ≡ Ok first →
+    AreTwoSteps book table question reference inputs there row basis begin end answer first
 
 -- the request about the reference has an answer if the one about the station has, and the widened span
 -- isn't too long
 abbrev pub ReferenceIsAnswered : Type 0
-ReferenceIsAnswered = (book : Book) (table : List Offsets) (question reference : Question) (given there : Given) →
+ReferenceIsAnswered = (book : Book) (table : List Offsets) (question reference : Question) (inputs there : Given) →
     (row : Offsets) (basis : Basis) (begin end : ℤ) (answer : Answer) →
     AsksSubordinate book table row basis begin end question → AsksReference row basis begin end reference →
-    answered book table question given ≡ Ok answer →
+    answered book table question inputs ≡ Ok answer →
     ((widened_of basis begin end).end -ℤ (widened_of basis begin end).begin) ≤ℤ span_limit →
     (first : Answer) × (answered book table reference there ≡ Ok first)
 

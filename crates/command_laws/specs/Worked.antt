@@ -3,16 +3,16 @@ use Rattle.std.specs.Prelude.{ℕ, pos, if◌then◌else◌, List, codes, Some, 
 use Rattle.std.specs.List.{slice_split}
 use Rattle.std.specs.Str.{bytes_eq}
 use Rattle.harmonics_text.specs.Worked.{file_of, pier_lines}
-use Rattle.named_files.specs.declared.no_answer.NoAnswer.{NoAnswer}
+use Rattle.named_files.specs.declared.run_fault.RunFault.{RunFault}
 use Rattle.question.specs.Worked.{is_space}
-use Rattle.report_sheets.specs.Sheets.{SheetMeaning}
+use Rattle.report_sheets.specs.Sheets.{SheetSpec}
 use Rattle.tide_answer.specs.declared.text.Answer.{Answer}
 use Rattle.tide_desk.specs.Answers.{answer_of}
 use Rattle.tide_edge.specs.FileStates.{Folder}
 
 -- the answer to arguments separated by spaces, with a folder that has the pier's constants under each
 -- name, at minute 0
-abbrev pub pier_answer : List SheetMeaning → List ℕ → Result Answer NoAnswer
+abbrev pub pier_answer : List SheetSpec → List ℕ → Result Answer RunFault
 pier_answer sheets words = answer_of sheets (λ name. Some (file_of pier_lines)) (pos 0) (slice_split is_space words)
 
 -- a certificate of three minutes at the pier

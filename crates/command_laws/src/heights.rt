@@ -23,7 +23,7 @@ pub fn heights_has_a_row_each_step()
 
 /// Proves examples of rows that `heights` prints: for a span that ends between two rows, and for one
 /// that ends at a row.
-pub fn worked_rows()
+pub fn sample_heights()
     ensures passed { pier_answer [] (codes "heights file=p station=Pier begin=2000-01-10T12:00Z end=2000-01-10T15:59Z step=120")
         ≡ Ok (text_alone (codes "Pier\n2000-01-10 12:00 UTC       1.00 feet\n2000-01-10 14:00 UTC       0.50 feet\n")) }
     ensures met { pier_answer [] (codes "heights file=p station=Pier begin=2000-01-10T12:00Z end=2000-01-10T14:00Z step=120")

@@ -17,7 +17,7 @@ mod subordinates;
 pub use abouts::{about_bounds_the_printed_turns, worked_turns};
 pub use checks::{check_shows_predict, worked_checks};
 pub use clock::{clock_shows_the_present_and_the_next_day, worked_clock};
-pub use heights::{heights_has_a_row_each_step, worked_rows};
+pub use heights::{heights_has_a_row_each_step, sample_heights};
 pub use peaks::{no_event_is_above_the_highest_water, worked_highest};
 pub use reports::{reports_are_complete, worked_reports};
 pub use subordinates::{subordinates_list_in_two_steps, worked_own_slack, worked_steps};

@@ -7,7 +7,7 @@ use Rattle.curve_law.specs.declared.cell.Cell.{Cell}
 use Rattle.curve_law.specs.declared.cell.Cell.TheVariants.{Quiet}
 use Rattle.curve_law.specs.declared.verdict.Verdict.TheVariants.{Accepted}
 use Rattle.curve_law.specs.Track.{has_event, event_at}
-use Rattle.curve_law.specs.Meaning.{Meaning}
+use Rattle.curve_law.specs.CurveSpec.{CurveSpec}
 use Rattle.curve_law.specs.Cells.{minutes_of, all_minutes}
 use Rattle.curve_law.specs.Pieces.{Interval, stays_whole, pieces_of}
 use Rattle.curve_law.specs.Cover.{is_quiet, unit_cell, cell_of, cover}
@@ -20,7 +20,7 @@ unfolding all_minutes
 all_minutes-append [] ys = omega arith
 all_minutes-append (x ∷ xs) ys = omega (arith, all_minutes-append xs ys)
 
-unit-right : (c : Meaning) (a : ℤ) (number : ℕ)
+unit-right : (c : CurveSpec) (a : ℤ) (number : ℕ)
     → (minutes_of (unit_cell c.track a) ≡ 1) × (cell_verdict c a number (unit_cell c.track a) ≡ Accepted)
 unfolding unit_cell cell_verdict
 unit-right c a number = by_test (has_event c.track a)
@@ -35,12 +35,12 @@ unit-right c a number = by_test (has_event c.track a)
     ))
     (λ still. (rw still refl, rw (still, still) refl))
 
-quiet-right : (c : Meaning) (a : ℤ) (n number : ℕ) → is_quiet c a n ≡ true → cell_verdict c a number (Quiet n) ≡ Accepted
+quiet-right : (c : CurveSpec) (a : ℤ) (n number : ℕ) → is_quiet c a n ≡ true → cell_verdict c a number (Quiet n) ≡ Accepted
 unfolding cell_verdict
 quiet-right c a n number quiet = rw quiet refl
 
 -- the cell of a piece that isn't halved has its minutes, and is accepted
-pub cell-right : (c : Meaning) (number : ℕ) (piece : Interval) → 1 ≤ piece.minutes
+pub cell-right : (c : CurveSpec) (number : ℕ) (piece : Interval) → 1 ≤ piece.minutes
     → stays_whole (is_quiet c) piece.begin piece.minutes ≡ true
     → (minutes_of (cell_of c piece) ≡ piece.minutes) × (cell_verdict c piece.begin number (cell_of c piece) ≡ Accepted)
 cell-right c number piece some whole = by_test (nat_le piece.minutes 1)
@@ -48,7 +48,7 @@ cell-right c number piece some whole = by_test (nat_le piece.minutes 1)
     (λ more. let quiet : is_quiet c piece.begin piece.minutes ≡ true = rw more at whole in
     rw more (refl, quiet-right c piece.begin piece.minutes number quiet))
 
-cells-right : (c : Meaning) (a end : ℤ) (number : ℕ) (pieces : List Interval) → AreWhole (is_quiet c) a end pieces
+cells-right : (c : CurveSpec) (a end : ℤ) (number : ℕ) (pieces : List Interval) → AreWhole (is_quiet c) a end pieces
     → (a +ℤ pos (all_minutes (map (cell_of c) pieces)) ≡ end) × (cells_verdict c a number (map (cell_of c) pieces) ≡ Accepted)
 unfolding AreWhole all_minutes cells_verdict
 cells-right c a end number [] whole = (omega (arith, ints), refl)
@@ -59,20 +59,20 @@ cells-right c a end number (piece ∷ pieces) whole =
     let first = rest.0 in
     rw (cell.0, right) (omega (arith, ints), rest.1)
 
-cover-right : (c : Meaning) (a : ℤ) (n : ℕ)
+cover-right : (c : CurveSpec) (a : ℤ) (n : ℕ)
     → (a +ℤ pos (all_minutes (cover c a n)) ≡ a +ℤ pos n) × (cells_verdict c a 1 (cover c a n) ≡ Accepted)
 unfolding cover
 cover-right c a n = cells-right c a (a +ℤ pos n) 1 (pieces_of (is_quiet c) a n) (pieces-whole (is_quiet c) a n)
 
-pub cover-minutes : (c : Meaning) (a : ℤ) (n : ℕ) → all_minutes (cover c a n) ≡ n
+pub cover-minutes : (c : CurveSpec) (a : ℤ) (n : ℕ) → all_minutes (cover c a n) ≡ n
 cover-minutes c a n = let all = (cover-right c a n).0 in omega (arith, ints)
 
-pub cover-few : (c : Meaning) (a : ℤ) (n : ℕ) → length (cover c a n) ≤ n
+pub cover-few : (c : CurveSpec) (a : ℤ) (n : ℕ) → length (cover c a n) ≤ n
 unfolding cover
 cover-few c a n = simp length-map (pieces-few (is_quiet c) a n)
 
 -- the cells of a span by the halving rule are accepted
-pub cover-accepted : (c : Meaning) (a : ℤ) (n : ℕ) → verdict c a n (cover c a n) ≡ Accepted
+pub cover-accepted : (c : CurveSpec) (a : ℤ) (n : ℕ) → verdict c a n (cover c a n) ≡ Accepted
 unfolding verdict
 cover-accepted c a n =
     let whole : (all_minutes (cover c a n) == n) ≡ true = (Decides-eqb _ _).1 (cover-minutes c a n) in

@@ -2,7 +2,7 @@
 use Rattle.std.proofs.Common.{◌≡◌, ℕ, ◌*◌, ◌^◌, ◌≤◌, ◌<◌, ℤ, pos, ◌+ℤ◌, ◌-ℤ◌, ◌*ℤ◌, ◌≤ℤ◌, ◌<ℤ◌, unsigned_abs, int_lt, int_le, neg_ℤ, negsuc, ◌&&◌, ◌||◌, Bool, true, false, inl, Option, Some, None, IfSome, sym, ◌∙◌, to_z, of_z, FitsSigned, arith}
 use mir.Syntax.{w128}
 use Rattle.std.proofs.lemmas.Int.{ints}
-use Rattle.curve_law.specs.Meaning.{Meaning, IsMinute, IsApproximateValue, IsSpan, IsRate, IsLawful}
+use Rattle.curve_law.specs.CurveSpec.{CurveSpec, IsMinute, IsApproximateValue, IsSpan, IsRate, IsLawful}
 use Rattle.curve_law.specs.declared.quiet.TheConstants.{MOST_MINUTES}
 use Rattle.curve_law.specs.Cover.{keeps_side, is_quiet}
 use Rattle.curve_law.specs.Workings.Approximate.{IsFar}
@@ -27,20 +27,20 @@ unfolding keeps_side
 far-rate v w rate n far = far-keeps v w (rate *ℤ pos n) far
 
 -- the values at the ends of a cell differ by at most its rate in each minute
-change-up : (c : Meaning) (a rate : ℤ) (n : ℕ) → 1 ≤ n → IsRate c a n rate
+change-up : (c : CurveSpec) (a rate : ℤ) (n : ℕ) → 1 ≤ n → IsRate c a n rate
     → c.track.value (a +ℤ pos n) ≤ℤ (c.track.value a +ℤ (rate *ℤ pos n))
 change-up c a (negsuc r) n some law = absurd (let step = law.steps 0 some in omega (arith, ints))
 change-up c a (pos r) n some law =
     drift_up c.track.value a r n (λ k h. let step = law.steps k h in omega (arith, ints))
 
-change-down : (c : Meaning) (a rate : ℤ) (n : ℕ) → 1 ≤ n → IsRate c a n rate
+change-down : (c : CurveSpec) (a rate : ℤ) (n : ℕ) → 1 ≤ n → IsRate c a n rate
     → c.track.value a ≤ℤ (c.track.value (a +ℤ pos n) +ℤ (rate *ℤ pos n))
 change-down c a (negsuc r) n some law = absurd (let step = law.steps 0 some in omega (arith, ints))
 change-down c a (pos r) n some law =
     drift_down c.track.value a r n (λ k h. let step = law.steps k h in omega (arith, ints))
 
 -- a sum of two values that is far enough from 0, or not
-far-quiet : (c : Meaning) (a : ℤ) (n : ℕ) (rate : ℤ) (far : Bool) → IsLawful c → IsSpan c a n → 2 ≤ n → n ≤ MOST_MINUTES
+far-quiet : (c : CurveSpec) (a : ℤ) (n : ℕ) (rate : ℤ) (far : Bool) → IsLawful c → IsSpan c a n → 2 ≤ n → n ≤ MOST_MINUTES
     → Some rate ≡ c.rate a n → IsFar (rate *ℤ pos n) (c.track.value a +ℤ c.track.value (a +ℤ pos n)) far
     → is_quiet c a n ≡ far
 far-quiet c a n rate far lawful span two most is sum =
@@ -57,12 +57,12 @@ pub decided-side : (approximate e v : ℤ) (error : ℕ) (side : Bool) → e ≡
 decided-side approximate e v error side is decided close = decided v (rw is close)
 
 -- too few minutes
-pub too_short : (c : Meaning) (a : ℤ) (n : ℕ) → n < 2 → is_quiet c a n ≡ false
+pub too_short : (c : CurveSpec) (a : ℤ) (n : ℕ) → n < 2 → is_quiet c a n ≡ false
 too_short c a n few = sym (is_quiet-length c a n (inl few))
 
 -- approximate values whose sum decides
 pub decided-far :
-    (c : Meaning) (a : ℤ) (n : ℕ) (rate approximate approximate_end most e : ℤ) (error : ℕ) (far : Bool)
+    (c : CurveSpec) (a : ℤ) (n : ℕ) (rate approximate approximate_end most e : ℤ) (error : ℕ) (far : Bool)
     → IsLawful c → IsSpan c a n → 2 ≤ n → n ≤ MOST_MINUTES → Some rate ≡ c.rate a n
     → most ≡ rate *ℤ pos n → e ≡ pos (2 * error) → unsigned_abs (approximate -ℤ c.track.value a) ≤ error
     → unsigned_abs (approximate_end -ℤ c.track.value (a +ℤ pos n)) ≤ error
@@ -74,18 +74,18 @@ decided-far c a n rate approximate approximate_end most e error far lawful span 
     far-quiet c a n rate far lawful span two few is (rw is_most at sum)
 
 -- the approximate value at a minute is within the error
-pub minute-close : (c : Meaning) (approximate : ℤ → ℤ) (error : ℕ) (m v : ℤ)
+pub minute-close : (c : CurveSpec) (approximate : ℤ → ℤ) (error : ℕ) (m v : ℤ)
     → ((m : ℤ) → IsMinute c m → IsApproximateValue c error m (approximate m)) → IsMinute c m → v ≡ approximate m
     → IsApproximateValue c error m v
 minute-close c approximate error m v close minute is = rw is (close m minute)
 
 -- the approximate values at both ends of a span are within the error
-pub begin-close : (c : Meaning) (approximate : ℤ → ℤ) (error : ℕ) (a : ℤ) (n : ℕ) (v : ℤ)
+pub begin-close : (c : CurveSpec) (approximate : ℤ → ℤ) (error : ℕ) (a : ℤ) (n : ℕ) (v : ℤ)
     → ((m : ℤ) → IsMinute c m → IsApproximateValue c error m (approximate m)) → IsSpan c a n → v ≡ approximate a
     → IsApproximateValue c error a v
 begin-close c approximate error a n v close span is = rw is (close a (begin-minute c a n span))
 
-pub end-close : (c : Meaning) (approximate : ℤ → ℤ) (error : ℕ) (a : ℤ) (n : ℕ) (v : ℤ)
+pub end-close : (c : CurveSpec) (approximate : ℤ → ℤ) (error : ℕ) (a : ℤ) (n : ℕ) (v : ℤ)
     → ((m : ℤ) → IsMinute c m → IsApproximateValue c error m (approximate m)) → IsSpan c a n
     → v ≡ approximate (a +ℤ pos n) → IsApproximateValue c error (a +ℤ pos n) v
 end-close c approximate error a n v close span is = rw is (close (a +ℤ pos n) (end-minute c a n span))
@@ -95,7 +95,7 @@ pub approximate-size : (approximate v : ℤ) (error : ℕ) → unsigned_abs v < 
     → unsigned_abs (approximate -ℤ v) ≤ error → unsigned_abs approximate < 2 * 10 ^ 37
 approximate-size approximate v error small narrow close = omega (arith, ints, small, narrow, close)
 
-pub approximate-sizes : (c : Meaning) (a : ℤ) (n error : ℕ) (approximate approximate_end : ℤ) → IsLawful c
+pub approximate-sizes : (c : CurveSpec) (a : ℤ) (n error : ℕ) (approximate approximate_end : ℤ) → IsLawful c
     → error ≤ 10 ^ 36 → IsSpan c a n → IsApproximateValue c error a approximate
     → IsApproximateValue c error (a +ℤ pos n) approximate_end
     → (unsigned_abs approximate < 2 * 10 ^ 37) × (unsigned_abs approximate_end < 2 * 10 ^ 37)

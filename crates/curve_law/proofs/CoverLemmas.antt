@@ -5,7 +5,7 @@ use Rattle.std.proofs.lemmas.Bool.Decides.{nat_tests}
 use Rattle.std.proofs.lemmas.Int.{ints}
 use Rattle.std.proofs.lemmas.List.{map-append}
 use Rattle.curve_law.specs.declared.cell.Cell.TheVariants.{Quiet}
-use Rattle.curve_law.specs.Meaning.{Meaning}
+use Rattle.curve_law.specs.CurveSpec.{CurveSpec}
 use Rattle.curve_law.specs.declared.quiet.TheConstants.{MOST_MINUTES}
 use Rattle.curve_law.specs.Pieces.{Interval, interval, stays_whole, halves_within, pieces_of_block, blocks_within, pieces_of}
 use Rattle.curve_law.specs.Cover.{is_quiet, unit_cell, cell_of, split, cover}
@@ -194,18 +194,18 @@ block-some test a n some =
 
 -- ---- the cells of a span
 
-pub split-one : (c : Meaning) (a : ℤ) → split c a 1 ≡ unit_cell c.track a ∷ []
+pub split-one : (c : CurveSpec) (a : ℤ) → split c a 1 ≡ unit_cell c.track a ∷ []
 unfolding split pieces_of_block halves_within
 split-one c a = refl
 
-pub split-quiet : (c : Meaning) (a : ℤ) (n : ℕ) → is_quiet c a n ≡ true → split c a n ≡ Quiet n ∷ []
+pub split-quiet : (c : CurveSpec) (a : ℤ) (n : ℕ) → is_quiet c a n ≡ true → split c a n ≡ Quiet n ∷ []
 unfolding split is_quiet
 split-quiet c a n quiet =
     let more : nat_le n 1 ≡ false = grind (arith, nat_tests) in
     let whole : stays_whole (is_quiet c) a n ≡ true = rw (more, quiet) refl in
     rw (block-whole (is_quiet c) a n (grind (arith, nat_tests)) whole) (rw more refl)
 
-pub split-halves : (c : Meaning) (a : ℤ) (n : ℕ) → 2 ≤ n → is_quiet c a n ≡ false
+pub split-halves : (c : CurveSpec) (a : ℤ) (n : ℕ) → 2 ≤ n → is_quiet c a n ≡ false
     → split c a n ≡ split c a (n / 2) ++ split c (a +ℤ pos (n / 2)) (n - n / 2)
 unfolding split
 split-halves c a n two loud =
@@ -213,15 +213,15 @@ split-halves c a n two loud =
     let halve : stays_whole (is_quiet c) a n ≡ false = rw (more, loud) refl in
     ap (map (cell_of c)) (block-halves (is_quiet c) a n halve) ∙ map-append (cell_of c) _ _
 
-pub cover-none : (c : Meaning) (a : ℤ) → cover c a 0 ≡ []
+pub cover-none : (c : CurveSpec) (a : ℤ) → cover c a 0 ≡ []
 unfolding cover pieces_of blocks_within
 cover-none c a = refl
 
-pub cover-last : (c : Meaning) (a : ℤ) (n : ℕ) → n ≤ MOST_MINUTES → cover c a n ≡ split c a n
+pub cover-last : (c : CurveSpec) (a : ℤ) (n : ℕ) → n ≤ MOST_MINUTES → cover c a n ≡ split c a n
 unfolding cover split
 cover-last c a n few = ap (map (cell_of c)) (pieces-last (is_quiet c) a n few)
 
-pub cover-block : (c : Meaning) (a : ℤ) (n : ℕ) → MOST_MINUTES < n
+pub cover-block : (c : CurveSpec) (a : ℤ) (n : ℕ) → MOST_MINUTES < n
     → cover c a n ≡ split c a MOST_MINUTES ++ cover c (a +ℤ pos MOST_MINUTES) (n - MOST_MINUTES)
 unfolding cover split
 cover-block c a n more = ap (map (cell_of c)) (pieces-block (is_quiet c) a n more) ∙ map-append (cell_of c) _ _

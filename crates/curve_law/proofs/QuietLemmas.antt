@@ -6,7 +6,7 @@ use Rattle.std.proofs.lemmas.Bool.Decides.{nat_tests}
 use Rattle.std.proofs.lemmas.Int.{ints}
 use Rattle.curve_law.specs.Track.{Track, side_at, has_event}
 use Rattle.curve_law.specs.declared.cell.Cell.TheVariants.{Still, Turn}
-use Rattle.curve_law.specs.Meaning.{Meaning, IsMinute, IsSpan, IsCell, IsRate, IsLawful}
+use Rattle.curve_law.specs.CurveSpec.{CurveSpec, IsMinute, IsSpan, IsCell, IsRate, IsLawful}
 use Rattle.curve_law.specs.declared.quiet.TheConstants.{MOST_MINUTES}
 use Rattle.curve_law.specs.Cover.{keeps_side, is_quiet, unit_cell}
 
@@ -65,7 +65,7 @@ by_sides : (v w x most : ℤ) → (most <ℤ (v +ℤ w) → pos 0 <ℤ x) → (m
     → int_lt (pos 0) x ≡ int_lt (pos 0) v
 by_sides v w x most above below keeps = grind (arith, ints)
 
-same_side : (c : Meaning) (a : ℤ) (j i : ℕ) (rate : ℤ) → 1 ≤ j + i → IsRate c a (j + i) rate
+same_side : (c : CurveSpec) (a : ℤ) (j i : ℕ) (rate : ℤ) → 1 ≤ j + i → IsRate c a (j + i) rate
     → keeps_side (Some rate) (j + i) (c.track.value a) (c.track.value (a +ℤ pos (j + i))) ≡ true
     → side_at c.track (a +ℤ pos j) ≡ side_at c.track a
 unfolding keeps_side
@@ -80,7 +80,7 @@ same_side c a j i (pos r) some is keeps =
     by_sides (c.track.value a) (c.track.value (a +ℤ pos (j + i))) (c.track.value (a +ℤ pos j)) (pos (r * (j + i))) above below keeps
 
 -- the conditions of a quiet cell
-quiet_parts : (c : Meaning) (a : ℤ) (n : ℕ) → is_quiet c a n ≡ true
+quiet_parts : (c : CurveSpec) (a : ℤ) (n : ℕ) → is_quiet c a n ≡ true
     → (2 ≤ n) × (n ≤ MOST_MINUTES) × (keeps_side (c.rate a n) n (c.track.value a) (c.track.value (a +ℤ pos n)) ≡ true)
 unfolding is_quiet
 quiet_parts c a n quiet = (grind (arith, nat_tests), grind (arith, nat_tests), grind arith)
@@ -90,10 +90,10 @@ unfolding keeps_side
 no_rate n v w h = cc
 
 -- the minutes of a quiet cell are a cell with a rate
-pub quiet_cell : (c : Meaning) (a : ℤ) (n : ℕ) → IsSpan c a n → 2 ≤ n → n ≤ MOST_MINUTES → IsCell c a n
+pub quiet_cell : (c : CurveSpec) (a : ℤ) (n : ℕ) → IsSpan c a n → 2 ≤ n → n ≤ MOST_MINUTES → IsCell c a n
 quiet_cell c a n span two most = record { first = span.first; last = span.last; some = omega arith; few = most }
 
-rated : (c : Meaning) (a : ℤ) (n : ℕ) → (o : Option ℤ) → c.rate a n ≡ o → IsLawful c → IsSpan c a n → 2 ≤ n
+rated : (c : CurveSpec) (a : ℤ) (n : ℕ) → (o : Option ℤ) → c.rate a n ≡ o → IsLawful c → IsSpan c a n → 2 ≤ n
     → n ≤ MOST_MINUTES → keeps_side o n (c.track.value a) (c.track.value (a +ℤ pos n)) ≡ true → (j : ℕ) → j ≤ n
     → side_at c.track (a +ℤ pos j) ≡ side_at c.track a
 rated c a n None is lawful span two most keeps j few = absurd (no_rate n _ _ keeps)
@@ -103,7 +103,7 @@ rated c a n (Some rate) is lawful span two most keeps j few =
     same_side c a j (n - j) rate (omega arith) (rw all at law) (rw all at keeps)
 
 -- each value in a quiet cell is on the side of its ends
-pub quiet-sides : (c : Meaning) (a : ℤ) (n : ℕ) → IsLawful c → IsSpan c a n → is_quiet c a n ≡ true → (j : ℕ) → j ≤ n
+pub quiet-sides : (c : CurveSpec) (a : ℤ) (n : ℕ) → IsLawful c → IsSpan c a n → is_quiet c a n ≡ true → (j : ℕ) → j ≤ n
     → side_at c.track (a +ℤ pos j) ≡ side_at c.track a
 quiet-sides c a n lawful span quiet =
     let parts = quiet_parts c a n quiet in
@@ -122,7 +122,7 @@ change false true e = refl
 change false false e = absurd (e refl)
 
 -- no event comes after any minute of a quiet cell
-pub quiet-no_event : (c : Meaning) (a : ℤ) (n : ℕ) → IsLawful c → IsSpan c a n → is_quiet c a n ≡ true → (k : ℕ) → k < n
+pub quiet-no_event : (c : CurveSpec) (a : ℤ) (n : ℕ) → IsLawful c → IsSpan c a n → is_quiet c a n ≡ true → (k : ℕ) → k < n
     → has_event c.track (a +ℤ pos k) ≡ false
 quiet-no_event c a n lawful span quiet k few =
     let here = quiet-sides c a n lawful span quiet k (omega arith) in
@@ -149,22 +149,22 @@ pub keeps-not_below : (v w rate : ℤ) (n : ℕ) → v ≤ℤ pos 0 → pos 0 <�
 unfolding keeps_side
 keeps-not_below v w rate n first second = grind (arith, ints)
 
-pub is_quiet-length : (c : Meaning) (a : ℤ) (n : ℕ) → (n < 2) ⊎ (2 ≤ n × MOST_MINUTES < n) → false ≡ is_quiet c a n
+pub is_quiet-length : (c : CurveSpec) (a : ℤ) (n : ℕ) → (n < 2) ⊎ (2 ≤ n × MOST_MINUTES < n) → false ≡ is_quiet c a n
 unfolding is_quiet
 is_quiet-length c a n other =
     let e : (nat_le 2 n && nat_le n MOST_MINUTES) ≡ false = grind (arith, nat_tests) in rw e refl
 
-pub is_quiet-rate : (c : Meaning) (a : ℤ) (n : ℕ) (o : Option ℤ) → 2 ≤ n → n ≤ MOST_MINUTES → o ≡ c.rate a n
+pub is_quiet-rate : (c : CurveSpec) (a : ℤ) (n : ℕ) (o : Option ℤ) → 2 ≤ n → n ≤ MOST_MINUTES → o ≡ c.rate a n
     → keeps_side o n (c.track.value a) (c.track.value (a +ℤ pos n)) ≡ is_quiet c a n
 unfolding is_quiet
 is_quiet-rate c a n o two most is =
     let e : (nat_le 2 n && nat_le n MOST_MINUTES) ≡ true = grind (arith, nat_tests) in rw (e, is) refl
 
-pub no_rate-quiet : (c : Meaning) (a : ℤ) (n : ℕ) → 2 ≤ n → n ≤ MOST_MINUTES → None ≡ c.rate a n → false ≡ is_quiet c a n
+pub no_rate-quiet : (c : CurveSpec) (a : ℤ) (n : ℕ) → 2 ≤ n → n ≤ MOST_MINUTES → None ≡ c.rate a n → false ≡ is_quiet c a n
 unfolding keeps_side
 no_rate-quiet c a n two most is = is_quiet-rate c a n None two most is
 
-pub rate-positive : (c : Meaning) (a : ℤ) (n : ℕ) (rate : ℤ) → IsLawful c → IsSpan c a n → 2 ≤ n → n ≤ MOST_MINUTES
+pub rate-positive : (c : CurveSpec) (a : ℤ) (n : ℕ) (rate : ℤ) → IsLawful c → IsSpan c a n → 2 ≤ n → n ≤ MOST_MINUTES
     → Some rate ≡ c.rate a n → pos 0 ≤ℤ rate
 rate-positive c a n rate lawful span two most is =
     let law = lawful.rates a n rate (quiet_cell c a n span two most) (sym is) in
@@ -172,31 +172,31 @@ rate-positive c a n rate lawful span two most is =
     omega (arith, ints)
 
 -- a rate is small enough for the most minutes of a quiet cell
-pub rate-small : (c : Meaning) (a : ℤ) (n : ℕ) (rate : ℤ) → IsLawful c → IsSpan c a n → 2 ≤ n → n ≤ MOST_MINUTES
+pub rate-small : (c : CurveSpec) (a : ℤ) (n : ℕ) (rate : ℤ) → IsLawful c → IsSpan c a n → 2 ≤ n → n ≤ MOST_MINUTES
     → Some rate ≡ c.rate a n → (rate *ℤ pos MOST_MINUTES) <ℤ pos (5 * 10 ^ 37)
 rate-small c a n rate lawful span two most is =
     let law = lawful.rates a n rate (quiet_cell c a n span two most) (sym is) in law.small
 
 -- both ends of a span are minutes of the curve, with values within the limit
-pub begin-minute : (c : Meaning) (a : ℤ) (n : ℕ) → IsSpan c a n → IsMinute c a
+pub begin-minute : (c : CurveSpec) (a : ℤ) (n : ℕ) → IsSpan c a n → IsMinute c a
 begin-minute c a n span = record { first = span.first; last = (let last = span.last in omega (arith, ints, last)) }
 
-pub end-minute : (c : Meaning) (a : ℤ) (n : ℕ) → IsSpan c a n → IsMinute c (a +ℤ pos n)
+pub end-minute : (c : CurveSpec) (a : ℤ) (n : ℕ) → IsSpan c a n → IsMinute c (a +ℤ pos n)
 end-minute c a n span = record { first = (let first = span.first in omega (arith, ints, first)); last = span.last }
 
-pub begin-small : (c : Meaning) (a : ℤ) (n : ℕ) → IsLawful c → IsSpan c a n → unsigned_abs (c.track.value a) < 10 ^ 37
+pub begin-small : (c : CurveSpec) (a : ℤ) (n : ℕ) → IsLawful c → IsSpan c a n → unsigned_abs (c.track.value a) < 10 ^ 37
 begin-small c a n lawful span = lawful.values a (begin-minute c a n span)
 
-pub end-small : (c : Meaning) (a : ℤ) (n : ℕ) → IsLawful c → IsSpan c a n
+pub end-small : (c : CurveSpec) (a : ℤ) (n : ℕ) → IsLawful c → IsSpan c a n
     → unsigned_abs (c.track.value (a +ℤ pos n)) < 10 ^ 37
 end-small c a n lawful span = lawful.values (a +ℤ pos n) (end-minute c a n span)
 
 -- the minute at the end of a span of a lawful curve, computed without overflow
-pub end-fits : (c : Meaning) (a m : ℤ) (n : ℕ) → IsLawful c → IsSpan c a n → m ≡ pos n
+pub end-fits : (c : CurveSpec) (a m : ℤ) (n : ℕ) → IsLawful c → IsSpan c a n → m ≡ pos n
     → FitsSigned w64 (to_z w64 (of_z w64 a) +ℤ m)
 end-fits c a m n lawful span is = omega (arith, ints, lawful.early, lawful.late, span.first, span.last, is)
 
-pub end-value : (c : Meaning) (a m : ℤ) (n : ℕ) → IsLawful c → IsSpan c a n → m ≡ pos n
+pub end-value : (c : CurveSpec) (a m : ℤ) (n : ℕ) → IsLawful c → IsSpan c a n → m ≡ pos n
     → to_z w64 (of_z w64 (to_z w64 (of_z w64 a) +ℤ m)) ≡ a +ℤ pos n
 end-value c a m n lawful span is = omega (arith, ints, lawful.early, lawful.late, span.first, span.last, is)
 
@@ -224,7 +224,7 @@ differ false true h e = cc
 differ false false h e = cc
 
 -- values on two sides of 0 are the ends of no quiet cell
-pub crossed-loud : (c : Meaning) (a : ℤ) (n : ℕ)
+pub crossed-loud : (c : CurveSpec) (a : ℤ) (n : ℕ)
     → not (beq (int_lt (pos 0) (c.track.value a)) (int_lt (pos 0) (c.track.value (a +ℤ pos n)))) ≡ true
     → false ≡ is_quiet c a n
 unfolding is_quiet

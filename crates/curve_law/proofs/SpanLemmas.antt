@@ -1,16 +1,16 @@
 -- The minutes of a span as 64-bit numbers, and a count of them that saturates at the greatest `i64`.
 use Rattle.std.proofs.Common.{◌≡◌, ℕ, ◌-◌, ◌^◌, min, w64, to_z, of_z, FitsSigned, ℤ, pos, ◌-ℤ◌, ◌≤ℤ◌, unsigned_abs, refl, sym, ap, arith, ◌∙◌}
 use Rattle.std.proofs.lemmas.Int.{ints, to_z-of_z}
-use Rattle.curve_law.specs.Meaning.{Meaning, IsSpan, IsLawful}
+use Rattle.curve_law.specs.CurveSpec.{CurveSpec, IsSpan, IsLawful}
 
 -- a span of a curve, from one minute to another
-pub record IsBetween (c : Meaning) (begin end : ℤ) : Type 0 where
+pub record IsBetween (c : CurveSpec) (begin end : ℤ) : Type 0 where
   pub lawful : IsLawful c
   pub forward : begin ≤ℤ end
   pub first : c.first ≤ℤ begin
   pub last : end ≤ℤ c.last
 
-pub as-between : (c : Meaning) (begin end : ℤ) → IsLawful c → begin ≤ℤ end → c.first ≤ℤ begin → end ≤ℤ c.last → IsBetween c begin end
+pub as-between : (c : CurveSpec) (begin end : ℤ) → IsLawful c → begin ≤ℤ end → c.first ≤ℤ begin → end ≤ℤ c.last → IsBetween c begin end
 as-between c begin end lawful forward first last = record { lawful = lawful; forward = forward; first = first; last = last }
 
 pub all-of : (n : ℕ) (begin end : ℤ) → n ≡ unsigned_abs (end -ℤ begin) → begin ≤ℤ end → (end -ℤ begin) ≤ℤ pos (2 ^ 61)
@@ -22,28 +22,28 @@ whole-of : (n : ℕ) (begin end : ℤ) → pos (min n (2 ^ 63 - 1)) ≡ end -ℤ
     → (end -ℤ begin) ≤ℤ pos (2 ^ 61) → n ≡ unsigned_abs (end -ℤ begin)
 whole-of n begin end is forward few = omega (arith, ints)
 
-pub minutes-few : (c : Meaning) (begin end : ℤ) → IsBetween c begin end → (end -ℤ begin) ≤ℤ pos (2 ^ 61)
+pub minutes-few : (c : CurveSpec) (begin end : ℤ) → IsBetween c begin end → (end -ℤ begin) ≤ℤ pos (2 ^ 61)
 minutes-few c begin end between =
     let early = between.lawful.early in let late = between.lawful.late in
     let first = between.first in let last = between.last in
     omega (arith, ints)
 
 -- a minute of the span as a 64-bit number
-minute-fits : (c : Meaning) (begin end m : ℤ) → IsBetween c begin end → begin ≤ℤ m → m ≤ℤ end → FitsSigned w64 m
+minute-fits : (c : CurveSpec) (begin end m : ℤ) → IsBetween c begin end → begin ≤ℤ m → m ≤ℤ end → FitsSigned w64 m
 minute-fits c begin end m between from to =
     let early = between.lawful.early in let late = between.lawful.late in
     let first = between.first in let last = between.last in
     omega (arith, ints)
 
 -- the ends of the span, and the number of its minutes, as 64-bit numbers
-pub ends-are : (c : Meaning) (begin end : ℤ) → IsBetween c begin end → to_z w64 (of_z w64 end) -ℤ to_z w64 (of_z w64 begin) ≡ end -ℤ begin
+pub ends-are : (c : CurveSpec) (begin end : ℤ) → IsBetween c begin end → to_z w64 (of_z w64 end) -ℤ to_z w64 (of_z w64 begin) ≡ end -ℤ begin
 ends-are c begin end between =
     let forward = between.forward in
     let b = minute-fits c begin end begin between (omega (arith, ints)) forward in
     let e = minute-fits c begin end end between forward (omega (arith, ints)) in
     rw (to_z-of_z w64 begin b, to_z-of_z w64 end e) refl
 
-pub wanted-is : (c : Meaning) (begin end : ℤ) → IsBetween c begin end → to_z w64 (of_z w64 (end -ℤ begin)) ≡ end -ℤ begin
+pub wanted-is : (c : CurveSpec) (begin end : ℤ) → IsBetween c begin end → to_z w64 (of_z w64 (end -ℤ begin)) ≡ end -ℤ begin
 wanted-is c begin end between =
     let forward = between.forward in
     let few = minutes-few c begin end between in
@@ -54,7 +54,7 @@ pub covered-is : (covered : ℤ) (n : ℕ) → covered ≡ pos (min n (2 ^ 63 - 
 covered-is covered n is = omega (arith, ints)
 
 -- a saturated count that equals the span's minutes is exact
-pub counted-whole : (c : Meaning) (begin end covered : ℤ) (n : ℕ) → IsBetween c begin end → covered
+pub counted-whole : (c : CurveSpec) (begin end covered : ℤ) (n : ℕ) → IsBetween c begin end → covered
     ≡ pos (min n (2 ^ 63 - 1)) → of_z w64 covered ≡ of_z w64 (to_z w64 (of_z w64 end) -ℤ to_z w64 (of_z w64 begin))
     → n ≡ unsigned_abs (end -ℤ begin)
 counted-whole c begin end covered n between is same =
@@ -62,7 +62,7 @@ counted-whole c begin end covered n between is same =
     ∙ ap (to_z w64) (rw (ends-are c begin end between) at same) ∙ wanted-is c begin end between in
     whole-of n begin end (sym is ∙ minutes) between.forward (minutes-few c begin end between)
 
-pub within-span : (c : Meaning) (begin end : ℤ) (n : ℕ) → IsBetween c begin end → n ≡ unsigned_abs (end -ℤ begin) → IsSpan c begin n
+pub within-span : (c : CurveSpec) (begin end : ℤ) (n : ℕ) → IsBetween c begin end → n ≡ unsigned_abs (end -ℤ begin) → IsSpan c begin n
 within-span c begin end n between whole =
     let forward = between.forward in let last = between.last in
     record { first = between.first; last = omega (arith, ints) }

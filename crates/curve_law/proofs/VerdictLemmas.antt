@@ -10,10 +10,10 @@ use Rattle.curve_law.specs.declared.kind.Kind.TheVariants.{High, Low, FloodBegin
 use Rattle.curve_law.specs.declared.verdict.Verdict.{Verdict}
 use Rattle.curve_law.specs.declared.verdict.Verdict.TheVariants.{Accepted, WrongLength, NotQuiet, WrongStep, WrongLevel}
 use Rattle.curve_law.specs.Track.{has_event, event_at, plain_list}
-use Rattle.curve_law.specs.Meaning.{Meaning, IsSpan, IsLawful}
+use Rattle.curve_law.specs.CurveSpec.{CurveSpec, IsSpan, IsLawful}
 use Rattle.curve_law.specs.Cells.{minutes_of, all_minutes, event_in, cell_events}
 use Rattle.curve_law.specs.Cover.{is_quiet}
-use Rattle.curve_law.specs.Verdicts.{place_of, same_kind, step_verdict, cell_verdict, or_next, cells_verdict, verdict}
+use Rattle.curve_law.specs.Verdicts.{rank_of_kind, same_kind, step_verdict, cell_verdict, or_next, cells_verdict, verdict}
 use Rattle.curve_law.proofs.TrackLemmas.{plain_list-zero, plain_list-one, plain_list-add, plain_list-none}
 use Rattle.curve_law.proofs.QuietLemmas.{quiet-no_event}
 
@@ -25,7 +25,7 @@ kind_at (suc (suc (suc zero))) = EbbBegins
 kind_at (suc (suc (suc (suc zero)))) = MarkRising
 kind_at (suc (suc (suc (suc (suc place))))) = MarkFalling
 
-kind_at-place : (k : Kind) → kind_at (place_of k) ≡ k
+kind_at-place : (k : Kind) → kind_at (rank_of_kind k) ≡ k
 kind_at-place High = refl
 kind_at-place Low = refl
 kind_at-place FloodBegins = refl
@@ -35,7 +35,7 @@ kind_at-place MarkFalling = refl
 
 pub one_kind : (k l : Kind) → same_kind k l ≡ true → k ≡ l
 one_kind k l same =
-    sym (kind_at-place k) ∙ ap kind_at ((Decides-eqb (place_of k) (place_of l)).0 same) ∙ kind_at-place l
+    sym (kind_at-place k) ∙ ap kind_at ((Decides-eqb (rank_of_kind k) (rank_of_kind l)).0 same) ∙ kind_at-place l
 
 pub same_kind-refl : (k : Kind) → same_kind k k ≡ true
 same_kind-refl k = grind (arith, nat_tests)
@@ -62,7 +62,7 @@ tested true ok v w unlike h = (refl, h)
 tested false ok v w unlike h = absurd (unlike h)
 
 -- an accepted cell has the event of its minutes
-accepted-event : (c : Meaning) (a : ℤ) (number : ℕ) (cell : Cell) → IsLawful c → IsSpan c a (minutes_of cell)
+accepted-event : (c : CurveSpec) (a : ℤ) (number : ℕ) (cell : Cell) → IsLawful c → IsSpan c a (minutes_of cell)
     → cell_verdict c a number cell ≡ Accepted → event_in a cell ≡ plain_list c.track a (minutes_of cell)
 unfolding cell_verdict
 accepted-event c a number (Quiet n) lawful span ok =
@@ -79,7 +79,7 @@ accepted-event c a number (Turn kind level) lawful span ok =
     let l = (Decides-int_eq level (c.track.note a)).0 written in
     rw (plain_list-one c.track a, happens.0, k, l) refl
 
-accepted-cell_events : (c : Meaning) (a : ℤ) (number : ℕ) (cells : List Cell) → IsLawful c
+accepted-cell_events : (c : CurveSpec) (a : ℤ) (number : ℕ) (cells : List Cell) → IsLawful c
     → IsSpan c a (all_minutes cells) → cells_verdict c a number cells ≡ Accepted
     → cell_events a cells ≡ plain_list c.track a (all_minutes cells)
 unfolding cells_verdict cell_events all_minutes
@@ -94,7 +94,7 @@ accepted-cell_events c a number (cell ∷ cells) lawful span ok =
     rw (here, rest) (sym (plain_list-add c.track a (minutes_of cell) (all_minutes cells)))
 
 -- accepted cells have exactly the events of the span
-pub verdict-exact : (c : Meaning) (a : ℤ) (n : ℕ) (cells : List Cell) → IsLawful c → IsSpan c a n
+pub verdict-exact : (c : CurveSpec) (a : ℤ) (n : ℕ) (cells : List Cell) → IsLawful c → IsSpan c a n
     → verdict c a n cells ≡ Accepted → cell_events a cells ≡ plain_list c.track a n
 unfolding verdict
 verdict-exact c a n cells lawful span ok =

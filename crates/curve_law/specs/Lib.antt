@@ -1,7 +1,7 @@
 pub mod Cells
 pub mod Cover
 pub mod CurveStates
-pub mod Meaning
+pub mod CurveSpec
 pub mod Pieces
 pub mod Track
 pub mod Verdicts

@@ -3,12 +3,12 @@ use Rattle.std.specs.Prelude.{Bool, ℤ, pos, negsuc, ◌+ℤ◌, ◌-ℤ◌, if
 use Rattle.std.specs.Int.{int_rem_euclid}
 use Rattle.std.specs.Ordering.{int_eq}
 use Rattle.curve_law.specs.declared.kind.Kind.TheVariants.{High, Low, MarkRising, MarkFalling}
-use Rattle.curve_law.specs.Meaning.{Meaning}
-use Rattle.curve_law.specs.CurveStates.{CurveFacts}
+use Rattle.curve_law.specs.CurveSpec.{CurveSpec}
+use Rattle.curve_law.specs.CurveStates.{CurveModel}
 
 -- a curve for tests: its value is `start` at minute 0, and rises, or falls if the Bool is true, by 1
 -- each minute, with the minute as its level and with this rate
-abbrev pub line : ℤ → Bool → ℤ → Meaning
+abbrev pub line : ℤ → Bool → ℤ → CurveSpec
 line start falls rate = record {
   first = negsuc 999999;
   last = pos 1000000;
@@ -17,15 +17,15 @@ line start falls rate = record {
 }
 
 -- the facts about the curve `line`: each approximate value is 1 too high
-abbrev pub line_facts : ℤ → Bool → ℤ → CurveFacts
-line_facts start falls rate = record {
-  meaning = line start falls rate;
+abbrev pub line_model : ℤ → Bool → ℤ → CurveModel
+line_model start falls rate = record {
+  curve_spec = line start falls rate;
   approximate = λ m. (line start falls rate).track.value m +ℤ pos 1;
   error = 1;
 }
 
 -- a curve for tests: its value is 1 at even minutes and -1 at odd ones, with no rate
-abbrev pub ripple : Meaning
+abbrev pub ripple : CurveSpec
 ripple = record {
   first = negsuc 999999;
   last = pos 1000000;
@@ -39,5 +39,5 @@ ripple = record {
 }
 
 -- the facts about the curve `ripple`: each approximate value is 0, and decides nothing
-abbrev pub ripple_facts : CurveFacts
-ripple_facts = record { meaning = ripple; approximate = λ m. pos 0; error = 1 }
+abbrev pub ripple_model : CurveModel
+ripple_model = record { curve_spec = ripple; approximate = λ m. pos 0; error = 1 }

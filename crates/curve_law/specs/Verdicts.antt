@@ -9,33 +9,33 @@ use Rattle.curve_law.specs.declared.kind.Kind.TheVariants.{High, Low, FloodBegin
 use Rattle.curve_law.specs.declared.verdict.Verdict.{Verdict}
 use Rattle.curve_law.specs.declared.verdict.Verdict.TheVariants.{Accepted, WrongLength, NotQuiet, WrongStep, WrongLevel}
 use Rattle.curve_law.specs.Track.{has_event, event_at}
-use Rattle.curve_law.specs.Meaning.{Meaning}
+use Rattle.curve_law.specs.CurveSpec.{CurveSpec}
 use Rattle.curve_law.specs.Cells.{minutes_of, all_minutes}
 use Rattle.curve_law.specs.Cover.{is_quiet}
 
 -- the rank of a kind in the order in which events of one minute are listed
-abbrev pub place_of : Kind → ℕ
-place_of High = 0
-place_of Low = 1
-place_of FloodBegins = 2
-place_of EbbBegins = 3
-place_of MarkRising = 4
-place_of MarkFalling = 5
+abbrev pub rank_of_kind : Kind → ℕ
+rank_of_kind High = 0
+rank_of_kind Low = 1
+rank_of_kind FloodBegins = 2
+rank_of_kind EbbBegins = 3
+rank_of_kind MarkRising = 4
+rank_of_kind MarkFalling = 5
 
 -- two kinds of events are the same
 abbrev pub same_kind : Kind → Kind → Bool
-same_kind kind other = place_of kind == place_of other
+same_kind kind other = rank_of_kind kind == rank_of_kind other
 
 -- the verdict on an event with this kind and level that the cell with this number claims after minute
 -- `a`: both must be those of the event there
-abbrev pub step_verdict : Meaning → ℤ → ℕ → Kind → ℤ → Verdict
+abbrev pub step_verdict : CurveSpec → ℤ → ℕ → Kind → ℤ → Verdict
 step_verdict c a number kind level =
     if same_kind kind (event_at c.track a).kind
     then (if int_eq level (c.track.note a) then Accepted else WrongLevel number level (c.track.note a))
     else WrongStep number
 
 -- the verdict on the cell with this number, counted from 1, which begins at minute `a`
-unfoldable pub cell_verdict : Meaning → ℤ → ℕ → Cell → Verdict
+unfoldable pub cell_verdict : CurveSpec → ℤ → ℕ → Cell → Verdict
 cell_verdict c a number (Quiet n) = if is_quiet c a n then Accepted else NotQuiet number
 cell_verdict c a number Still = if has_event c.track a then WrongStep number else Accepted
 cell_verdict c a number (Turn kind level) = if has_event c.track a then step_verdict c a number kind level else WrongStep number
@@ -50,14 +50,14 @@ or_next (WrongLevel cell written computed) next = WrongLevel cell written comput
 
 -- the first fault of consecutive cells, of which the first has this number and begins at minute `a`;
 -- Accepted if there is none
-unfoldable pub cells_verdict : Meaning → ℤ → ℕ → List Cell → Verdict
+unfoldable pub cells_verdict : CurveSpec → ℤ → ℕ → List Cell → Verdict
 cells_verdict c a number [] = Accepted
 cells_verdict c a number (cell ∷ cells) =
     or_next (cell_verdict c a number cell) (cells_verdict c (a +ℤ pos (minutes_of cell)) (suc number) cells)
 
 -- the verdict on the cells of the span of n minutes from minute `a` on: their length is judged first;
 -- cells are counted from 1
-unfoldable pub verdict : Meaning → ℤ → ℕ → List Cell → Verdict
+unfoldable pub verdict : CurveSpec → ℤ → ℕ → List Cell → Verdict
 verdict c a n cells =
     if all_minutes cells == n then cells_verdict c a 1 cells
     else WrongLength (pos (min (all_minutes cells) (2 ^ 63 - 1))) (pos n)

@@ -2,7 +2,7 @@
 
 ghost use Rattle.std.specs.Prelude.{◌≡◌, ◌*◌, ◌^◌, ◌<◌, ◌≤◌, ℤ, pos, ◌+ℤ◌, ◌-ℤ◌, ◌≤ℤ◌, int_lt, unsigned_abs, IfSome};
 ghost use Rattle.curve_law.specs.Track.{side_at};
-ghost use Rattle.curve_law.specs.Meaning.{IsApproximateValue, IsMinute, IsSpan};
+ghost use Rattle.curve_law.specs.CurveSpec.{IsApproximateValue, IsMinute, IsSpan};
 ghost use Rattle.curve_law.specs.Cover.{is_quiet, unit_cell};
 ghost use Rattle.curve_law.specs.declared.quiet.TheConstants.{MOST_MINUTES};
 ghost use Rattle.curve_law.specs.Workings.Approximate.{IsFar};
@@ -23,11 +23,11 @@ pub fn is_quiet_from_approximate<C: Curve>(
     approximate: i128,
     approximate_end: i128,
 ) -> bool
-    requires span { IsSpan (C.state curve.now).facts.meaning a n }
+    requires span { IsSpan (C.state curve.now).curve_model.curve_spec a n }
     requires count_bound { n ≤ MOST_MINUTES }
-    requires approximate { approximate ≡ (C.state curve.now).facts.approximate a }
-    requires approximate_end { approximate_end ≡ (C.state curve.now).facts.approximate (a +ℤ pos n) }
-    ensures { result ≡ is_quiet (C.state curve.now).facts.meaning a n }
+    requires approximate { approximate ≡ (C.state curve.now).curve_model.approximate a }
+    requires approximate_end { approximate_end ≡ (C.state curve.now).curve_model.approximate (a +ℤ pos n) }
+    ensures { result ≡ is_quiet (C.state curve.now).curve_model.curve_spec a n }
 {
     match quiet_if_decided(curve, a, n, approximate, approximate_end) {
         Some(quiet) => quiet,
@@ -45,10 +45,10 @@ pub fn unit_cell_from_approximate<C: Curve>(
     approximate: i128,
     approximate_next: i128,
 ) -> Cell
-    requires span { IsSpan (C.state curve.now).facts.meaning a 1 }
-    requires approximate { approximate ≡ (C.state curve.now).facts.approximate a }
-    requires approximate_next { approximate_next ≡ (C.state curve.now).facts.approximate (a +ℤ pos 1) }
-    ensures { result ≡ unit_cell (C.state curve.now).facts.meaning.track a }
+    requires span { IsSpan (C.state curve.now).curve_model.curve_spec a 1 }
+    requires approximate { approximate ≡ (C.state curve.now).curve_model.approximate a }
+    requires approximate_next { approximate_next ≡ (C.state curve.now).curve_model.approximate (a +ℤ pos 1) }
+    ensures { result ≡ unit_cell (C.state curve.now).curve_model.curve_spec.track a }
 {
     let is_above = is_above_from_approximate(curve, a, approximate);
     let is_above_next = is_above_from_approximate(curve, a + 1, approximate_next);
@@ -66,12 +66,12 @@ fn quiet_if_decided<C: Curve>(
     approximate: i128,
     approximate_end: i128,
 ) -> Option<bool>
-    requires span { IsSpan (C.state curve.now).facts.meaning a n }
+    requires span { IsSpan (C.state curve.now).curve_model.curve_spec a n }
     requires count_bound { n ≤ MOST_MINUTES }
-    requires approximate { IsApproximateValue (C.state curve.now).facts.meaning (C.state curve.now).facts.error a approximate }
-    requires approximate_end { IsApproximateValue (C.state curve.now).facts.meaning (C.state curve.now).facts.error
+    requires approximate { IsApproximateValue (C.state curve.now).curve_model.curve_spec (C.state curve.now).curve_model.error a approximate }
+    requires approximate_end { IsApproximateValue (C.state curve.now).curve_model.curve_spec (C.state curve.now).curve_model.error
         (a +ℤ pos n) approximate_end }
-    ensures { IfSome result (λ quiet. is_quiet (C.state curve.now).facts.meaning a n ≡ quiet) }
+    ensures { IfSome result (λ quiet. is_quiet (C.state curve.now).curve_model.curve_spec a n ≡ quiet) }
 {
     if n < 2 {
         return Some(false);
@@ -96,11 +96,11 @@ fn is_quiet_exactly<C: Curve>(
     approximate: i128,
     approximate_end: i128,
 ) -> bool
-    requires span { IsSpan (C.state curve.now).facts.meaning a n }
+    requires span { IsSpan (C.state curve.now).curve_model.curve_spec a n }
     requires count_bound { n ≤ MOST_MINUTES }
-    requires approximate { approximate ≡ (C.state curve.now).facts.approximate a }
-    requires approximate_end { approximate_end ≡ (C.state curve.now).facts.approximate (a +ℤ pos n) }
-    ensures { result ≡ is_quiet (C.state curve.now).facts.meaning a n }
+    requires approximate { approximate ≡ (C.state curve.now).curve_model.approximate a }
+    requires approximate_end { approximate_end ≡ (C.state curve.now).curve_model.approximate (a +ℤ pos n) }
+    ensures { result ≡ is_quiet (C.state curve.now).curve_model.curve_spec a n }
 {
     let value = curve.exact_value(a, approximate);
     let end_value = curve.exact_value(a + i64::from(n), approximate_end);
@@ -109,9 +109,9 @@ fn is_quiet_exactly<C: Curve>(
 
 /// Returns true if the value at minute `m` is above 0; `approximate` is its approximate value.
 fn is_above_from_approximate<C: Curve>(curve: &C, m: i64, approximate: i128) -> bool
-    requires minute { IsMinute (C.state curve.now).facts.meaning m }
-    requires approximate { approximate ≡ (C.state curve.now).facts.approximate m }
-    ensures { result ≡ side_at (C.state curve.now).facts.meaning.track m }
+    requires minute { IsMinute (C.state curve.now).curve_model.curve_spec m }
+    requires approximate { approximate ≡ (C.state curve.now).curve_model.approximate m }
+    ensures { result ≡ side_at (C.state curve.now).curve_model.curve_spec.track m }
 {
     match side_of(approximate, curve.error()) {
         Some(is_above) => is_above,
@@ -122,9 +122,9 @@ fn is_above_from_approximate<C: Curve>(curve: &C, m: i64, approximate: i128) -> 
 #[cold]
 #[inline(never)]
 fn is_above_exactly<C: Curve>(curve: &C, m: i64, approximate: i128) -> bool
-    requires minute { IsMinute (C.state curve.now).facts.meaning m }
-    requires approximate { approximate ≡ (C.state curve.now).facts.approximate m }
-    ensures { result ≡ side_at (C.state curve.now).facts.meaning.track m }
+    requires minute { IsMinute (C.state curve.now).curve_model.curve_spec m }
+    requires approximate { approximate ≡ (C.state curve.now).curve_model.approximate m }
+    ensures { result ≡ side_at (C.state curve.now).curve_model.curve_spec.track m }
 {
     curve.exact_value(m, approximate) > 0
 }

@@ -5,7 +5,7 @@ ghost use Rattle.curve_law.specs.declared.cell.Cell.{Cell};
 ghost use Rattle.curve_law.specs.declared.quiet.TheConstants.{MOST_MINUTES};
 ghost use Rattle.curve_law.specs.declared.verdict.Verdict.{Verdict};
 ghost use Rattle.curve_law.specs.Track.{side_at, has_event, plain_list};
-ghost use Rattle.curve_law.specs.Meaning.{Meaning, IsSpan, IsLawful, at_minutes};
+ghost use Rattle.curve_law.specs.CurveSpec.{CurveSpec, IsSpan, IsLawful, at_minutes};
 ghost use Rattle.curve_law.specs.Cells.{all_minutes, cell_events};
 ghost use Rattle.curve_law.specs.Cover.{is_quiet, unit_cell, split, cover};
 ghost use Rattle.curve_law.specs.Verdicts.{verdict};
@@ -14,9 +14,9 @@ ghost use Rattle.curve_law.specs.Verdicts.{verdict};
 /// other block is cut into the cells of its first half, of `n / 2` minutes rounded down, followed by
 /// the cells of the rest.
 pub fn cells_are_halved()
-    ensures one_minute { (c : Meaning) (a : ℤ) → split c a 1 ≡ unit_cell c.track a ∷ [] }
-    ensures quiet { (c : Meaning) (a : ℤ) (n : ℕ) → is_quiet c a n ≡ true → split c a n ≡ Cell.Quiet n ∷ [] }
-    ensures halves { (c : Meaning) (a : ℤ) (n : ℕ) → 2 ≤ n → is_quiet c a n ≡ false →
+    ensures one_minute { (c : CurveSpec) (a : ℤ) → split c a 1 ≡ unit_cell c.track a ∷ [] }
+    ensures quiet { (c : CurveSpec) (a : ℤ) (n : ℕ) → is_quiet c a n ≡ true → split c a n ≡ Cell.Quiet n ∷ [] }
+    ensures halves { (c : CurveSpec) (a : ℤ) (n : ℕ) → 2 ≤ n → is_quiet c a n ≡ false →
         split c a n ≡ split c a (n / 2) ++ split c (a +ℤ pos (n / 2)) (n - n / 2) }
 {}
 
@@ -24,25 +24,25 @@ pub fn cells_are_halved()
 /// the first 1,024 are cut off as a block, and so on, until at most 1,024 minutes remain, which are the
 /// last block.
 pub fn spans_are_cut_into_blocks()
-    ensures no_minute { (c : Meaning) (a : ℤ) → cover c a 0 ≡ [] }
-    ensures last_block { (c : Meaning) (a : ℤ) (n : ℕ) → n ≤ MOST_MINUTES → cover c a n ≡ split c a n }
-    ensures block { (c : Meaning) (a : ℤ) (n : ℕ) → MOST_MINUTES < n →
+    ensures no_minute { (c : CurveSpec) (a : ℤ) → cover c a 0 ≡ [] }
+    ensures last_block { (c : CurveSpec) (a : ℤ) (n : ℕ) → n ≤ MOST_MINUTES → cover c a n ≡ split c a n }
+    ensures block { (c : CurveSpec) (a : ℤ) (n : ℕ) → MOST_MINUTES < n →
         cover c a n ≡ split c a MOST_MINUTES ++ cover c (a +ℤ pos MOST_MINUTES) (n - MOST_MINUTES) }
 {}
 
 /// Proves that each value in a quiet cell, both ends included, is on the same side of zero as the value
 /// at the cell's first minute, so no event lies between a minute of the cell and the next minute.
 pub fn quiet_cells_have_no_event()
-    ensures sides { (c : Meaning) (a : ℤ) (n : ℕ) → IsLawful c → IsSpan c a n → is_quiet c a n ≡ true →
+    ensures sides { (c : CurveSpec) (a : ℤ) (n : ℕ) → IsLawful c → IsSpan c a n → is_quiet c a n ≡ true →
         (k : ℕ) → k ≤ n → side_at c.track (a +ℤ pos k) ≡ side_at c.track a }
-    ensures no_event { (c : Meaning) (a : ℤ) (n : ℕ) → IsLawful c → IsSpan c a n → is_quiet c a n ≡ true →
+    ensures no_event { (c : CurveSpec) (a : ℤ) (n : ℕ) → IsLawful c → IsSpan c a n → is_quiet c a n ≡ true →
         (k : ℕ) → k < n → has_event c.track (a +ℤ pos k) ≡ false }
 {}
 
 /// Proves that the events in cells on which the verdict for a span is `Accepted` are exactly the events
 /// of the span, however the cells were made.
 pub fn accepted_cells_are_exact()
-    ensures { (c : Meaning) (a : ℤ) (n : ℕ) (cells : List Cell) → IsLawful c → IsSpan c a n →
+    ensures { (c : CurveSpec) (a : ℤ) (n : ℕ) (cells : List Cell) → IsLawful c → IsSpan c a n →
         verdict c a n cells ≡ Verdict.Accepted → cell_events a cells ≡ plain_list c.track a n }
 {}
 
@@ -50,17 +50,17 @@ pub fn accepted_cells_are_exact()
 /// quiet or a single minute. They cover all its minutes, there are no more cells than minutes, and the
 /// check accepts them, so that they have exactly the events of the span.
 pub fn covers_are_accepted()
-    ensures minutes { (c : Meaning) (a : ℤ) (n : ℕ) → all_minutes (cover c a n) ≡ n }
-    ensures count_bound { (c : Meaning) (a : ℤ) (n : ℕ) → length (cover c a n) ≤ n }
-    ensures accepted { (c : Meaning) (a : ℤ) (n : ℕ) → verdict c a n (cover c a n) ≡ Verdict.Accepted }
-    ensures exact { (c : Meaning) (a : ℤ) (n : ℕ) → IsLawful c → IsSpan c a n →
+    ensures minutes { (c : CurveSpec) (a : ℤ) (n : ℕ) → all_minutes (cover c a n) ≡ n }
+    ensures count_bound { (c : CurveSpec) (a : ℤ) (n : ℕ) → length (cover c a n) ≤ n }
+    ensures accepted { (c : CurveSpec) (a : ℤ) (n : ℕ) → verdict c a n (cover c a n) ≡ Verdict.Accepted }
+    ensures exact { (c : CurveSpec) (a : ℤ) (n : ℕ) → IsLawful c → IsSpan c a n →
         cell_events a (cover c a n) ≡ plain_list c.track a n }
 {}
 
 /// Proves that the cells of a span and the verdicts on cells don't depend on the curve's first and last
 /// minute, only on its values and rates.
 pub fn answers_are_those_of_more_minutes()
-    ensures cells { (c : Meaning) (first last a : ℤ) (n : ℕ) → cover (at_minutes first last c) a n ≡ cover c a n }
-    ensures verdicts { (c : Meaning) (first last a : ℤ) (n : ℕ) (cells : List Cell) →
+    ensures cells { (c : CurveSpec) (first last a : ℤ) (n : ℕ) → cover (at_minutes first last c) a n ≡ cover c a n }
+    ensures verdicts { (c : CurveSpec) (first last a : ℤ) (n : ℕ) (cells : List Cell) →
         verdict (at_minutes first last c) a n cells ≡ verdict c a n cells }
 {}

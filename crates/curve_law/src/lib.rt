@@ -44,5 +44,5 @@ pub use point::{Point, approximate_point_at, point_at};
 pub use quiet::{MOST_MINUTES, is_quiet, most_change};
 pub use tracks::Tracks;
 pub use verdict::Verdict;
-pub use worked::worked_rows;
+pub use worked::sample_events;
 pub use worked_cells::{worked_covers, worked_limits, worked_quiet_cells, worked_verdicts};

@@ -1,7 +1,7 @@
 //! The cell between two values.
 
 ghost use Rattle.std.specs.Prelude.{◌≡◌, ◌*◌, ◌^◌, ◌<◌, ◌≤◌, pos, ◌+ℤ◌, ◌*ℤ◌, ◌≤ℤ◌, ◌<ℤ◌, unsigned_abs, Some};
-ghost use Rattle.curve_law.specs.Meaning.{IsMinute, IsSpan};
+ghost use Rattle.curve_law.specs.CurveSpec.{IsMinute, IsSpan};
 ghost use Rattle.curve_law.specs.Track.{side_at};
 ghost use Rattle.curve_law.specs.Cover.{keeps_side, is_quiet, unit_cell};
 
@@ -18,10 +18,10 @@ pub const MOST_MINUTES: u32 = 1024;
 /// cross 0 at the curve's rate. `value` and `end_value` are these two values. The rate is evaluated
 /// only if both are on one side of 0.
 pub fn is_quiet<C: Curve>(curve: &C, a: i64, n: u32, value: i128, end_value: i128) -> bool
-    requires span { IsSpan (C.state curve.now).facts.meaning a n }
-    requires value { value ≡ (C.state curve.now).facts.meaning.track.value a }
-    requires end_value { end_value ≡ (C.state curve.now).facts.meaning.track.value (a +ℤ pos n) }
-    ensures { result ≡ is_quiet (C.state curve.now).facts.meaning a n }
+    requires span { IsSpan (C.state curve.now).curve_model.curve_spec a n }
+    requires value { value ≡ (C.state curve.now).curve_model.curve_spec.track.value a }
+    requires end_value { end_value ≡ (C.state curve.now).curve_model.curve_spec.track.value (a +ℤ pos n) }
+    ensures { result ≡ is_quiet (C.state curve.now).curve_model.curve_spec a n }
 {
     if (value > 0) != (end_value > 0) {
         return false;
@@ -30,10 +30,10 @@ pub fn is_quiet<C: Curve>(curve: &C, a: i64, n: u32, value: i128, end_value: i12
 }
 
 fn is_quiet_by_rate<C: Curve>(curve: &C, a: i64, n: u32, value: i128, end_value: i128) -> bool
-    requires span { IsSpan (C.state curve.now).facts.meaning a n }
-    requires value { value ≡ (C.state curve.now).facts.meaning.track.value a }
-    requires end_value { end_value ≡ (C.state curve.now).facts.meaning.track.value (a +ℤ pos n) }
-    ensures { result ≡ is_quiet (C.state curve.now).facts.meaning a n }
+    requires span { IsSpan (C.state curve.now).curve_model.curve_spec a n }
+    requires value { value ≡ (C.state curve.now).curve_model.curve_spec.track.value a }
+    requires end_value { end_value ≡ (C.state curve.now).curve_model.curve_spec.track.value (a +ℤ pos n) }
+    ensures { result ≡ is_quiet (C.state curve.now).curve_model.curve_spec a n }
 {
     if n < 2 || n > MOST_MINUTES {
         return false;
@@ -48,10 +48,10 @@ fn is_quiet_by_rate<C: Curve>(curve: &C, a: i64, n: u32, value: i128, end_value:
 /// next minute. `is_above` and `is_above_next` say whether the values at `a` and at `a + 1` are above
 /// 0.
 pub fn cell_of_sides<C: Curve>(curve: &C, a: i64, is_above: bool, is_above_next: bool) -> Cell
-    requires minute { IsMinute (C.state curve.now).facts.meaning a }
-    requires side { is_above ≡ side_at (C.state curve.now).facts.meaning.track a }
-    requires next_side { is_above_next ≡ side_at (C.state curve.now).facts.meaning.track (a +ℤ pos 1) }
-    ensures { result ≡ unit_cell (C.state curve.now).facts.meaning.track a }
+    requires minute { IsMinute (C.state curve.now).curve_model.curve_spec a }
+    requires side { is_above ≡ side_at (C.state curve.now).curve_model.curve_spec.track a }
+    requires next_side { is_above_next ≡ side_at (C.state curve.now).curve_model.curve_spec.track (a +ℤ pos 1) }
+    ensures { result ≡ unit_cell (C.state curve.now).curve_model.curve_spec.track a }
 {
     if is_above_next == is_above {
         return Cell::Still;

@@ -10,7 +10,7 @@ ghost use Rattle.curve_law.specs.Track.{Track, plain_list};
 /// event after the minute with the value 0, since 0 isn't above 0 yet. A value that touches 0 from
 /// below has no event, and one that touches 0 from above has two.
 #[tactic(auto, unfolding(crate::specs::Track::minutes, crate::specs::Track::plain_list))]
-pub fn worked_rows()
+pub fn sample_events()
     ensures rises { let t : Track = record { value = λ m. m; note = λ m. pos 10 *ℤ m; rising = Kind.Low; falling = Kind.High } in
         plain_list t (negsuc 1) 5 ≡ record { minute = pos 0; kind = Kind.Low; level = pos 0 } ∷ [] }
     ensures falls { let t : Track = record { value = λ m. neg_ℤ m; note = λ m. pos 10 *ℤ m; rising = Kind.Low; falling = Kind.High } in

@@ -5,7 +5,7 @@ ghost use Rattle.curve_law.specs.declared.cell.Cell.{Cell};
 ghost use Rattle.curve_law.specs.declared.kind.Kind.{Kind};
 ghost use Rattle.curve_law.specs.declared.quiet.TheConstants.{MOST_MINUTES};
 ghost use Rattle.curve_law.specs.declared.verdict.Verdict.{Verdict};
-ghost use Rattle.curve_law.specs.Meaning.{Meaning};
+ghost use Rattle.curve_law.specs.CurveSpec.{CurveSpec};
 ghost use Rattle.curve_law.specs.Cover.{is_quiet, cover};
 ghost use Rattle.curve_law.specs.Samples.{line, ripple};
 ghost use Rattle.curve_law.specs.Verdicts.{verdict};
@@ -22,12 +22,12 @@ pub fn worked_quiet_cells()
     ensures to_zero { is_quiet (line (negsuc 1) false (pos 1)) (pos 0) 2 ≡ true }
     ensures one_minute { is_quiet (line (pos 9) false (pos 1)) (pos 0) 1 ≡ false }
     ensures no_rate { is_quiet ripple (pos 0) 2 ≡ false }
-    ensures longest { let c : Meaning = record ripple {
+    ensures longest { let c : CurveSpec = record ripple {
       track = record { value = λ m. pos 0; note = λ m. m; rising = Kind.Low; falling = Kind.High };
       rate = λ a n. Some (pos 0);
     } in
         is_quiet c (pos 0) 1024 ≡ true }
-    ensures too_long { let c : Meaning = record ripple {
+    ensures too_long { let c : CurveSpec = record ripple {
       track = record { value = λ m. pos 0; note = λ m. m; rising = Kind.Low; falling = Kind.High };
       rate = λ a n. Some (pos 0);
     } in
@@ -45,7 +45,7 @@ pub fn worked_covers()
     ensures odd { cover (line (pos 2) false (pos 3)) (pos 0) 3 ≡ Cell.Still ∷ Cell.Quiet 2 ∷ [] }
     ensures no_rate { cover ripple (pos 0) 2 ≡ Cell.Turn Kind.MarkFalling (pos 0) ∷ Cell.Turn Kind.MarkRising (pos 0) ∷ [] }
     ensures no_minute { cover ripple (pos 0) 0 ≡ [] }
-    ensures blocks { let c : Meaning = record ripple {
+    ensures blocks { let c : CurveSpec = record ripple {
       track = record { value = λ m. pos 0; note = λ m. m; rising = Kind.Low; falling = Kind.High };
       rate = λ a n. Some (pos 0);
     } in

@@ -13,8 +13,8 @@ use std::process::Abort;
 /// Returns true if cells from minute `begin` up to `end`, not included, may be checked on `curve`, which
 /// was not evaluated yet.
 fn can_check<C: Curve>(curve: &C, begin: i64, end: i64) -> bool
-    ensures { IsTrue result → (begin ≤ℤ end) × ((C.state curve.now).facts.meaning.first ≤ℤ begin)
-        × (end ≤ℤ (C.state curve.now).facts.meaning.last) × ((C.state curve.now).count ≡ 0) }
+    ensures { IsTrue result → (begin ≤ℤ end) × ((C.state curve.now).curve_model.curve_spec.first ≤ℤ begin)
+        × (end ≤ℤ (C.state curve.now).curve_model.curve_spec.last) × ((C.state curve.now).count ≡ 0) }
 {
     begin <= end && curve.first() <= begin && end <= curve.last() && curve.evaluations() == 0
 }

@@ -18,7 +18,7 @@ fn laws_and_rows_stand(_rt: HostRuntime) {
     accepted_cells_are_exact();
     covers_are_accepted();
     answers_are_those_of_more_minutes();
-    worked_rows();
+    sample_events();
     worked_quiet_cells();
     worked_covers();
     worked_verdicts();

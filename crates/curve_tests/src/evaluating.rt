@@ -1,13 +1,13 @@
 //! Evaluations of curves, within their minutes.
 
 ghost use Rattle.std.specs.Prelude.{◌<◌, ◌^◌, IsTrue};
-ghost use Rattle.curve_law.specs.Meaning.{IsMinute};
+ghost use Rattle.curve_law.specs.CurveSpec.{IsMinute};
 
 use curve_law::Curve;
 
 /// Returns true if minute `m` is one of the curve's minutes, at which it has a value.
 fn has_minute<C: Curve>(curve: &C, m: i64) -> bool
-    ensures { IsTrue result → IsMinute (C.state curve.now).facts.meaning m }
+    ensures { IsTrue result → IsMinute (C.state curve.now).curve_model.curve_spec m }
 {
     curve.first() <= m && m <= curve.last()
 }

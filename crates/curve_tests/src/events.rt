@@ -244,7 +244,7 @@ pub fn taken<A: Curve, B: Curve>(
     alloc: Global,
     merge: &mut Merge<A, B>,
 ) -> Result<Vec<Event>, AllocError>
-    ensures { IfOk result (λ events. events.items ≡ merge.old.left) }
+    ensures { IfOk result (λ events. events.items ≡ merge.old.remaining) }
 {
     let mut events = Vec::new(alloc);
     while let Some(event) = merge.next() {

@@ -21,8 +21,8 @@ use std::process::Abort;
 /// Returns true if the span from `begin` up to `end`, not included, has a minute, and the curve has all
 /// its minutes.
 fn covers_span<C: Curve>(curve: &C, begin: i64, end: i64) -> bool
-    ensures { IsTrue result → (begin <ℤ end) × ((C.state curve.now).facts.meaning.first ≤ℤ begin)
-        × (end ≤ℤ (C.state curve.now).facts.meaning.last) }
+    ensures { IsTrue result → (begin <ℤ end) × ((C.state curve.now).curve_model.curve_spec.first ≤ℤ begin)
+        × (end ≤ℤ (C.state curve.now).curve_model.curve_spec.last) }
 {
     curve.first() <= begin && begin < end && end <= curve.last()
 }
@@ -42,8 +42,8 @@ fn is_asked_little<C: Curve>(curve: &C) -> bool
 /// Returns true if the highest water from `begin` up to `end`, not included, may be searched: the curve
 /// has these minutes, which are 1 to 5,270,400 in number, and was evaluated at most 1,000,000 times.
 fn can_find<C: Curve>(curve: &C, begin: i64, end: i64) -> bool
-    ensures { IsTrue result → (begin <ℤ end) × ((C.state curve.now).facts.meaning.first ≤ℤ begin)
-        × (end ≤ℤ (C.state curve.now).facts.meaning.last) × ((end -ℤ begin) ≤ℤ pos 5270400)
+    ensures { IsTrue result → (begin <ℤ end) × ((C.state curve.now).curve_model.curve_spec.first ≤ℤ begin)
+        × (end ≤ℤ (C.state curve.now).curve_model.curve_spec.last) × ((end -ℤ begin) ≤ℤ pos 5270400)
         × ((C.state curve.now).count ≤ 10 ^ 6) }
 {
     covers_span(curve, begin, end) && is_short(begin, end) && is_asked_little(curve)
@@ -92,8 +92,8 @@ fn verdict_on<C: Curve>(curve: &mut C, peak: &Peak, begin: i64, end: i64) -> Opt
 fn checked<C: Curve>(curve: &mut C, peak: &Peak, begin: i64, end: i64) -> Option<PeakVerdict> {
     let before = curve.evaluations();
     let verdict = verdict_on(curve, peak, begin, end)?;
-    let asked = curve.evaluations().saturating_sub(before);
-    is_few(asked, peak.cells.as_slice().len()).then_some(verdict)
+    let evaluated = curve.evaluations().saturating_sub(before);
+    is_few(evaluated, peak.cells.as_slice().len()).then_some(verdict)
 }
 
 /// Returns true if the search finds the same as an evaluation of every minute, and the check accepts it.
@@ -215,7 +215,7 @@ fn has_cover<C: Curve>(
     peak: &Peak,
     wanted: &[PeakCell],
 ) -> bool
-    requires { IsHighest (C.state curve.old).facts.meaning begin end peak.now.at peak.now.value }
+    requires { IsHighest (C.state curve.old).curve_model.curve_spec begin end peak.now.at peak.now.value }
 {
     if !can_find(curve, begin, end) {
         return false;
@@ -223,10 +223,10 @@ fn has_cover<C: Curve>(
     let before = curve.evaluations();
     match peak_cover(alloc, curve, begin, end, peak.at, peak.value) {
         Ok(cells) => {
-            let asked = curve.evaluations().saturating_sub(before);
+            let evaluated = curve.evaluations().saturating_sub(before);
             peak.cells.as_slice() == wanted
                 && cells.as_slice() == wanted
-                && is_few(asked, wanted.len())
+                && is_few(evaluated, wanted.len())
         }
         Err(_) => false,
     }

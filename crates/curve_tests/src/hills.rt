@@ -18,7 +18,7 @@ pub struct Hills {
     first: Top,
     second: Top,
     rate: i64,
-    asked: u64,
+    evaluated: u64,
     ghost in_range: { unsigned_abs first.at ≤ 10 ^ 12 },
     ghost low: { unsigned_abs first.value ≤ 10 ^ 12 },
     ghost second_in_range: { unsigned_abs second.at ≤ 10 ^ 12 },
@@ -28,7 +28,7 @@ pub struct Hills {
 }
 
 impl Hills {
-    ghost use Rattle.curve_tests.specs.Workings.SampleLaws.{hills_facts};
+    ghost use Rattle.curve_tests.specs.Workings.SampleLaws.{hills_model};
 
     /// Returns the curve with two maxima, not yet evaluated.
     pub fn new(first: Top, second: Top, rate: i64) -> Hills
@@ -39,21 +39,21 @@ impl Hills {
         requires at_least_one { pos 1 ≤ℤ rate }
         requires small { rate ≤ℤ pos (10 ^ 12) }
         ensures { ⟦<Hills as Curve>⟧.state result
-            ≡ record { facts = hills_facts first.at first.value second.at second.value rate; count = 0 } }
+            ≡ record { curve_model = hills_model first.at first.value second.at second.value rate; count = 0 } }
     {
         Hills {
             first,
             second,
             rate,
-            asked: 0,
+            evaluated: 0,
         }
     }
 }
 
 impl Curve for Hills {
-    ghost use Rattle.curve_tests.specs.Workings.SampleLaws.{hills_facts, hills-lawful, hills-close, none_is_narrow};
+    ghost use Rattle.curve_tests.specs.Workings.SampleLaws.{hills_model, hills-lawful, hills-close, none_is_narrow};
 
-    ghost state = { λ h. record { facts = hills_facts h.first.at h.first.value h.second.at h.second.value h.rate; count = h.asked } };
+    ghost state = { λ h. record { curve_model = hills_model h.first.at h.first.value h.second.at h.second.value h.rate; count = h.evaluated } };
 
     ghost lawful = { λ h. hills-lawful h.first.at h.first.value h.second.at h.second.value h.rate h.in_range h.low
         h.second_in_range h.second_low h.at_least_one h.small };
@@ -71,7 +71,7 @@ impl Curve for Hills {
     }
 
     fn value(&mut self, m: i64) -> i128 {
-        self.asked += 1;
+        self.evaluated += 1;
         i128::from(height(self.first, m).max(height(self.second, m)))
     }
 
@@ -104,7 +104,7 @@ impl Curve for Hills {
     }
 
     fn evaluations(&self) -> u64 {
-        self.asked
+        self.evaluated
     }
 }
 

@@ -12,8 +12,8 @@ use std::alloc::Global;
 /// Returns true if a search from minute `begin` up to `end`, not included, may begin on `curve`, which
 /// was not evaluated yet.
 fn can_search<C: Curve>(curve: &C, begin: i64, end: i64) -> bool
-    ensures { IsTrue result → (begin ≤ℤ end) × ((C.state curve.now).facts.meaning.first ≤ℤ begin)
-        × (end ≤ℤ (C.state curve.now).facts.meaning.last) × ((C.state curve.now).count ≡ 0) }
+    ensures { IsTrue result → (begin ≤ℤ end) × ((C.state curve.now).curve_model.curve_spec.first ≤ℤ begin)
+        × (end ≤ℤ (C.state curve.now).curve_model.curve_spec.last) × ((C.state curve.now).count ≡ 0) }
 {
     begin <= end && curve.first() <= begin && end <= curve.last() && curve.evaluations() == 0
 }

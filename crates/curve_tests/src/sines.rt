@@ -109,8 +109,10 @@ fn binary_angles(place: i64) -> (u64, u64) {
 }
 
 fn has_binary_sines(place: i64, sine: i64, cosine: i64) -> bool {
-    let (angle, ahead) = binary_angles(place);
-    is_on_circle(place) && binary_angle_sine(angle) == sine && binary_angle_sine(ahead) == cosine
+    let (angle, utc_offset) = binary_angles(place);
+    is_on_circle(place)
+        && binary_angle_sine(angle) == sine
+        && binary_angle_sine(utc_offset) == cosine
 }
 
 #[test]
@@ -135,8 +137,8 @@ const APPROXIMATE_SINES: &[Sines] = &[
 ];
 
 fn has_approximate_sines(place: i64, sine: i64, cosine: i64) -> bool {
-    let (angle, ahead) = binary_angles(place);
-    is_on_circle(place) && approximate_sine(angle) == sine && approximate_sine(ahead) == cosine
+    let (angle, utc_offset) = binary_angles(place);
+    is_on_circle(place) && approximate_sine(angle) == sine && approximate_sine(utc_offset) == cosine
 }
 
 #[test]

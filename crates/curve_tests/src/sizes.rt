@@ -22,8 +22,8 @@ const END: i64 = 16_305_120;
 
 /// Returns true if a curve that wasn't evaluated yet has all minutes of the year 2000.
 fn has_year<C: Curve>(curve: &C) -> bool
-    ensures { IsTrue result → ((C.state curve.now).facts.meaning.first ≤ℤ pos 15778080)
-        × (pos 16305120 ≤ℤ (C.state curve.now).facts.meaning.last) × ((C.state curve.now).count ≡ 0) }
+    ensures { IsTrue result → ((C.state curve.now).curve_model.curve_spec.first ≤ℤ pos 15778080)
+        × (pos 16305120 ≤ℤ (C.state curve.now).curve_model.curve_spec.last) × ((C.state curve.now).count ≡ 0) }
 {
     curve.first() <= BEGIN && END <= curve.last() && curve.evaluations() == 0
 }

@@ -70,14 +70,14 @@ joined : (whole unit n power steps : ℕ) → n * power ≡ steps * unit
 joined whole unit n power steps h = omega (arith, h)
 
 pub exact_total : (places count whole n : ℕ) (s : Steps) → DigitsInvariant places count n s → s.exact ≡ true
-    → (whole * 10 ^ count + n) * 10 ^ places ≡ (whole * 10 ^ places + s.value * 10 ^ s.left) * 10 ^ count + 0
+    → (whole * 10 ^ count + n) * 10 ^ places ≡ (whole * 10 ^ places + s.value * 10 ^ s.remaining) * 10 ^ count + 0
 exact_total places count whole n s h e =
     let is = h.exact e in
-    let up : 10 ^ count * 10 ^ s.left ≡ 10 ^ places * 10 ^ h.extra =
-    sym (pow-add 10 count s.left) ∙ ap (λ k. 10 ^ k) h.counted ∙ pow-add 10 places h.extra in
-    let times : s.value * (10 ^ count * 10 ^ s.left) ≡ s.value * (10 ^ places * 10 ^ h.extra) = ap (λ k. s.value * k) up in
+    let up : 10 ^ count * 10 ^ s.remaining ≡ 10 ^ places * 10 ^ h.extra =
+    sym (pow-add 10 count s.remaining) ∙ ap (λ k. 10 ^ k) h.counted ∙ pow-add 10 places h.extra in
+    let times : s.value * (10 ^ count * 10 ^ s.remaining) ≡ s.value * (10 ^ places * 10 ^ h.extra) = ap (λ k. s.value * k) up in
     let scaled' : s.value * 10 ^ h.extra * 10 ^ places ≡ n * 10 ^ places = ap (λ k. k * 10 ^ places) is in
-    joined whole (10 ^ count) n (10 ^ places) (s.value * 10 ^ s.left) (omega (arith, times, scaled'))
+    joined whole (10 ^ count) n (10 ^ places) (s.value * 10 ^ s.remaining) (omega (arith, times, scaled'))
 
 not_between : (n value one : ℕ) → one ≡ 1 → value * one < n → n + 1 ≤ (value + 1) * one → ⊥
 not_between n value one e above below = omega (arith, rw e at above, rw e at below)
@@ -156,11 +156,11 @@ scaled_fine places n d s h k digits_invariant e =
 
 pub scaled_exact : (places n : ℕ) (d : Decimal) (s : Steps) → length d.whole ≤ 18 → n ≡ digits_value 10 d.whole
     → DigitsInvariant places (length d.fraction) (digits_value 10 d.fraction) s → s.exact ≡ true
-    → Ok (signed d.negative (n * 10 ^ places + s.value * 10 ^ s.left)) ≡ scaled places d
+    → Ok (signed d.negative (n * 10 ^ places + s.value * 10 ^ s.remaining)) ≡ scaled places d
 unfolding scaled
 scaled_exact places n d s h k digits_invariant e =
     let unit = 10 ^ length d.fraction in
-    let steps = n * 10 ^ places + s.value * 10 ^ s.left in
+    let steps = n * 10 ^ places + s.value * 10 ^ s.remaining in
     let number = numerator_is n d k in
     let total = exact_total places (length d.fraction) n (digits_value 10 d.fraction) s digits_invariant e in
     let some = ten_up (length d.fraction) in

@@ -10,19 +10,19 @@ use Rattle.decimal_text.specs.Writing.{last_digits, minus_of, fraction_of, write
 use Rattle.decimal_text.proofs.StepsLemmas.{ten_up}
 
 -- the text after one more digit
-pub push_next : (out : List ℕ) (place n rest : ℕ) → 0 < place → rest ≡ n / 10 ^ (place - 1)
-    → (out ++ (48 + rest % 10) ∷ []) ++ last_digits (place - 1) n ≡ out ++ last_digits place n
+pub push_next : (out : List ℕ) (exponent n rest : ℕ) → 0 < exponent → rest ≡ n / 10 ^ (exponent - 1)
+    → (out ++ (48 + rest % 10) ∷ []) ++ last_digits (exponent - 1) n ≡ out ++ last_digits exponent n
 unfolding last_digits
 push_next out zero n rest some is = absurd (omega arith)
-push_next out (suc place) n rest some is =
-    let e : suc place - 1 ≡ place = omega arith in
+push_next out (suc exponent) n rest some is =
+    let e : suc exponent - 1 ≡ exponent = omega arith in
     let rest' = rw e at is in
     rw (append_assoc, e, rest') refl
 
-pub append_none : (out : List ℕ) (place n : ℕ) → place ≡ 0 → out ≡ out ++ last_digits place n
+pub append_none : (out : List ℕ) (exponent n : ℕ) → exponent ≡ 0 → out ≡ out ++ last_digits exponent n
 unfolding last_digits
 append_none out zero n h = sym (append-nil out)
-append_none out (suc place) n h = absurd (omega arith)
+append_none out (suc exponent) n h = absurd (omega arith)
 
 -- a bound on the length of the digits before the point
 pub whole_short : (size places : ℕ) → size < 10 ^ 19 → places ≤ 6 → length (decimal (size / 10 ^ places)) ≤ 19 - places

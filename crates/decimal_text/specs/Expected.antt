@@ -50,5 +50,5 @@ abbrev pub Excused : {T E : Type 0} → Bool → Result T E → E → Type 0
 Excused is_out_of_memory = Excuses (source_within is_out_of_memory) (Unit {0})
 
 -- the result of a step that calls no outside object is the expected one, unless it is out of memory
-abbrev pub ReturnsUnless : {T E : Type 0} → (E → Bool) → Result T E → Result T E → Type 0
-ReturnsUnless is_out_of_memory = Meets (λ fault. source_within (is_out_of_memory fault)) (Unit {0})
+abbrev pub EqualsUnlessNoMemory : {T E : Type 0} → (E → Bool) → Result T E → Result T E → Type 0
+EqualsUnlessNoMemory is_out_of_memory = Meets (λ fault. source_within (is_out_of_memory fault)) (Unit {0})

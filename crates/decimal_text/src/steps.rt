@@ -32,7 +32,7 @@ pub struct Steps {
     /// that counts.
     pub value: u64,
     /// The number of decimal places that count and are still to be read.
-    pub left: u32,
+    pub remaining: u32,
     /// True if every digit read after the last decimal place that counts is 0.
     pub exact: bool,
 }
@@ -43,10 +43,10 @@ impl Steps {
     /// Returns the steps after one more digit of the fraction.
     fn after(self, digit: u8) -> Steps
         requires one { digit ≤ 9 }
-        requires room { (self.value + 1) * 10 ^ self.left ≤ 10 ^ 9 }
+        requires room { (self.value + 1) * 10 ^ self.remaining ≤ 10 ^ 9 }
         ensures { (places count n : ℕ) → DigitsInvariant places count n self → DigitsInvariant places (count + 1) (n * 10 + digit) result }
     {
-        if self.left == 0 {
+        if self.remaining == 0 {
             return Steps {
                 exact: self.exact && digit == 0,
                 ..self
@@ -54,7 +54,7 @@ impl Steps {
         }
         Steps {
             value: self.value * 10 + u64::from(digit),
-            left: self.left - 1,
+            remaining: self.remaining - 1,
             ..self
         }
     }
@@ -62,11 +62,11 @@ impl Steps {
     /// Returns the number of steps of `1 / 10^places` if the fraction ends here: each decimal place not
     /// read counts as 0.
     pub fn total(self) -> u64
-        requires { (self.value + 1) * 10 ^ self.left ≤ 10 ^ 9 }
-        ensures value { result ≡ self.value * 10 ^ self.left }
+        requires { (self.value + 1) * 10 ^ self.remaining ≤ 10 ^ 9 }
+        ensures value { result ≡ self.value * 10 ^ self.remaining }
         ensures small { result < 10 ^ 9 }
     {
-        self.value * power_of_ten(self.left)
+        self.value * power_of_ten(self.remaining)
     }
 
     /// Returns the state after all digits of `fraction`, of which the first `places` count, or `None`
@@ -80,7 +80,7 @@ impl Steps {
     {
         let mut steps = Steps {
             value: 0,
-            left: places,
+            remaining: places,
             exact: true,
         };
         for byte in fraction {

@@ -61,8 +61,8 @@ fn push_last_digits(size: u64, places: u32, out: &mut ArrayString<24>)
     requires room { length out.old.bytes + places ≤ 24 }
     ensures { out.new.bytes ≡ out.old.bytes ++ last_digits places size }
 {
-    for place in (0..places).rev() {
-        push_digit((without_last(size, place) % 10) as u32, out);
+    for exponent in (0..places).rev() {
+        push_digit((without_last(size, exponent) % 10) as u32, out);
     }
 }
 

@@ -128,8 +128,8 @@ fn files_of(alloc: Global, case: &Case<'_>) -> Result<Vec<NamedFile>, AllocError
 }
 
 /// Returns an output that takes at most `most` bytes in a write.
-fn sink_of(alloc: Global, most: u64, room: u64, fails: u64) -> Result<MemorySink, AllocError> {
-    MemorySink::new(alloc, most.max(1), room, [fails].to_vec(alloc)?)
+fn sink_of(alloc: Global, most: u64, capacity: u64, fails: u64) -> Result<MemorySink, AllocError> {
+    MemorySink::new(alloc, most.max(1), capacity, [fails].to_vec(alloc)?)
 }
 
 /// Returns the files and the outputs of a case, and a clock at 2000-01-10T03:00Z.

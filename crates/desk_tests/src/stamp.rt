@@ -26,7 +26,7 @@ impl Stamp {
 }
 
 impl Sheet for Stamp {
-    ghost meaning = { λ sheet. record {
+    ghost sheet_spec = { λ sheet. record {
       word = codes "stamp";
       limit = sheet.collected.limit;
       layout = λ head list. (decimal (length list) ++ codes " events of ") ++ head.name

@@ -8,7 +8,7 @@ use Rattle.curve_law.specs.declared.cell.Cell.{Cell}
 use Rattle.curve_law.specs.declared.event.Event.{Event}
 use Rattle.curve_law.specs.declared.tracks.Tracks.{Tracks}
 use Rattle.curve_law.specs.Cells.{cell_events}
-use Rattle.curve_law.specs.Meaning.{Meaning}
+use Rattle.curve_law.specs.CurveSpec.{CurveSpec}
 use Rattle.curve_law.proofs.AcceptedLemmas.{cover-few, cover-accepted}
 use Rattle.curve_law.proofs.VerdictLemmas.{verdict-exact}
 use Rattle.station_table.specs.declared.basis.Basis.{Basis}
@@ -43,7 +43,7 @@ events-parts f b begin end =
 
 -- ---- accepted cells
 
-accepted-cell_events : (s : Span) (o : Option Meaning) (p : Option (List Cell)) → ForSome o (IsValidOver s)
+accepted-cell_events : (s : Span) (o : Option CurveSpec) (p : Option (List Cell)) → ForSome o (IsValidOver s)
     → IsAccepted s o p → flat_map (cell_events s.begin) (option_to_list p) ≡ flat_map (events_over s) (option_to_list o)
 accepted-cell_events s None None valid_over ok = refl
 accepted-cell_events s None (Some cells) valid_over ok = absurd ok
@@ -75,7 +75,7 @@ shifted-events f b begin end t valid_over ok =
 
 -- ---- cells by the halving rule
 
-cover-is : (s : Span) (o : Option Meaning) → IsAccepted s o (option_map (cover_over s) o)
+cover-is : (s : Span) (o : Option CurveSpec) → IsAccepted s o (option_map (cover_over s) o)
 cover-is s None = tt
 cover-is s (Some c) = cover-accepted c s.begin (span_minutes s)
 
@@ -101,7 +101,7 @@ cells-parts t = omega (
   sum_by-append length (option_to_list t.slack) (option_to_list t.mark),
 )
 
-cover-short : (s : Span) (o : Option Meaning) → sum_by length (option_to_list (option_map (cover_over s) o)) ≤ span_minutes s
+cover-short : (s : Span) (o : Option CurveSpec) → sum_by length (option_to_list (option_map (cover_over s) o)) ≤ span_minutes s
 cover-short s None = omega arith
 cover-short s (Some c) = omega (arith, cover-few c s.begin (span_minutes s))
 

@@ -6,7 +6,7 @@ use Rattle.std.proofs.lemmas.Int.{ints}
 use Rattle.std.proofs.lemmas.List.Elements.{All-nil, All-cons, All-append}
 use Rattle.curve_law.specs.declared.event.Event.{Event}
 use Rattle.curve_law.specs.declared.tracks.Tracks.{Tracks}
-use Rattle.curve_law.specs.Meaning.{Meaning, IsMinute, IsSpan}
+use Rattle.curve_law.specs.CurveSpec.{CurveSpec, IsMinute, IsSpan}
 use Rattle.curve_law.specs.Track.{has_event, event_at, plain_list}
 use Rattle.curve_law.proofs.CoverLemmas.{by_test}
 use Rattle.curve_law.proofs.TrackLemmas.{plain_list-zero, plain_list-one, plain_list-suc}
@@ -20,12 +20,12 @@ use Rattle.event_list.proofs.PlainLemmas.{events-inside, within-lies}
 abbrev IsLow : Event → Type 0
 IsLow e = unsigned_abs e.level ≤ 11000000000
 
-one-low : (c : Meaning) (a : ℤ) → IsMinute c a → HasLevels c → All IsLow (plain_list c.track a 1)
+one-low : (c : CurveSpec) (a : ℤ) → IsMinute c a → HasLevels c → All IsLow (plain_list c.track a 1)
 one-low c a minute low = by_test (has_event c.track a)
     (λ cell_events. rw (plain_list-one c.track a, cell_events) (All-cons IsLow (event_at c.track a) [] (low a minute) (All-nil IsLow)))
     (λ still. rw (plain_list-one c.track a, still) (All-nil IsLow))
 
-list-low : (c : Meaning) (a : ℤ) (n : ℕ) → IsSpan c a n → HasLevels c → All IsLow (plain_list c.track a n)
+list-low : (c : CurveSpec) (a : ℤ) (n : ℕ) → IsSpan c a n → HasLevels c → All IsLow (plain_list c.track a n)
 list-low c a zero span low = rw (plain_list-zero c.track a) (All-nil IsLow)
 list-low c a (suc n) span low =
     let first = span.first in
@@ -35,7 +35,7 @@ list-low c a (suc n) span low =
     (one-low c a (record { first = first; last = omega (arith, ints) }) low)
     (list-low c (a +ℤ pos 1) n (record { first = omega (arith, ints); last = omega (arith, ints) }) low))
 
-option-low : (s : Span) (o : Option Meaning) → ForSome o (IsValidOver s) → ForSome o HasLevels
+option-low : (s : Span) (o : Option CurveSpec) → ForSome o (IsValidOver s) → ForSome o HasLevels
     → All IsLow (flat_map (events_over s) (option_to_list o))
 option-low s None valid_over low = All-nil IsLow
 option-low s (Some c) valid_over low = All-append IsLow (events_over s c)

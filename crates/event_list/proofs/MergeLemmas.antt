@@ -8,7 +8,7 @@ use Rattle.curve_law.specs.declared.cell.Cell.TheVariants as cells
 use Rattle.curve_law.specs.declared.event.Event.{Event}
 use Rattle.curve_law.proofs.CoverLemmas.{by_test}
 use Rattle.event_list.specs.declared.leading.Leading.TheVariants.{Turn, Slack, Mark}
-use Rattle.event_list.specs.Merging.{Waiting, searched, looked, looked_event, leads, ReturnsNext}
+use Rattle.event_list.specs.Merging.{Pending, searched, looked, looked_event, leads, ReturnsNext}
 use Rattle.event_list.specs.Order.{comes_before, ordered}
 use Rattle.event_list.specs.Workings.Coming.{first_of, IsLeading, IsAscending, Strand, MergeInvariant, merging_of}
 use Rattle.event_list.proofs.OrderLemmas.{comes_before-asym, comes_before-trans, All-ordered, sum-ordered, ordered-ascending, ordered-is, ordered-same}
@@ -107,54 +107,54 @@ takes-third xs ys zs (Some e) takes = sym (third-first xs ys zs) ∙ takes ∙ a
 
 -- the invariant of a track after its search has run, or its first event was returned
 pub record Looks (old new : Strand) (rest : List Event) : Type 0 where
-  pub left : new.left ≡ rest
+  pub remaining : new.remaining ≡ rest
   pub all : new.all ≡ old.all
-  pub counted : new.cells + length new.waiting.cells ≡ new.all
-  pub done : old.left ≡ [] → new.cells ≡ new.all
+  pub counted : new.cells + length new.pending.cells ≡ new.all
+  pub done : old.remaining ≡ [] → new.cells ≡ new.all
 
-pub looks-taken : (t0 t1 t2 : Strand) → Looks t0 t1 t0.left → t2.left ≡ drop 1 t1.left → t2.all ≡ t1.all
-    → t2.cells + length t2.waiting.cells ≡ t2.all → (t1.left ≡ [] → t2.cells ≡ t2.all) → Looks t0 t2 (drop 1 t0.left)
+pub looks-taken : (t0 t1 t2 : Strand) → Looks t0 t1 t0.remaining → t2.remaining ≡ drop 1 t1.remaining → t2.all ≡ t1.all
+    → t2.cells + length t2.pending.cells ≡ t2.all → (t1.remaining ≡ [] → t2.cells ≡ t2.all) → Looks t0 t2 (drop 1 t0.remaining)
 looks-taken t0 t1 t2 looks rest all counted done = record {
-  left = rest ∙ ap (drop 1) looks.left;
+  remaining = rest ∙ ap (drop 1) looks.remaining;
   all = all ∙ looks.all;
   counted = counted;
-  done = λ none. done (looks.left ∙ none);
+  done = λ none. done (looks.remaining ∙ none);
 }
 
 returned : (t s m t' s' m' : Strand) (o : Option Event) (us vs ws : List Event)
-    → TakesFirst t.left s.left m.left o us vs ws → Looks t t' us → Looks s s' vs → Looks m m' ws
+    → TakesFirst t.remaining s.remaining m.remaining o us vs ws → Looks t t' us → Looks s s' vs → Looks m m' ws
     → ReturnsNext (merging_of t s m) o (merging_of t' s' m')
 unfolding ordered
 returned t s m t' s' m' None us vs ws takes turn slack mark = (
   rw (takes.0, takes.1, takes.2),
-  rw (turn.left, slack.left, mark.left) takes.3,
+  rw (turn.remaining, slack.remaining, mark.remaining) takes.3,
   omega (arith, turn.done takes.0, slack.done takes.1, mark.done takes.2),
 )
 returned t s m t' s' m' (Some e) us vs ws takes turn slack mark =
-    rw (turn.left, slack.left, mark.left) takes
+    rw (turn.remaining, slack.remaining, mark.remaining) takes
 
 pub returned-turn : (t s m t' s' m' : Strand) → MergeInvariant t s m
-    → IsLeading Turn (first_of t.left) (first_of s.left) (first_of m.left) → Looks t t' (drop 1 t.left)
-    → Looks s s' s.left → Looks m m' m.left → ReturnsNext (merging_of t s m) (first_of t.left) (merging_of t' s' m')
+    → IsLeading Turn (first_of t.remaining) (first_of s.remaining) (first_of m.remaining) → Looks t t' (drop 1 t.remaining)
+    → Looks s s' s.remaining → Looks m m' m.remaining → ReturnsNext (merging_of t s m) (first_of t.remaining) (merging_of t' s' m')
 returned-turn t s m t' s' m' merge_invariant lead turn slack mark =
-    returned t s m t' s' m' (first_of t.left) (drop 1 t.left) s.left m.left (takes-first t.left s.left m.left
+    returned t s m t' s' m' (first_of t.remaining) (drop 1 t.remaining) s.remaining m.remaining (takes-first t.remaining s.remaining m.remaining
     merge_invariant.turn merge_invariant.slack merge_invariant.mark lead.0 lead.1) turn slack mark
 
 pub returned-slack : (t s m t' s' m' : Strand) → MergeInvariant t s m
-    → IsLeading Slack (first_of t.left) (first_of s.left) (first_of m.left) → Looks t t' t.left
-    → Looks s s' (drop 1 s.left) → Looks m m' m.left
-    → ReturnsNext (merging_of t s m) (first_of s.left) (merging_of t' s' m')
+    → IsLeading Slack (first_of t.remaining) (first_of s.remaining) (first_of m.remaining) → Looks t t' t.remaining
+    → Looks s s' (drop 1 s.remaining) → Looks m m' m.remaining
+    → ReturnsNext (merging_of t s m) (first_of s.remaining) (merging_of t' s' m')
 returned-slack t s m t' s' m' merge_invariant lead turn slack mark =
-    returned t s m t' s' m' (first_of s.left) t.left (drop 1 s.left) m.left
-    (takes-second t.left s.left m.left (first_of s.left) (takes-first s.left t.left m.left merge_invariant.slack
+    returned t s m t' s' m' (first_of s.remaining) t.remaining (drop 1 s.remaining) m.remaining
+    (takes-second t.remaining s.remaining m.remaining (first_of s.remaining) (takes-first s.remaining t.remaining m.remaining merge_invariant.slack
     merge_invariant.turn merge_invariant.mark lead.0 lead.1)) turn slack mark
 
 pub returned-mark : (t s m t' s' m' : Strand) → MergeInvariant t s m
-    → IsLeading Mark (first_of t.left) (first_of s.left) (first_of m.left) → Looks t t' t.left → Looks s s' s.left
-    → Looks m m' (drop 1 m.left) → ReturnsNext (merging_of t s m) (first_of m.left) (merging_of t' s' m')
+    → IsLeading Mark (first_of t.remaining) (first_of s.remaining) (first_of m.remaining) → Looks t t' t.remaining → Looks s s' s.remaining
+    → Looks m m' (drop 1 m.remaining) → ReturnsNext (merging_of t s m) (first_of m.remaining) (merging_of t' s' m')
 returned-mark t s m t' s' m' merge_invariant lead turn slack mark =
-    returned t s m t' s' m' (first_of m.left) t.left s.left (drop 1 m.left)
-    (takes-third t.left s.left m.left (first_of m.left) (takes-first m.left t.left s.left merge_invariant.mark
+    returned t s m t' s' m' (first_of m.remaining) t.remaining s.remaining (drop 1 m.remaining)
+    (takes-third t.remaining s.remaining m.remaining (first_of m.remaining) (takes-first m.remaining t.remaining s.remaining merge_invariant.mark
     merge_invariant.turn merge_invariant.slack lead.0 lead.1)) turn slack mark
 
 -- the invariant of the tracks afterwards
@@ -163,9 +163,9 @@ pub merge_invariant-after : (t s m t' s' m' : Strand) (us vs ws : List Event) �
 merge_invariant-after t s m t' s' m' us vs ws merge_invariant up-us up-vs up-ws turn slack mark =
     let few = merge_invariant.few in
     record {
-      turn = rw turn.left up-us;
-      slack = rw slack.left up-vs;
-      mark = rw mark.left up-ws;
+      turn = rw turn.remaining up-us;
+      slack = rw slack.remaining up-vs;
+      mark = rw mark.remaining up-ws;
       turn_counted = turn.counted;
       slack_counted = slack.counted;
       mark_counted = mark.counted;
@@ -182,9 +182,9 @@ searched-again a (cells.Still ∷ cells) = searched-again (a +ℤ pos 1) cells
 searched-again a (cells.Turn kind level ∷ cells) = refl
 
 -- a search with a pending event doesn't run again
-again : (found : Option Event) (w : Waiting) → found ≡ w.found → looked (looked_event found w) ≡ looked_event found w
+again : (found : Option Event) (w : Pending) → found ≡ w.found → looked (looked_event found w) ≡ looked_event found w
 again None w is = searched-again w.at w.cells
 again (Some e) w is = ap (λ o. looked_event o w) (sym is)
 
-pub looked-again : (w : Waiting) → looked (looked w) ≡ looked w
+pub looked-again : (w : Pending) → looked (looked w) ≡ looked w
 looked-again w = again w.found w refl

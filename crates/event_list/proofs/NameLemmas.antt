@@ -7,7 +7,7 @@ use Rattle.std.proofs.lemmas.List.Elements.{All-nil, All-cons, All-weaker, All-a
 use Rattle.curve_law.specs.declared.event.Event.{Event}
 use Rattle.curve_law.specs.declared.kind.Kind.{Kind}
 use Rattle.curve_law.specs.declared.kind.Kind.TheVariants.{High, Low, FloodBegins, EbbBegins, MarkRising, MarkFalling}
-use Rattle.curve_law.specs.Meaning.{Meaning}
+use Rattle.curve_law.specs.CurveSpec.{CurveSpec}
 use Rattle.curve_law.specs.Track.{side_at, has_event, event_at, plain_list}
 use Rattle.curve_law.proofs.CoverLemmas.{by_test}
 use Rattle.curve_law.proofs.TrackLemmas.{plain_list-zero, plain_list-one, plain_list-suc}
@@ -38,24 +38,24 @@ events-lie f b begin end =
 abbrev pub Named : Units → Event → Type 0
 Named units e = IsTrue (has_word units e.kind)
 
-event-named : (units : Units) (c : Meaning) (m : ℤ) → IsNamed units c → Named units (event_at c.track m)
+event-named : (units : Units) (c : CurveSpec) (m : ℤ) → IsNamed units c → Named units (event_at c.track m)
 event-named units c m is = by_test (side_at c.track m)
     (λ above. rw above is.falling)
     (λ below. rw below is.rising)
 
-one-named : (units : Units) (c : Meaning) (a : ℤ) → IsNamed units c → All (Named units) (plain_list c.track a 1)
+one-named : (units : Units) (c : CurveSpec) (a : ℤ) → IsNamed units c → All (Named units) (plain_list c.track a 1)
 one-named units c a is = by_test (has_event c.track a)
     (λ cell_events. rw (plain_list-one c.track a, cell_events)
     (All-cons (Named units) (event_at c.track a) [] (event-named units c a is) (All-nil (Named units))))
     (λ still. rw (plain_list-one c.track a, still) (All-nil (Named units)))
 
-list-named : (units : Units) (c : Meaning) (a : ℤ) (n : ℕ) → IsNamed units c → All (Named units) (plain_list c.track a n)
+list-named : (units : Units) (c : CurveSpec) (a : ℤ) (n : ℕ) → IsNamed units c → All (Named units) (plain_list c.track a n)
 list-named units c a zero is = rw (plain_list-zero c.track a) (All-nil (Named units))
 list-named units c a (suc n) is = rw (plain_list-suc c.track a n)
     (All-append (Named units) (plain_list c.track a 1) (plain_list c.track (a +ℤ pos 1) n) (one-named units c a is)
     (list-named units c (a +ℤ pos 1) n is))
 
-option-named : (units : Units) (s : Span) (o : Option Meaning) → ForSome o (IsNamed units)
+option-named : (units : Units) (s : Span) (o : Option CurveSpec) → ForSome o (IsNamed units)
     → All (Named units) (flat_map (events_over s) (option_to_list o))
 option-named units s None is = All-nil (Named units)
 option-named units s (Some c) is = All-append (Named units) (events_over s c)

@@ -9,7 +9,7 @@ use Rattle.std.proofs.lemmas.List.Sums.{sum_by-cons}
 use Rattle.std.proofs.lemmas.List.Sorted.{sorted_far, sum_by-IsPermutation}
 use Rattle.std.proofs.lemmas.List.Elements.{All-nil, All-cons, All-head, All-tail, All-weaker}
 use Rattle.curve_law.specs.declared.event.Event.{Event}
-use Rattle.curve_law.specs.Verdicts.{place_of}
+use Rattle.curve_law.specs.Verdicts.{rank_of_kind}
 use Rattle.curve_law.proofs.CoverLemmas.{by_test}
 use Rattle.curve_law.proofs.VerdictLemmas.{one_kind}
 use Rattle.event_list.specs.Order.{comes_before, with_event, ordered}
@@ -24,9 +24,9 @@ minute-asym : (m n : ℤ) (b d : Bool) → (b ≡ true → d ≡ false) → (int
     → (int_lt n m || (int_eq n m && d)) ≡ false
 minute-asym m n b d rest h = grind (arith, ints)
 
-place-asym : (p q : ℕ) (b d : Bool) → (b ≡ true → d ≡ false) → (nat_lt p q || (p == q && b)) ≡ true
+kind_rank-asym : (p q : ℕ) (b d : Bool) → (b ≡ true → d ≡ false) → (nat_lt p q || (p == q && b)) ≡ true
     → (nat_lt q p || (q == p && d)) ≡ false
-place-asym p q b d rest h = grind (arith, nat_tests)
+kind_rank-asym p q b d rest h = grind (arith, nat_tests)
 
 level-asym : (l k : ℤ) → int_lt l k ≡ true → int_lt k l ≡ false
 level-asym l k h = grind (arith, ints)
@@ -35,9 +35,9 @@ minute-trans : (m n o : ℤ) (b d e : Bool) → (b ≡ false → d ≡ false →
     → (int_lt n o || (int_eq n o && d)) ≡ false → (int_lt m o || (int_eq m o && e)) ≡ false
 minute-trans m n o b d e rest h i = grind (arith, ints)
 
-place-trans : (p q r : ℕ) (b d e : Bool) → (b ≡ false → d ≡ false → e ≡ false) → (nat_lt p q || (p == q && b)) ≡ false
+kind_rank-trans : (p q r : ℕ) (b d e : Bool) → (b ≡ false → d ≡ false → e ≡ false) → (nat_lt p q || (p == q && b)) ≡ false
     → (nat_lt q r || (q == r && d)) ≡ false → (nat_lt p r || (p == r && e)) ≡ false
-place-trans p q r b d e rest h i = grind (arith, nat_tests)
+kind_rank-trans p q r b d e rest h i = grind (arith, nat_tests)
 
 level-trans : (l k j : ℤ) → int_lt l k ≡ false → int_lt k j ≡ false → int_lt l j ≡ false
 level-trans l k j h i = grind (arith, ints)
@@ -46,43 +46,43 @@ minute-same : (m n : ℤ) (b d : Bool) → (int_lt m n || (int_eq m n && b)) ≡
     → (m ≡ n) × (b ≡ false) × (d ≡ false)
 minute-same m n b d h i = (grind (arith, ints), grind (arith, ints), grind (arith, ints))
 
-place-same : (p q : ℕ) (b d : Bool) → (nat_lt p q || (p == q && b)) ≡ false → (nat_lt q p || (q == p && d)) ≡ false
+kind_rank-same : (p q : ℕ) (b d : Bool) → (nat_lt p q || (p == q && b)) ≡ false → (nat_lt q p || (q == p && d)) ≡ false
     → (p ≡ q) × (b ≡ false) × (d ≡ false)
-place-same p q b d h i = (grind (arith, nat_tests), grind (arith, nat_tests), grind (arith, nat_tests))
+kind_rank-same p q b d h i = (grind (arith, nat_tests), grind (arith, nat_tests), grind (arith, nat_tests))
 
 level-same : (l k : ℤ) → int_lt l k ≡ false → int_lt k l ≡ false → l ≡ k
 level-same l k h i = grind (arith, ints)
 
 before-asym : (m : ℤ) (p : ℕ) (l n : ℤ) (q : ℕ) (k : ℤ) → before m p l n q k ≡ true → before n q k m p l ≡ false
-before-asym m p l n q k h = minute-asym m n _ _ (place-asym p q _ _ (level-asym l k)) h
+before-asym m p l n q k h = minute-asym m n _ _ (kind_rank-asym p q _ _ (level-asym l k)) h
 
 before-trans : (m : ℤ) (p : ℕ) (l n : ℤ) (q : ℕ) (k o : ℤ) (r : ℕ) (j : ℤ) → before m p l n q k ≡ false
     → before n q k o r j ≡ false → before m p l o r j ≡ false
-before-trans m p l n q k o r j h i = minute-trans m n o _ _ _ (place-trans p q r _ _ _ (level-trans l k j)) h i
+before-trans m p l n q k o r j h i = minute-trans m n o _ _ _ (kind_rank-trans p q r _ _ _ (level-trans l k j)) h i
 
 before-same : (m : ℤ) (p : ℕ) (l n : ℤ) (q : ℕ) (k : ℤ) → before m p l n q k ≡ false → before n q k m p l ≡ false
     → (m ≡ n) × (p ≡ q) × (l ≡ k)
 before-same m p l n q k h i =
     let minute = minute-same m n (nat_lt p q || (p == q && int_lt l k)) (nat_lt q p || (q == p && int_lt k l)) h i in
-    let place = place-same p q (int_lt l k) (int_lt k l) minute.1 minute.2 in
-    (minute.0, place.0, level-same l k place.1 place.2)
+    let kind_rank = kind_rank-same p q (int_lt l k) (int_lt k l) minute.1 minute.2 in
+    (minute.0, kind_rank.0, level-same l k kind_rank.1 kind_rank.2)
 
 pub comes_before-asym : (d e : Event) → comes_before d e ≡ true → comes_before e d ≡ false
-comes_before-asym d e h = before-asym d.minute (place_of d.kind) d.level e.minute (place_of e.kind) e.level h
+comes_before-asym d e h = before-asym d.minute (rank_of_kind d.kind) d.level e.minute (rank_of_kind e.kind) e.level h
 
 pub comes_before-trans : (c d e : Event) → comes_before c d ≡ false → comes_before d e ≡ false → comes_before c e ≡ false
-comes_before-trans c d e h i = before-trans c.minute (place_of c.kind) c.level d.minute
-    (place_of d.kind) d.level e.minute (place_of e.kind) e.level h i
+comes_before-trans c d e h i = before-trans c.minute (rank_of_kind c.kind) c.level d.minute
+    (rank_of_kind d.kind) d.level e.minute (rank_of_kind e.kind) e.level h i
 
 pub comes_before-itself : (e : Event) → comes_before e e ≡ false
 comes_before-itself e = by_test (comes_before e e) (λ h. comes_before-asym e e h) (λ h. h)
 
 pub comes_before-same : (d e : Event) → comes_before d e ≡ false → comes_before e d ≡ false → d ≡ e
 comes_before-same d e h i =
-    let same = before-same d.minute (place_of d.kind) d.level e.minute (place_of e.kind) e.level h i in
+    let same = before-same d.minute (rank_of_kind d.kind) d.level e.minute (rank_of_kind e.kind) e.level h i in
     let minute : d.minute ≡ e.minute = same.0 in
     let level : d.level ≡ e.level = same.2 in
-    let kind : d.kind ≡ e.kind = one_kind d.kind e.kind ((Decides-eqb (place_of d.kind) (place_of e.kind)).1 same.1) in
+    let kind : d.kind ≡ e.kind = one_kind d.kind e.kind ((Decides-eqb (rank_of_kind d.kind) (rank_of_kind e.kind)).1 same.1) in
     ap (λ m. record { minute = m; kind = d.kind; level = d.level }) minute
     ∙ ap (λ k. record { minute = e.minute; kind = k; level = d.level }) kind
     ∙ ap (λ l. record { minute = e.minute; kind = e.kind; level = l }) level
@@ -208,7 +208,7 @@ ranked : (m : ℤ) (p : ℕ) (l n : ℤ) (q : ℕ) (k : ℤ)
     → is_lt (ordering_then (ordering_then (int_cmp m n) (nat_cmp p q)) (int_cmp l k)) ≡ before m p l n q k
 ranked m p l n q k =
     let minute = less-int m n in
-    let place = less-nat p q in
+    let kind_rank = less-nat p q in
     let level = (less-int l k).0 in
     rw (
       then-assoc (int_cmp m n) (nat_cmp p q) (int_cmp l k),
@@ -216,8 +216,8 @@ ranked m p l n q k =
       less-then (nat_cmp p q) (int_cmp l k),
       minute.0,
       minute.1,
-      place.0,
-      place.1,
+      kind_rank.0,
+      kind_rank.1,
       level,
     ) refl
 
@@ -235,7 +235,7 @@ partly-ranked m p l n q k =
 
 abbrev pub ranks_before : Event → Event → Bool
 ranks_before d e =
-    is_lt (ordering_then (ordering_then (int_cmp d.minute e.minute) (nat_cmp (place_of d.kind) (place_of e.kind)))
+    is_lt (ordering_then (ordering_then (int_cmp d.minute e.minute) (nat_cmp (rank_of_kind d.kind) (rank_of_kind e.kind)))
     (int_cmp d.level e.level))
 
 -- events sorted by their ranks are in order
@@ -244,5 +244,5 @@ sorted-is xs ys moves sorted =
     let up : IsSortedBy comes_before ys = λ k d low high.
     let x = get_or ys (k + 1) d in
     let y = get_or ys k d in
-    sym (ranked x.minute (place_of x.kind) x.level y.minute (place_of y.kind) y.level) ∙ sorted k d low high in
+    sym (ranked x.minute (rank_of_kind x.kind) x.level y.minute (rank_of_kind y.kind) y.level) ∙ sorted k d low high in
     ordered-is xs ys (far-ascending ys (sorted_far comes_before weak ys up)) (λ f. sym (sum_by-IsPermutation f xs ys moves))

@@ -8,7 +8,7 @@ use Rattle.curve_law.specs.declared.event.Event.{Event}
 use Rattle.curve_law.specs.declared.kind.Kind.{Kind}
 use Rattle.curve_law.specs.declared.kind.Kind.TheVariants.{High, Low, FloodBegins, EbbBegins, MarkRising, MarkFalling}
 use Rattle.curve_law.specs.declared.tracks.Tracks.{Tracks}
-use Rattle.curve_law.specs.Meaning.{Meaning}
+use Rattle.curve_law.specs.CurveSpec.{CurveSpec}
 use Rattle.curve_law.specs.Track.{Track, has_event, event_at, plain_list}
 use Rattle.curve_law.proofs.CoverLemmas.{by_test}
 use Rattle.curve_law.proofs.TrackLemmas.{plain_list-zero, plain_list-one, plain_list-suc}
@@ -120,13 +120,13 @@ within-lies begin end e h =
 abbrev pub Inside : Span → Event → Type 0
 Inside s e = is_within s.begin s.end e ≡ true
 
-over-inside : (s : Span) (c : Meaning) → s.begin ≤ℤ s.end → All (Inside s) (events_over s c)
+over-inside : (s : Span) (c : CurveSpec) → s.begin ≤ℤ s.end → All (Inside s) (events_over s c)
 over-inside s c forward =
     let end : s.begin +ℤ pos (span_minutes s) ≡ s.end = omega (arith, ints) in
     let lies = rw end at (plain_list-lies c.track s.begin (span_minutes s)) in
     All-weaker (LiesIn s.begin s.end) (Inside s) (within-tests s.begin s.end) (events_over s c) lies
 
-option-inside : (s : Span) (o : Option Meaning) → s.begin ≤ℤ s.end → All (Inside s) (flat_map (events_over s) (option_to_list o))
+option-inside : (s : Span) (o : Option CurveSpec) → s.begin ≤ℤ s.end → All (Inside s) (flat_map (events_over s) (option_to_list o))
 option-inside s None forward = All-nil (Inside s)
 option-inside s (Some c) forward = All-append (Inside s) (events_over s c) [] (over-inside s c forward) (All-nil (Inside s))
 

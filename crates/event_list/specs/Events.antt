@@ -26,7 +26,7 @@ use Rattle.curve_law.specs.declared.tracks.Tracks.{Tracks}
 use Rattle.curve_law.specs.declared.verdict.Verdict.TheVariants.{Accepted}
 use Rattle.curve_law.specs.Cells.{all_minutes, cell_events}
 use Rattle.curve_law.specs.Cover.{cover}
-use Rattle.curve_law.specs.Meaning.{Meaning, IsMinute, IsSpan, IsLawful}
+use Rattle.curve_law.specs.CurveSpec.{CurveSpec, IsMinute, IsSpan, IsLawful}
 use Rattle.curve_law.specs.Track.{plain_list}
 use Rattle.curve_law.specs.Verdicts.{verdict}
 use Rattle.harmonics_book.specs.declared.book.Units.{Units}
@@ -44,16 +44,16 @@ span_minutes s = unsigned_abs (s.end -ℤ s.begin)
 
 -- the curves of the requested tracks of a station: of high and low waters, of slack water, and of a mark
 pub record Followed : Type 0 where
-  pub turn : Meaning
-  pub slack : Option Meaning
-  pub mark : Option Meaning
+  pub turn : CurveSpec
+  pub slack : Option CurveSpec
+  pub mark : Option CurveSpec
 
 -- the requested curves as a list
-abbrev pub curves_of : Followed → List Meaning
+abbrev pub curves_of : Followed → List CurveSpec
 curves_of f = f.turn ∷ (option_to_list f.slack ++ option_to_list f.mark)
 
 -- the events of a curve after each minute of a span, found by looking at each minute
-abbrev pub events_over : Span → Meaning → List Event
+abbrev pub events_over : Span → CurveSpec → List Event
 events_over s c = plain_list c.track s.begin (span_minutes s)
 
 -- The events of a station from `begin` up to but not including `end`: the events of the reference's
@@ -80,7 +80,7 @@ cells_in t = sum_by length (tracks_of t)
 
 -- the cells of a curve over a span, made by halving its blocks until each part is quiet or a single
 -- minute
-abbrev pub cover_over : Span → Meaning → List Cell
+abbrev pub cover_over : Span → CurveSpec → List Cell
 cover_over s c = cover c s.begin (span_minutes s)
 
 -- the cells of each requested curve over a span, made by halving
@@ -104,7 +104,7 @@ pub record AreShort (t : Tracks) : Type 0 where
   pub mark : ForSome t.mark (λ cells. all_minutes cells ≤ 6000000)
 
 -- a lawful curve whose minutes include the span and the span's end
-pub record IsValidOver (s : Span) (c : Meaning) : Type 0 where
+pub record IsValidOver (s : Span) (c : CurveSpec) : Type 0 where
   pub lawful : IsLawful c
   pub span : IsSpan c s.begin (span_minutes s)
 
@@ -116,7 +116,7 @@ pub record AreValidOver (f : Followed) (s : Span) : Type 0 where
 
 -- at each minute of a curve, the level of an event is at most 11,000,000,000 millionths of the unit in
 -- size
-abbrev pub HasLevels : Meaning → Type 0
+abbrev pub HasLevels : CurveSpec → Type 0
 HasLevels c = (m : ℤ) → IsMinute c m → unsigned_abs (c.track.note m) ≤ 11000000000
 
 -- at each minute of each requested curve, the level of an event is at most 11,000,000,000 millionths of
@@ -128,7 +128,7 @@ pub record AllHaveLevels (f : Followed) : Type 0 where
 
 -- a track is present exactly if its curve is requested, and the verdict on its cells over the span is
 -- Accepted
-abbrev pub IsAccepted : Span → Option Meaning → Option (List Cell) → Type 0
+abbrev pub IsAccepted : Span → Option CurveSpec → Option (List Cell) → Type 0
 IsAccepted s None None = Unit {0}
 IsAccepted s None (Some cells) = ⊥
 IsAccepted s (Some c) None = ⊥
@@ -142,7 +142,7 @@ pub record AreAccepted (f : Followed) (s : Span) (t : Tracks) : Type 0 where
   pub mark : IsAccepted s f.mark t.mark
 
 -- in this unit the events of a curve have names, both the rising and the falling ones
-pub record IsNamed (units : Units) (c : Meaning) : Type 0 where
+pub record IsNamed (units : Units) (c : CurveSpec) : Type 0 where
   pub rising : IsTrue (has_word units c.track.rising)
   pub falling : IsTrue (has_word units c.track.falling)
 

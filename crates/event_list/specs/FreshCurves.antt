@@ -6,6 +6,6 @@ use Rattle.event_list.specs.declared.span.Span.{Span}
 -- the curve has a value at each minute of the span and at its end, and hasn't been evaluated yet
 pub record IsFreshOver (span : Span) (curve : CurveState) : Type 0 where
   pub forward : span.begin ≤ℤ span.end
-  pub first : curve.facts.meaning.first ≤ℤ span.begin
-  pub last : span.end ≤ℤ curve.facts.meaning.last
+  pub first : curve.curve_model.curve_spec.first ≤ℤ span.begin
+  pub last : span.end ≤ℤ curve.curve_model.curve_spec.last
   pub fresh : curve.count ≡ 0

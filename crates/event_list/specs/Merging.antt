@@ -13,7 +13,7 @@ use Rattle.event_list.specs.Order.{comes_before}
 
 -- a search of a merge: its pending event, which was found but not yet returned, the minute that it has
 -- reached, and its remaining cells
-pub record Waiting : Type 0 where
+pub record Pending : Type 0 where
   pub found : Option Event
   pub at : ℤ
   pub cells : List Cell
@@ -26,17 +26,17 @@ minute_of (Some search) = search.at
 -- the remaining cells of a search; none without a search
 abbrev pub cells_of : {C : Type 0} → Option (Looking C) → List Cell
 cells_of None = []
-cells_of (Some search) = search.left
+cells_of (Some search) = search.remaining
 
 -- the state of a search in a merge, with this pending event
-abbrev pub waiting : {C : Type 0} → Option Event → Option (Looking C) → Waiting
-waiting found search = record { found = found; at = minute_of search; cells = cells_of search }
+abbrev pub pending : {C : Type 0} → Option Event → Option (Looking C) → Pending
+pending found search = record { found = found; at = minute_of search; cells = cells_of search }
 
 -- the states of the three searches of a merge
 pub record AllWaiting : Type 0 where
-  pub turn : Waiting
-  pub slack : Waiting
-  pub mark : Waiting
+  pub turn : Pending
+  pub slack : Pending
+  pub mark : Pending
 
 -- the number of remaining cells of all searches
 abbrev pub cells_to_come : AllWaiting → ℕ
@@ -46,7 +46,7 @@ cells_to_come w = length w.turn.cells + length w.slack.cells + length w.mark.cel
 
 -- a search at minute `a` with these remaining cells, after it has advanced up to and past the first
 -- cell with an event, or to its end
-unfoldable pub searched : ℤ → List Cell → Waiting
+unfoldable pub searched : ℤ → List Cell → Pending
 searched a [] = record { found = None; at = a; cells = [] }
 searched a (Quiet n ∷ cells) = searched (a +ℤ pos n) cells
 searched a (Still ∷ cells) = searched (a +ℤ pos 1) cells
@@ -58,17 +58,17 @@ searched a (Turn kind level ∷ cells) = record {
 
 -- a search with this pending event: unchanged, or, if there is none, after it has advanced to its next
 -- event
-abbrev pub looked_event : Option Event → Waiting → Waiting
+abbrev pub looked_event : Option Event → Pending → Pending
 looked_event None w = searched w.at w.cells
 looked_event (Some event) w = w
 
 -- a search after it has advanced to its next event, unless it has a pending one
-abbrev pub looked : Waiting → Waiting
+abbrev pub looked : Pending → Pending
 looked w = looked_event w.found w
 
 -- a search after its pending event was returned; it has not advanced
-abbrev pub given : Waiting → Waiting
-given w = record { found = None; at = w.at; cells = w.cells }
+abbrev pub without_event : Pending → Pending
+without_event w = record { found = None; at = w.at; cells = w.cells }
 
 -- the first event leads: the second one, if there is one, isn't listed before it
 abbrev pub leads : Option Event → Option Event → Bool
@@ -86,9 +86,9 @@ leading turn slack mark =
 
 -- the states after the first event of one track was returned
 abbrev pub given_from : Leading → AllWaiting → AllWaiting
-given_from leadings.Turn w = record { turn = given w.turn; slack = w.slack; mark = w.mark }
-given_from leadings.Slack w = record { turn = w.turn; slack = given w.slack; mark = w.mark }
-given_from leadings.Mark w = record { turn = w.turn; slack = w.slack; mark = given w.mark }
+given_from leadings.Turn w = record { turn = without_event w.turn; slack = w.slack; mark = w.mark }
+given_from leadings.Slack w = record { turn = w.turn; slack = without_event w.slack; mark = w.mark }
+given_from leadings.Mark w = record { turn = w.turn; slack = w.slack; mark = without_event w.mark }
 
 -- a step of a merge: it advances each search without a pending event to its next one, and returns the
 -- first of the three
@@ -102,22 +102,22 @@ stepped w =
 -- a merge: the remaining events in order, the states of its searches, the number of cells that these
 -- have returned until now, and the number of all their cells
 pub record Merging : Type 0 where
-  pub left : List Event
-  pub waiting : AllWaiting
+  pub remaining : List Event
+  pub pending : AllWaiting
   pub cells : ℕ
   pub all : ℕ
 
 -- the remaining cells of a search, if there is a search
 abbrev pub cells_left : {C : Type 0} → Option (Looking C) → Option (List Cell)
 cells_left None = None
-cells_left (Some search) = Some search.left
+cells_left (Some search) = Some search.remaining
 
 -- the remaining cells of the three searches, as tracks
 abbrev pub tracks_left : {A B : Type 0} → Looking A → Option (Looking B) → Option (Looking B) → Tracks
-tracks_left turn slack mark = record { turn = turn.left; slack = cells_left slack; mark = cells_left mark }
+tracks_left turn slack mark = record { turn = turn.remaining; slack = cells_left slack; mark = cells_left mark }
 
 -- a step of a merge returns the first of the remaining events, or None if no event remains; then the
 -- searches have returned all cells
 abbrev pub ReturnsNext : Merging → Option Event → Merging → Type 0
-ReturnsNext old None new = (old.left ≡ []) × (new.left ≡ []) × (new.cells ≡ new.all)
-ReturnsNext old (Some event) new = old.left ≡ event ∷ new.left
+ReturnsNext old None new = (old.remaining ≡ []) × (new.remaining ≡ []) × (new.cells ≡ new.all)
+ReturnsNext old (Some event) new = old.remaining ≡ event ∷ new.remaining

@@ -2,7 +2,7 @@
 use Rattle.std.specs.Prelude.{Bool, ◌&&◌, ◌||◌, ◌==◌, nat_lt, int_lt, if◌then◌else◌, List, [], ◌∷◌}
 use Rattle.std.specs.Ordering.{int_eq}
 use Rattle.curve_law.specs.declared.event.Event.{Event}
-use Rattle.curve_law.specs.Verdicts.{place_of}
+use Rattle.curve_law.specs.Verdicts.{rank_of_kind}
 
 -- one event is listed before another: at an earlier minute, or at the same minute with a kind of lower
 -- rank, or with the same kind at a lower level
@@ -10,8 +10,8 @@ abbrev pub comes_before : Event → Event → Bool
 comes_before d e =
     int_lt d.minute e.minute
     || (int_eq d.minute e.minute
-    && (nat_lt (place_of d.kind) (place_of e.kind)
-    || (place_of d.kind == place_of e.kind && int_lt d.level e.level)))
+    && (nat_lt (rank_of_kind d.kind) (rank_of_kind e.kind)
+    || (rank_of_kind d.kind == rank_of_kind e.kind && int_lt d.level e.level)))
 
 -- inserts an event into events that are in the order in which they are listed
 unfoldable pub with_event : Event → List Event → List Event

@@ -2,7 +2,7 @@
 
 ghost use Rattle.std.specs.Prelude.{◌≡◌, ◌+◌, ◌^◌, ◌<◌, ◌≤◌, drop, length, [], None, option_to_list};
 ghost use Rattle.curve_law.specs.Cells.{event_in};
-ghost use Rattle.event_list.specs.Merging.{given, looked, waiting};
+ghost use Rattle.event_list.specs.Merging.{without_event, looked, pending};
 ghost use Rattle.event_list.specs.Workings.Coming.{cells_ahead, searched_by, FindsNext, ReturnsEvent};
 
 use curve_law::{Cell, Curve, Event};
@@ -18,24 +18,24 @@ use std::marker::Model;
 pub struct Coming<C: Curve> {
     search: Option<Search<C>>,
     event: Option<Event>,
-    given: u64,
+    cells_given: u64,
 }
 
 impl<C: Curve> Model for Coming<C> {
     ghost use Rattle.std.specs.Prelude.{◌+◌, ◌<◌, ◌^◌, ◌++◌, option_to_list};
-    ghost use Rattle.event_list.specs.Merging.{waiting};
+    ghost use Rattle.event_list.specs.Merging.{pending};
     ghost use Rattle.event_list.specs.Workings.Coming.{events_ahead, cells_ahead, Strand};
 
     ghost Value = { Strand };
 
     ghost view = { λ c. record {
-      left = option_to_list c.event ++ events_ahead c.search;
-      waiting = waiting c.event c.search;
-      cells = c.given;
-      all = c.given + cells_ahead c.search;
+      remaining = option_to_list c.event ++ events_ahead c.search;
+      pending = pending c.event c.search;
+      cells = c.cells_given;
+      all = c.cells_given + cells_ahead c.search;
     } };
 
-    ghost invariant = { λ c. c.given + cells_ahead c.search < 2 ^ 64 };
+    ghost invariant = { λ c. c.cells_given + cells_ahead c.search < 2 ^ 64 };
 }
 
 impl<C: Curve> Coming<C> {
@@ -44,8 +44,8 @@ impl<C: Curve> Coming<C> {
     /// Returns the events in the remaining cells of `search`, which may have advanced already; no event
     /// without a search.
     pub fn new(search: Option<Search<C>>) -> Coming<C>
-        ensures left { result.left ≡ events_ahead search }
-        ensures waiting { result.waiting ≡ waiting None search }
+        ensures remaining { result.remaining ≡ events_ahead search }
+        ensures pending { result.pending ≡ pending None search }
         ensures cells { result.cells ≡ 0 }
         ensures all { result.all ≡ cells_ahead search }
         ensures few { cells_ahead search ≤ 2 ^ 61 }
@@ -54,25 +54,25 @@ impl<C: Curve> Coming<C> {
         Coming {
             search,
             event: None,
-            given: 0,
+            cells_given: 0,
         }
     }
 
     /// Returns the next event without removing it, or `None` if no event remains; then the search has
     /// returned all its cells. The search advances to its next event, if it hasn't yet.
     pub fn peek(&mut self) -> Option<Event>
-        ensures first { result ≡ first_of self.old.left }
-        ensures found { result ≡ (looked self.old.waiting).found }
-        ensures unchanged { self.new.left ≡ self.old.left }
-        ensures asked { self.new.waiting ≡ looked self.old.waiting }
+        ensures first { result ≡ first_of self.old.remaining }
+        ensures found { result ≡ (looked self.old.pending).found }
+        ensures unchanged { self.new.remaining ≡ self.old.remaining }
+        ensures asked { self.new.pending ≡ looked self.old.pending }
         ensures all { self.new.all ≡ self.old.all }
-        ensures counted { self.new.cells + length self.new.waiting.cells ≡ self.new.all }
-        ensures done { self.old.left ≡ [] → self.new.cells ≡ self.new.all }
+        ensures counted { self.new.cells + length self.new.pending.cells ≡ self.new.all }
+        ensures done { self.old.remaining ≡ [] → self.new.cells ≡ self.new.all }
     {
         match self.event {
             Some(event) => Some(event),
             None => {
-                self.event = next_event(&mut self.search, &mut self.given);
+                self.event = next_event(&mut self.search, &mut self.cells_given);
                 self.event
             }
         }
@@ -80,16 +80,16 @@ impl<C: Curve> Coming<C> {
 
     /// Removes and returns the next event, or returns `None` if no event remains.
     pub fn next(&mut self) -> Option<Event>
-        ensures first { result ≡ first_of self.old.left }
-        ensures rest { self.new.left ≡ drop 1 self.old.left }
-        ensures asked { self.new.waiting ≡ given (looked self.old.waiting) }
+        ensures first { result ≡ first_of self.old.remaining }
+        ensures rest { self.new.remaining ≡ drop 1 self.old.remaining }
+        ensures asked { self.new.pending ≡ without_event (looked self.old.pending) }
         ensures all { self.new.all ≡ self.old.all }
-        ensures counted { self.new.cells + length self.new.waiting.cells ≡ self.new.all }
-        ensures done { self.old.left ≡ [] → self.new.cells ≡ self.new.all }
+        ensures counted { self.new.cells + length self.new.pending.cells ≡ self.new.all }
+        ensures done { self.old.remaining ≡ [] → self.new.cells ≡ self.new.all }
     {
         match self.event.take() {
             Some(event) => Some(event),
-            None => next_event(&mut self.search, &mut self.given),
+            None => next_event(&mut self.search, &mut self.cells_given),
         }
     }
 
@@ -97,7 +97,7 @@ impl<C: Curve> Coming<C> {
     pub fn cells(&self) -> u64
         ensures { result ≡ self.now.cells }
     {
-        self.given
+        self.cells_given
     }
 }
 
@@ -112,14 +112,14 @@ fn cells_are_few<C: Curve>(search: &Option<Search<C>>)
 
 /// Returns the next event of `search`, and counts the cells up to it.
 #[inline(never)]
-fn next_event<C: Curve>(search: &mut Option<Search<C>>, given: &mut u64) -> Option<Event>
-    requires { given.old + cells_ahead search.old < 2 ^ 64 }
+fn next_event<C: Curve>(search: &mut Option<Search<C>>, cells_given: &mut u64) -> Option<Event>
+    requires { cells_given.old + cells_ahead search.old < 2 ^ 64 }
     ensures event { ReturnsEvent search.old result search.new }
-    ensures asked { searched_by search.old ≡ waiting result search.new }
-    ensures cells { given.new + cells_ahead search.new ≡ given.old + cells_ahead search.old }
+    ensures asked { searched_by search.old ≡ pending result search.new }
+    ensures cells { cells_given.new + cells_ahead search.new ≡ cells_given.old + cells_ahead search.old }
 {
     while let Some(found) = next_found(search) {
-        *given += 1;
+        *cells_given += 1;
         if let Some(event) = event_in(found) {
             return Some(event);
         }

@@ -3,7 +3,7 @@
 ghost use Rattle.std.specs.Prelude.{◌≡◌, ◌+◌, Some, None};
 ghost use Rattle.std.specs.Option.{ForSome};
 ghost use Rattle.event_list.specs.Events.{merged_of, cells_in};
-ghost use Rattle.event_list.specs.Merging.{cells_to_come, stepped, tracks_left, waiting, ReturnsNext};
+ghost use Rattle.event_list.specs.Merging.{cells_to_come, stepped, tracks_left, pending, ReturnsNext};
 
 use crate::coming::Coming;
 use crate::leading::{Leading, leading_of};
@@ -41,9 +41,9 @@ impl<A: Curve, B: Curve> Merge<A, B> {
     pub fn new(turn: Search<A>, slack: Option<Search<B>>, mark: Option<Search<B>>) -> Merge<A, B>
         requires slack_at { ForSome slack (λ search. search.at ≡ turn.at) }
         requires mark_at { ForSome mark (λ search. search.at ≡ turn.at) }
-        ensures left { result.left ≡ merged_of turn.at (tracks_left turn slack mark) }
-        ensures waiting { result.waiting
-            ≡ record { turn = waiting None (Some turn); slack = waiting None slack; mark = waiting None mark } }
+        ensures remaining { result.remaining ≡ merged_of turn.at (tracks_left turn slack mark) }
+        ensures pending { result.pending
+            ≡ record { turn = pending None (Some turn); slack = pending None slack; mark = pending None mark } }
         ensures cells { result.cells ≡ 0 }
         ensures all { result.all ≡ cells_in (tracks_left turn slack mark) }
     {
@@ -58,7 +58,7 @@ impl<A: Curve, B: Curve> Merge<A, B> {
     /// cells. A search advances only if it has no pending event.
     pub fn next(&mut self) -> Option<Event>
         ensures next { ReturnsNext self.old result self.new }
-        ensures asked { self.new.waiting ≡ stepped self.old.waiting }
+        ensures asked { self.new.pending ≡ stepped self.old.pending }
         ensures all { self.new.all ≡ self.old.all }
     {
         let turn = self.turn.peek();
@@ -74,7 +74,7 @@ impl<A: Curve, B: Curve> Merge<A, B> {
     /// Returns the number of cells that the searches have returned since [`Merge::new`].
     pub fn cells(&self) -> u64
         ensures value { result ≡ self.now.cells }
-        ensures given { result + cells_to_come self.now.waiting ≡ self.now.all }
+        ensures cells_given { result + cells_to_come self.now.pending ≡ self.now.all }
     {
         self.turn.cells() + self.slack.cells() + self.mark.cells()
     }

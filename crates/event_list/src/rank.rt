@@ -1,21 +1,21 @@
 //! The order of events.
 
 ghost use Rattle.std.specs.Prelude.{◌≡◌};
-ghost use Rattle.curve_law.specs.Verdicts.{place_of};
+ghost use Rattle.curve_law.specs.Verdicts.{rank_of_kind};
 ghost use Rattle.event_list.specs.Order.{comes_before, ordered};
 
 use curve_law::{Event, Kind};
 
 /// Returns the key by which events are sorted: the minute, the rank of the kind, and the level.
 fn rank(event: &Event) -> (i64, u8, i64)
-    ensures { result ≡ record { 0 = event.now.minute; 1 = place_of event.now.kind; 2 = event.now.level } }
+    ensures { result ≡ record { 0 = event.now.minute; 1 = rank_of_kind event.now.kind; 2 = event.now.level } }
 {
-    (event.minute, place(event.kind), event.level)
+    (event.minute, kind_rank(event.kind), event.level)
 }
 
 /// Returns the rank of a kind among the events of one minute: its position among the variants.
-fn place(kind: Kind) -> u8
-    ensures { result ≡ place_of kind }
+fn kind_rank(kind: Kind) -> u8
+    ensures { result ≡ rank_of_kind kind }
 {
     kind as u8
 }

@@ -44,7 +44,7 @@ pub fn sines_are_approximate()
 /// Proves examples that another program computed: sines and cosines in billionths, of angles in units
 /// of 1/600,000,000 degree; bounds on the change of the sine; and fractions of a turn.
 #[tactic(auto, unfolding(crate::specs::Table::sines, crate::specs::Table::sine_at, crate::specs::Table::correction, crate::specs::Sine::scaled_between, crate::specs::Sine::quarter_of, crate::specs::Sine::half_of, crate::specs::Sine::isin_of, crate::specs::Sine::icos_of, crate::specs::Rate::step_of))]
-pub fn worked_rows()
+pub fn sample_sines()
     ensures at_zero { isin_of 0 ≡ pos 0 }
     ensures half_a_degree { isin_of 300000000 ≡ pos 8726535 }
     ensures fourteen_and_a_half { isin_of 8700000000 ≡ pos 250380003 }

@@ -23,7 +23,7 @@ pub use approximate::{APPROXIMATE_ERROR, approximate_sine};
 pub use binary_angle::{QUARTER_CIRCLE, binary_angle_of, binary_angle_sine};
 pub use circle::{CIRCLE, DEGREE, RADIAN, reduce};
 pub use laws::{
-    sine_rates, sine_sizes, sines_are_approximate, table_checks, worked_parts, worked_rows,
+    sample_sines, sine_rates, sine_sizes, sines_are_approximate, table_checks, worked_parts,
 };
 pub use rate::step;
 pub use sine::{icos, isin};

@@ -55,35 +55,35 @@ abbrev pub left_with : Option Book → Left
 left_with (Some b) = Ok b
 left_with None = Err None
 
-table_ends : (s : Scale) (h : Heading) (t : Table) → t.place < length h.constituents → rest_of_table s h t [] ≡ Err None
+table_ends : (s : Scale) (h : Heading) (t : Table) → t.index < length h.constituents → rest_of_table s h t [] ≡ Err None
 unfolding rest_of_table table values
 table_ends s h t lt =
-    let left_ends : (left : ℕ) → cond (ltb 0 left)
-    (values s left t.values [] >>= λ v. table s h.years (drop (suc t.place) h.constituents) v.0 v.1)
-    (table s h.years (drop t.place h.constituents) t.values []) ≡ Err None =
-    λ left. elim left as (λ (left : ℕ). cond (ltb 0 left) (values s left t.values [] >>= λ v. table s h.years
-    (drop (suc t.place) h.constituents) v.0 v.1) (table s h.years (drop t.place h.constituents) t.values []) ≡ Err None)
-    [ zero ↦ rw (drop-cons h.constituents t.place unnamed lt) refl | suc more ↦ rw (lt-ltb 0 (suc more) (omega arith)) refl ] in
-    left_ends t.left
+    let left_ends : (remaining : ℕ) → cond (ltb 0 remaining)
+    (values s remaining t.values [] >>= λ v. table s h.years (drop (suc t.index) h.constituents) v.0 v.1)
+    (table s h.years (drop t.index h.constituents) t.values []) ≡ Err None =
+    λ remaining. elim remaining as (λ (remaining : ℕ). cond (ltb 0 remaining) (values s remaining t.values [] >>= λ v. table s h.years
+    (drop (suc t.index) h.constituents) v.0 v.1) (table s h.years (drop t.index h.constituents) t.values []) ≡ Err None)
+    [ zero ↦ rw (drop-cons h.constituents t.index unnamed lt) refl | suc more ↦ rw (lt-ltb 0 (suc more) (omega arith)) refl ] in
+    left_ends t.remaining
 
-constituents_end : (left : ℕ) (cs : List Rattle.harmonics_book.specs.declared.book.Constituent.Constituent) → 1 ≤ left
-    → constituents left cs [] ≡ Err None
+constituents_end : (remaining : ℕ) (cs : List Rattle.harmonics_book.specs.declared.book.Constituent.Constituent) → 1 ≤ remaining
+    → constituents remaining cs [] ≡ Err None
 unfolding constituents
 constituents_end zero cs some = absurd (omega (arith, some))
-constituents_end (suc left) cs some = refl
+constituents_end (suc remaining) cs some = refl
 
 record_ends : (b : Book) (r : Record) → IsBookParser (parsing.Stations b r) → resume_record b r [] ≡ left_with (book_at b r)
 unfolding resume_record resume_stations stations name_then local_time_then station_then constants_then
 record_ends b records.Nothing h = refl
 record_ends b (records.Name name) h = refl
-record_ends b (records.LocalTime name place) h = refl
+record_ends b (records.LocalTime name index) h = refl
 record_ends b (records.Constants c) h = rw (at_pair b.constituents c.amplitude c.epoch [] h.1.1.some_left) refl
 
 pub resume_end : (d : BookParser) → IsBookParser d → resume d [] ≡ left_with (book_in d)
 unfolding resume resume_count resume_constituents resume_first_year resume_years resume_angles resume_first_end
     resume_years_again resume_factors resume_second_end
 resume_end parsing.Count h = refl
-resume_end (parsing.Constituents left earlier) h = rw (constituents_end left earlier h.0) refl
+resume_end (parsing.Constituents remaining earlier) h = rw (constituents_end remaining earlier h.0) refl
 resume_end (parsing.FirstYear cs) h = refl
 resume_end (parsing.Years cs year) h = refl
 resume_end (parsing.Angles h t) facts = rw (table_ends Angle h t facts.1) refl

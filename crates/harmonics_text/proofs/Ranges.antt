@@ -20,7 +20,7 @@ use Rattle.harmonics_text.specs.declared.local_time.LocalTime.{LocalTime}
 use Rattle.harmonics_book.specs.declared.book.Units.{Units}
 use Rattle.harmonics_book.specs.Books.{IsWithin, IsName, IsLatinNameByte, IsConstituent}
 use Rattle.decimal_text.specs.Expected.{◌>>=◌}
-use Rattle.harmonics_text.specs.Rules.{or_fault, in_scale, number_of, least_of, most_of, from_to, count_of, first_year_of, whole_of, is_latin_name_byte, name_of, new_name_of, is_absent, is_end, has_name, constituent_from, constituent_of, local_time_from, local_time_of, meridian_of, clock_of, minutes_of, zone_of, datum_of, pair_from, pair_of, units_of, if_true, is_name, is_colon, two_digits_of}
+use Rattle.harmonics_text.specs.Rules.{or_fault, in_scale, parse_number, least_of, most_of, from_to, count_of, first_year_of, whole_of, is_latin_name_byte, name_of, new_name_of, is_absent, is_end, has_name, constituent_from, constituent_of, local_time_from, local_time_of, meridian_of, clock_of, minutes_of, zone_of, datum_of, pair_from, pair_of, units_of, if_true, is_name, is_colon, two_digits_of}
 
 -- the value of a step that did not fail
 pub bind_ok : {A B E : Type 0} (r : Result A E) (f : A → Result B E) (y : B) → (r >>= f) ≡ Ok y → (x : A) × (r ≡ Ok x) × (f x ≡ Ok y)
@@ -65,8 +65,8 @@ in_scale_within s (Err decimals.BadForm) n e = absurd cc
 in_scale_within s (Err decimals.TooLong) n e = absurd cc
 in_scale_within s (Err decimals.TooFine) n e = absurd cc
 
-pub number_within : (s : Scale) (text : List ℕ) (n : ℤ) → number_of s text ≡ Ok n → IsWithin (least_of s) (most_of s) n
-unfolding number_of
+pub number_within : (s : Scale) (text : List ℕ) (n : ℤ) → parse_number s text ≡ Ok n → IsWithin (least_of s) (most_of s) n
+unfolding parse_number
 number_within s text n e = in_scale_within s _ n e
 
 from_to_within : (least most : ℕ) (why : Why) (m n : ℕ) → from_to least most why m ≡ Ok n → (least ≤ n) × (n ≤ most)
@@ -126,7 +126,7 @@ constituent_valid earlier [] c e = absurd cc
 constituent_valid earlier (first ∷ rest) c e =
     let b = bind_ok (new_name_of earlier first) _ c e in
     let d = bind_ok (or_fault _ (only rest)) _ c b.2 in
-    let n = bind_ok (number_of Speed d.0) _ c d.2 in
+    let n = bind_ok (parse_number Speed d.0) _ c d.2 in
     rw (← ok_is _ c n.2) record { name = new_name_valid earlier first b.0 b.1; speed = number_within Speed d.0 n.0 n.1 }
 
 pub IsConstituent-of : (earlier : List Constituent) (text : List ℕ) (c : Constituent) → constituent_of earlier text ≡ Ok c → IsConstituent c
@@ -190,7 +190,7 @@ pub datum_valid : (text : List ℕ) (d : ℤ × Units) → datum_of text ≡ Ok 
 unfolding datum_of
 datum_valid text d e =
     let b = bind_ok (or_fault BadUnits (only_two (tokens text))) _ d e in
-    let n = bind_ok (number_of Height b.0.0) _ d b.2 in
+    let n = bind_ok (parse_number Height b.0.0) _ d b.2 in
     let u = bind_ok (units_of b.0.1) _ d n.2 in
     rw (← ok_is _ d u.2) (number_within Height b.0.0 n.0 n.1)
 
@@ -214,8 +214,8 @@ pair_from_valid name [] p e = absurd cc
 pair_from_valid name (first ∷ rest) p e =
     let k = bind_ok (if_true (is_absent first || is_name first name) WrongConstituent) _ p e in
     let b = bind_ok (or_fault BadNumber (only_two rest)) _ p k.2 in
-    let a = bind_ok (number_of Height b.0.0) _ p b.2 in
-    let g = bind_ok (number_of Angle b.0.1) _ p a.2 in
+    let a = bind_ok (parse_number Height b.0.0) _ p b.2 in
+    let g = bind_ok (parse_number Angle b.0.1) _ p a.2 in
     rw (← ok_is _ p g.2) (either_pair (is_absent first)
     (a.0, g.0) record { amplitude = number_within Height b.0.0 a.0 a.1; epoch = number_within Angle b.0.1 g.0 g.1 })
 

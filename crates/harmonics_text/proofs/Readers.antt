@@ -181,7 +181,7 @@ some_is b c e = cc
 book_in_valid : (d : BookParser) (b : Book) → IsBookParser d → book_in d ≡ Some b → IsBook b
 book_in_valid (parsing.Stations b records.Nothing) c valid e = rw (← some_is b c e) valid.0
 book_in_valid (parsing.Stations b (records.Name name)) c valid e = absurd cc
-book_in_valid (parsing.Stations b (records.LocalTime name place)) c valid e = absurd cc
+book_in_valid (parsing.Stations b (records.LocalTime name index)) c valid e = absurd cc
 book_in_valid (parsing.Stations b (records.Constants constants)) c valid e = absurd cc
 book_in_valid _ c valid e = absurd cc
 

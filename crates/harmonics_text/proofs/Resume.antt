@@ -48,7 +48,7 @@ unfoldable pub resume_first_year : List Constituent → List Line → Left
 resume_first_year cs ls = one first_year_of ls >>= λ y. resume_years cs y.0 y.1
 
 unfoldable pub resume_constituents : ℕ → List Constituent → List Line → Left
-resume_constituents left earlier ls = constituents left earlier ls >>= λ c. resume_first_year c.0 c.1
+resume_constituents remaining earlier ls = constituents remaining earlier ls >>= λ c. resume_first_year c.0 c.1
 
 unfoldable pub resume_count : List Line → Left
 resume_count ls = one count_of ls >>= λ k. resume_constituents k.0 [] k.1
@@ -56,8 +56,8 @@ resume_count ls = one count_of ls >>= λ k. resume_constituents k.0 [] k.1
 -- a table that is read in part
 unfoldable pub rest_of_table : Scale → Heading → Table → Part (List ℤ)
 rest_of_table s h t ls =
-    if nat_lt 0 t.left then (values s t.left t.values ls >>= λ v. table s h.years (drop (suc t.place) h.constituents) v.0 v.1)
-    else table s h.years (drop t.place h.constituents) t.values ls
+    if nat_lt 0 t.remaining then (values s t.remaining t.values ls >>= λ v. table s h.years (drop (suc t.index) h.constituents) v.0 v.1)
+    else table s h.years (drop t.index h.constituents) t.values ls
 
 unfoldable pub resume_angles : Heading → Table → List Line → Left
 resume_angles h t ls = rest_of_table Angle h t ls >>= λ a. resume_first_end h a.0 a.1
@@ -75,8 +75,8 @@ unfoldable pub constants_then : Constants → Result ((List ℤ × List ℤ) × 
 constants_then c r = r >>= λ p. Ok (station_of (record c { amplitude = p.0.0; epoch = p.0.1 }), p.1)
 
 unfoldable pub local_time_then : List Constituent → List ℕ → LocalTime → List Line → Result (Station × List Line) (Option At)
-local_time_then cs name place ls = one datum_of ls >>= λ d. pairs cs [] [] d.1 >>= λ p. Ok (
-  record { name = name; meridian = place.meridian; zone = place.zone; datum = d.0.0; units = d.0.1; amplitude = p.0.0; epoch = p.0.1 },
+local_time_then cs name index ls = one datum_of ls >>= λ d. pairs cs [] [] d.1 >>= λ p. Ok (
+  record { name = name; meridian = index.meridian; zone = index.zone; datum = d.0.0; units = d.0.1; amplitude = p.0.0; epoch = p.0.1 },
   p.1,
 )
 
@@ -86,13 +86,13 @@ name_then cs name ls = one local_time_of ls >>= λ p. local_time_then cs name p.
 unfoldable pub resume_record : Book → Record → List Line → Left
 resume_record b records.Nothing ls = resume_stations b ls
 resume_record b (records.Name name) ls = station_then b (name_then b.constituents name ls)
-resume_record b (records.LocalTime name place) ls = station_then b (local_time_then b.constituents name place ls)
+resume_record b (records.LocalTime name index) ls = station_then b (local_time_then b.constituents name index ls)
 resume_record b (records.Constants c) ls =
     station_then b (constants_then c (pairs (drop (length c.amplitude) b.constituents) c.amplitude c.epoch ls))
 
 unfoldable pub resume : BookParser → List Line → Left
 resume parsing.Count ls = resume_count ls
-resume (parsing.Constituents left earlier) ls = resume_constituents left earlier ls
+resume (parsing.Constituents remaining earlier) ls = resume_constituents remaining earlier ls
 resume (parsing.FirstYear cs) ls = resume_first_year cs ls
 resume (parsing.Years cs year) ls = resume_years cs year ls
 resume (parsing.Angles h t) ls = resume_angles h t ls

@@ -12,7 +12,7 @@ use Rattle.harmonics_text.specs.declared.book_parser.BookParser.{BookParser}
 use Rattle.harmonics_text.specs.declared.book_parser.BookParser.TheVariants as parsing
 use Rattle.decimal_text.specs.Decimal.{after_point, made_of, decimal_of, scaled, scaled_or_bad, read_of}
 use Rattle.harmonics_text.specs.Lines.{tokens}
-use Rattle.harmonics_text.specs.Rules.{in_scale, number_of, pair_from, pair_of}
+use Rattle.harmonics_text.specs.Rules.{in_scale, parse_number, pair_from, pair_of}
 use Rattle.harmonics_text.specs.Workings.BookParsing.{IsBookParser, after_pair, after_record, after_text, after_line}
 use Rattle.harmonics_text.specs.Workings.Readers.{has_lf, with_bytes}
 use Rattle.harmonics_text.specs.Workings.Absent.{absent_lines, with_absent, HasRead}
@@ -45,7 +45,7 @@ length-absent (suc n) = omega (arith, length-append (absent_lines n) absent_line
 -- ---- one line
 
 absent_pair : (name : List ℕ) → pair_of name (codes "x 0 0") ≡ Ok (pos 0, pos 0)
-unfolding pair_of pair_from tokens number_of in_scale read_of decimal_of after_point made_of scaled scaled_or_bad
+unfolding pair_of pair_from tokens parse_number in_scale read_of decimal_of after_point made_of scaled scaled_or_bad
 absent_pair name = refl
 
 abbrev at : Book → Constants → BookParser

@@ -51,8 +51,8 @@ one_then {A} rule n text ls k d h =
 abbrev line : ℕ → List ℕ → Line
 line n text = record { number = n; text = text }
 
-constituents_then : (left : ℕ) (cs : List Constituent) (ls : List Line)
-    → (constituents left cs ls >>= λ c. resume_first_year c.0 c.1) ≡ resume (with_constituents (suc left) cs) ls
+constituents_then : (remaining : ℕ) (cs : List Constituent) (ls : List Line)
+    → (constituents remaining cs ls >>= λ c. resume_first_year c.0 c.1) ≡ resume (with_constituents (suc remaining) cs) ls
 unfolding resume resume_constituents constituents
 constituents_then zero cs ls = refl
 constituents_then (suc more) cs ls =
@@ -77,17 +77,17 @@ passed_on : {A B E : Type 0} (r : Result A E) (ls : List Line) (g : A × List Li
 passed_on (Ok x) ls g = refl
 passed_on (Err e) ls g = refl
 
-step_constituent : (left : ℕ) (earlier : List Constituent) (n : ℕ) (text : List ℕ) (ls : List Line) → 1 ≤ left
-    → resume (parsing.Constituents left earlier) (line n text ∷ ls)
-    ≡ follow n ls (checked (after_constituent left earlier) text)
+step_constituent : (remaining : ℕ) (earlier : List Constituent) (n : ℕ) (text : List ℕ) (ls : List Line) → 1 ≤ remaining
+    → resume (parsing.Constituents remaining earlier) (line n text ∷ ls)
+    ≡ follow n ls (checked (after_constituent remaining earlier) text)
 unfolding resume resume_constituents constituents after_constituent
 step_constituent zero earlier n text ls some = absurd (omega (arith, some))
-step_constituent (suc left) earlier n text ls some =
-    bound (one (constituent_of earlier) (line n text ∷ ls)) (λ c. constituents left (earlier ++ c.0 ∷ []) c.1)
+step_constituent (suc remaining) earlier n text ls some =
+    bound (one (constituent_of earlier) (line n text ∷ ls)) (λ c. constituents remaining (earlier ++ c.0 ∷ []) c.1)
     (λ c. resume_first_year c.0 c.1)
-    ∙ one_then (constituent_of earlier) n text ls (λ c. constituents left (earlier ++ c.0 ∷ []) c.1
-    >>= λ c. resume_first_year c.0 c.1) (λ c. with_constituents (suc left) (earlier ++ c ∷ []))
-    (λ c. constituents_then left (earlier ++ c ∷ []) ls)
+    ∙ one_then (constituent_of earlier) n text ls (λ c. constituents remaining (earlier ++ c.0 ∷ []) c.1
+    >>= λ c. resume_first_year c.0 c.1) (λ c. with_constituents (suc remaining) (earlier ++ c ∷ []))
+    (λ c. constituents_then remaining (earlier ++ c ∷ []) ls)
 
 -- ---- the tables
 
@@ -95,109 +95,109 @@ not_zero : (n : ℕ) → eqb (suc n) 0 ≡ false
 not_zero n = ne_eqb (suc n) 0 (λ e. absurd (omega (arith, e)))
 
 -- the table after a line of values
-values_then : (s : Scale) (h : Heading) (place : ℕ) (left : ℕ) (done : List ℤ) (ls : List Line)
-    → (values s left done ls >>= λ v. table s h.years (drop (suc place) h.constituents) v.0 v.1)
-    ≡ rest_of_table s h (record { place = at_place left place; left = left; values = done }) ls
+values_then : (s : Scale) (h : Heading) (index : ℕ) (remaining : ℕ) (done : List ℤ) (ls : List Line)
+    → (values s remaining done ls >>= λ v. table s h.years (drop (suc index) h.constituents) v.0 v.1)
+    ≡ rest_of_table s h (record { index = at_place remaining index; remaining = remaining; values = done }) ls
 unfolding rest_of_table values
-values_then s h place zero done ls = rw (add-one place) refl
-values_then s h place (suc left) done ls =
-    let some : ltb 0 (suc left) ≡ true = lt-ltb 0 (suc left) (omega arith) in
-    let here : at_place (suc left) place ≡ place = rw (not_zero left) refl in
+values_then s h index zero done ls = rw (add-one index) refl
+values_then s h index (suc remaining) done ls =
+    let some : ltb 0 (suc remaining) ≡ true = lt-ltb 0 (suc remaining) (omega arith) in
+    let here : at_place (suc remaining) index ≡ index = rw (not_zero remaining) refl in
     rw (some, here) refl
 
 -- ---- a table
 
 -- the table after a name or values, if the state continues with it
 abbrev GoesOn : Scale → Heading → (List ℤ × List Line → Left) → (Table → BookParser) → Type 0
-GoesOn s h k d = (t : Table) (ls : List Line) → (1 ≤ t.left → t.place < length h.constituents)
+GoesOn s h k d = (t : Table) (ls : List Line) → (1 ≤ t.remaining → t.index < length h.constituents)
     → (rest_of_table s h t ls >>= k) ≡ resume (d t) ls
 
 unfoldable pub unnamed : Constituent
 unnamed = record { name = []; speed = pos 0 }
 
-at_name : (s : Scale) (h : Heading) (place : ℕ) (done : List ℤ) (ls : List Line) → place < length h.constituents
-    → table s h.years (drop place h.constituents) done ls
-    ≡ (one (named (get_or h.constituents place unnamed).name) ls >>= λ name. values s h.years done name.1
-    >>= λ more. table s h.years (drop (suc place) h.constituents) more.0 more.1)
+at_name : (s : Scale) (h : Heading) (index : ℕ) (done : List ℤ) (ls : List Line) → index < length h.constituents
+    → table s h.years (drop index h.constituents) done ls
+    ≡ (one (named (get_or h.constituents index unnamed).name) ls >>= λ name. values s h.years done name.1
+    >>= λ more. table s h.years (drop (suc index) h.constituents) more.0 more.1)
 unfolding table
-at_name s h place done ls lt = rw (drop-cons h.constituents place unnamed lt) refl
+at_name s h index done ls lt = rw (drop-cons h.constituents index unnamed lt) refl
 
-step_name : (s : Scale) (h : Heading) (place : ℕ) (done : List ℤ) (k : List ℤ × List Line → Left)
-    (d : Table → BookParser) (n : ℕ) (text : List ℕ) (ls : List Line) → GoesOn s h k d → place < length h.constituents
+step_name : (s : Scale) (h : Heading) (index : ℕ) (done : List ℤ) (k : List ℤ × List Line → Left)
+    (d : Table → BookParser) (n : ℕ) (text : List ℕ) (ls : List Line) → GoesOn s h k d → index < length h.constituents
     → 1 ≤ h.years
-    → (rest_of_table s h (record { place = place; left = 0; values = done }) (line n text ∷ ls) >>= k)
-    ≡ follow n ls (checked (λ u. after_table_line s h (record { place = place; left = 0; values = done }) u >>= λ t. Ok (d t)) text)
+    → (rest_of_table s h (record { index = index; remaining = 0; values = done }) (line n text ∷ ls) >>= k)
+    ≡ follow n ls (checked (λ u. after_table_line s h (record { index = index; remaining = 0; values = done }) u >>= λ t. Ok (d t)) text)
 unfolding rest_of_table after_table_line after_name unnamed
-step_name s h place done k d n text ls on lt some =
-    let name = (get_or h.constituents place unnamed).name in
-    let next : Table = record { place = place; left = h.years; values = done } in
-    let here : at_place h.years place ≡ place = elim h.years as (λ y. 1 ≤ y → at_place y place ≡ place)
+step_name s h index done k d n text ls on lt some =
+    let name = (get_or h.constituents index unnamed).name in
+    let next : Table = record { index = index; remaining = h.years; values = done } in
+    let here : at_place h.years index ≡ index = elim h.years as (λ y. 1 ≤ y → at_place y index ≡ index)
     [ zero ↦ λ h. absurd (omega (arith, h)) | suc y ↦ λ _. rw (not_zero y) refl ] some in
     let k1 = λ (x : Unit {0} × List Line). values s h.years done x.1
-    >>= λ more. table s h.years (drop (suc place) h.constituents) more.0 more.1 in
+    >>= λ more. table s h.years (drop (suc index) h.constituents) more.0 more.1 in
     let after : (k1 (tt, ls) >>= k) ≡ resume (d next) ls =
-    ap (λ (r : Result (List ℤ × List Line) (Option At)). r >>= k) (values_then s h place h.years done ls)
-    ∙ subst (λ (p : ℕ). (rest_of_table s h (record { place = p; left = h.years; values = done }) ls >>= k)
+    ap (λ (r : Result (List ℤ × List Line) (Option At)). r >>= k) (values_then s h index h.years done ls)
+    ∙ subst (λ (p : ℕ). (rest_of_table s h (record { index = p; remaining = h.years; values = done }) ls >>= k)
     ≡ resume (d next) ls) (sym here) (on next ls (λ _. lt)) in
-    ap (λ (r : Result (List ℤ × List Line) (Option At)). r >>= k) (at_name s h place done (line n text ∷ ls) lt)
+    ap (λ (r : Result (List ℤ × List Line) (Option At)). r >>= k) (at_name s h index done (line n text ∷ ls) lt)
     ∙ bound (one (named name) (line n text ∷ ls)) k1 k
     ∙ one_then (named name) n text ls (λ x. k1 x >>= k) (λ _. d next) (λ x. after)
     ∙ ap (λ (r : Result BookParser Why). follow n ls (cond (is_too_long text) (Err LineTooLong) r))
     (sym (bound (named name (without_cr text)) (λ _. Ok next) (λ t. Ok (d t))))
 
-step_values : (s : Scale) (h : Heading) (place left : ℕ) (done : List ℤ) (k : List ℤ × List Line → Left)
-    (d : Table → BookParser) (n : ℕ) (text : List ℕ) (ls : List Line) → GoesOn s h k d → place < length h.constituents
-    → (rest_of_table s h (record { place = place; left = suc left; values = done }) (line n text ∷ ls) >>= k) ≡ follow n
-    ls (checked (λ u. after_table_line s h (record { place = place; left = suc left; values = done }) u >>= λ t. Ok (d t)) text)
+step_values : (s : Scale) (h : Heading) (index remaining : ℕ) (done : List ℤ) (k : List ℤ × List Line → Left)
+    (d : Table → BookParser) (n : ℕ) (text : List ℕ) (ls : List Line) → GoesOn s h k d → index < length h.constituents
+    → (rest_of_table s h (record { index = index; remaining = suc remaining; values = done }) (line n text ∷ ls) >>= k) ≡ follow n
+    ls (checked (λ u. after_table_line s h (record { index = index; remaining = suc remaining; values = done }) u >>= λ t. Ok (d t)) text)
 unfolding rest_of_table after_table_line after_values values
-step_values s h place left done k d n text ls on lt =
-    let rule = λ (u : List ℕ). values_from s (suc left) done (tokens u) in
+step_values s h index remaining done k d n text ls on lt =
+    let rule = λ (u : List ℕ). values_from s (suc remaining) done (tokens u) in
     let k1 = λ (v : ℕ × List ℤ). values s v.0 v.1 ls in
-    let k2 = λ (v : List ℤ × List Line). table s h.years (drop (suc place) h.constituents) v.0 v.1 in
-    let next = λ (v : ℕ × List ℤ). let t : Table = record { place = at_place v.0 place; left = v.0; values = v.1 } in t in
-    let here : (l : ℕ) → 1 ≤ l → at_place l place < length h.constituents =
-    λ l. elim l as (λ l. 1 ≤ l → at_place l place < length h.constituents)
+    let k2 = λ (v : List ℤ × List Line). table s h.years (drop (suc index) h.constituents) v.0 v.1 in
+    let next = λ (v : ℕ × List ℤ). let t : Table = record { index = at_place v.0 index; remaining = v.0; values = v.1 } in t in
+    let here : (l : ℕ) → 1 ≤ l → at_place l index < length h.constituents =
+    λ l. elim l as (λ l. 1 ≤ l → at_place l index < length h.constituents)
     [ zero ↦ λ some. absurd (omega (arith, some)) | suc m ↦ λ _. rw (not_zero m) lt ] in
     let after : (v : ℕ × List ℤ) → ((k1 v >>= k2) >>= k) ≡ resume (d (next v)) ls =
-    λ v. ap (λ (r : Result (List ℤ × List Line) (Option At)). r >>= k) (values_then s h place v.0 v.1 ls) ∙ on (next v) ls (here v.0) in
+    λ v. ap (λ (r : Result (List ℤ × List Line) (Option At)). r >>= k) (values_then s h index v.0 v.1 ls) ∙ on (next v) ls (here v.0) in
     let r = at_line n (checked rule text) in
     let g = λ (x : (ℕ × List ℤ) × List Line). (values s x.0.0 x.0.1 x.1 >>= k2) >>= k in
-    let some : ltb 0 (suc left) ≡ true = lt-ltb 0 (suc left) (omega arith) in
+    let some : ltb 0 (suc remaining) ≡ true = lt-ltb 0 (suc remaining) (omega arith) in
     rw some (in_three r k1 k2 k ∙ passed_on r ls g ∙ one_then rule n text ls g (λ v. d (next v)) after
     ∙ ap (λ (r : Result BookParser Why). follow n ls (cond (is_too_long text) (Err LineTooLong) r))
     (sym (bound (rule (without_cr text)) (λ v. Ok (next v)) (λ t. Ok (d t)))))
 
 pub step_table : (s : Scale) (h : Heading) (t : Table) (k : List ℤ × List Line → Left) (d : Table → BookParser) (n : ℕ)
-    (text : List ℕ) (ls : List Line) → GoesOn s h k d → t.place < length h.constituents → 1 ≤ h.years
+    (text : List ℕ) (ls : List Line) → GoesOn s h k d → t.index < length h.constituents → 1 ≤ h.years
     → (rest_of_table s h t (line n text ∷ ls) >>= k) ≡ follow n ls (checked (λ u. after_table_line s h t u >>= λ t. Ok (d t)) text)
 step_table s h t k d n text ls on lt some =
-    let place = t.place in let done = t.values in
-    elim t.left as (λ (left : ℕ). (rest_of_table s h (record { place = place; left = left; values = done }) (line n text ∷ ls) >>= k)
-    ≡ follow n ls (checked (λ u. after_table_line s h (record { place = place; left = left; values = done }) u >>= λ t. Ok (d t)) text))
-    [ zero ↦ step_name s h place done k d n text ls on lt some | suc left ↦ step_values s h place left done k d n text ls on lt ]
+    let index = t.index in let done = t.values in
+    elim t.remaining as (λ (remaining : ℕ). (rest_of_table s h (record { index = index; remaining = remaining; values = done }) (line n text ∷ ls) >>= k)
+    ≡ follow n ls (checked (λ u. after_table_line s h (record { index = index; remaining = remaining; values = done }) u >>= λ t. Ok (d t)) text))
+    [ zero ↦ step_name s h index done k d n text ls on lt some | suc remaining ↦ step_values s h index remaining done k d n text ls on lt ]
 
 -- a table whose constituents are all read
-whole : (s : Scale) (h : Heading) (t : Table) (ls : List Line) → length h.constituents ≤ t.place
-    → (1 ≤ t.left → t.place < length h.constituents) → rest_of_table s h t ls ≡ Ok (t.values, ls)
+whole : (s : Scale) (h : Heading) (t : Table) (ls : List Line) → length h.constituents ≤ t.index
+    → (1 ≤ t.remaining → t.index < length h.constituents) → rest_of_table s h t ls ≡ Ok (t.values, ls)
 unfolding rest_of_table table
 whole s h t ls past open_place =
-    let none : t.left ≤ 0 = elim (cases_lt 0 t.left) [ inl some ↦ absurd (omega (arith, open_place some)) | inr le ↦ le ] in
-    rw (le-ltb 0 t.left none, drop_all t.place h.constituents past) refl
+    let none : t.remaining ≤ 0 = elim (cases_lt 0 t.remaining) [ inl some ↦ absurd (omega (arith, open_place some)) | inr le ↦ le ] in
+    rw (le-ltb 0 t.remaining none, drop_all t.index h.constituents past) refl
 
 angles_on : (h : Heading) → GoesOn Angle h (λ a. resume_first_end h a.0 a.1) (with_angles h)
 unfolding resume resume_angles
 angles_on h t ls open_place =
-    elim (cases_lt t.place (length h.constituents)) [
-      | inl lt ↦ rw (lt-ltb t.place (length h.constituents) lt) refl
-      | inr le ↦ rw (le-ltb t.place (length h.constituents) le, whole Angle h t ls le open_place) refl
+    elim (cases_lt t.index (length h.constituents)) [
+      | inl lt ↦ rw (lt-ltb t.index (length h.constituents) lt) refl
+      | inr le ↦ rw (le-ltb t.index (length h.constituents) le, whole Angle h t ls le open_place) refl
     ]
 
 factors_on : (h : Heading) (angles : List ℤ) → GoesOn Factor h (λ f. resume_second_end h angles f.0 f.1) (with_factors h angles)
 unfolding resume resume_factors
 factors_on h angles t ls open_place =
-    elim (cases_lt t.place (length h.constituents)) [
-      | inl lt ↦ rw (lt-ltb t.place (length h.constituents) lt) refl
-      | inr le ↦ rw (le-ltb t.place (length h.constituents) le, whole Factor h t ls le open_place) refl
+    elim (cases_lt t.index (length h.constituents)) [
+      | inl lt ↦ rw (lt-ltb t.index (length h.constituents) lt) refl
+      | inr le ↦ rw (le-ltb t.index (length h.constituents) le, whole Factor h t ls le open_place) refl
     ]
 
 -- a table before any line
@@ -263,20 +263,20 @@ step_name_of_station : (b : Book) (name : List ℕ) (n : ℕ) (text : List ℕ) 
 unfolding resume resume_record name_then after_record
 step_name_of_station b name n text ls =
     station_one b local_time_of n text ls (λ p. local_time_then b.constituents name p.0 p.1)
-    (λ place. parsing.Stations b (records.LocalTime name place)) (λ place. refl)
+    (λ index. parsing.Stations b (records.LocalTime name index)) (λ index. refl)
 
-step_local_time : (b : Book) (name : List ℕ) (place : LocalTime) (n : ℕ) (text : List ℕ) (ls : List Line)
-    → resume (parsing.Stations b (records.LocalTime name place)) (line n text ∷ ls)
-    ≡ follow n ls (checked (after_record b (records.LocalTime name place)) text)
+step_local_time : (b : Book) (name : List ℕ) (index : LocalTime) (n : ℕ) (text : List ℕ) (ls : List Line)
+    → resume (parsing.Stations b (records.LocalTime name index)) (line n text ∷ ls)
+    ≡ follow n ls (checked (after_record b (records.LocalTime name index)) text)
 unfolding resume resume_record local_time_then constants_then after_record
-step_local_time b name place n text ls =
+step_local_time b name index n text ls =
     station_one b datum_of n text ls
     (λ d. pairs b.constituents [] [] d.1 >>= λ p. Ok (
-      record { name = name; meridian = place.meridian; zone = place.zone; datum = d.0.0; units = d.0.1; amplitude = p.0.0; epoch = p.0.1 },
+      record { name = name; meridian = index.meridian; zone = index.zone; datum = d.0.0; units = d.0.1; amplitude = p.0.0; epoch = p.0.1 },
       p.1,
     ))
     (λ d. parsing.Stations b
-    (records.Constants (record { name = name; local_time = place; datum = d.0; units = d.1; amplitude = []; epoch = [] })))
+    (records.Constants (record { name = name; local_time = index; datum = d.0; units = d.1; amplitude = []; epoch = [] })))
     (λ d. refl)
 
 pub at_pair : (cs : List Constituent) (amplitude epoch : List ℤ) (ls : List Line) → length amplitude < length cs
@@ -325,7 +325,7 @@ step_record : (b : Book) (r : Record) (n : ℕ) (text : List ℕ) (ls : List Lin
 unfolding resume resume_record after_record
 step_record b records.Nothing n text ls h = step_nothing b n text ls
 step_record b (records.Name name) n text ls h = step_name_of_station b name n text ls
-step_record b (records.LocalTime name place) n text ls h = step_local_time b name place n text ls
+step_record b (records.LocalTime name index) n text ls h = step_local_time b name index n text ls
 step_record b (records.Constants c) n text ls h = step_constants b c n text ls h.1.1.some_left
 
 -- ---- any state
@@ -337,7 +337,7 @@ unfolding resume resume_record resume_count resume_first_year resume_years resum
     after_years_again after_factors
 step parsing.Count n text ls h =
     one_then count_of n text ls (λ k. resume_constituents k.0 [] k.1) (λ k. parsing.Constituents k []) (λ k. refl)
-step (parsing.Constituents left earlier) n text ls h = step_constituent left earlier n text ls h.0
+step (parsing.Constituents remaining earlier) n text ls h = step_constituent remaining earlier n text ls h.0
 step (parsing.FirstYear cs) n text ls h =
     one_then first_year_of n text ls (λ y. resume_years cs y.0 y.1) (λ y. parsing.Years cs y) (λ y. refl)
 step (parsing.Years cs year) n text ls h = one_then count_of n text ls _

@@ -17,7 +17,7 @@ use Rattle.std.specs.List.{fold}
 use Rattle.decimal_text.specs.Decimal.{Decimal, after_point, made_of, decimal_of, scaled, scaled_or_bad, read_of, signed}
 use Rattle.harmonics_text.specs.declared.scale.Scale.{Scale}
 use Rattle.harmonics_text.specs.Lines.{is_blank, is_visible, is_filled, tokens}
-use Rattle.harmonics_text.specs.Rules.{in_scale, number_of, places_of}
+use Rattle.harmonics_text.specs.Rules.{in_scale, parse_number, places_of}
 use Rattle.harmonics_text.specs.Workings.Plain.{IsFirstNumber, ends_token}
 use Rattle.harmonics_text.proofs.Cutting.{position_some, tokens_skip}
 
@@ -187,8 +187,8 @@ text_read : (text : List ℕ) (places n : ℕ) (d : Decimal) → decimal_of text
 unfolding read_of scaled_or_bad
 text_read text places n d is few kept number = rw is (scaled_is places n d few kept number)
 
-number_read : (s : Scale) (token : List ℕ) (v n : ℤ) → read_of token (places_of s) ≡ Ok v → in_scale s (Ok v) ≡ Ok n → number_of s token ≡ Ok n
-unfolding number_of
+number_read : (s : Scale) (token : List ℕ) (v n : ℤ) → read_of token (places_of s) ≡ Ok v → in_scale s (Ok v) ≡ Ok n → parse_number s token ≡ Ok n
+unfolding parse_number
 number_read s token v n e h = rw e h
 
 -- ---- the first token

@@ -19,90 +19,90 @@ use Rattle.harmonics_text.specs.declared.record.Record.TheVariants as records
 use Rattle.harmonics_text.specs.declared.book_parser.BookParser.{BookParser}
 use Rattle.harmonics_text.specs.declared.book_parser.BookParser.TheVariants as parsing
 use Rattle.harmonics_book.specs.Books.{IsWithin, IsConstituent, IsStation, IsBook}
-use Rattle.harmonics_text.specs.Rules.{number_of, least_of, most_of, count_of, first_year_of, name_of, constituent_of, values_from, named, end_of, same_count_of, station_name_of, local_time_of, datum_of, pair_of}
+use Rattle.harmonics_text.specs.Rules.{parse_number, least_of, most_of, count_of, first_year_of, name_of, constituent_of, values_from, named, end_of, same_count_of, station_name_of, local_time_of, datum_of, pair_of}
 use Rattle.harmonics_text.specs.Workings.BookParsing.{IsHeading, AreValues, IsAngles, IsFactors, IsTable, AreConstants, IsBookParser, station_of, at_place, after_values, after_name, after_table_line, new_table, with_constituents, with_angles, with_factors, with_pair, after_count, after_constituent, after_years, after_angles, after_years_again, after_factors, after_nothing, after_pair, after_record, after_text, after_line, new_book}
 use Rattle.harmonics_text.proofs.Ranges.{bind_ok, ok_is, unless, number_within, count_within, first_year_within, name_valid, IsConstituent-of, local_time_of_valid, datum_valid, IsPair, pair_valid}
 
 -- ---- the values of a line
 
-values_valid : (s : Scale) (left : ℕ) (values : List ℤ) (tokens : List (List ℕ)) (v : ℕ × List ℤ)
-    → All (IsWithin (least_of s) (most_of s)) values → values_from s left values tokens ≡ Ok v
-    → All (IsWithin (least_of s) (most_of s)) v.1 × (length v.1 + v.0 ≡ length values + left)
+values_valid : (s : Scale) (remaining : ℕ) (values : List ℤ) (tokens : List (List ℕ)) (v : ℕ × List ℤ)
+    → All (IsWithin (least_of s) (most_of s)) values → values_from s remaining values tokens ≡ Ok v
+    → All (IsWithin (least_of s) (most_of s)) v.1 × (length v.1 + v.0 ≡ length values + remaining)
 unfolding values_from
-values_valid s left values [] v all e = rw (← ok_is (left, values) v e) (all, refl)
+values_valid s remaining values [] v all e = rw (← ok_is (remaining, values) v e) (all, refl)
 values_valid s zero values (token ∷ more) v all e = absurd cc
-values_valid s (suc left) values (token ∷ more) v all e =
-    let b = bind_ok (number_of s token) _ v e in
-    let r = values_valid s left (values ++ b.0 ∷ []) more v
+values_valid s (suc remaining) values (token ∷ more) v all e =
+    let b = bind_ok (parse_number s token) _ v e in
+    let r = values_valid s remaining (values ++ b.0 ∷ []) more v
     (All-push (IsWithin (least_of s) (most_of s)) values b.0 all (number_within s token b.0 b.1)) b.2 in
     (r.0, omega (arith, r.1, length-append values (b.0 ∷ [])))
 
 -- ---- tables
 
--- a table after values of a constituent of which `left` are still to come
-table_at : (s : Scale) (h : Heading) (place left : ℕ) (values : List ℤ) → place < length h.constituents
-    → length values + left ≡ place * h.years + h.years → All (IsWithin (least_of s) (most_of s)) values
+-- a table after values of a constituent of which `remaining` are still to come
+table_at : (s : Scale) (h : Heading) (index remaining : ℕ) (values : List ℤ) → index < length h.constituents
+    → length values + remaining ≡ index * h.years + h.years → All (IsWithin (least_of s) (most_of s)) values
     → IsTable (least_of s) (most_of s) (length h.constituents) h.years
-    (record { place = at_place left place; left = left; values = values })
-table_at s h place zero values lt count all = record {
+    (record { index = at_place remaining index; remaining = remaining; values = values })
+table_at s h index zero values lt count all = record {
   before = λ _. omega (arith, count);
   inside = λ some. absurd (omega (arith, some));
   here = λ some. absurd (omega (arith, some));
-  place = omega (arith, lt);
+  index = omega (arith, lt);
   each = all;
 }
-table_at s h place (suc left) values lt count all =
-    let here : at_place (suc left) place ≡ place = rw (ne_eqb (suc left) 0 (λ e. absurd (omega (arith, e)))) refl in
+table_at s h index (suc remaining) values lt count all =
+    let here : at_place (suc remaining) index ≡ index = rw (ne_eqb (suc remaining) 0 (λ e. absurd (omega (arith, e)))) refl in
     rw here record {
       before = λ none. absurd (omega (arith, none));
       inside = λ some. count;
       here = λ some. lt;
-      place = omega (arith, lt);
+      index = omega (arith, lt);
       each = all;
     }
 
 values_line_valid : (s : Scale) (h : Heading) (t u : Table) (text : List ℕ)
-    → IsTable (least_of s) (most_of s) (length h.constituents) h.years t → t.place < length h.constituents → 1 ≤ t.left
+    → IsTable (least_of s) (most_of s) (length h.constituents) h.years t → t.index < length h.constituents → 1 ≤ t.remaining
     → after_values s t text ≡ Ok u
     → IsTable (least_of s) (most_of s) (length h.constituents) h.years u
 unfolding after_values
 values_line_valid s h t u text valid lt some e =
-    let b = bind_ok (values_from s t.left t.values (tokens text)) _ u e in
-    let r = values_valid s t.left t.values (tokens text) b.0 valid.each b.1 in
-    let count : length b.0.1 + b.0.0 ≡ t.place * h.years + h.years = omega (arith, r.1, valid.inside some) in
-    rw (← ok_is _ u b.2) (table_at s h t.place b.0.0 b.0.1 lt count r.0)
+    let b = bind_ok (values_from s t.remaining t.values (tokens text)) _ u e in
+    let r = values_valid s t.remaining t.values (tokens text) b.0 valid.each b.1 in
+    let count : length b.0.1 + b.0.0 ≡ t.index * h.years + h.years = omega (arith, r.1, valid.inside some) in
+    rw (← ok_is _ u b.2) (table_at s h t.index b.0.0 b.0.1 lt count r.0)
 
 name_line_valid : (s : Scale) (h : Heading) (t u : Table) (name text : List ℕ)
-    → IsTable (least_of s) (most_of s) (length h.constituents) h.years t → t.place < length h.constituents → t.left ≡ 0
+    → IsTable (least_of s) (most_of s) (length h.constituents) h.years t → t.index < length h.constituents → t.remaining ≡ 0
     → after_name t h.years name text ≡ Ok u
     → IsTable (least_of s) (most_of s) (length h.constituents) h.years u
 unfolding after_name
 name_line_valid s h t u name text valid lt none e =
     let b = bind_ok (named name text) _ u e in
     rw (← ok_is _ u b.2) record {
-      before = λ z. omega (arith, valid.before none, ap (λ k. t.place * k) z);
+      before = λ z. omega (arith, valid.before none, ap (λ k. t.index * k) z);
       inside = λ some. omega (arith, valid.before none);
       here = λ some. lt;
-      place = omega (arith, lt);
+      index = omega (arith, lt);
       each = valid.each;
     }
 
 pub table_line_valid : (s : Scale) (h : Heading) (t u : Table) (text : List ℕ)
-    → IsTable (least_of s) (most_of s) (length h.constituents) h.years t → t.place < length h.constituents
+    → IsTable (least_of s) (most_of s) (length h.constituents) h.years t → t.index < length h.constituents
     → after_table_line s h t text ≡ Ok u
     → IsTable (least_of s) (most_of s) (length h.constituents) h.years u
 unfolding after_table_line
 table_line_valid s h t u text valid lt e =
-    elim (cases_lt 0 t.left) [
-      | inl some ↦ values_line_valid s h t u text valid lt some (rw (lt-ltb 0 t.left some) at e)
-      | inr none ↦ name_line_valid s h t u _ text valid lt (omega arith) (rw (le-ltb 0 t.left none) at e)
+    elim (cases_lt 0 t.remaining) [
+      | inl some ↦ values_line_valid s h t u text valid lt some (rw (lt-ltb 0 t.remaining some) at e)
+      | inr none ↦ name_line_valid s h t u _ text valid lt (omega arith) (rw (le-ltb 0 t.remaining none) at e)
     ]
 
-whole_values : (least most : ℤ) (count years : ℕ) (t : Table) → IsTable least most count years t → count ≤ t.place
+whole_values : (least most : ℤ) (count years : ℕ) (t : Table) → IsTable least most count years t → count ≤ t.index
     → AreValues least most count years t.values
 whole_values least most count years t h le =
-    let at_end : t.place ≡ count = omega (arith, h.place) in
-    let none : t.left ≡ 0 = elim (cases_lt 0 t.left) [ inl lt ↦ absurd (omega (arith, h.here lt)) | inr empty ↦ omega arith ] in
+    let at_end : t.index ≡ count = omega (arith, h.index) in
+    let none : t.remaining ≡ 0 = elim (cases_lt 0 t.remaining) [ inl lt ↦ absurd (omega (arith, h.here lt)) | inr empty ↦ omega arith ] in
     record { all = h.before none ∙ ap (λ k. k * years) at_end; each = h.each }
 
 new_table_valid : (least most : ℤ) (count years : ℕ) → IsTable least most count years new_table
@@ -110,14 +110,14 @@ new_table_valid least most count years = record {
   before = λ _. omega arith;
   inside = λ some. absurd (omega (arith, some));
   here = λ some. absurd (omega (arith, some));
-  place = omega arith;
+  index = omega arith;
   each = λ k d lt. absurd (omega (arith, lt));
 }
 
 angles_valid : (h : Heading) (t : Table) → IsHeading h
     → IsTable (negsuc 7199999999) (pos 7200000000) (length h.constituents) h.years t → IsBookParser (with_angles h t)
 angles_valid h t heading valid =
-    elim (cases_lt t.place (length h.constituents)) [
+    elim (cases_lt t.index (length h.constituents)) [
       | inl lt ↦ rw (lt-ltb _ _ lt) (heading, lt, valid)
       | inr le ↦ rw (le-ltb _ _ le) (heading, whole_values _ _ _ _ t valid le)
     ]
@@ -125,19 +125,19 @@ angles_valid h t heading valid =
 factors_valid : (h : Heading) (angles : List ℤ) (t : Table) → IsHeading h → IsAngles h angles
     → IsTable (pos 0) (pos 10000000) (length h.constituents) h.years t → IsBookParser (with_factors h angles t)
 factors_valid h angles t heading before valid =
-    elim (cases_lt t.place (length h.constituents)) [
+    elim (cases_lt t.index (length h.constituents)) [
       | inl lt ↦ rw (lt-ltb _ _ lt) (heading, before, lt, valid)
       | inr le ↦ rw (le-ltb _ _ le) (heading, before, whole_values _ _ _ _ t valid le)
     ]
 
-constituents_valid : (left : ℕ) (earlier : List Constituent) (c : Constituent) → 1 ≤ left → left + length earlier ≤ 500
-    → All IsConstituent earlier → IsConstituent c → IsBookParser (with_constituents left (earlier ++ c ∷ []))
-constituents_valid left earlier c some few each new =
+constituents_valid : (remaining : ℕ) (earlier : List Constituent) (c : Constituent) → 1 ≤ remaining → remaining + length earlier ≤ 500
+    → All IsConstituent earlier → IsConstituent c → IsBookParser (with_constituents remaining (earlier ++ c ∷ []))
+constituents_valid remaining earlier c some few each new =
     let longer = length-append earlier (c ∷ []) in
     let all = All-push IsConstituent earlier c each new in
-    elim (cases_lt 1 left) [
-      | inl lt ↦ rw (lt-ltb 1 left lt) (omega (arith, lt), omega (arith, longer, few, lt), all)
-      | inr le ↦ rw (le-ltb 1 left le) record { some = omega (arith, longer); few = omega (arith, longer, few, some); each = all }
+    elim (cases_lt 1 remaining) [
+      | inl lt ↦ rw (lt-ltb 1 remaining lt) (omega (arith, lt), omega (arith, longer, few, lt), all)
+      | inr le ↦ rw (le-ltb 1 remaining le) record { some = omega (arith, longer); few = omega (arith, longer, few, some); each = all }
     ]
 
 -- ---- a station with one more pair
@@ -241,7 +241,7 @@ record_valid b records.Nothing text d h e = nothing_valid b text d h.0 e
 record_valid b (records.Name name) text d h e =
     let p = bind_ok (local_time_of text) _ d e in
     rw (← ok_is _ d p.2) (h.0, (h.1.0, h.1.1, local_time_of_valid text p.0 p.1))
-record_valid b (records.LocalTime name place) text d h e =
+record_valid b (records.LocalTime name index) text d h e =
     let m = bind_ok (datum_of text) _ d e in
     rw (← ok_is _ d m.2) (
       h.0,
@@ -268,9 +268,9 @@ text_valid parsing.Count e text h is =
     let n = bind_ok (count_of text) _ e is in
     let w = count_within text n.0 n.1 in
     rw (← ok_is _ e n.2) (w.0, omega (arith, w.1), λ k d lt. absurd (omega (arith, lt)))
-text_valid (parsing.Constituents left earlier) e text h is =
+text_valid (parsing.Constituents remaining earlier) e text h is =
     let c = bind_ok (constituent_of earlier text) _ e is in
-    rw (← ok_is _ e c.2) (constituents_valid left earlier c.0 h.0 h.1 h.2 (IsConstituent-of earlier text c.0 c.1))
+    rw (← ok_is _ e c.2) (constituents_valid remaining earlier c.0 h.0 h.1 h.2 (IsConstituent-of earlier text c.0 c.1))
 text_valid (parsing.FirstYear cs) e text h is =
     let y = bind_ok (first_year_of text) _ e is in
     rw (← ok_is _ e y.2) (h, first_year_within text y.0 y.1)

@@ -20,13 +20,13 @@ use Rattle.harmonics_text.specs.declared.book_parser.BookParser.{BookParser}
 use Rattle.harmonics_text.specs.declared.book_parser.BookParser.TheVariants as parsing
 use Rattle.harmonics_text.specs.Lines.{tokens}
 use Rattle.decimal_text.specs.Expected.{◌>>=◌}
-use Rattle.harmonics_text.specs.Rules.{end_of, number_of, values_from, named, is_absent, is_name, pair_from, pair_of}
+use Rattle.harmonics_text.specs.Rules.{end_of, parse_number, values_from, named, is_absent, is_name, pair_from, pair_of}
 use Rattle.harmonics_text.specs.Workings.Plain.{IsFirstNumber}
 use Rattle.harmonics_text.specs.Workings.BookParsing.{Fails, Follows, pushed, after_values, after_name, after_table_line, after_angles, after_factors, at_place, with_pair, after_pair, after_record, after_text, new_book}
 use Rattle.harmonics_text.proofs.Ranges.{bind_ok, ok_is}
 use Rattle.harmonics_text.proofs.Steps.{unnamed}
 
-pub pushed_is : (s : Scale) (values : List ℤ) (token : List ℕ) (n : ℤ) (new : List ℤ) → number_of s token ≡ Ok n
+pub pushed_is : (s : Scale) (values : List ℤ) (token : List ℕ) (n : ℤ) (new : List ℤ) → parse_number s token ≡ Ok n
     → new ≡ values ++ n ∷ [] → pushed s values token ≡ Ok new
 unfolding pushed
 pushed_is s values token n new e new_is = rw (e, new_is) refl
@@ -34,74 +34,74 @@ pushed_is s values token n new e new_is = rw (e, new_is) refl
 done_is : (x y : List ℤ) → (let r : Result (List ℤ) Why = Ok x in r) ≡ Ok y → x ≡ y
 done_is x y e = cc
 
-pub values_step : (s : Scale) (left : ℕ) (values : List ℤ) (token : List ℕ) (more : List (List ℕ)) (new : List ℤ)
-    → 1 ≤ left → pushed s values token ≡ Ok new
-    → values_from s left values (token ∷ more) ≡ values_from s (left - 1) new more
+pub values_step : (s : Scale) (remaining : ℕ) (values : List ℤ) (token : List ℕ) (more : List (List ℕ)) (new : List ℤ)
+    → 1 ≤ remaining → pushed s values token ≡ Ok new
+    → values_from s remaining values (token ∷ more) ≡ values_from s (remaining - 1) new more
 unfolding pushed values_from
 values_step s zero values token more new some e = absurd (omega (arith, some))
-values_step s (suc left) values token more new some e =
-    let less : suc left - 1 ≡ left = omega arith in
+values_step s (suc remaining) values token more new some e =
+    let less : suc remaining - 1 ≡ remaining = omega arith in
     let go : (r : Result ℤ Why) → (r >>= λ n. Ok (values ++ n ∷ [])) ≡ Ok new
-    → (r >>= λ n. values_from s left (values ++ n ∷ []) more) ≡ values_from s left new more =
+    → (r >>= λ n. values_from s remaining (values ++ n ∷ []) more) ≡ values_from s remaining new more =
     λ r. elim r as (λ (r : Result ℤ Why). (r >>= λ n. Ok (values ++ n ∷ [])) ≡ Ok new
-    → (r >>= λ n. values_from s left (values ++ n ∷ []) more) ≡ values_from s left new more)
-    [ Ok n ↦ λ k. ap (λ (xs : List ℤ). values_from s left xs more) (done_is (values ++ n ∷ []) new k) | Err why ↦ λ k. absurd cc ] in
-    rw less (go (number_of s token) e)
+    → (r >>= λ n. values_from s remaining (values ++ n ∷ []) more) ≡ values_from s remaining new more)
+    [ Ok n ↦ λ k. ap (λ (xs : List ℤ). values_from s remaining xs more) (done_is (values ++ n ∷ []) new k) | Err why ↦ λ k. absurd cc ] in
+    rw less (go (parse_number s token) e)
 
-values_fail : (s : Scale) (left : ℕ) (values : List ℤ) (token : List ℕ) (more : List (List ℕ)) (why : Why) → 1 ≤ left
-    → pushed s values token ≡ Err why → values_from s left values (token ∷ more) ≡ Err why
+values_fail : (s : Scale) (remaining : ℕ) (values : List ℤ) (token : List ℕ) (more : List (List ℕ)) (why : Why) → 1 ≤ remaining
+    → pushed s values token ≡ Err why → values_from s remaining values (token ∷ more) ≡ Err why
 unfolding pushed values_from
 values_fail s zero values token more why some e = absurd (omega (arith, some))
-values_fail s (suc left) values token more why some e =
+values_fail s (suc remaining) values token more why some e =
     let go : (r : Result ℤ Why) → (r >>= λ n. Ok (values ++ n ∷ [])) ≡ Err why
-    → (r >>= λ n. values_from s left (values ++ n ∷ []) more) ≡ Err why =
+    → (r >>= λ n. values_from s remaining (values ++ n ∷ []) more) ≡ Err why =
     λ r. elim r as (λ (r : Result ℤ Why). (r >>= λ n. Ok (values ++ n ∷ [])) ≡ Err why
-    → (r >>= λ n. values_from s left (values ++ n ∷ []) more) ≡ Err why)
+    → (r >>= λ n. values_from s remaining (values ++ n ∷ []) more) ≡ Err why)
     [ Ok n ↦ λ k. absurd cc | Err other ↦ λ k. cc ] in
-    go (number_of s token) e
+    go (parse_number s token) e
 
 -- the end of a loop over the tokens
-pub values_end : (s : Scale) (t : Table) (text : List ℕ) (left : ℕ) (values : List ℤ) (rest : List ℕ)
-    → values_from s left values (tokens rest) ≡ values_from s t.left t.values (tokens text) → tokens rest ≡ []
-    → after_values s t text ≡ Ok (record { place = at_place left t.place; left = left; values = values })
+pub values_end : (s : Scale) (t : Table) (text : List ℕ) (remaining : ℕ) (values : List ℤ) (rest : List ℕ)
+    → values_from s remaining values (tokens rest) ≡ values_from s t.remaining t.values (tokens text) → tokens rest ≡ []
+    → after_values s t text ≡ Ok (record { index = at_place remaining t.index; remaining = remaining; values = values })
 unfolding after_values values_from
-values_end s t text left values rest so_far none =
-    let whole : values_from s t.left t.values (tokens text) ≡ Ok (left, values) = sym so_far ∙ ap (values_from s left values) none in
+values_end s t text remaining values rest so_far none =
+    let whole : values_from s t.remaining t.values (tokens text) ≡ Ok (remaining, values) = sym so_far ∙ ap (values_from s remaining values) none in
     rw whole refl
 
-pub values_full : (s : Scale) (t : Table) (text : List ℕ) (left : ℕ) (values : List ℤ) (rest token after : List ℕ)
-    → values_from s left values (tokens rest) ≡ values_from s t.left t.values (tokens text)
-    → tokens rest ≡ token ∷ tokens after → left ≡ 0 → after_values s t text ≡ Err BadNumber
+pub values_full : (s : Scale) (t : Table) (text : List ℕ) (remaining : ℕ) (values : List ℤ) (rest token after : List ℕ)
+    → values_from s remaining values (tokens rest) ≡ values_from s t.remaining t.values (tokens text)
+    → tokens rest ≡ token ∷ tokens after → remaining ≡ 0 → after_values s t text ≡ Err BadNumber
 unfolding after_values values_from
-values_full s t text left values rest token after so_far next none =
-    let whole : values_from s t.left t.values (tokens text) ≡ Err BadNumber = sym so_far ∙ rw (next, none) refl in
+values_full s t text remaining values rest token after so_far next none =
+    let whole : values_from s t.remaining t.values (tokens text) ≡ Err BadNumber = sym so_far ∙ rw (next, none) refl in
     rw whole refl
 
-pub values_fails : (s : Scale) (t : Table) (text : List ℕ) (left : ℕ) (values : List ℤ) (rest token after : List ℕ)
-    (e : LineFault) → values_from s left values (tokens rest) ≡ values_from s t.left t.values (tokens text)
-    → tokens rest ≡ token ∷ tokens after → 1 ≤ left → Fails e (pushed s values token) → Fails e (after_values s t text)
+pub values_fails : (s : Scale) (t : Table) (text : List ℕ) (remaining : ℕ) (values : List ℤ) (rest token after : List ℕ)
+    (e : LineFault) → values_from s remaining values (tokens rest) ≡ values_from s t.remaining t.values (tokens text)
+    → tokens rest ≡ token ∷ tokens after → 1 ≤ remaining → Fails e (pushed s values token) → Fails e (after_values s t text)
 unfolding after_values
-values_fails s t text left values rest token after NoMemory so_far next some h = tt
-values_fails s t text left values rest token after (Bad why) so_far next some h =
-    let whole : values_from s t.left t.values (tokens text) ≡ Err why =
-    sym so_far ∙ ap (values_from s left values) next ∙ values_fail s left values token (tokens after) why some h in
+values_fails s t text remaining values rest token after NoMemory so_far next some h = tt
+values_fails s t text remaining values rest token after (Bad why) so_far next some h =
+    let whole : values_from s t.remaining t.values (tokens text) ≡ Err why =
+    sym so_far ∙ ap (values_from s remaining values) next ∙ values_fail s remaining values token (tokens after) why some h in
     rw whole refl
 
-pub values_goes_on : (s : Scale) (t : Table) (text : List ℕ) (left : ℕ) (values new : List ℤ)
-    (rest token after : List ℕ) → values_from s left values (tokens rest) ≡ values_from s t.left t.values (tokens text)
-    → tokens rest ≡ token ∷ tokens after → 1 ≤ left → pushed s values token ≡ Ok new
-    → values_from s (left - 1) new (tokens after) ≡ values_from s t.left t.values (tokens text)
-values_goes_on s t text left values new rest token after so_far next some h =
-    sym (values_step s left values token (tokens after) new some h) ∙ sym (ap (values_from s left values) next) ∙ so_far
+pub values_goes_on : (s : Scale) (t : Table) (text : List ℕ) (remaining : ℕ) (values new : List ℤ)
+    (rest token after : List ℕ) → values_from s remaining values (tokens rest) ≡ values_from s t.remaining t.values (tokens text)
+    → tokens rest ≡ token ∷ tokens after → 1 ≤ remaining → pushed s values token ≡ Ok new
+    → values_from s (remaining - 1) new (tokens after) ≡ values_from s t.remaining t.values (tokens text)
+values_goes_on s t text remaining values new rest token after so_far next some h =
+    sym (values_step s remaining values token (tokens after) new some h) ∙ sym (ap (values_from s remaining values) next) ∙ so_far
 
 -- the same values after some of the tokens
 pub values_moved : (s : Scale) (t u new : Table) (text rest : List ℕ) (result : Result (Unit {0}) LineFault)
-    → u.place ≡ t.place
-    → values_from s u.left u.values (tokens rest) ≡ values_from s t.left t.values (tokens text)
+    → u.index ≡ t.index
+    → values_from s u.remaining u.values (tokens rest) ≡ values_from s t.remaining t.values (tokens text)
     → Follows (λ _. new) result (after_values s u rest) → Follows (λ _. new) result (after_values s t text)
 unfolding after_values
-values_moved s t u new text rest result place values h =
-    let same : after_values s u rest ≡ after_values s t text = rw (values, place) refl in
+values_moved s t u new text rest result index values h =
+    let same : after_values s u rest ≡ after_values s t text = rw (values, index) refl in
     subst (Follows (λ _. new) result) same h
 
 -- ---- a constituent's constants
@@ -180,40 +180,40 @@ factors_end_read d h angles factors text read d_is is =
 
 -- ---- a line of a table that is read in place
 
-place_at : (left place : ℕ) → at_place left place ≤ place + 1
-place_at left place = elim (cases_eq left 0) [ inl e ↦ rw (eq-eqb left 0 e) (omega arith) | inr other ↦ rw (ne_eqb left 0 other) (omega arith) ]
+place_at : (remaining index : ℕ) → at_place remaining index ≤ index + 1
+place_at remaining index = elim (cases_eq remaining 0) [ inl e ↦ rw (eq-eqb remaining 0 e) (omega arith) | inr other ↦ rw (ne_eqb remaining 0 other) (omega arith) ]
 
 -- a line takes a table to the next constituent at most
-place_grows : (s : Scale) (h : Heading) (t u : Table) (text : List ℕ) → after_table_line s h t text ≡ Ok u → u.place ≤ t.place + 1
+place_grows : (s : Scale) (h : Heading) (t u : Table) (text : List ℕ) → after_table_line s h t text ≡ Ok u → u.index ≤ t.index + 1
 unfolding after_table_line after_values after_name
 place_grows s h t u text e =
-    elim (cases_lt 0 t.left) [
+    elim (cases_lt 0 t.remaining) [
       | inl some ↦
-          let b = bind_ok (values_from s t.left t.values (tokens text)) _ u (rw (lt-ltb 0 t.left some) at e) in
-          rw (← ok_is _ u b.2) (place_at b.0.0 t.place)
+          let b = bind_ok (values_from s t.remaining t.values (tokens text)) _ u (rw (lt-ltb 0 t.remaining some) at e) in
+          rw (← ok_is _ u b.2) (place_at b.0.0 t.index)
       | inr none ↦
-          let b = bind_ok (named _ text) _ u (rw (le-ltb 0 t.left none) at e) in
+          let b = bind_ok (named _ text) _ u (rw (le-ltb 0 t.remaining none) at e) in
           rw (← ok_is _ u b.2) (omega arith)
     ]
 
 pub angles_read : (d : BookParser) (h : Heading) (t new : Table) (text : List ℕ) (result : Result (Unit {0}) LineFault)
-    → d ≡ parsing.Angles h t → t.place + 1 < length h.constituents
+    → d ≡ parsing.Angles h t → t.index + 1 < length h.constituents
     → Follows (λ _. new) result (after_table_line Angle h t text)
     → Follows (λ _. parsing.Angles h new) result (after_text d text)
 unfolding after_text after_angles
 angles_read d h t new text (Ok x) d_is lt is =
-    let more = lt-ltb new.place (length h.constituents) (omega (arith, place_grows Angle h t new text is)) in
+    let more = lt-ltb new.index (length h.constituents) (omega (arith, place_grows Angle h t new text is)) in
     rw (d_is, is, more) refl
 angles_read d h t new text (Err NoMemory) d_is lt is = tt
 angles_read d h t new text (Err (Bad why)) d_is lt is = rw (d_is, is) refl
 
 pub factors_read : (d : BookParser) (h : Heading) (angles : List ℤ) (t new : Table) (text : List ℕ) (result : Result (Unit {0}) LineFault)
-    → d ≡ parsing.Factors h angles t → t.place + 1 < length h.constituents
+    → d ≡ parsing.Factors h angles t → t.index + 1 < length h.constituents
     → Follows (λ _. new) result (after_table_line Factor h t text)
     → Follows (λ _. parsing.Factors h angles new) result (after_text d text)
 unfolding after_text after_factors
 factors_read d h angles t new text (Ok x) d_is lt is =
-    let more = lt-ltb new.place (length h.constituents) (omega (arith, place_grows Factor h t new text is)) in
+    let more = lt-ltb new.index (length h.constituents) (omega (arith, place_grows Factor h t new text is)) in
     rw (d_is, is, more) refl
 factors_read d h angles t new text (Err NoMemory) d_is lt is = tt
 factors_read d h angles t new text (Err (Bad why)) d_is lt is = rw (d_is, is) refl

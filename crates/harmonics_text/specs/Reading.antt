@@ -51,17 +51,17 @@ abbrev pub one : {A : Type 0} → (List ℕ → Result A Why) → Part A
 one rule [] = Err None
 one rule (l ∷ ls) = at_line l.number (checked rule l.text) >>= λ x. Ok (x, ls)
 
--- a part of `left` constituents, which are appended to the earlier ones
+-- a part of `remaining` constituents, which are appended to the earlier ones
 unfoldable pub constituents : ℕ → List Constituent → Part (List Constituent)
 constituents zero earlier ls = Ok (earlier, ls)
-constituents (suc left) earlier ls = one (constituent_of earlier) ls >>= λ c. constituents left (earlier ++ c.0 ∷ []) c.1
+constituents (suc remaining) earlier ls = one (constituent_of earlier) ls >>= λ c. constituents remaining (earlier ++ c.0 ∷ []) c.1
 
--- a part of `left` values, on one line or more, which are appended to the earlier ones
+-- a part of `remaining` values, on one line or more, which are appended to the earlier ones
 unfoldable pub values : Scale → ℕ → List ℤ → Part (List ℤ)
 values s zero earlier ls = Ok (earlier, ls)
-values s (suc left) earlier [] = Err None
-values s (suc left) earlier (l ∷ ls) =
-    at_line l.number (checked (λ text. values_from s (suc left) earlier (tokens text)) l.text) >>= λ v. values s v.0 v.1 ls
+values s (suc remaining) earlier [] = Err None
+values s (suc remaining) earlier (l ∷ ls) =
+    at_line l.number (checked (λ text. values_from s (suc remaining) earlier (tokens text)) l.text) >>= λ v. values s v.0 v.1 ls
 
 -- a table: for each constituent its name on a line, and a value for each year
 unfoldable pub table : Scale → ℕ → List Constituent → List ℤ → Part (List ℤ)
@@ -80,14 +80,14 @@ pairs (c ∷ cs) amplitude epoch ls = one (pair_of c.name) ls >>= λ p. pairs cs
 unfoldable pub station : List Constituent → Part Station
 station cs ls = do
   name ← one station_name_of ls
-  place ← one local_time_of name.1
-  datum ← one datum_of place.1
+  index ← one local_time_of name.1
+  datum ← one datum_of index.1
   pair ← pairs cs [] [] datum.1
   Ok (
     record {
       name = name.0;
-      meridian = place.0.meridian;
-      zone = place.0.zone;
+      meridian = index.0.meridian;
+      zone = index.0.zone;
       datum = datum.0.0;
       units = datum.0.1;
       amplitude = pair.0.0;
@@ -100,11 +100,12 @@ station cs ls = do
 unfoldable pub most_stations : ℕ
 most_stations = 20000
 
--- the stations up to the end of the file, at most `left` of them, which are appended to the earlier ones
+-- the stations up to the end of the file, at most `remaining` of them, which are appended to the
+-- earlier ones
 unfoldable pub stations : ℕ → List Constituent → List Station → List Line → Result (List Station) (Option At)
-stations left cs earlier [] = Ok earlier
+stations remaining cs earlier [] = Ok earlier
 stations zero cs earlier (l ∷ ls) = at_line l.number (checked (λ text. Err TooManyStations) l.text)
-stations (suc left) cs earlier (l ∷ ls) = station cs (l ∷ ls) >>= λ s. stations left cs (earlier ++ s.0 ∷ []) s.1
+stations (suc remaining) cs earlier (l ∷ ls) = station cs (l ∷ ls) >>= λ s. stations remaining cs (earlier ++ s.0 ∷ []) s.1
 
 -- the book of the ten parts of a file, in order
 unfoldable pub book : List Line → Result Book (Option At)

@@ -107,8 +107,8 @@ in_scale s (Err decimals.TooLong) = Err BadNumber
 
 -- the decimal that a text writes, in the unit and in the range of its scale, or the reason why it is
 -- bad
-unfoldable pub number_of : Scale → List ℕ → Result ℤ Why
-number_of s text = in_scale s (read_of text (places_of s))
+unfoldable pub parse_number : Scale → List ℕ → Result ℤ Why
+parse_number s text = in_scale s (read_of text (places_of s))
 
 -- the number of a line that has one token, of one to nine digits
 unfoldable pub whole_of : List ℕ → Option ℕ
@@ -170,7 +170,7 @@ constituent_from earlier [] = Err BadName
 constituent_from earlier (first ∷ rest) = do
   name ← new_name_of earlier first
   second ← or_fault BadNumber (only rest)
-  n ← number_of Speed second
+  n ← parse_number Speed second
   Ok (record { name = name; speed = n })
 
 -- the constituent of a line, its name and its speed, or the reason why the line is bad
@@ -196,9 +196,9 @@ same_count_of years text = count_of text >>= λ n. if_true (n == years) YearsDif
 
 -- after reading some tokens as values: the number of values still to be read, and the values read
 unfoldable pub values_from : Scale → ℕ → List ℤ → List (List ℕ) → Result (ℕ × List ℤ) Why
-values_from s left values [] = Ok (left, values)
+values_from s remaining values [] = Ok (remaining, values)
 values_from s zero values (token ∷ more) = Err BadNumber
-values_from s (suc left) values (token ∷ more) = number_of s token >>= λ n. values_from s left (values ++ n ∷ []) more
+values_from s (suc remaining) values (token ∷ more) = parse_number s token >>= λ n. values_from s remaining (values ++ n ∷ []) more
 
 -- ---- a station's lines
 
@@ -271,7 +271,7 @@ units_of token =
 unfoldable pub datum_of : List ℕ → Result (ℤ × Units) Why
 datum_of text = do
   both ← or_fault BadUnits (only_two (tokens text))
-  n ← number_of Height both.0
+  n ← parse_number Height both.0
   units ← units_of both.1
   Ok (n, units)
 
@@ -282,8 +282,8 @@ pair_from name [] = Err WrongConstituent
 pair_from name (first ∷ rest) = do
   known ← if_true (is_absent first || is_name first name) WrongConstituent
   both ← or_fault BadNumber (only_two rest)
-  amplitude ← number_of Height both.0
-  epoch ← number_of Angle both.1
+  amplitude ← parse_number Height both.0
+  epoch ← parse_number Angle both.1
   Ok (if is_absent first then (pos 0, pos 0) else (amplitude, epoch))
 
 -- the amplitude, in millionths of the station's unit, and the epoch, in ten-millionths of a degree, of

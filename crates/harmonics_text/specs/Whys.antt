@@ -18,20 +18,20 @@ use Rattle.harmonics_text.specs.declared.fault.Why.TheVariants.{
 }
 
 -- the number of each reason in the file format
-abbrev pub number_of : Why → ℕ
-number_of BadCount = 1
-number_of BadName = 2
-number_of BadNumber = 3
-number_of TooFine = 4
-number_of OutOfRange = 5
-number_of YearsDiffer = 6
-number_of WrongConstituent = 7
-number_of NoEnd = 8
-number_of BadMeridian = 9
-number_of BadUnits = 10
-number_of CutShort = 11
-number_of TooManyStations = 12
-number_of LineTooLong = 13
+abbrev pub fault_number : Why → ℕ
+fault_number BadCount = 1
+fault_number BadName = 2
+fault_number BadNumber = 3
+fault_number TooFine = 4
+fault_number OutOfRange = 5
+fault_number YearsDiffer = 6
+fault_number WrongConstituent = 7
+fault_number NoEnd = 8
+fault_number BadMeridian = 9
+fault_number BadUnits = 10
+fault_number CutShort = 11
+fault_number TooManyStations = 12
+fault_number LineTooLong = 13
 
 -- the text that is printed for each reason
 abbrev pub text_of : Why → List ℕ

@@ -158,11 +158,11 @@ impl BookParser {
     {
         match self {
             BookParser::Count => {
-                let left = count(text)?;
-                Ok(BookParser::Constituents(left, Constituents::empty(alloc)))
+                let remaining = count(text)?;
+                Ok(BookParser::Constituents(remaining, Constituents::empty(alloc)))
             }
-            BookParser::Constituents(left, earlier) => after_constituent(
-                alloc, left, earlier, text,
+            BookParser::Constituents(remaining, earlier) => after_constituent(
+                alloc, remaining, earlier, text,
             ),
             BookParser::FirstYear(constituents) => {
                 let first_year = first_year(text)?;
@@ -212,11 +212,11 @@ impl BookParser {
 
 /// Returns true if, in `table`, another constituent's values follow the next ones.
 fn has_more(heading: &Heading, table: &Table) -> bool
-    requires here { table.now.place < length heading.now.constituents }
+    requires here { table.now.index < length heading.now.constituents }
     requires count_bound { length heading.now.constituents ≤ 500 }
-    ensures { result ≡ nat_lt (table.now.place + 1) (length heading.now.constituents) }
+    ensures { result ≡ nat_lt (table.now.index + 1) (length heading.now.constituents) }
 {
-    table.place + 1 < heading.constituents.as_slice().len()
+    table.index + 1 < heading.constituents.as_slice().len()
 }
 
 /// Returns true if no station is incomplete.
@@ -246,16 +246,16 @@ fn check_end(text: &[u8]) -> Result<(), LineFault>
 #[tactic(auto, unfolding(crate::specs::Workings::BookParsing::after_constituent))]
 fn after_constituent(
     alloc: Global,
-    left: u32,
+    remaining: u32,
     mut earlier: Constituents,
     text: &[u8],
 ) -> Result<BookParser, LineFault>
-    ensures { Follows (λ d. d) result (after_constituent left earlier text.now) }
+    ensures { Follows (λ d. d) result (after_constituent remaining earlier text.now) }
 {
     let next = constituent(alloc, &earlier, text)?;
     earlier.push(next)?;
-    if left > 1 {
-        Ok(BookParser::Constituents(left - 1, earlier))
+    if remaining > 1 {
+        Ok(BookParser::Constituents(remaining - 1, earlier))
     } else {
         Ok(BookParser::FirstYear(earlier))
     }
@@ -282,7 +282,7 @@ fn after_years(
 fn with_angles(heading: Heading, table: Table) -> BookParser
     ensures { result ≡ with_angles heading table }
 {
-    if table.place < heading.constituents.as_slice().len() {
+    if table.index < heading.constituents.as_slice().len() {
         BookParser::Angles(heading, table)
     } else {
         BookParser::AnglesEnd(heading, table.values.into_numbers())
@@ -291,7 +291,7 @@ fn with_angles(heading: Heading, table: Table) -> BookParser
 
 #[tactic(auto, unfolding(crate::specs::Workings::BookParsing::after_angles))]
 fn after_angles(heading: Heading, mut table: Table, text: &[u8]) -> Result<BookParser, LineFault>
-    requires here { table.place < length heading.constituents }
+    requires here { table.index < length heading.constituents }
     requires count_bound { length heading.constituents ≤ 500 }
     ensures { Follows (λ d. d) result (after_angles heading table text.now) }
 {
@@ -326,7 +326,7 @@ fn after_years_again(
 fn with_factors(heading: Heading, angles: Numbers, table: Table) -> BookParser
     ensures { result ≡ with_factors heading angles table }
 {
-    if table.place < heading.constituents.as_slice().len() {
+    if table.index < heading.constituents.as_slice().len() {
         BookParser::Factors(heading, angles, table)
     } else {
         BookParser::FactorsEnd(heading, angles, table.values.into_numbers())
@@ -340,7 +340,7 @@ fn after_factors(
     mut table: Table,
     text: &[u8],
 ) -> Result<BookParser, LineFault>
-    requires here { table.place < length heading.constituents }
+    requires here { table.index < length heading.constituents }
     requires count_bound { length heading.constituents ≤ 500 }
     ensures { Follows (λ d. d) result (after_factors heading angles table text.now) }
 {

@@ -48,11 +48,11 @@ pub enum Why {
 }
 
 impl Why {
-    ghost use Rattle.harmonics_text.specs.Whys.{number_of, text_of};
+    ghost use Rattle.harmonics_text.specs.Whys.{fault_number, text_of};
 
     /// Returns the number of the reason in the file format, from 1 to 13.
     pub fn number(self) -> u32
-        ensures { result ≡ number_of self }
+        ensures { result ≡ fault_number self }
     {
         match self {
             Why::BadCount => 1,

@@ -1,7 +1,7 @@
 //! The numbers of a file: counts and decimals.
 
 ghost use Rattle.std.specs.Prelude.{◌≡◌, Ok};
-ghost use Rattle.harmonics_text.specs.Rules.{whole_of, count_of, first_year_of, in_scale, number_of};
+ghost use Rattle.harmonics_text.specs.Rules.{whole_of, count_of, first_year_of, in_scale, parse_number};
 
 use crate::fault::Why;
 use crate::lines::only_token;
@@ -75,9 +75,9 @@ fn in_scale(value: i128, scale: Scale) -> Result<i64, Why>
 /// The first that applies: [`Why::BadNumber`] if `text` isn't a decimal, [`Why::TooFine`] if it has a
 /// digit other than 0 after the last decimal place of the unit, and [`Why::OutOfRange`] if it isn't
 /// from the least to the greatest value of `scale`.
-#[tactic(auto, unfolding(crate::specs::Rules::number_of, crate::specs::Rules::in_scale))]
+#[tactic(auto, unfolding(crate::specs::Rules::parse_number, crate::specs::Rules::in_scale))]
 pub fn number(text: &[u8], scale: Scale) -> Result<i64, Why>
-    ensures { result ≡ number_of scale text.now }
+    ensures { result ≡ parse_number scale text.now }
 {
     match read(text, scale.places()) {
         Ok(value) => in_scale(value, scale),

@@ -153,9 +153,9 @@ fn add_lines<'a>(
     let mut rest = bytes;
     'lines: loop {
         match parser.add_lines(alloc, line, rest) {
-            Ok((absent, left)) => {
+            Ok((absent, remaining)) => {
                 number += 1 + absent;
-                rest = left;
+                rest = remaining;
             }
             Err(fault) => return Err(at_line(number, fault)),
         }

@@ -187,8 +187,8 @@ pub fn add_absent<'a>(
     let Record::Constants(station) = begun else {
         return Ok((0, bytes));
     };
-    let left = book.constituents.as_slice().len() - station.amplitude.len();
-    let (count, rest) = absent_lines(bytes, left - 1);
+    let remaining = book.constituents.as_slice().len() - station.amplitude.len();
+    let (count, rest) = absent_lines(bytes, remaining - 1);
     if count == 0 {
         return Ok((0, bytes));
     }

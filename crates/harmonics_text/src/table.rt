@@ -28,10 +28,10 @@ use std::alloc::{AllocError, Global};
 #[derive(Drop)]
 pub struct Table {
     /// The index, counted from 0, of the constituent that has the next values.
-    pub place: usize,
-    /// The number of values of the constituent at `place` that are still to be read: 0 before its name
+    pub index: usize,
+    /// The number of values of the constituent at `index` that are still to be read: 0 before its name
     /// was read.
-    pub left: u32,
+    pub remaining: u32,
     pub values: Column,
 }
 
@@ -40,8 +40,8 @@ pub fn start_table(alloc: Global) -> Table
     ensures { result ≡ new_table }
 {
     Table {
-        place: 0,
-        left: 0,
+        index: 0,
+        remaining: 0,
         values: Column::new(alloc),
     }
 }
@@ -55,13 +55,13 @@ fn push_number(values: &mut Column, scale: Scale, token: &[u8]) -> Result<(), Li
     Ok(())
 }
 
-/// Returns the index of the constituent that has the next values, after a line that leaves `left` values
-/// of constituent `place` to be read.
-fn next_place(left: u32, place: usize) -> usize
-    requires { place < 500 }
-    ensures { result ≡ at_place left place }
+/// Returns the index of the constituent that has the next values, after a line that leaves `remaining`
+/// values of constituent `index` to be read.
+fn next_place(remaining: u32, index: usize) -> usize
+    requires { index < 500 }
+    ensures { result ≡ at_place remaining index }
 {
-    if left == 0 { place + 1 } else { place }
+    if remaining == 0 { index + 1 } else { index }
 }
 
 /// Appends the values that `text` begins with to `table`, up to the first that isn't in the usual form.
@@ -71,16 +71,16 @@ fn add_plain_values<'a>(
     scale: Scale,
     text: &'a [u8],
 ) -> Result<&'a [u8], AllocError>
-    ensures { IfOk result (λ rest. (table.new.place ≡ table.old.place)
-        × (values_from scale table.new.left table.new.values (tokens rest.now)
-        ≡ values_from scale table.old.left table.old.values (tokens text.now))) }
+    ensures { IfOk result (λ rest. (table.new.index ≡ table.old.index)
+        × (values_from scale table.new.remaining table.new.values (tokens rest.now)
+        ≡ values_from scale table.old.remaining table.old.values (tokens text.now))) }
 {
     let mut rest = text;
-    'plain: while table.left > 0 {
+    'plain: while table.remaining > 0 {
         match plain_number(rest, scale) {
             Some((number, after)) => {
                 table.values.push(number)?;
-                table.left -= 1;
+                table.remaining -= 1;
                 rest = after;
             }
             None => return Ok(rest),
@@ -92,25 +92,25 @@ fn add_plain_values<'a>(
 /// Appends the values of line `text`, in any form, to `table`.
 #[tactic(auto, unfolding(crate::specs::Workings::BookParsing::after_values))]
 fn add_other_values(table: &mut Table, scale: Scale, text: &[u8]) -> Result<(), LineFault>
-    requires { table.old.place < 500 }
+    requires { table.old.index < 500 }
     ensures { Follows (λ _. table.new) result (after_values scale table.old text.now) }
 {
     let mut rest = text;
     while let Some((token, after)) = next_token(rest) {
-        if table.left == 0 {
+        if table.remaining == 0 {
             return Err(LineFault::Bad(Why::BadNumber));
         }
         push_number(&mut table.values, scale, token)?;
-        table.left -= 1;
+        table.remaining -= 1;
         rest = after;
     }
-    table.place = next_place(table.left, table.place);
+    table.index = next_place(table.remaining, table.index);
     Ok(())
 }
 
 /// Appends the values of line `text` to `table`.
 fn add_values(table: &mut Table, scale: Scale, text: &[u8]) -> Result<(), LineFault>
-    requires { table.old.place < 500 }
+    requires { table.old.index < 500 }
     ensures { Follows (λ _. table.new) result (after_values scale table.old text.now) }
 {
     let rest = add_plain_values(table, scale, text)?;
@@ -144,14 +144,14 @@ pub fn add_table_line(
     scale: Scale,
     text: &[u8],
 ) -> Result<(), LineFault>
-    requires here { table.old.place < length heading.now.constituents }
+    requires here { table.old.index < length heading.now.constituents }
     requires count_bound { length heading.now.constituents ≤ 500 }
     ensures { Follows (λ _. table.new) result (after_table_line scale heading.now table.old text.now) }
 {
-    if table.left > 0 {
+    if table.remaining > 0 {
         return add_values(table, scale, text);
     }
-    check_name(&heading.constituents.as_slice()[table.place].name, text)?;
-    table.left = heading.years;
+    check_name(&heading.constituents.as_slice()[table.index].name, text)?;
+    table.remaining = heading.years;
     Ok(())
 }

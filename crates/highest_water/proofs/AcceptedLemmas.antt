@@ -4,7 +4,7 @@ use Rattle.std.specs.Ordering.{int_eq}
 use Rattle.std.proofs.lemmas.Bool.Decides.{nat_tests, Decides-int_eq, Decides-eqb}
 use Rattle.std.proofs.lemmas.Int.{ints}
 use Rattle.std.proofs.lemmas.List.{length-map}
-use Rattle.curve_law.specs.Meaning.{Meaning}
+use Rattle.curve_law.specs.CurveSpec.{CurveSpec}
 use Rattle.curve_law.specs.Pieces.{Interval, stays_whole}
 use Rattle.curve_law.proofs.CoverLemmas.{by_test, AreWhole, whole-few, pieces-whole, pieces-few}
 use Rattle.highest_water.specs.declared.peak_cell.PeakCell.{PeakCell}
@@ -33,13 +33,13 @@ cells-whole test a end (piece ∷ pieces) whole =
     let rest = cells-whole test (a +ℤ pos piece.minutes) end pieces whole.3 in
     rw (cell-minutes piece whole.1) (omega (arith, ints))
 
-pub cover-minutes : (c : Meaning) (at value a : ℤ) (n : ℕ) → all_minutes (peak_cover c at value a n) ≡ n
+pub cover-minutes : (c : CurveSpec) (at value a : ℤ) (n : ℕ) → all_minutes (peak_cover c at value a n) ≡ n
 unfolding peak_cover
 cover-minutes c at value a n =
     let all = cells-whole (is_under c at value) a (a +ℤ pos n) _ (pieces-whole (is_under c at value) a n) in
     omega (arith, ints)
 
-pub cover-few : (c : Meaning) (at value a : ℤ) (n : ℕ) → length (peak_cover c at value a n) ≤ n
+pub cover-few : (c : CurveSpec) (at value a : ℤ) (n : ℕ) → length (peak_cover c at value a n) ≤ n
 unfolding peak_cover
 cover-few c at value a n = simp length-map (pieces-few (is_under c at value) a n)
 
@@ -48,7 +48,7 @@ cover-few c at value a n = simp length-map (pieces-few (is_under c at value) a n
 not_higher : (at value m v : ℤ) → v ≤ℤ value → (m <ℤ at → v <ℤ value) → is_higher at value m v ≡ false
 not_higher at value m v most less = grind (arith, ints)
 
-single-right : (c : Meaning) (begin end at value a : ℤ) (number : ℕ) → IsHighest c begin end at value → begin ≤ℤ a → a <ℤ end
+single-right : (c : CurveSpec) (begin end at value a : ℤ) (number : ℕ) → IsHighest c begin end at value → begin ≤ℤ a → a <ℤ end
     → cell_verdict c at value a number Single ≡ Accepted
 unfolding cell_verdict
 single-right c begin end at value a number peak from before = by_test (int_eq a at)
@@ -58,12 +58,12 @@ single-right c begin end at value a number peak from before = by_test (int_eq a 
     rw (here, right) refl)
     (λ other. rw (other, not_higher at value a (c.track.value a) (peak.greatest a from before) (peak.first a from)) refl)
 
-under-right : (c : Meaning) (at value a : ℤ) (n number : ℕ) → is_under c at value a n ≡ true
+under-right : (c : CurveSpec) (at value a : ℤ) (n number : ℕ) → is_under c at value a n ≡ true
     → cell_verdict c at value a number (Under n) ≡ Accepted
 unfolding cell_verdict
 under-right c at value a n number under = rw under refl
 
-cell-right : (c : Meaning) (begin end at value : ℤ) (number : ℕ) (piece : Interval) → IsHighest c begin end at value
+cell-right : (c : CurveSpec) (begin end at value : ℤ) (number : ℕ) (piece : Interval) → IsHighest c begin end at value
     → begin ≤ℤ piece.begin → piece.begin <ℤ end → stays_whole (is_under c at value) piece.begin piece.minutes ≡ true
     → cell_verdict c at value piece.begin number (cell_of piece) ≡ Accepted
 cell-right c begin end at value number piece peak from before whole = by_test (nat_le piece.minutes 1)
@@ -71,7 +71,7 @@ cell-right c begin end at value number piece peak from before whole = by_test (n
     (λ more. let under : is_under c at value piece.begin piece.minutes ≡ true = rw more at whole in
     rw more (under-right c at value piece.begin piece.minutes number under))
 
-cells-right : (c : Meaning) (begin end at value a : ℤ) (number : ℕ) (pieces : List Interval) → IsHighest c begin end at value
+cells-right : (c : CurveSpec) (begin end at value a : ℤ) (number : ℕ) (pieces : List Interval) → IsHighest c begin end at value
     → begin ≤ℤ a → AreWhole (is_under c at value) a end pieces
     → cells_verdict c at value a number (map cell_of pieces) ≡ Accepted
 unfolding AreWhole cells_verdict
@@ -84,7 +84,7 @@ cells-right c begin end at value a number (piece ∷ pieces) peak from whole =
     let rest = cells-right c begin end at value (a +ℤ pos piece.minutes) (suc number) pieces peak (omega (arith, ints)) whole.3 in
     rw (cell-minutes piece some, right) rest
 
-cover-right : (c : Meaning) (at value a : ℤ) (n : ℕ) → IsHighest c a (a +ℤ pos n) at value
+cover-right : (c : CurveSpec) (at value a : ℤ) (n : ℕ) → IsHighest c a (a +ℤ pos n) at value
     → cells_verdict c at value a 1 (peak_cover c at value a n) ≡ Accepted
 unfolding peak_cover
 cover-right c at value a n peak =
@@ -94,7 +94,7 @@ inside-true : (at a : ℤ) (n : ℕ) → a ≤ℤ at → at <ℤ (a +ℤ pos n) 
 inside-true at a n from before = grind (arith, ints)
 
 -- the cover of the highest water is accepted
-pub cover-accepted : (c : Meaning) (at value a : ℤ) (n : ℕ) → IsHighest c a (a +ℤ pos n) at value
+pub cover-accepted : (c : CurveSpec) (at value a : ℤ) (n : ℕ) → IsHighest c a (a +ℤ pos n) at value
     → peak_verdict c a n (record { at = at; value = value; cells = peak_cover c at value a n }) ≡ Accepted
 unfolding peak_verdict
 cover-accepted c at value a n peak =
@@ -102,6 +102,6 @@ cover-accepted c at value a n peak =
     let inside = inside-true at a n peak.from peak.before in
     rw (whole, inside) (cover-right c at value a n peak)
 
-pub peak_of-accepted : (c : Meaning) (a : ℤ) (n : ℕ) → 1 ≤ n → peak_verdict c a n (peak_of c a n) ≡ Accepted
+pub peak_of-accepted : (c : CurveSpec) (a : ℤ) (n : ℕ) → 1 ≤ n → peak_verdict c a n (peak_of c a n) ≡ Accepted
 unfolding peak_of
 peak_of-accepted c a n some = cover-accepted c (highest_minute c a n) (c.track.value (highest_minute c a n)) a n (minute-highest c a n some)

@@ -1,6 +1,6 @@
 -- A curve at other minutes has the same highest water, cells and verdicts.
 use Rattle.std.proofs.Common.{◌≡◌, ℕ, zero, suc, ℤ, pos, ◌+ℤ◌, List, [], ◌∷◌, refl, ap}
-use Rattle.curve_law.specs.Meaning.{Meaning, at_minutes}
+use Rattle.curve_law.specs.CurveSpec.{CurveSpec, at_minutes}
 use Rattle.highest_water.specs.declared.peak.Peak.{Peak}
 use Rattle.highest_water.specs.declared.peak_cell.PeakCell.{PeakCell}
 use Rattle.highest_water.specs.declared.peak_cell.PeakCell.TheVariants.{Under, Single}
@@ -8,29 +8,29 @@ use Rattle.highest_water.specs.Peaks.{highest_minute, higher_minute}
 use Rattle.highest_water.specs.Covers.{minutes_of, is_under, peak_cover, peak_of}
 use Rattle.highest_water.specs.Verdicts.{cell_verdict, cells_verdict, peak_verdict}
 
-minute-same : (c : Meaning) (first last a : ℤ) (n : ℕ) → highest_minute (at_minutes first last c) a n ≡ highest_minute c a n
+minute-same : (c : CurveSpec) (first last a : ℤ) (n : ℕ) → highest_minute (at_minutes first last c) a n ≡ highest_minute c a n
 unfolding highest_minute
 minute-same c first last a zero = refl
 minute-same c first last a (suc n) = ap (λ m. higher_minute c m (a +ℤ pos n)) (minute-same c first last a n)
 
-cover-same : (c : Meaning) (first last at value a : ℤ) (n : ℕ)
+cover-same : (c : CurveSpec) (first last at value a : ℤ) (n : ℕ)
     → peak_cover (at_minutes first last c) at value a n ≡ peak_cover c at value a n
 unfolding peak_cover is_under
 cover-same c first last at value a n = refl
 
-pub peak_of-same : (c : Meaning) (first last a : ℤ) (n : ℕ) → peak_of (at_minutes first last c) a n ≡ peak_of c a n
+pub peak_of-same : (c : CurveSpec) (first last a : ℤ) (n : ℕ) → peak_of (at_minutes first last c) a n ≡ peak_of c a n
 unfolding peak_of
 peak_of-same c first last a n =
     let at = highest_minute c a n in
     rw (minute-same c first last a n, cover-same c first last at (c.track.value at) a n) refl
 
-cell_verdict-same : (c : Meaning) (first last at value a : ℤ) (number : ℕ) (cell : PeakCell)
+cell_verdict-same : (c : CurveSpec) (first last at value a : ℤ) (number : ℕ) (cell : PeakCell)
     → cell_verdict (at_minutes first last c) at value a number cell ≡ cell_verdict c at value a number cell
 unfolding cell_verdict is_under
 cell_verdict-same c first last at value a number (Under n) = refl
 cell_verdict-same c first last at value a number Single = refl
 
-cells_verdict-same : (c : Meaning) (first last at value a : ℤ) (number : ℕ) (cells : List PeakCell)
+cells_verdict-same : (c : CurveSpec) (first last at value a : ℤ) (number : ℕ) (cells : List PeakCell)
     → cells_verdict (at_minutes first last c) at value a number cells ≡ cells_verdict c at value a number cells
 unfolding cells_verdict
 cells_verdict-same c first last at value a number [] = refl
@@ -40,7 +40,7 @@ cells_verdict-same c first last at value a number (cell ∷ cells) =
       cells_verdict-same c first last at value (a +ℤ pos (minutes_of cell)) (suc number) cells,
     ) refl
 
-pub verdict-same : (c : Meaning) (first last a : ℤ) (n : ℕ) (peak : Peak)
+pub verdict-same : (c : CurveSpec) (first last a : ℤ) (n : ℕ) (peak : Peak)
     → peak_verdict (at_minutes first last c) a n peak ≡ peak_verdict c a n peak
 unfolding peak_verdict
 verdict-same c first last a n peak = rw (cells_verdict-same c first last peak.at peak.value a 1 peak.cells) refl

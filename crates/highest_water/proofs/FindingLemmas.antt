@@ -2,7 +2,7 @@
 use Rattle.std.proofs.Common.{◌≡◌, ℕ, ◌+◌, ◌*◌, ◌≤◌, ◌<◌, ◌^◌, min, ℤ, pos, ◌+ℤ◌, ◌-ℤ◌, ◌≤ℤ◌, ◌<ℤ◌, int_lt, unsigned_abs, true, false, List, length, refl, sym, ap, ◌∙◌, arith}
 use Rattle.std.proofs.lemmas.Int.{ints}
 use Rattle.curve_law.specs.declared.point.Point.{Point}
-use Rattle.curve_law.specs.Meaning.{Meaning, IsMinute, IsLawful}
+use Rattle.curve_law.specs.CurveSpec.{CurveSpec, IsMinute, IsLawful}
 use Rattle.curve_law.specs.declared.quiet.TheConstants.{MOST_MINUTES}
 use Rattle.curve_law.proofs.CoverLemmas.{by_test}
 use Rattle.interval_search.specs.Workings.Ahead.{minutes_to}
@@ -18,18 +18,18 @@ use Rattle.highest_water.proofs.HighestLemmas.{int_lt-false, highest-one, minute
 use Rattle.highest_water.proofs.VerdictLemmas.{below-append, below-none, below-one, below-at}
 
 -- a point at which the curve was evaluated
-pub asked-point : (c : Meaning) (begin end m : ℤ) (p : Point) → begin ≤ℤ m → m <ℤ end
+pub asked-point : (c : CurveSpec) (begin end m : ℤ) (p : Point) → begin ≤ℤ m → m <ℤ end
     → p ≡ record { minute = m; value = c.track.value m } → IsPoint c begin end p
 asked-point c begin end m p from before is = rw is (record { from = from; before = before; value = refl })
 
 -- a minute of a span of a lawful curve
-pub minute-between : (c : Meaning) (begin end m : ℤ) → c.first ≤ℤ begin → end ≤ℤ c.last → begin ≤ℤ m → m ≤ℤ end → IsMinute c m
+pub minute-between : (c : CurveSpec) (begin end m : ℤ) → c.first ≤ℤ begin → end ≤ℤ c.last → begin ≤ℤ m → m ≤ℤ end → IsMinute c m
 minute-between c begin end m first last from to = record { first = omega (arith, ints); last = omega (arith, ints) }
 
-pub begin-between : (c : Meaning) (begin end : ℤ) → c.first ≤ℤ begin → end ≤ℤ c.last → begin <ℤ end → IsMinute c begin
+pub begin-between : (c : CurveSpec) (begin end : ℤ) → c.first ≤ℤ begin → end ≤ℤ c.last → begin <ℤ end → IsMinute c begin
 begin-between c begin end first last some = record { first = first; last = omega (arith, ints) }
 
-pub minute-range : (c : Meaning) (m : ℤ) → IsLawful c → IsMinute c m → unsigned_abs m ≤ 2 ^ 60
+pub minute-range : (c : CurveSpec) (m : ℤ) → IsLawful c → IsMinute c m → unsigned_abs m ≤ 2 ^ 60
 minute-range c m lawful at = omega (arith, ints, lawful.early, lawful.late, at.first, at.last)
 
 pub int_le-trans : (x y z : ℤ) → x ≤ℤ y → y ≤ℤ z → x ≤ℤ z
@@ -77,7 +77,7 @@ block-ends begin end next some is = record {
 pub block-smaller : (begin end next : ℤ) → IsBlockEnd begin end next → minutes_to next end < minutes_to begin end
 block-smaller begin end next block = let fewer = block.fewer in omega arith
 
-pub block-few : (c : Meaning) (begin end : ℤ) (start count left : ℕ) → IsLawful c → c.first ≤ℤ begin → end ≤ℤ c.last
+pub block-few : (c : CurveSpec) (begin end : ℤ) (start count left : ℕ) → IsLawful c → c.first ≤ℤ begin → end ≤ℤ c.last
     → begin <ℤ end → start ≤ 2 ^ 62 → count + left ≤ start + minutes_to begin end → count < 2 ^ 63
 block-few c begin end start count left lawful first last some few counted =
     omega (arith, ints, lawful.early, lawful.late, first, last)
@@ -89,18 +89,18 @@ pub block-counted : (start count after left fewer all : ℕ) → count + left �
     → after + fewer ≤ start + all
 block-counted start count after left fewer all so_far one less = omega arith
 
-pub begin-point : (c : Meaning) (begin end : ℤ) (p : Point) → begin <ℤ end
+pub begin-point : (c : CurveSpec) (begin end : ℤ) (p : Point) → begin <ℤ end
     → p ≡ record { minute = begin; value = c.track.value begin } → IsPoint c begin end p
 begin-point c begin end p some is = asked-point c begin end begin p (omega (arith, ints)) some is
 
 -- the higher of two points
-pub higher-point : (c : Meaning) (begin end : ℤ) (h p : Point) → IsPoint c begin end h → IsPoint c begin end p
+pub higher-point : (c : CurveSpec) (begin end : ℤ) (h p : Point) → IsPoint c begin end h → IsPoint c begin end p
     → IsPoint c begin end (higher_of h p)
 higher-point c begin end h p first second = by_test (is_higher h.minute h.value p.minute p.value)
     (λ higher. rw higher second)
     (λ other. rw other first)
 
-pub first-so_far : (c : Meaning) (begin end : ℤ) (h : Point) → IsPoint c begin end h → IsHighestSoFar c begin end begin h
+pub first-so_far : (c : CurveSpec) (begin end : ℤ) (h : Point) → IsPoint c begin end h → IsHighestSoFar c begin end begin h
 first-so_far c begin end h point = record { point = point; below = below-none c h.minute h.value begin }
 
 -- minutes below a point are below a higher one
@@ -120,7 +120,7 @@ least-higher at value m v k x h most least earlier = by_test (int_lt value v)
     let up = is_higher-value at value m v h in
     omega (arith, ints))
 
-below-higher : (c : Meaning) (at value m v begin end : ℤ) → is_higher at value m v ≡ true
+below-higher : (c : CurveSpec) (at value m v begin end : ℤ) → is_higher at value m v ≡ true
     → AreBelow c at value begin end → AreBelow c m v begin end
 below-higher c at value m v begin end h below = record {
   greatest = λ k from before. let g = below.greatest k from before in let w = is_higher-value at value m v h in omega (arith, ints);
@@ -129,7 +129,7 @@ below-higher c at value m v begin end h below = record {
 }
 
 -- one more minute
-higher-so_far : (c : Meaning) (begin end to : ℤ) (h p : Point) → IsHighestSoFar c begin end to h → begin ≤ℤ to → to
+higher-so_far : (c : CurveSpec) (begin end to : ℤ) (h p : Point) → IsHighestSoFar c begin end to h → begin ≤ℤ to → to
     <ℤ end → p.minute ≡ to → p.value ≡ c.track.value p.minute → IsHighestSoFar c begin end (to +ℤ pos 1) (higher_of h p)
 higher-so_far c begin end to h p so_far from before at value =
     let point : IsPoint c begin end p = record { from = omega (arith, ints); before = omega (arith, ints); value = value } in
@@ -148,7 +148,7 @@ higher-so_far c begin end to h p so_far from before at value =
     }))
 
 -- one more cell
-pub cell-so_far : (c : Meaning) (begin end to : ℤ) (h p : Point) (cell : PeakCell) → IsLawful c → c.first ≤ℤ begin
+pub cell-so_far : (c : CurveSpec) (begin end to : ℤ) (h p : Point) (cell : PeakCell) → IsLawful c → c.first ≤ℤ begin
     → end ≤ℤ c.last → IsHighestSoFar c begin end to h → begin ≤ℤ to → p.minute ≡ to → p.value ≡ c.track.value p.minute
     → IsRight c h to cell → (to +ℤ pos (minutes_of cell)) ≤ℤ end
     → IsHighestSoFar c begin end (to +ℤ pos (minutes_of cell)) (raised_at h p cell)
@@ -161,7 +161,7 @@ cell-so_far c begin end to h p Single lawful first last so_far from at value rig
     higher-so_far c begin end to h p so_far from (omega (arith, ints)) at value
 
 -- all minutes
-pub all-so_far : (c : Meaning) (begin end to : ℤ) (h : Point) → to ≡ end → IsHighestSoFar c begin end to h
+pub all-so_far : (c : CurveSpec) (begin end to : ℤ) (h : Point) → to ≡ end → IsHighestSoFar c begin end to h
     → IsHighest c begin end h.minute h.value
 all-so_far c begin end to h all so_far =
     let before = so_far.point.before in
@@ -174,19 +174,19 @@ all-so_far c begin end to h all so_far =
     }
 
 -- a cell has at least one minute
-pub right-some : (c : Meaning) (h : Point) (a : ℤ) (cell : PeakCell) → IsRight c h a cell → 1 ≤ minutes_of cell
+pub right-some : (c : CurveSpec) (h : Point) (a : ℤ) (cell : PeakCell) → IsRight c h a cell → 1 ≤ minutes_of cell
 right-some c h a (Under n) right = let two = under-two c h.minute h.value a n right in omega arith
 right-some c h a Single right = omega arith
 
 -- the value of a point, and that of the highest water, are in range
-pub point-small : (c : Meaning) (begin end : ℤ) (p : Point) → IsLawful c → c.first ≤ℤ begin → end ≤ℤ c.last
+pub point-small : (c : CurveSpec) (begin end : ℤ) (p : Point) → IsLawful c → c.first ≤ℤ begin → end ≤ℤ c.last
     → IsPoint c begin end p → unsigned_abs p.value < 10 ^ 37
 point-small c begin end p lawful first last point =
     let from = point.from in
     let before = point.before in
     rw point.value (lawful.values p.minute (record { first = omega (arith, ints); last = omega (arith, ints) }))
 
-pub highest-small : (c : Meaning) (begin end at value : ℤ) → IsLawful c → c.first ≤ℤ begin → end ≤ℤ c.last
+pub highest-small : (c : CurveSpec) (begin end at value : ℤ) → IsLawful c → c.first ≤ℤ begin → end ≤ℤ c.last
     → IsHighest c begin end at value → unsigned_abs value < 10 ^ 37
 highest-small c begin end at value lawful first last peak =
     let from = peak.from in
@@ -194,7 +194,7 @@ highest-small c begin end at value lawful first last peak =
     rw (← peak.has) (lawful.values at (record { first = omega (arith, ints); last = omega (arith, ints) }))
 
 -- the highest water with its cells is that of an evaluation of each minute
-pub highest-peak_of : (c : Meaning) (begin end at value : ℤ) (cells : List PeakCell) → IsHighest c begin end at value
+pub highest-peak_of : (c : CurveSpec) (begin end at value : ℤ) (cells : List PeakCell) → IsHighest c begin end at value
     → cells ≡ peak_cover c at value begin (unsigned_abs (end -ℤ begin))
     → record { at = at; value = value; cells = cells } ≡ peak_of c begin (unsigned_abs (end -ℤ begin))
 unfolding peak_of
@@ -207,7 +207,7 @@ highest-peak_of c begin end at value cells peak is =
     rw (is, one.1, one.0) refl
 
 -- the minute and the value of the highest water are those of an evaluation of each minute
-pub highest-is : (c : Meaning) (begin end at value : ℤ) → IsHighest c begin end at value
+pub highest-is : (c : CurveSpec) (begin end at value : ℤ) → IsHighest c begin end at value
     → (at ≡ (peak_of c begin (unsigned_abs (end -ℤ begin))).at) × (value ≡ (peak_of c begin (unsigned_abs (end -ℤ begin))).value)
 highest-is c begin end at value peak =
     let same = highest-peak_of c begin end at value (peak_cover c at value begin (unsigned_abs (end -ℤ begin))) peak refl in
@@ -216,7 +216,7 @@ highest-is c begin end at value peak =
 pub some-forward : (begin end : ℤ) → begin <ℤ end → begin ≤ℤ end
 some-forward begin end some = omega (arith, ints)
 
-pub highest-forward : (c : Meaning) (begin end at value : ℤ) → IsHighest c begin end at value → begin ≤ℤ end
+pub highest-forward : (c : CurveSpec) (begin end at value : ℤ) → IsHighest c begin end at value → begin ≤ℤ end
 highest-forward c begin end at value peak = let from = peak.from in let before = peak.before in omega (arith, ints)
 
 -- the number of evaluations of the search
@@ -229,7 +229,7 @@ pub values-few : (begin end : ℤ) (before found : ℕ) → (end -ℤ begin) ≤
 values-few begin end before found short some few first = omega (arith, ints)
 
 -- the number of evaluations of the search and then of the cells
-pub values-counted : (c : Meaning) (begin end at value : ℤ) (before found after : ℕ) → IsHighest c begin end at value
+pub values-counted : (c : CurveSpec) (begin end at value : ℤ) (before found after : ℕ) → IsHighest c begin end at value
     → found ≤ before + 2 * unsigned_abs (end -ℤ begin) + 1
     → after ≤ found + length (peak_cover c at value begin (unsigned_abs (end -ℤ begin))) + 1 → after
     ≤ before + 2 * unsigned_abs (end -ℤ begin) + length (peak_of c begin (unsigned_abs (end -ℤ begin))).cells + 2

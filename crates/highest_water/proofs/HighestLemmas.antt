@@ -1,7 +1,7 @@
 -- A span has one highest water.
 use Rattle.std.proofs.Common.{◌≡◌, ℕ, zero, suc, ◌≤◌, ℤ, pos, ◌+ℤ◌, ◌≤ℤ◌, ◌<ℤ◌, int_lt, false, refl, sym, ap, arith, ◌∙◌}
 use Rattle.std.proofs.lemmas.Int.{ints}
-use Rattle.curve_law.specs.Meaning.{Meaning}
+use Rattle.curve_law.specs.CurveSpec.{CurveSpec}
 use Rattle.curve_law.proofs.CoverLemmas.{by_test}
 use Rattle.highest_water.specs.Peaks.{IsHighest, higher_minute, highest_minute}
 use Rattle.highest_water.proofs.UnderLemmas.{int_lt-true}
@@ -9,7 +9,7 @@ use Rattle.highest_water.proofs.UnderLemmas.{int_lt-true}
 pub int_lt-false : (x y : ℤ) → int_lt x y ≡ false → y ≤ℤ x
 int_lt-false x y h = grind (arith, ints)
 
-one_minute : (c : Meaning) (begin end at value other_at other : ℤ) → IsHighest c begin end at value
+one_minute : (c : CurveSpec) (begin end at value other_at other : ℤ) → IsHighest c begin end at value
     → IsHighest c begin end other_at other → at <ℤ other_at → ⊥
 one_minute c begin end at value other_at other peak another less =
     let has = peak.has in
@@ -21,7 +21,7 @@ one_minute c begin end at value other_at other peak another less =
 same_or : (x y : ℤ) → (x <ℤ y → ⊥) → (y <ℤ x → ⊥) → x ≡ y
 same_or x y less more = grind (arith, ints)
 
-pub highest-one : (c : Meaning) (begin end at value other_at other : ℤ) → IsHighest c begin end at value
+pub highest-one : (c : CurveSpec) (begin end at value other_at other : ℤ) → IsHighest c begin end at value
     → IsHighest c begin end other_at other → (at ≡ other_at) × (value ≡ other)
 highest-one c begin end at value other_at other peak another =
     let one = same_or at other_at
@@ -30,7 +30,7 @@ highest-one c begin end at value other_at other peak another =
     (one, sym peak.has ∙ ap c.track.value one ∙ another.has)
 
 -- one more minute
-first-highest : (c : Meaning) (a : ℤ) → IsHighest c a (a +ℤ pos 1) a (c.track.value a)
+first-highest : (c : CurveSpec) (a : ℤ) → IsHighest c a (a +ℤ pos 1) a (c.track.value a)
 first-highest c a = record {
   from = omega (arith, ints);
   before = omega (arith, ints);
@@ -39,7 +39,7 @@ first-highest c a = record {
   first = λ m from before. absurd (omega (arith, ints));
 }
 
-later-highest : (c : Meaning) (begin end at : ℤ) → IsHighest c begin end at (c.track.value at)
+later-highest : (c : CurveSpec) (begin end at : ℤ) → IsHighest c begin end at (c.track.value at)
     → c.track.value at <ℤ c.track.value end → IsHighest c begin (end +ℤ pos 1) end (c.track.value end)
 later-highest c begin end at peak more =
     let from = peak.from in
@@ -54,7 +54,7 @@ later-highest c begin end at peak more =
       first = λ m from before. let g = peak.greatest m from before in omega (arith, ints);
     }
 
-earlier-highest : (c : Meaning) (begin end at : ℤ) → IsHighest c begin end at (c.track.value at)
+earlier-highest : (c : CurveSpec) (begin end at : ℤ) → IsHighest c begin end at (c.track.value at)
     → c.track.value end ≤ℤ c.track.value at → IsHighest c begin (end +ℤ pos 1) at (c.track.value at)
 earlier-highest c begin end at peak less =
     let before = peak.before in
@@ -68,13 +68,13 @@ earlier-highest c begin end at peak less =
       first = peak.first;
     }
 
-higher-highest : (c : Meaning) (begin end at : ℤ) → IsHighest c begin end at (c.track.value at)
+higher-highest : (c : CurveSpec) (begin end at : ℤ) → IsHighest c begin end at (c.track.value at)
     → IsHighest c begin (end +ℤ pos 1) (higher_minute c at end) (c.track.value (higher_minute c at end))
 higher-highest c begin end at peak = by_test (int_lt (c.track.value at) (c.track.value end))
     (λ more. rw more (later-highest c begin end at peak (int_lt-true _ _ more)))
     (λ less. rw less (earlier-highest c begin end at peak (int_lt-false _ _ less)))
 
-first-minute : (c : Meaning) (a : ℤ) → highest_minute c a 1 ≡ a
+first-minute : (c : CurveSpec) (a : ℤ) → highest_minute c a 1 ≡ a
 unfolding highest_minute
 first-minute c a =
     let here : a +ℤ pos 0 ≡ a = omega (arith, ints) in
@@ -82,7 +82,7 @@ first-minute c a =
     rw (here, none) refl
 
 -- an evaluation of each minute finds the highest water
-pub minute-highest : (c : Meaning) (a : ℤ) (n : ℕ) → 1 ≤ n
+pub minute-highest : (c : CurveSpec) (a : ℤ) (n : ℕ) → 1 ≤ n
     → IsHighest c a (a +ℤ pos n) (highest_minute c a n) (c.track.value (highest_minute c a n))
 unfolding highest_minute
 minute-highest c a zero some = absurd (omega arith)

@@ -4,7 +4,7 @@ use Rattle.std.proofs.lemmas.Int.{ints}
 use Rattle.std.proofs.lemmas.List.{drop_all}
 use Rattle.std.proofs.lemmas.Bool.Decides.{Decides-eqb}
 use Rattle.curve_law.specs.declared.point.Point.{Point}
-use Rattle.curve_law.specs.Meaning.{Meaning, IsSpan}
+use Rattle.curve_law.specs.CurveSpec.{CurveSpec, IsSpan}
 use Rattle.highest_water.specs.declared.peak.Peak.{Peak}
 use Rattle.highest_water.specs.declared.peak_cell.PeakCell.{PeakCell}
 use Rattle.highest_water.specs.declared.peak_cell.PeakCell.TheVariants.{Under, Single}
@@ -16,12 +16,12 @@ use Rattle.highest_water.specs.Workings.Findings.{under_finding, single_finding}
 
 -- ---- one cell
 
-pub under_finding-is_under : (c : Meaning) (h : Point) (a : ℤ) (number n : ℕ)
+pub under_finding-is_under : (c : CurveSpec) (h : Point) (a : ℤ) (number n : ℕ)
     → under_finding number (is_under c h.minute h.value a n) ≡ cell_verdict c h.minute h.value a number (Under n)
 unfolding cell_verdict
 under_finding-is_under c h a number n = refl
 
-pub single_finding-at : (c : Meaning) (h at : Point) (number : ℕ) → at.value ≡ c.track.value at.minute
+pub single_finding-at : (c : CurveSpec) (h at : Point) (number : ℕ) → at.value ≡ c.track.value at.minute
     → single_finding h number at ≡ cell_verdict c h.minute h.value at.minute number Single
 unfolding cell_verdict
 single_finding-at c h at number value = rw value refl
@@ -31,7 +31,7 @@ single_finding-at c h at number value = rw value refl
 cells-left : (cells : List PeakCell) (i : ℕ) (d : PeakCell) → i < length cells → drop i cells ≡ get_or cells i d ∷ drop (i + 1) cells
 cells-left cells i d some = rw (add-one, drop-cons cells i d) refl
 
-pub first-span : (c : Meaning) (a : ℤ) (cells : List PeakCell) (i : ℕ) (d : PeakCell) → i < length cells
+pub first-span : (c : CurveSpec) (a : ℤ) (cells : List PeakCell) (i : ℕ) (d : PeakCell) → i < length cells
     → IsSpan c a (all_minutes (drop i cells)) → IsSpan c a (minutes_of (get_or cells i d))
 unfolding all_minutes
 first-span c a cells i d some span =
@@ -39,7 +39,7 @@ first-span c a cells i d some span =
     let last = (rw (cells-left cells i d some) at span).last in
     record { first = first; last = omega (arith, ints) }
 
-pub rest-span : (c : Meaning) (a : ℤ) (cells : List PeakCell) (i : ℕ) (d : PeakCell) → i < length cells
+pub rest-span : (c : CurveSpec) (a : ℤ) (cells : List PeakCell) (i : ℕ) (d : PeakCell) → i < length cells
     → IsSpan c a (all_minutes (drop i cells))
     → IsSpan c (a +ℤ pos (minutes_of (get_or cells i d))) (all_minutes (drop (i + 1) cells))
 unfolding all_minutes
@@ -57,14 +57,14 @@ wrong-first (Above cell) w wrong = refl
 wrong-first Accepted w wrong = absurd (wrong refl)
 
 -- the first verdict is that on this cell, or one on the cells after it, or there are no more cells
-pub first-found : (c : Meaning) (h : Point) (a : ℤ) (number : ℕ) (cells : List PeakCell) (i : ℕ) (d : PeakCell)
+pub first-found : (c : CurveSpec) (h : Point) (a : ℤ) (number : ℕ) (cells : List PeakCell) (i : ℕ) (d : PeakCell)
     (all found : PeakVerdict) → i < length cells → all ≡ cells_verdict c h.minute h.value a number (drop i cells)
     → found ≡ cell_verdict c h.minute h.value a number (get_or cells i d) → found ≢ Accepted → found ≡ all
 unfolding cells_verdict
 first-found c h a number cells i d all found some left is wrong =
     rw (left, cells-left cells i d some, ← is) (sym (wrong-first found _ wrong))
 
-pub rest-found : (c : Meaning) (h : Point) (a : ℤ) (number : ℕ) (cells : List PeakCell) (i : ℕ) (d : PeakCell)
+pub rest-found : (c : CurveSpec) (h : Point) (a : ℤ) (number : ℕ) (cells : List PeakCell) (i : ℕ) (d : PeakCell)
     (all : PeakVerdict) → i < length cells → all ≡ cells_verdict c h.minute h.value a number (drop i cells)
     → Accepted ≡ cell_verdict c h.minute h.value a number (get_or cells i d) → all
     ≡ cells_verdict c h.minute h.value (a +ℤ pos (minutes_of (get_or cells i d))) (number + 1) (drop (i + 1) cells)
@@ -72,21 +72,21 @@ unfolding cells_verdict
 rest-found c h a number cells i d all some left right =
     rw (left, cells-left cells i d some, ← right, ← add-one number) refl
 
-pub none-found : (c : Meaning) (h : Point) (a : ℤ) (number i : ℕ) (cells : List PeakCell) (all : PeakVerdict)
+pub none-found : (c : CurveSpec) (h : Point) (a : ℤ) (number i : ℕ) (cells : List PeakCell) (all : PeakVerdict)
     → length cells ≤ i → all ≡ cells_verdict c h.minute h.value a number (drop i cells) → Accepted ≡ all
 unfolding cells_verdict
 none-found c h a number i cells all none left = rw (left, drop_all i cells none) refl
 
 -- ---- the whole
 
-pub verdict-outside : (c : Meaning) (a : ℤ) (n : ℕ) (peak : Peak) → all_minutes peak.cells ≡ n
+pub verdict-outside : (c : CurveSpec) (a : ℤ) (n : ℕ) (peak : Peak) → all_minutes peak.cells ≡ n
     → is_inside peak.at a n ≡ false → Outside ≡ peak_verdict c a n peak
 unfolding peak_verdict
 verdict-outside c a n peak whole outside =
     let all : (all_minutes peak.cells == n) ≡ true = (Decides-eqb (all_minutes peak.cells) n).1 whole in
     rw (all, outside) refl
 
-pub verdict-inside : (c : Meaning) (a : ℤ) (n : ℕ) (peak : Peak) → all_minutes peak.cells ≡ n
+pub verdict-inside : (c : CurveSpec) (a : ℤ) (n : ℕ) (peak : Peak) → all_minutes peak.cells ≡ n
     → is_inside peak.at a n ≡ true → cells_verdict c peak.at peak.value a 1 peak.cells ≡ peak_verdict c a n peak
 unfolding peak_verdict
 verdict-inside c a n peak whole inside =

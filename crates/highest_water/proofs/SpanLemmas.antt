@@ -2,7 +2,7 @@
 use Rattle.std.proofs.Common.{◌≡◌, ◌≢◌, ◌-◌, ◌^◌, ◌==◌, min, w64, to_z, of_z, FitsSigned, ℤ, pos, ◌+ℤ◌, ◌-ℤ◌, ◌≤ℤ◌, unsigned_abs, false, refl, sym, ap, arith, ◌∙◌}
 use Rattle.std.proofs.lemmas.Bool.{ne_eqb}
 use Rattle.std.proofs.lemmas.Int.{ints}
-use Rattle.curve_law.specs.Meaning.{Meaning}
+use Rattle.curve_law.specs.CurveSpec.{CurveSpec}
 use Rattle.curve_law.proofs.SpanLemmas.{IsBetween, all-of, minutes-few, ends-are, wanted-is, covered-is}
 use Rattle.highest_water.specs.declared.peak.Peak.{Peak}
 use Rattle.highest_water.specs.declared.verdict.PeakVerdict.TheVariants.{WrongLength}
@@ -10,7 +10,7 @@ use Rattle.highest_water.specs.Covers.{all_minutes}
 use Rattle.highest_water.specs.Verdicts.{peak_verdict}
 
 -- the number of minutes fits 64 bits
-pub wanted-fits : (c : Meaning) (begin end : ℤ) → IsBetween c begin end
+pub wanted-fits : (c : CurveSpec) (begin end : ℤ) → IsBetween c begin end
     → FitsSigned w64 (to_z w64 (of_z w64 end) -ℤ to_z w64 (of_z w64 begin))
 wanted-fits c begin end between =
     let few = minutes-few c begin end between in
@@ -18,7 +18,7 @@ wanted-fits c begin end between =
     rw (ends-are c begin end between) (omega (arith, ints))
 
 -- cells of another length
-pub wrong-length : (c : Meaning) (begin end covered : ℤ) (peak : Peak) → IsBetween c begin end
+pub wrong-length : (c : CurveSpec) (begin end covered : ℤ) (peak : Peak) → IsBetween c begin end
     → covered ≡ pos (min (all_minutes peak.cells) (2 ^ 63 - 1)) → of_z w64 covered
     ≢ of_z w64 (to_z w64 (of_z w64 end) -ℤ to_z w64 (of_z w64 begin)) → WrongLength (to_z w64 (of_z w64 covered))
     (to_z w64 (of_z w64 (to_z w64 (of_z w64 end) -ℤ to_z w64 (of_z w64 begin))))

@@ -4,7 +4,7 @@ use Rattle.std.proofs.Common.{◌≡◌, ◌⊎◌, inl, inr, ⊎_elim, ℕ, ◌
 use Rattle.std.proofs.lemmas.Bool.{and_parts}
 use Rattle.std.proofs.lemmas.Bool.Decides.{nat_tests}
 use Rattle.std.proofs.lemmas.Int.{ints}
-use Rattle.curve_law.specs.Meaning.{Meaning, IsSpan, IsRate, IsLawful}
+use Rattle.curve_law.specs.CurveSpec.{CurveSpec, IsSpan, IsRate, IsLawful}
 use Rattle.curve_law.specs.declared.quiet.TheConstants.{MOST_MINUTES}
 use Rattle.curve_law.proofs.CoverLemmas.{by_test}
 use Rattle.curve_law.proofs.QuietLemmas.{drift_up, drift_down, later_steps}
@@ -24,7 +24,7 @@ twice-most f a r j i steps =
     omega (arith, ints)
 
 -- twice a value inside, by the law of a rate
-rated-most : (c : Meaning) (a : ℤ) (j i : ℕ) (rate : ℤ) → 1 ≤ j + i → IsRate c a (j + i) rate
+rated-most : (c : CurveSpec) (a : ℤ) (j i : ℕ) (rate : ℤ) → 1 ≤ j + i → IsRate c a (j + i) rate
     → (pos 2 *ℤ c.track.value (a +ℤ pos j))
     ≤ℤ (c.track.value a +ℤ c.track.value (a +ℤ pos (j + i)) +ℤ (rate *ℤ pos (j + i)))
 rated-most c a j i (negsuc r) some is = absurd (let step = is.steps 0 (omega arith) in omega (arith, ints))
@@ -63,7 +63,7 @@ rate-within rate v w x value n bound stays =
     omega (arith, ints)
 
 -- the bound of a value inside by the rate of a cell
-inside-most : (c : Meaning) (a : ℤ) (n j : ℕ) (rate : ℤ) → c.rate a n ≡ Some rate → IsLawful c → IsSpan c a n → 2 ≤ n
+inside-most : (c : CurveSpec) (a : ℤ) (n j : ℕ) (rate : ℤ) → c.rate a n ≡ Some rate → IsLawful c → IsSpan c a n → 2 ≤ n
     → n ≤ MOST_MINUTES → j < n
     → (pos 2 *ℤ c.track.value (a +ℤ pos j)) ≤ℤ (c.track.value a +ℤ c.track.value (a +ℤ pos n) +ℤ (rate *ℤ pos n))
 inside-most c a n j rate is lawful span two most few =
@@ -71,14 +71,14 @@ inside-most c a n j rate is lawful span two most few =
     let law = lawful.rates a n rate (record { first = span.first; last = span.last; some = omega arith; few = most }) is in
     rw all at (rated-most c a j (n - j) rate (omega arith) (rw all law))
 
-below-least : (c : Meaning) (a : ℤ) (n j : ℕ) (value : ℤ) (o : Option ℤ) → c.rate a n ≡ o → IsLawful c → IsSpan c a n
+below-least : (c : CurveSpec) (a : ℤ) (n j : ℕ) (value : ℤ) (o : Option ℤ) → c.rate a n ≡ o → IsLawful c → IsSpan c a n
     → 2 ≤ n → n ≤ MOST_MINUTES → j < n → stays_below o n (c.track.value a) (c.track.value (a +ℤ pos n)) value ≡ true
     → c.track.value (a +ℤ pos j) <ℤ value
 below-least c a n j value None is lawful span two most few stays = absurd (no_rate-below n _ _ value stays)
 below-least c a n j value (Some rate) is lawful span two most few stays =
     rate-below rate _ _ _ value n (inside-most c a n j rate is lawful span two most few) stays
 
-within-most : (c : Meaning) (a : ℤ) (n j : ℕ) (value : ℤ) (o : Option ℤ) → c.rate a n ≡ o → IsLawful c → IsSpan c a n
+within-most : (c : CurveSpec) (a : ℤ) (n j : ℕ) (value : ℤ) (o : Option ℤ) → c.rate a n ≡ o → IsLawful c → IsSpan c a n
     → 2 ≤ n → n ≤ MOST_MINUTES → j < n → stays_within o n (c.track.value a) (c.track.value (a +ℤ pos n)) value ≡ true
     → c.track.value (a +ℤ pos j) ≤ℤ value
 within-most c a n j value None is lawful span two most few stays = absurd (no_rate-within n _ _ value stays)
@@ -95,22 +95,22 @@ two_ways false q true false h = cc
 two_ways false q false s h = cc
 
 -- the parts of the test
-pub under-two : (c : Meaning) (at value a : ℤ) (n : ℕ) → is_under c at value a n ≡ true → 2 ≤ n
+pub under-two : (c : CurveSpec) (at value a : ℤ) (n : ℕ) → is_under c at value a n ≡ true → 2 ≤ n
 unfolding is_under
 under-two c at value a n under = grind (arith, nat_tests)
 
-pub under-few : (c : Meaning) (at value a : ℤ) (n : ℕ) → is_under c at value a n ≡ true → n ≤ MOST_MINUTES
+pub under-few : (c : CurveSpec) (at value a : ℤ) (n : ℕ) → is_under c at value a n ≡ true → n ≤ MOST_MINUTES
 unfolding is_under
 under-few c at value a n under = grind (arith, nat_tests)
 
 -- a cell that ends by the minute has only lesser values; one that begins after it has no greater one
-abbrev EndsBy : Meaning → ℤ → ℤ → ℤ → ℕ → Type 0
+abbrev EndsBy : CurveSpec → ℤ → ℤ → ℤ → ℕ → Type 0
 EndsBy c at value a n = (a +ℤ pos n) ≤ℤ at × (stays_below (c.rate a n) n (c.track.value a) (c.track.value (a +ℤ pos n)) value ≡ true)
 
-abbrev BeginsAfter : Meaning → ℤ → ℤ → ℤ → ℕ → Type 0
+abbrev BeginsAfter : CurveSpec → ℤ → ℤ → ℤ → ℕ → Type 0
 BeginsAfter c at value a n = at <ℤ a × (stays_within (c.rate a n) n (c.track.value a) (c.track.value (a +ℤ pos n)) value ≡ true)
 
-under-side : (c : Meaning) (at value a : ℤ) (n : ℕ) → is_under c at value a n ≡ true → EndsBy c at value a n ⊎ BeginsAfter c at value a n
+under-side : (c : CurveSpec) (at value a : ℤ) (n : ℕ) → is_under c at value a n ≡ true → EndsBy c at value a n ⊎ BeginsAfter c at value a n
 unfolding is_under
 under-side c at value a n under =
     let sides = and_parts _ _ under in
@@ -120,16 +120,16 @@ under-side c at value a n under =
     (two_ways _ _ _ _ sides.1)
 
 -- a cell that is under doesn't contain the minute
-pub under-beside : (c : Meaning) (at value a : ℤ) (n : ℕ) → is_under c at value a n ≡ true → a ≤ℤ at → (a +ℤ pos n) ≤ℤ at
+pub under-beside : (c : CurveSpec) (at value a : ℤ) (n : ℕ) → is_under c at value a n ≡ true → a ≤ℤ at → (a +ℤ pos n) ≤ℤ at
 under-beside c at value a n under from =
     elim (under-side c at value a n under) [ inl by ↦ by.0 | inr after ↦ absurd (omega (arith, ints, after.0)) ]
 
-pub under-other : (c : Meaning) (at value a : ℤ) (n : ℕ) → is_under c at value a n ≡ true → a ≤ℤ at → at <ℤ (a +ℤ pos n) → ⊥
+pub under-other : (c : CurveSpec) (at value a : ℤ) (n : ℕ) → is_under c at value a n ≡ true → a ≤ℤ at → at <ℤ (a +ℤ pos n) → ⊥
 under-other c at value a n under from before =
     let beside = under-beside c at value a n under from in omega (arith, ints)
 
 -- no minute of a cell that is under is higher
-below-of : (c : Meaning) (at value a : ℤ) (n : ℕ) → ((j : ℕ) → j < n → c.track.value (a +ℤ pos j) ≤ℤ value
+below-of : (c : CurveSpec) (at value a : ℤ) (n : ℕ) → ((j : ℕ) → j < n → c.track.value (a +ℤ pos j) ≤ℤ value
     × ((a +ℤ pos j) <ℤ at → c.track.value (a +ℤ pos j) <ℤ value)) → AreBelow c at value a (a +ℤ pos n)
 below-of c at value a n each = record {
   greatest = λ m from before.
@@ -140,7 +140,7 @@ below-of c at value a n each = record {
       (rw j at (each (unsigned_abs (m -ℤ a)) (omega (arith, ints))).1) earlier;
 }
 
-pub under-below : (c : Meaning) (at value a : ℤ) (n : ℕ) → IsLawful c → IsSpan c a n → is_under c at value a n ≡ true
+pub under-below : (c : CurveSpec) (at value a : ℤ) (n : ℕ) → IsLawful c → IsSpan c a n → is_under c at value a n ≡ true
     → AreBelow c at value a (a +ℤ pos n)
 under-below c at value a n lawful span under = below-of c at value a n (λ j few.
     let two = under-two c at value a n under in
@@ -160,7 +160,7 @@ and_false : (b : Bool) → false ≡ (b && false)
 and_false true = refl
 and_false false = refl
 
-pub is_under-length : (c : Meaning) (at value a : ℤ) (n : ℕ) → (n < 2) ⊎ (2 ≤ n × MOST_MINUTES < n) → false ≡ is_under c at value a n
+pub is_under-length : (c : CurveSpec) (at value a : ℤ) (n : ℕ) → (n < 2) ⊎ (2 ≤ n × MOST_MINUTES < n) → false ≡ is_under c at value a n
 unfolding is_under
 is_under-length c at value a n other =
     let e : (nat_le 2 n && nat_le n MOST_MINUTES) ≡ false = grind (arith, nat_tests) in rw e refl
@@ -171,7 +171,7 @@ inside-not_by at a n h = grind (arith, ints)
 inside-not_after : (at a : ℤ) (n : ℕ) → is_inside at a n ≡ true → int_lt at a ≡ false
 inside-not_after at a n h = grind (arith, ints)
 
-pub is_under-inside : (c : Meaning) (at value a : ℤ) (n : ℕ) → is_inside at a n ≡ true → false ≡ is_under c at value a n
+pub is_under-inside : (c : CurveSpec) (at value a : ℤ) (n : ℕ) → is_inside at a n ≡ true → false ≡ is_under c at value a n
 unfolding is_under
 is_under-inside c at value a n inside =
     rw (inside-not_by at a n inside, inside-not_after at a n inside) (and_false (nat_le 2 n && nat_le n MOST_MINUTES))
@@ -190,7 +190,7 @@ or_false : (b : Bool) → b ≡ (b || false)
 or_false true = refl
 or_false false = refl
 
-pub is_under-rate : (c : Meaning) (at value a most rate : ℤ) (n : ℕ) → 2 ≤ n → n ≤ MOST_MINUTES → is_inside at a n
+pub is_under-rate : (c : CurveSpec) (at value a most rate : ℤ) (n : ℕ) → 2 ≤ n → n ≤ MOST_MINUTES → is_inside at a n
     ≡ false → Some rate ≡ c.rate a n → most ≡ twice_most rate n (c.track.value a) (c.track.value (a +ℤ pos n))
     → low_enough most value (int_lt at a) ≡ is_under c at value a n
 unfolding is_under stays_below stays_within
@@ -200,7 +200,7 @@ is_under-rate c at value a most rate n two few outside stated is =
     (λ after. rw (is, ← stated, e, after-not_by at a n after, after) refl)
     (λ before. rw (is, ← stated, e, outside-by at a n outside before, before) (or_false _))
 
-pub is_under-unrated : (c : Meaning) (at value a : ℤ) (n : ℕ) → None ≡ c.rate a n → false ≡ is_under c at value a n
+pub is_under-unrated : (c : CurveSpec) (at value a : ℤ) (n : ℕ) → None ≡ c.rate a n → false ≡ is_under c at value a n
 unfolding is_under stays_below stays_within
 is_under-unrated c at value a n stated = rw (← stated) (no_way (int_le (a +ℤ pos n) at) (int_lt at a) (nat_le 2 n && nat_le n MOST_MINUTES))
   where
@@ -211,5 +211,5 @@ is_under-unrated c at value a n stated = rw (← stated) (no_way (int_le (a +ℤ
     no_way false false b = and_false b
 
 -- the first minute of a span of a lawful curve
-pub begin-range : (c : Meaning) (a : ℤ) (n : ℕ) → IsLawful c → IsSpan c a n → unsigned_abs a ≤ 2 ^ 60
+pub begin-range : (c : CurveSpec) (a : ℤ) (n : ℕ) → IsLawful c → IsSpan c a n → unsigned_abs a ≤ 2 ^ 60
 begin-range c a n lawful span = omega (arith, ints, lawful.early, lawful.late, span.first, span.last)

@@ -5,7 +5,7 @@ use Rattle.std.proofs.lemmas.Bool.{and_parts}
 use Rattle.std.proofs.lemmas.Bool.Decides.{Decides-int_eq, Decides-eqb}
 use Rattle.std.proofs.lemmas.Int.{ints}
 use Rattle.curve_law.proofs.VerdictLemmas.{accepted_false, accepted_true, tested}
-use Rattle.curve_law.specs.Meaning.{Meaning, IsSpan, IsLawful}
+use Rattle.curve_law.specs.CurveSpec.{CurveSpec, IsSpan, IsLawful}
 use Rattle.curve_law.proofs.CoverLemmas.{by_test}
 use Rattle.highest_water.specs.declared.peak.Peak.{Peak}
 use Rattle.highest_water.specs.declared.peak_cell.PeakCell.{PeakCell}
@@ -28,7 +28,7 @@ both_accepted (Above cell) w h = cc
 both_accepted Accepted w h = (refl, h)
 
 -- no minute of two adjacent spans is higher, if none of each is
-pub below-append : (c : Meaning) (at value a b d : ℤ) → AreBelow c at value a b → AreBelow c at value b d → AreBelow c at value a d
+pub below-append : (c : CurveSpec) (at value a b d : ℤ) → AreBelow c at value a b → AreBelow c at value b d → AreBelow c at value a d
 below-append c at value a b d first second = record {
   greatest = λ m from before. by_test (int_lt m b)
       (λ less. first.greatest m from (int_lt-true m b less))
@@ -38,7 +38,7 @@ below-append c at value a b d first second = record {
       (λ more. second.first m (int_lt-false m b more) before earlier);
 }
 
-pub below-none : (c : Meaning) (at value a : ℤ) → AreBelow c at value a a
+pub below-none : (c : CurveSpec) (at value a : ℤ) → AreBelow c at value a a
 below-none c at value a = record {
   greatest = λ m from before. absurd (omega (arith, ints));
   first = λ m from before. absurd (omega (arith, ints));
@@ -48,7 +48,7 @@ not_higher : (at value m v : ℤ) → is_higher at value m v ≡ false → v ≤
 not_higher at value m v h = (grind (arith, ints), λ earlier. grind (arith, ints))
 
 -- one minute that is not higher
-pub below-one : (c : Meaning) (at value a : ℤ) → is_higher at value a (c.track.value a) ≡ false → AreBelow c at value a (a +ℤ pos 1)
+pub below-one : (c : CurveSpec) (at value a : ℤ) → is_higher at value a (c.track.value a) ≡ false → AreBelow c at value a (a +ℤ pos 1)
 below-one c at value a h =
     let low = not_higher at value a (c.track.value a) h in
     record {
@@ -57,18 +57,18 @@ below-one c at value a h =
     }
 
 -- the minute of the highest water itself
-pub below-at : (c : Meaning) (at value a : ℤ) → a ≡ at → c.track.value a ≡ value → AreBelow c at value a (a +ℤ pos 1)
+pub below-at : (c : CurveSpec) (at value a : ℤ) → a ≡ at → c.track.value a ≡ value → AreBelow c at value a (a +ℤ pos 1)
 below-at c at value a here has = record {
   greatest = λ m from before. let one : m ≡ a = omega (arith, ints) in rw (one, has) (omega (arith, ints));
   first = λ m from before earlier. absurd (omega (arith, ints));
 }
 
 -- the facts of accepted cells: no minute is higher, and the written minute has the written value
-record AreShown (c : Meaning) (at value begin end : ℤ) : Type 0 where
+record AreShown (c : CurveSpec) (at value begin end : ℤ) : Type 0 where
   below : AreBelow c at value begin end
   has : begin ≤ℤ at → at <ℤ end → c.track.value at ≡ value
 
-accepted-cell : (c : Meaning) (at value a : ℤ) (number : ℕ) (cell : PeakCell) → IsLawful c
+accepted-cell : (c : CurveSpec) (at value a : ℤ) (number : ℕ) (cell : PeakCell) → IsLawful c
     → IsSpan c a (minutes_of cell) → cell_verdict c at value a number cell ≡ Accepted
     → AreShown c at value a (a +ℤ pos (minutes_of cell))
 unfolding cell_verdict
@@ -96,7 +96,7 @@ accepted-cell c at value a number Single lawful span ok = by_test (int_eq a at)
     false_true : false ≡ true → ⊥
     false_true h = cc
 
-accepted-cells : (c : Meaning) (at value a : ℤ) (number : ℕ) (cells : List PeakCell) → IsLawful c
+accepted-cells : (c : CurveSpec) (at value a : ℤ) (number : ℕ) (cells : List PeakCell) → IsLawful c
     → IsSpan c a (all_minutes cells) → cells_verdict c at value a number cells ≡ Accepted
     → AreShown c at value a (a +ℤ pos (all_minutes cells))
 unfolding cells_verdict all_minutes
@@ -122,7 +122,7 @@ accepted-cells c at value a number (cell ∷ cells) lawful span ok =
     })
 
 -- accepted cells show the highest water, whoever wrote them
-pub verdict-highest : (c : Meaning) (a : ℤ) (n : ℕ) (peak : Peak) → IsLawful c → IsSpan c a n
+pub verdict-highest : (c : CurveSpec) (a : ℤ) (n : ℕ) (peak : Peak) → IsLawful c → IsSpan c a n
     → peak_verdict c a n peak ≡ Accepted → IsHighest c a (a +ℤ pos n) peak.at peak.value
 unfolding peak_verdict
 verdict-highest c a n peak lawful span ok =
@@ -142,13 +142,13 @@ verdict-highest c a n peak lawful span ok =
     }
 
 -- the highest water is the one that an evaluation of each minute finds
-highest-looked : (c : Meaning) (a : ℤ) (n : ℕ) (at value : ℤ) → IsHighest c a (a +ℤ pos n) at value
+highest-looked : (c : CurveSpec) (a : ℤ) (n : ℕ) (at value : ℤ) → IsHighest c a (a +ℤ pos n) at value
     → (at ≡ highest_minute c a n) × (value ≡ c.track.value (highest_minute c a n))
 highest-looked c a n at value peak =
     let from = peak.from in
     let before = peak.before in
     highest-one c a (a +ℤ pos n) at value _ _ peak (minute-highest c a n (omega (arith, ints)))
 
-pub verdict-looked : (c : Meaning) (a : ℤ) (n : ℕ) (peak : Peak) → IsLawful c → IsSpan c a n → peak_verdict c a n peak
+pub verdict-looked : (c : CurveSpec) (a : ℤ) (n : ℕ) (peak : Peak) → IsLawful c → IsSpan c a n → peak_verdict c a n peak
     ≡ Accepted → (peak.at ≡ highest_minute c a n) × (peak.value ≡ c.track.value (highest_minute c a n))
 verdict-looked c a n peak lawful span ok = highest-looked c a n peak.at peak.value (verdict-highest c a n peak lawful span ok)

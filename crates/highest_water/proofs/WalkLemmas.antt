@@ -3,7 +3,7 @@ use Rattle.std.proofs.Common.{◌≡◌, ℕ, ◌+◌, ◌≤◌, ◌<◌, ℤ, 
 use Rattle.std.proofs.lemmas.Int.{ints}
 use Rattle.std.proofs.lemmas.List.{length-map, append-nil}
 use Rattle.curve_law.specs.declared.point.Point.{Point}
-use Rattle.curve_law.specs.Meaning.{Meaning}
+use Rattle.curve_law.specs.CurveSpec.{CurveSpec}
 use Rattle.curve_law.specs.Pieces.{interval, stays_whole}
 use Rattle.curve_law.specs.CurveStates.{CurveState}
 use Rattle.curve_law.proofs.CoverLemmas.{by_test}
@@ -19,31 +19,31 @@ use Rattle.highest_water.proofs.AcceptedLemmas.{cell-minutes}
 
 -- ---- the cells ahead of a walk
 
-pub first-cells : (c : Meaning) (front : Front) (values : ℤ → ℤ) (begin end : ℤ)
-    → front ≡ record { at = record { minute = begin; value = values begin }; waiting = []; end = end } → (h : Point)
+pub first-cells : (c : CurveSpec) (front : Front) (values : ℤ → ℤ) (begin end : ℤ)
+    → front ≡ record { at = record { minute = begin; value = values begin }; pending = []; end = end } → (h : Point)
     → cells_ahead c h front ≡ peak_cover c h.minute h.value begin (minutes_to begin end)
 unfolding cells_ahead pieces_after peak_cover
 first-cells c front values begin end is h = rw is refl
 
-pub done-cells : (c : Meaning) (h : Point) (old new : Front)
+pub done-cells : (c : CurveSpec) (h : Point) (old new : Front)
     → Ahead.StepsTo (is_under c h.minute h.value) old None new → cells_ahead c h old ≡ []
 unfolding cells_ahead
 done-cells c h old new done = ap (map cell_of) done.3
 
-found-cells : (c : Meaning) (h : Point) (old new : Front) (piece : Piece)
+found-cells : (c : CurveSpec) (h : Point) (old new : Front) (piece : Piece)
     → IsNext (is_under c h.minute h.value) old piece new
     → cells_ahead c h old ≡ cell_of (interval_of piece) ∷ cells_ahead c h new
 unfolding cells_ahead
 found-cells c h old new piece next = ap (map cell_of) next.ahead
 
 -- a cell that isn't halved is one minute or is under
-whole-right : (c : Meaning) (h : Point) (a : ℤ) (n : ℕ) → stays_whole (is_under c h.minute h.value) a n ≡ true
+whole-right : (c : CurveSpec) (h : Point) (a : ℤ) (n : ℕ) → stays_whole (is_under c h.minute h.value) a n ≡ true
     → IsRight c h a (cell_of (interval a n))
 whole-right c h a n whole = by_test (nat_le n 1)
     (λ one. rw one tt)
     (λ more. let under : is_under c h.minute h.value a n ≡ true = rw more at whole in rw more under)
 
-pub found-steps : (c : Meaning) (h : Point) (values : ℤ → ℤ) (s : CurveState) (old new : Front) (piece : Piece)
+pub found-steps : (c : CurveSpec) (h : Point) (values : ℤ → ℤ) (s : CurveState) (old new : Front) (piece : Piece)
     (cell : PeakCell) → IsPiece c values piece → IsNext (is_under c h.minute h.value) old piece new
     → IsFront values s new → new.end ≡ old.end → cell ≡ cell_of (interval_of piece) → (piece.begin ≡ old.at)
     × (cells_ahead c h old ≡ cell ∷ cells_ahead c h new) × (new.at.minute ≡ old.at.minute +ℤ pos (minutes_of cell))
@@ -54,15 +54,15 @@ found-steps c h values s old new piece cell is next search_invariant until same 
     let minutes = cell-minutes (interval_of piece) is.some in
     let there = is.end in
     let right = whole-right c h piece.begin.minute piece.minutes next.whole in
-    let last = pieces-end values new.end new.at.minute new.waiting search_invariant.pieces in
+    let last = pieces-end values new.end new.at.minute new.pending search_invariant.pieces in
     rw same (next.begin, found-cells c h old new piece next, omega (arith, ints), rw (← begin) right, rw (← until) last)
 
 -- each pending point ends a piece
-pub waiting-few : (c : Meaning) (h : Point) (values : ℤ → ℤ) (s : CurveState) (front : Front) → IsFront values s front
-    → length front.waiting ≤ length (cells_ahead c h front)
+pub pending-bound : (c : CurveSpec) (h : Point) (values : ℤ → ℤ) (s : CurveState) (front : Front) → IsFront values s front
+    → length front.pending ≤ length (cells_ahead c h front)
 unfolding cells_ahead
-waiting-few c h values s front search_invariant = simp length-map
-    (points-few (is_under c h.minute h.value) values front.end front.at.minute front.waiting search_invariant.pieces)
+pending-bound c h values s front search_invariant = simp length-map
+    (points-few (is_under c h.minute h.value) values front.end front.at.minute front.pending search_invariant.pieces)
 
 -- ---- the number of evaluations while cells are made
 

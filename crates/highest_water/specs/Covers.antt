@@ -1,7 +1,7 @@
 -- The cells that show a highest water: cells that by the curve's rate are under it, and otherwise halves
 -- of cells, down to single minutes (this project).
 use Rattle.std.specs.Prelude.{ℕ, ◌+◌, ℤ, pos, ◌+ℤ◌, ◌*ℤ◌, int_lt, int_le, nat_le, Bool, false, ◌&&◌, ◌||◌, if◌then◌else◌, Option, Some, None, List, [], ◌∷◌, map}
-use Rattle.curve_law.specs.Meaning.{Meaning}
+use Rattle.curve_law.specs.CurveSpec.{CurveSpec}
 use Rattle.curve_law.specs.Pieces.{Interval, pieces_of_block, pieces_of}
 use Rattle.curve_law.specs.declared.quiet.TheConstants.{MOST_MINUTES}
 use Rattle.highest_water.specs.declared.peak.Peak.{Peak}
@@ -38,20 +38,20 @@ stays_within (Some rate) n v w value = int_le (twice_most rate n v w) (pos 2 *�
 
 -- the n minutes from minute `a` on are all before the minute `at`, and by the rate their values are all
 -- below `value`
-abbrev pub ends_below : Meaning → ℤ → ℤ → ℤ → ℕ → Bool
+abbrev pub ends_below : CurveSpec → ℤ → ℤ → ℤ → ℕ → Bool
 ends_below c at value a n =
     int_le (a +ℤ pos n) at && stays_below (c.rate a n) n (c.track.value a) (c.track.value (a +ℤ pos n)) value
 
 -- the n minutes from minute `a` on are all after the minute `at`, and by the rate their values are all
 -- at most `value`
-abbrev pub begins_within : Meaning → ℤ → ℤ → ℤ → ℕ → Bool
+abbrev pub begins_within : CurveSpec → ℤ → ℤ → ℤ → ℕ → Bool
 begins_within c at value a n =
     int_lt at a && stays_within (c.rate a n) n (c.track.value a) (c.track.value (a +ℤ pos n)) value
 
 -- the n minutes from minute `a` on, n from 2 to 1,024, are under the point of the minute `at` and its
 -- value: by the rate they are all before `at` with lower values, or all after `at` with values that
 -- aren't greater; minutes that include `at` are neither
-unfoldable pub is_under : Meaning → ℤ → ℤ → ℤ → ℕ → Bool
+unfoldable pub is_under : CurveSpec → ℤ → ℤ → ℤ → ℕ → Bool
 is_under c at value a n =
     nat_le 2 n && nat_le n MOST_MINUTES && (ends_below c at value a n || begins_within c at value a n)
 
@@ -61,16 +61,16 @@ cell_of piece = if nat_le piece.minutes 1 then Single else Under piece.minutes
 
 -- the cells of a block of n minutes from minute `a` on, for a highest water: one cell that is under it,
 -- or one of a single minute, or the cells of the two halves, the shorter half first
-unfoldable pub peak_split : Meaning → ℤ → ℤ → ℤ → ℕ → List PeakCell
+unfoldable pub peak_split : CurveSpec → ℤ → ℤ → ℤ → ℕ → List PeakCell
 peak_split c at value a n = map cell_of (pieces_of_block (is_under c at value) a n)
 
 -- the cells of a span of n minutes from minute `a` on, for the minute and the value of its highest
 -- water, cut into blocks of 1,024 minutes from its beginning on; the last block may be shorter
-unfoldable pub peak_cover : Meaning → ℤ → ℤ → ℤ → ℕ → List PeakCell
+unfoldable pub peak_cover : CurveSpec → ℤ → ℤ → ℤ → ℕ → List PeakCell
 peak_cover c at value a n = map cell_of (pieces_of (is_under c at value) a n)
 
 -- the highest water of the span of n minutes from minute `a` on, with the cells that show it
-unfoldable pub peak_of : Meaning → ℤ → ℕ → Peak
+unfoldable pub peak_of : CurveSpec → ℤ → ℕ → Peak
 peak_of c a n =
     let at = highest_minute c a n in
     let value = c.track.value at in

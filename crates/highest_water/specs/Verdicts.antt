@@ -2,7 +2,7 @@
 -- then each cell (this project).
 use Rattle.std.specs.Prelude.{ℕ, suc, ◌-◌, ◌^◌, min, ℤ, pos, ◌+ℤ◌, int_lt, int_le, Bool, ◌==◌, ◌&&◌, if◌then◌else◌, List, [], ◌∷◌}
 use Rattle.std.specs.Ordering.{int_eq}
-use Rattle.curve_law.specs.Meaning.{Meaning}
+use Rattle.curve_law.specs.CurveSpec.{CurveSpec}
 use Rattle.highest_water.specs.declared.peak.Peak.{Peak}
 use Rattle.highest_water.specs.declared.peak_cell.PeakCell.{PeakCell}
 use Rattle.highest_water.specs.declared.peak_cell.PeakCell.TheVariants.{Under, Single}
@@ -13,7 +13,7 @@ use Rattle.highest_water.specs.Covers.{minutes_of, all_minutes, is_under}
 
 -- the verdict on the cell with this number, counted from 1, which begins at minute `a`, for a claimed
 -- highest water with this minute and value
-unfoldable pub cell_verdict : Meaning → ℤ → ℤ → ℤ → ℕ → PeakCell → PeakVerdict
+unfoldable pub cell_verdict : CurveSpec → ℤ → ℤ → ℤ → ℕ → PeakCell → PeakVerdict
 cell_verdict c at value a number (Under n) = if is_under c at value a n then Accepted else NotUnder number
 cell_verdict c at value a number Single =
     if int_eq a at
@@ -31,7 +31,7 @@ or_next Accepted next = next
 
 -- the first verdict that doesn't accept on consecutive cells, of which the first has this number and
 -- begins at minute `a`; Accepted if there is none
-unfoldable pub cells_verdict : Meaning → ℤ → ℤ → ℤ → ℕ → List PeakCell → PeakVerdict
+unfoldable pub cells_verdict : CurveSpec → ℤ → ℤ → ℤ → ℕ → List PeakCell → PeakVerdict
 cells_verdict c at value a number [] = Accepted
 cells_verdict c at value a number (cell ∷ cells) =
     or_next (cell_verdict c at value a number cell) (cells_verdict c at value (a +ℤ pos (minutes_of cell)) (suc number) cells)
@@ -42,7 +42,7 @@ is_inside at a n = int_le a at && int_lt at (a +ℤ pos n)
 
 -- the verdict on a claimed highest water of the n minutes from minute `a` on: its cells' number of
 -- minutes is judged first, then its minute, then each cell; cells are counted from 1
-unfoldable pub peak_verdict : Meaning → ℤ → ℕ → Peak → PeakVerdict
+unfoldable pub peak_verdict : CurveSpec → ℤ → ℕ → Peak → PeakVerdict
 peak_verdict c a n peak =
     if all_minutes peak.cells == n
     then (if is_inside peak.at a n then cells_verdict c peak.at peak.value a 1 peak.cells else Outside)

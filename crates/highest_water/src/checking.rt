@@ -1,7 +1,7 @@
 //! The check of a highest water.
 
 ghost use Rattle.std.specs.Prelude.{◌≡◌, ◌+◌, ◌<◌, ◌≤◌, ◌^◌, pos, ◌+ℤ◌, ◌-ℤ◌, ◌≤ℤ◌, unsigned_abs, length};
-ghost use Rattle.curve_law.specs.Meaning.{IsSpan};
+ghost use Rattle.curve_law.specs.CurveSpec.{IsSpan};
 ghost use Rattle.curve_law.specs.CurveStates.{evaluated_once};
 ghost use Rattle.highest_water.specs.declared.verdict.PeakVerdict.{PeakVerdict};
 ghost use Rattle.highest_water.specs.Peaks.{IsHighest};
@@ -25,16 +25,16 @@ use curve_law::{Curve, Point, point_at};
 /// once per cell, plus once.
 pub fn check_peak<C: Curve>(curve: &mut C, peak: &Peak, begin: i64, end: i64) -> PeakVerdict
     requires forward { begin ≤ℤ end }
-    requires first { (C.state curve.old).facts.meaning.first ≤ℤ begin }
-    requires last { end ≤ℤ (C.state curve.old).facts.meaning.last }
+    requires first { (C.state curve.old).curve_model.curve_spec.first ≤ℤ begin }
+    requires last { end ≤ℤ (C.state curve.old).curve_model.curve_spec.last }
     requires size { unsigned_abs peak.now.value < 10 ^ 37 }
     requires count_bound { length peak.now.cells < 2 ^ 32 }
     requires count { (C.state curve.old).count + length peak.now.cells ≤ 2 ^ 62 }
-    ensures verdict { result ≡ peak_verdict (C.state curve.old).facts.meaning begin (unsigned_abs (end -ℤ begin)) peak.now }
+    ensures verdict { result ≡ peak_verdict (C.state curve.old).curve_model.curve_spec begin (unsigned_abs (end -ℤ begin)) peak.now }
     ensures highest { result ≡ PeakVerdict.Accepted →
-        IsHighest (C.state curve.old).facts.meaning begin end peak.now.at peak.now.value }
+        IsHighest (C.state curve.old).curve_model.curve_spec begin end peak.now.at peak.now.value }
     ensures count { (C.state curve.new).count ≤ (C.state curve.old).count + length peak.now.cells + 1 }
-    ensures unchanged { (C.state curve.new).facts ≡ (C.state curve.old).facts }
+    ensures unchanged { (C.state curve.new).curve_model ≡ (C.state curve.old).curve_model }
 {
     let wanted = end - begin;
     let covered = covered_by(peak.cells.as_slice());
@@ -68,12 +68,12 @@ fn first_finding<C: Curve>(
     begin: i64,
 ) -> PeakVerdict
     requires size { unsigned_abs highest.value < 10 ^ 37 }
-    requires span { IsSpan (C.state curve.old).facts.meaning begin (all_minutes cells.now) }
+    requires span { IsSpan (C.state curve.old).curve_model.curve_spec begin (all_minutes cells.now) }
     requires count_bound { length cells.now < 2 ^ 32 }
     requires count { (C.state curve.old).count + length cells.now ≤ 2 ^ 62 }
-    ensures verdict { result ≡ cells_verdict (C.state curve.old).facts.meaning highest.minute highest.value begin 1 cells.now }
+    ensures verdict { result ≡ cells_verdict (C.state curve.old).curve_model.curve_spec highest.minute highest.value begin 1 cells.now }
     ensures count { (C.state curve.new).count ≤ (C.state curve.old).count + length cells.now + 1 }
-    ensures unchanged { (C.state curve.new).facts ≡ (C.state curve.old).facts }
+    ensures unchanged { (C.state curve.new).curve_model ≡ (C.state curve.old).curve_model }
 {
     let mut at = point_at(curve, begin);
     let mut number: u32 = 0;
@@ -90,10 +90,10 @@ fn first_finding<C: Curve>(
 
 /// Returns the point at which `cell` ends if it begins at minute `begin`.
 fn end_of<C: Curve>(curve: &mut C, begin: i64, cell: PeakCell) -> Point
-    requires span { IsSpan (C.state curve.old).facts.meaning begin (minutes_of cell) }
+    requires span { IsSpan (C.state curve.old).curve_model.curve_spec begin (minutes_of cell) }
     requires count_bound { (C.state curve.old).count < 2 ^ 63 }
     ensures minute { result.minute ≡ begin +ℤ pos (minutes_of cell) }
-    ensures value { result.value ≡ (C.state curve.old).facts.meaning.track.value result.minute }
+    ensures value { result.value ≡ (C.state curve.old).curve_model.curve_spec.track.value result.minute }
     ensures after { C.state curve.new ≡ evaluated_once (C.state curve.old) }
 {
     point_at(curve, begin + i64::from(minutes_of(cell)))

@@ -22,16 +22,16 @@ pub fn peak_cover<C: Curve>(
     at: i64,
     value: i128,
 ) -> Result<PeakCells, AllocError>
-    requires highest { IsHighest (C.state curve.old).facts.meaning begin end at value }
-    requires first { (C.state curve.old).facts.meaning.first ≤ℤ begin }
-    requires last { end ≤ℤ (C.state curve.old).facts.meaning.last }
+    requires highest { IsHighest (C.state curve.old).curve_model.curve_spec begin end at value }
+    requires first { (C.state curve.old).curve_model.curve_spec.first ≤ℤ begin }
+    requires last { end ≤ℤ (C.state curve.old).curve_model.curve_spec.last }
     requires count_bound { (C.state curve.old).count ≤ 2 ^ 62 }
     ensures cells { IfOk result
-        (λ cells. cells ≡ peak_cover (C.state curve.old).facts.meaning at value begin (unsigned_abs (end -ℤ begin))) }
+        (λ cells. cells ≡ peak_cover (C.state curve.old).curve_model.curve_spec at value begin (unsigned_abs (end -ℤ begin))) }
     ensures count { (C.state curve.new).count
         ≤ (C.state curve.old).count
-        + length (peak_cover (C.state curve.old).facts.meaning at value begin (unsigned_abs (end -ℤ begin))) + 1 }
-    ensures unchanged { (C.state curve.new).facts ≡ (C.state curve.old).facts }
+        + length (peak_cover (C.state curve.old).curve_model.curve_spec at value begin (unsigned_abs (end -ℤ begin))) + 1 }
+    ensures unchanged { (C.state curve.new).curve_model ≡ (C.state curve.old).curve_model }
 {
     cells_by(alloc, curve, begin, end, Point { minute: at, value })
 }
@@ -47,15 +47,15 @@ pub fn cells_by<C: Curve>(
 ) -> Result<PeakCells, AllocError>
     requires size { unsigned_abs highest.value < 10 ^ 37 }
     requires forward { begin ≤ℤ end }
-    requires first { (C.state curve.old).facts.meaning.first ≤ℤ begin }
-    requires last { end ≤ℤ (C.state curve.old).facts.meaning.last }
+    requires first { (C.state curve.old).curve_model.curve_spec.first ≤ℤ begin }
+    requires last { end ≤ℤ (C.state curve.old).curve_model.curve_spec.last }
     requires count_bound { (C.state curve.old).count ≤ 2 ^ 62 + 2 ^ 60 }
     ensures cells { IfOk result (λ cells. cells
-        ≡ peak_cover (C.state curve.old).facts.meaning highest.minute highest.value begin (unsigned_abs (end -ℤ begin))) }
+        ≡ peak_cover (C.state curve.old).curve_model.curve_spec highest.minute highest.value begin (unsigned_abs (end -ℤ begin))) }
     ensures count { (C.state curve.new).count
         ≤ (C.state curve.old).count
-        + length (peak_cover (C.state curve.old).facts.meaning highest.minute highest.value begin (unsigned_abs (end -ℤ begin))) + 1 }
-    ensures unchanged { (C.state curve.new).facts ≡ (C.state curve.old).facts }
+        + length (peak_cover (C.state curve.old).curve_model.curve_spec highest.minute highest.value begin (unsigned_abs (end -ℤ begin))) + 1 }
+    ensures unchanged { (C.state curve.new).curve_model ≡ (C.state curve.old).curve_model }
 {
     let mut front = walk_from(curve, highest, begin, end);
     let mut cells = Vec::new(alloc);

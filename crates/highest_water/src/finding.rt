@@ -26,14 +26,14 @@ pub fn find_peak<C: Curve>(
 ) -> Result<Peak, AllocError>
     requires some { begin <ℤ end }
     requires length_bound { (end -ℤ begin) ≤ℤ pos 5270400 }
-    requires first { (C.state curve.old).facts.meaning.first ≤ℤ begin }
-    requires last { end ≤ℤ (C.state curve.old).facts.meaning.last }
+    requires first { (C.state curve.old).curve_model.curve_spec.first ≤ℤ begin }
+    requires last { end ≤ℤ (C.state curve.old).curve_model.curve_spec.last }
     requires count_bound { (C.state curve.old).count ≤ 2 ^ 62 }
-    ensures highest { IfOk result (λ peak. IsHighest (C.state curve.old).facts.meaning begin end peak.at peak.value) }
-    ensures peak { IfOk result (λ peak. peak ≡ peak_of (C.state curve.old).facts.meaning begin (unsigned_abs (end -ℤ begin))) }
+    ensures highest { IfOk result (λ peak. IsHighest (C.state curve.old).curve_model.curve_spec begin end peak.at peak.value) }
+    ensures peak { IfOk result (λ peak. peak ≡ peak_of (C.state curve.old).curve_model.curve_spec begin (unsigned_abs (end -ℤ begin))) }
     ensures count { (C.state curve.new).count ≤ (C.state curve.old).count + 2 * unsigned_abs (end -ℤ begin)
-        + length (peak_of (C.state curve.old).facts.meaning begin (unsigned_abs (end -ℤ begin))).cells + 2 }
-    ensures unchanged { (C.state curve.new).facts ≡ (C.state curve.old).facts }
+        + length (peak_of (C.state curve.old).curve_model.curve_spec begin (unsigned_abs (end -ℤ begin))).cells + 2 }
+    ensures unchanged { (C.state curve.new).curve_model ≡ (C.state curve.old).curve_model }
 {
     let highest = highest_point(curve, begin, end);
     let cells = cells_by(alloc, curve, begin, end, highest)?;
@@ -51,14 +51,14 @@ pub fn find_peak<C: Curve>(
 pub fn highest_point<C: Curve>(curve: &mut C, begin: i64, end: i64) -> Point
     requires some { begin <ℤ end }
     requires length_bound { (end -ℤ begin) ≤ℤ pos 5270400 }
-    requires first { (C.state curve.old).facts.meaning.first ≤ℤ begin }
-    requires last { end ≤ℤ (C.state curve.old).facts.meaning.last }
+    requires first { (C.state curve.old).curve_model.curve_spec.first ≤ℤ begin }
+    requires last { end ≤ℤ (C.state curve.old).curve_model.curve_spec.last }
     requires count_bound { (C.state curve.old).count ≤ 2 ^ 62 }
-    ensures highest { IsHighest (C.state curve.old).facts.meaning begin end result.minute result.value }
-    ensures minute { result.minute ≡ (peak_of (C.state curve.old).facts.meaning begin (unsigned_abs (end -ℤ begin))).at }
-    ensures value { result.value ≡ (peak_of (C.state curve.old).facts.meaning begin (unsigned_abs (end -ℤ begin))).value }
+    ensures highest { IsHighest (C.state curve.old).curve_model.curve_spec begin end result.minute result.value }
+    ensures minute { result.minute ≡ (peak_of (C.state curve.old).curve_model.curve_spec begin (unsigned_abs (end -ℤ begin))).at }
+    ensures value { result.value ≡ (peak_of (C.state curve.old).curve_model.curve_spec begin (unsigned_abs (end -ℤ begin))).value }
     ensures count { (C.state curve.new).count ≤ (C.state curve.old).count + 2 * unsigned_abs (end -ℤ begin) + 1 }
-    ensures unchanged { (C.state curve.new).facts ≡ (C.state curve.old).facts }
+    ensures unchanged { (C.state curve.new).curve_model ≡ (C.state curve.old).curve_model }
 {
     // Cells that by the curve's rate are under the highest point found until now are skipped, so that
     // the curve is evaluated at few minutes.
@@ -74,12 +74,12 @@ pub fn highest_point<C: Curve>(curve: &mut C, begin: i64, end: i64) -> Point
 /// including `end` begin. A search that starts with it can skip most cells, which are under it.
 fn highest_block<C: Curve>(curve: &mut C, begin: i64, end: i64) -> Point
     requires some { begin <ℤ end }
-    requires first { (C.state curve.old).facts.meaning.first ≤ℤ begin }
-    requires last { end ≤ℤ (C.state curve.old).facts.meaning.last }
+    requires first { (C.state curve.old).curve_model.curve_spec.first ≤ℤ begin }
+    requires last { end ≤ℤ (C.state curve.old).curve_model.curve_spec.last }
     requires count_bound { (C.state curve.old).count ≤ 2 ^ 62 }
-    ensures point { IsPoint (C.state curve.old).facts.meaning begin end result }
+    ensures point { IsPoint (C.state curve.old).curve_model.curve_spec begin end result }
     ensures count { (C.state curve.new).count ≤ (C.state curve.old).count + minutes_to begin end }
-    ensures unchanged { (C.state curve.new).facts ≡ (C.state curve.old).facts }
+    ensures unchanged { (C.state curve.new).curve_model ≡ (C.state curve.old).curve_model }
 {
     let mut highest = point_at(curve, begin);
     let mut at = block_end(begin, end);

@@ -2,7 +2,7 @@
 
 ghost use Rattle.std.specs.Prelude.{◌≡◌, ℕ, ◌+◌, ◌-◌, ◌/◌, ◌<◌, ◌≤◌, ℤ, pos, ◌+ℤ◌, ◌≤ℤ◌, ◌<ℤ◌, true, false, [], ◌∷◌, ◌++◌, length};
 ghost use Rattle.curve_law.specs.declared.quiet.TheConstants.{MOST_MINUTES};
-ghost use Rattle.curve_law.specs.Meaning.{Meaning, IsSpan, IsLawful, at_minutes};
+ghost use Rattle.curve_law.specs.CurveSpec.{CurveSpec, IsSpan, IsLawful, at_minutes};
 ghost use Rattle.highest_water.specs.declared.peak.Peak.{Peak};
 ghost use Rattle.highest_water.specs.declared.peak_cell.PeakCell.{PeakCell};
 ghost use Rattle.highest_water.specs.declared.verdict.PeakVerdict.{PeakVerdict};
@@ -13,9 +13,9 @@ ghost use Rattle.highest_water.specs.Verdicts.{peak_verdict};
 /// Proves that a span of at least one minute has exactly one highest water, and that an evaluation of
 /// each of its minutes finds it.
 pub fn spans_have_one_highest_water()
-    ensures some { (c : Meaning) (a : ℤ) (n : ℕ) → 1 ≤ n →
+    ensures some { (c : CurveSpec) (a : ℤ) (n : ℕ) → 1 ≤ n →
         IsHighest c a (a +ℤ pos n) (highest_minute c a n) (c.track.value (highest_minute c a n)) }
-    ensures one { (c : Meaning) (begin end at value other_at other_value : ℤ) →
+    ensures one { (c : CurveSpec) (begin end at value other_at other_value : ℤ) →
         IsHighest c begin end at value → IsHighest c begin end other_at other_value →
         (at ≡ other_at) × (value ≡ other_value) }
 {}
@@ -24,10 +24,10 @@ pub fn spans_have_one_highest_water()
 /// that is under the highest water, is one cell. Any other block is cut into the cells of its first
 /// half, of `n / 2` minutes rounded down, followed by the cells of the rest.
 pub fn blocks_are_halved()
-    ensures one_minute { (c : Meaning) (at value a : ℤ) → peak_split c at value a 1 ≡ PeakCell.Single ∷ [] }
-    ensures under { (c : Meaning) (at value a : ℤ) (n : ℕ) → is_under c at value a n ≡ true →
+    ensures one_minute { (c : CurveSpec) (at value a : ℤ) → peak_split c at value a 1 ≡ PeakCell.Single ∷ [] }
+    ensures under { (c : CurveSpec) (at value a : ℤ) (n : ℕ) → is_under c at value a n ≡ true →
         peak_split c at value a n ≡ PeakCell.Under n ∷ [] }
-    ensures halves { (c : Meaning) (at value a : ℤ) (n : ℕ) → 2 ≤ n → is_under c at value a n ≡ false →
+    ensures halves { (c : CurveSpec) (at value a : ℤ) (n : ℕ) → 2 ≤ n → is_under c at value a n ≡ false →
         peak_split c at value a n
         ≡ peak_split c at value a (n / 2) ++ peak_split c at value (a +ℤ pos (n / 2)) (n - n / 2) }
 {}
@@ -36,10 +36,10 @@ pub fn blocks_are_halved()
 /// than 1,024 minutes the first 1,024 are cut off as a block, and so on, until at most 1,024 minutes
 /// remain, which are the last block.
 pub fn spans_are_cut_into_blocks()
-    ensures no_minute { (c : Meaning) (at value a : ℤ) → peak_cover c at value a 0 ≡ [] }
-    ensures last_block { (c : Meaning) (at value a : ℤ) (n : ℕ) → n ≤ MOST_MINUTES →
+    ensures no_minute { (c : CurveSpec) (at value a : ℤ) → peak_cover c at value a 0 ≡ [] }
+    ensures last_block { (c : CurveSpec) (at value a : ℤ) (n : ℕ) → n ≤ MOST_MINUTES →
         peak_cover c at value a n ≡ peak_split c at value a n }
-    ensures block { (c : Meaning) (at value a : ℤ) (n : ℕ) → MOST_MINUTES < n →
+    ensures block { (c : CurveSpec) (at value a : ℤ) (n : ℕ) → MOST_MINUTES < n →
         peak_cover c at value a n
         ≡ peak_split c at value a MOST_MINUTES
         ++ peak_cover c at value (a +ℤ pos MOST_MINUTES) (n - MOST_MINUTES) }
@@ -49,21 +49,21 @@ pub fn spans_are_cut_into_blocks()
 /// equal value at an earlier minute than the point's, and that the cell doesn't contain the point's
 /// minute.
 pub fn under_cells_hold_nothing_higher()
-    ensures greatest { (c : Meaning) (at value a : ℤ) (n : ℕ) → IsLawful c → IsSpan c a n →
+    ensures greatest { (c : CurveSpec) (at value a : ℤ) (n : ℕ) → IsLawful c → IsSpan c a n →
         is_under c at value a n ≡ true → (m : ℤ) → a ≤ℤ m → m <ℤ (a +ℤ pos n) → c.track.value m ≤ℤ value }
-    ensures first { (c : Meaning) (at value a : ℤ) (n : ℕ) → IsLawful c → IsSpan c a n →
+    ensures first { (c : CurveSpec) (at value a : ℤ) (n : ℕ) → IsLawful c → IsSpan c a n →
         is_under c at value a n ≡ true → (m : ℤ) → a ≤ℤ m → m <ℤ (a +ℤ pos n) → m <ℤ at →
         c.track.value m <ℤ value }
-    ensures beside { (c : Meaning) (at value a : ℤ) (n : ℕ) → is_under c at value a n ≡ true →
+    ensures beside { (c : CurveSpec) (at value a : ℤ) (n : ℕ) → is_under c at value a n ≡ true →
         a ≤ℤ at → (a +ℤ pos n) ≤ℤ at }
 {}
 
 /// Proves that a highest water that the check accepts for a span is the span's, however it was made:
 /// its minute and value are those that an evaluation of each minute finds.
 pub fn accepted_highest_waters_are_right()
-    ensures highest { (c : Meaning) (a : ℤ) (n : ℕ) (peak : Peak) → IsLawful c → IsSpan c a n →
+    ensures highest { (c : CurveSpec) (a : ℤ) (n : ℕ) (peak : Peak) → IsLawful c → IsSpan c a n →
         peak_verdict c a n peak ≡ PeakVerdict.Accepted → IsHighest c a (a +ℤ pos n) peak.at peak.value }
-    ensures looked { (c : Meaning) (a : ℤ) (n : ℕ) (peak : Peak) → IsLawful c → IsSpan c a n →
+    ensures looked { (c : CurveSpec) (a : ℤ) (n : ℕ) (peak : Peak) → IsLawful c → IsSpan c a n →
         peak_verdict c a n peak ≡ PeakVerdict.Accepted →
         (peak.at ≡ highest_minute c a n) × (peak.value ≡ c.track.value (highest_minute c a n)) }
 {}
@@ -72,19 +72,19 @@ pub fn accepted_highest_waters_are_right()
 /// under a highest water or a single minute. They cover all its minutes, there are no more cells than
 /// minutes, and the check accepts the span's highest water with these cells.
 pub fn covers_are_accepted()
-    ensures minutes { (c : Meaning) (at value a : ℤ) (n : ℕ) → all_minutes (peak_cover c at value a n) ≡ n }
-    ensures count_bound { (c : Meaning) (at value a : ℤ) (n : ℕ) → length (peak_cover c at value a n) ≤ n }
-    ensures accepted { (c : Meaning) (at value a : ℤ) (n : ℕ) → IsHighest c a (a +ℤ pos n) at value →
+    ensures minutes { (c : CurveSpec) (at value a : ℤ) (n : ℕ) → all_minutes (peak_cover c at value a n) ≡ n }
+    ensures count_bound { (c : CurveSpec) (at value a : ℤ) (n : ℕ) → length (peak_cover c at value a n) ≤ n }
+    ensures accepted { (c : CurveSpec) (at value a : ℤ) (n : ℕ) → IsHighest c a (a +ℤ pos n) at value →
         peak_verdict c a n (record { at = at; value = value; cells = peak_cover c at value a n })
         ≡ PeakVerdict.Accepted }
-    ensures peak { (c : Meaning) (a : ℤ) (n : ℕ) → 1 ≤ n →
+    ensures peak { (c : CurveSpec) (a : ℤ) (n : ℕ) → 1 ≤ n →
         peak_verdict c a n (peak_of c a n) ≡ PeakVerdict.Accepted }
 {}
 
 /// Proves that the highest water of a span, its cells and the verdicts on it don't depend on the
 /// curve's first and last minute, only on its values and rates.
 pub fn highest_waters_are_those_of_more_minutes()
-    ensures peak { (c : Meaning) (first last a : ℤ) (n : ℕ) → peak_of (at_minutes first last c) a n ≡ peak_of c a n }
-    ensures verdicts { (c : Meaning) (first last a : ℤ) (n : ℕ) (peak : Peak) →
+    ensures peak { (c : CurveSpec) (first last a : ℤ) (n : ℕ) → peak_of (at_minutes first last c) a n ≡ peak_of c a n }
+    ensures verdicts { (c : CurveSpec) (first last a : ℤ) (n : ℕ) (peak : Peak) →
         peak_verdict (at_minutes first last c) a n peak ≡ peak_verdict c a n peak }
 {}

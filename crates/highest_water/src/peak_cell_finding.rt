@@ -1,7 +1,7 @@
 //! The check of one cell.
 
 ghost use Rattle.std.specs.Prelude.{◌≡◌, ◌^◌, ◌<◌, pos, ◌+ℤ◌, unsigned_abs};
-ghost use Rattle.curve_law.specs.Meaning.{IsSpan};
+ghost use Rattle.curve_law.specs.CurveSpec.{IsSpan};
 ghost use Rattle.highest_water.specs.Covers.{minutes_of};
 ghost use Rattle.highest_water.specs.Verdicts.{cell_verdict};
 ghost use Rattle.highest_water.specs.Workings.Findings.{under_finding, value_finding, single_finding};
@@ -23,10 +23,10 @@ pub fn finding_on<C: Curve>(
     end_value: i128,
 ) -> PeakVerdict
     requires size { unsigned_abs highest.value < 10 ^ 37 }
-    requires span { IsSpan (C.state curve.now).facts.meaning at.minute (minutes_of cell) }
-    requires value { at.value ≡ (C.state curve.now).facts.meaning.track.value at.minute }
-    requires end_value { end_value ≡ (C.state curve.now).facts.meaning.track.value (at.minute +ℤ pos (minutes_of cell)) }
-    ensures { result ≡ cell_verdict (C.state curve.now).facts.meaning highest.minute highest.value at.minute number cell }
+    requires span { IsSpan (C.state curve.now).curve_model.curve_spec at.minute (minutes_of cell) }
+    requires value { at.value ≡ (C.state curve.now).curve_model.curve_spec.track.value at.minute }
+    requires end_value { end_value ≡ (C.state curve.now).curve_model.curve_spec.track.value (at.minute +ℤ pos (minutes_of cell)) }
+    ensures { result ≡ cell_verdict (C.state curve.now).curve_model.curve_spec highest.minute highest.value at.minute number cell }
 {
     match cell {
         PeakCell::Under(minutes) => {

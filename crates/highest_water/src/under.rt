@@ -2,7 +2,7 @@
 
 ghost use Rattle.std.specs.Prelude.{◌≡◌, ◌*◌, ◌^◌, ◌<◌, ◌≤◌, pos, ◌+ℤ◌, ◌*ℤ◌, ◌≤ℤ◌, ◌<ℤ◌, unsigned_abs, int_lt, int_le, if◌then◌else◌};
 ghost use Rattle.curve_law.specs.declared.quiet.TheConstants.{MOST_MINUTES};
-ghost use Rattle.curve_law.specs.Meaning.{IsSpan};
+ghost use Rattle.curve_law.specs.CurveSpec.{IsSpan};
 ghost use Rattle.highest_water.specs.Covers.{twice_most, is_under};
 ghost use Rattle.highest_water.specs.Verdicts.{is_inside};
 
@@ -14,10 +14,10 @@ use curve_law::{Curve, MOST_MINUTES, Point, most_change};
 /// end.
 pub fn is_under<C: Curve>(curve: &C, highest: Point, begin: Point, n: u32, end_value: i128) -> bool
     requires size { unsigned_abs highest.value < 10 ^ 37 }
-    requires span { IsSpan (C.state curve.now).facts.meaning begin.minute n }
-    requires value { begin.value ≡ (C.state curve.now).facts.meaning.track.value begin.minute }
-    requires end_value { end_value ≡ (C.state curve.now).facts.meaning.track.value (begin.minute +ℤ pos n) }
-    ensures { result ≡ is_under (C.state curve.now).facts.meaning highest.minute highest.value begin.minute n }
+    requires span { IsSpan (C.state curve.now).curve_model.curve_spec begin.minute n }
+    requires value { begin.value ≡ (C.state curve.now).curve_model.curve_spec.track.value begin.minute }
+    requires end_value { end_value ≡ (C.state curve.now).curve_model.curve_spec.track.value (begin.minute +ℤ pos n) }
+    ensures { result ≡ is_under (C.state curve.now).curve_model.curve_spec highest.minute highest.value begin.minute n }
 {
     if n < 2 || n > MOST_MINUTES {
         return false;

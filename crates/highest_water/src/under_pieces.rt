@@ -14,12 +14,12 @@ pub struct UnderPieces {
 }
 
 impl PieceRule for UnderPieces {
-    ghost use Rattle.curve_law.specs.CurveStates.{CurveFacts};
+    ghost use Rattle.curve_law.specs.CurveStates.{CurveModel};
     ghost use Rattle.highest_water.specs.Covers.{is_under};
 
     ghost whole = { λ rule c a n. is_under c rule.highest.minute rule.highest.value a n };
 
-    ghost values = { λ (facts : CurveFacts). facts.meaning.track.value };
+    ghost values = { λ (curve_model : CurveModel). curve_model.curve_spec.track.value };
 
     fn evaluate<C: Curve>(&self, curve: &mut C, minute: i64) -> Point {
         point_at(curve, minute)

@@ -36,16 +36,16 @@ fn cell_of(piece: Piece) -> PeakCell
 pub fn walk_from<C: Curve>(curve: &mut C, highest: Point, begin: i64, end: i64) -> Front
     requires size { unsigned_abs highest.value < 10 ^ 37 }
     requires forward { begin ≤ℤ end }
-    requires first { (C.state curve.old).facts.meaning.first ≤ℤ begin }
-    requires last { end ≤ℤ (C.state curve.old).facts.meaning.last }
+    requires first { (C.state curve.old).curve_model.curve_spec.first ≤ℤ begin }
+    requires last { end ≤ℤ (C.state curve.old).curve_model.curve_spec.last }
     requires count_bound { (C.state curve.old).count ≤ 2 ^ 62 + 2 ^ 60 }
     ensures after { C.state curve.new ≡ evaluated_once (C.state curve.old) }
     ensures at { result.at.minute ≡ begin }
     ensures end { result.end ≡ end }
-    ensures walk_invariant { IsFront (C.state curve.old).facts.meaning.track.value (C.state curve.new) result }
-    ensures cells { (highest : Point) → cells_ahead (C.state curve.old).facts.meaning highest result
-        ≡ peak_cover (C.state curve.old).facts.meaning highest.minute highest.value begin (minutes_to begin end) }
-    ensures none { result.waiting ≡ [] }
+    ensures walk_invariant { IsFront (C.state curve.old).curve_model.curve_spec.track.value (C.state curve.new) result }
+    ensures cells { (highest : Point) → cells_ahead (C.state curve.old).curve_model.curve_spec highest result
+        ≡ peak_cover (C.state curve.old).curve_model.curve_spec highest.minute highest.value begin (minutes_to begin end) }
+    ensures none { result.pending ≡ [] }
 {
     front_at(curve, &UnderPieces { highest }, begin, end)
 }
@@ -54,13 +54,13 @@ pub fn walk_from<C: Curve>(curve: &mut C, highest: Point, begin: i64, end: i64) 
 /// `None` at the end. A cell of several minutes is under the point `highest`.
 pub fn next_cell<C: Curve>(curve: &mut C, front: &mut Front, highest: Point) -> Option<LocatedCell>
     requires size { unsigned_abs highest.value < 10 ^ 37 }
-    requires walk_invariant { IsFront (C.state curve.old).facts.meaning.track.value (C.state curve.old) front.old }
-    ensures unchanged { (C.state curve.new).facts ≡ (C.state curve.old).facts }
+    requires walk_invariant { IsFront (C.state curve.old).curve_model.curve_spec.track.value (C.state curve.old) front.old }
+    ensures unchanged { (C.state curve.new).curve_model ≡ (C.state curve.old).curve_model }
     ensures end { front.new.end ≡ front.old.end }
-    ensures walk_invariant { IsFront (C.state curve.old).facts.meaning.track.value (C.state curve.new) front.new }
-    ensures found { StepsTo (C.state curve.old).facts.meaning highest front.old result front.new }
+    ensures walk_invariant { IsFront (C.state curve.old).curve_model.curve_spec.track.value (C.state curve.new) front.new }
+    ensures found { StepsTo (C.state curve.old).curve_model.curve_spec highest front.old result front.new }
     ensures count { MatchOption result ((C.state curve.new).count ≡ (C.state curve.old).count)
-        (λ _. (C.state curve.new).count + length front.old.waiting ≡ (C.state curve.old).count + length front.new.waiting + 1) }
+        (λ _. (C.state curve.new).count + length front.old.pending ≡ (C.state curve.old).count + length front.new.pending + 1) }
 {
     match next_piece(curve, &UnderPieces { highest }, front) {
         Some(piece) => Some(LocatedCell {

@@ -77,7 +77,7 @@ row_stays_by : (cut : Bool) (head : Head) (rest more : List ℕ) → (is_post he
 row_stays_by true head rest more is settled = absurd (cc)
 row_stays_by false head rest more is settled =
     let there = cut_later (is_post head) (length_of head) rest more is in
-    rw there (ap (λ body. asks record { path = path_of head.target; query = query_of head.target; body = body; bodiless = is_head head })
+    rw there (ap (λ body. asks record { path = path_of head.target; query = query_of head.target; body = body; is_head_request = is_head head })
     (body_stays (is_post head) (length_of head) rest more is))
 
 fields_stay : (rows : List (Bool × RequestRejection)) (first : Option RequestRejection) (head : Head)

@@ -40,7 +40,7 @@ response_head code kind allow size =
 -- a response with this status, media type and line of allowed methods, and with its body or, if the
 -- Bool is true, without it; its Content-Length is the body's length in both cases
 abbrev pub response : Code → List ℕ → List ℕ → List ℕ → Bool → List ℕ
-response code kind allow body bodiless = response_head code kind allow (length body) ++ (if bodiless then [] else body)
+response code kind allow body is_head_request = response_head code kind allow (length body) ++ (if is_head_request then [] else body)
 
 -- ---- the fixed rows
 
@@ -82,26 +82,26 @@ allow_of BodyCutShort = []
 
 -- the reply to a rejected request, which has a fixed text; if the Bool is true, without its body
 abbrev pub rejection_of : RequestRejection → Bool → List ℕ
-rejection_of rejection bodiless =
-    response (code_of rejection) (codes "text/plain") (allow_of rejection) (body_of rejection) bodiless
+rejection_of rejection is_head_request =
+    response (code_of rejection) (codes "text/plain") (allow_of rejection) (body_of rejection) is_head_request
 
 -- the reply to a rejected request, which has a fixed text, or None for a request that the predictor
 -- answers
 abbrev pub fixed_of : ReplyRow → Option (List ℕ)
-fixed_of (rejects rejection bodiless) = Some (rejection_of rejection bodiless)
+fixed_of (rejects rejection is_head_request) = Some (rejection_of rejection is_head_request)
 fixed_of (asks asking) = None
 
 -- ---- out of memory
 
 -- the reply to a row's request has no body, because the request's method is HEAD
 abbrev pub is_bodiless : ReplyRow → Bool
-is_bodiless (rejects rejection bodiless) = bodiless
-is_bodiless (asks asking) = asking.bodiless
+is_bodiless (rejects rejection is_head_request) = is_head_request
+is_bodiless (asks asking) = asking.is_head_request
 
 -- the reply with status 503 (Service Unavailable), which replaces any other reply if memory runs out;
 -- if the Bool is true, without its body
 abbrev pub unavailable_to : Bool → List ℕ
-unavailable_to bodiless = response code.Unavailable (codes "text/plain") [] (codes "no memory\n") bodiless
+unavailable_to is_head_request = response code.Unavailable (codes "text/plain") [] (codes "no memory\n") is_head_request
 
 -- the reply with status 503 (Service Unavailable) to a row's request, which replaces any other reply if
 -- memory runs out

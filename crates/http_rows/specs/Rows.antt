@@ -138,7 +138,7 @@ pub record Asking : Type 0 where
   pub path : List ℕ
   pub query : List ℕ
   pub body : List ℕ
-  pub bodiless : Bool
+  pub is_head_request : Bool
 
 -- The row that applies to a request: it rejects the request and, if the Bool is true, its reply has no
 -- body; or the predictor answers the request.
@@ -152,7 +152,7 @@ asking head rest = record {
   path = path_of head.target;
   query = query_of head.target;
   body = (if is_post head then take (length_of head) rest else []);
-  bodiless = is_head head;
+  is_head_request = is_head head;
 }
 
 -- the row of a request after its head was read; a reply to HEAD has no body
@@ -198,5 +198,5 @@ is_settled_by BodyTooLarge = true
 
 -- further bytes of the request can't change the row
 abbrev pub is_settled : ReplyRow → Bool
-is_settled (rejects rejection bodiless) = is_settled_by rejection
+is_settled (rejects rejection is_head_request) = is_settled_by rejection
 is_settled (asks asking) = true

@@ -30,8 +30,8 @@ pub fn fixed_reply(request: &[u8], out: &mut ArrayString<256>) -> bool
         × (result ≡ is_some (fixed_of row)) × (out.new.bytes ≡ unwrap_or (fixed_of row) []) }
 {
     match row_for(request) {
-        ReplyRow::Rejects(rejection, bodiless) => {
-            write_rejection(rejection, bodiless, out);
+        ReplyRow::Rejects(rejection, is_head_request) => {
+            write_rejection(rejection, is_head_request, out);
             true
         }
         ReplyRow::Asks(_) => false,

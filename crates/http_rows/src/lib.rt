@@ -6,7 +6,7 @@
 //! [`unavailable_reply`] do so for the bytes of a request.
 #![tactic(auto)]
 
-mod asked;
+mod asking;
 mod code;
 mod deciding;
 mod head;
@@ -20,7 +20,7 @@ mod responses;
 mod target;
 mod worked;
 
-pub use asked::Asking;
+pub use asking::Asking;
 pub use code::Code;
 pub use deciding::{enough, fixed_reply, unavailable_reply};
 pub use head_lines::rest_from;
@@ -30,4 +30,4 @@ pub use reply_row::{ReplyRow, row_for};
 pub use request_rejection::RequestRejection;
 pub use response::Response;
 pub use responses::{write_rejection, write_unavailable};
-pub use worked::{worked_limits, worked_replies, worked_rows};
+pub use worked::{sample_requests, worked_limits, worked_replies};

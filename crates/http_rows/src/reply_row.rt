@@ -5,7 +5,7 @@ ghost use Rattle.http_rows.specs.Heads as heads;
 ghost use Rattle.http_rows.specs.Rows as rows;
 ghost use Rattle.http_rows.specs.Workings.Views.{IsAskingRow, row_seen};
 
-use crate::asked::{Asking, asked};
+use crate::asking::{Asking, check_request};
 use crate::head::{is_head, read_head};
 use crate::head_lines::{head_end, line_feeds};
 use crate::limits::{MOST_HEAD, MOST_LINES};
@@ -43,8 +43,8 @@ impl ReplyRow<'_> {
         ensures { result ≡ is_bodiless (row_seen self.now) }
     {
         match self {
-            ReplyRow::Rejects(_, bodiless) => *bodiless,
-            ReplyRow::Asks(asking) => asking.bodiless,
+            ReplyRow::Rejects(_, is_head_request) => *is_head_request,
+            ReplyRow::Asks(asking) => asking.is_head_request,
         }
     }
 }
@@ -85,7 +85,7 @@ fn ended_row<'a>(bytes: &'a [u8], rest: &'a [u8]) -> ReplyRow<'a>
     let Some(head) = read else {
         return ReplyRow::Rejects(RequestRejection::BadRequest, false);
     };
-    match asked(&head, rest) {
+    match check_request(&head, rest) {
         Ok(asking) => ReplyRow::Asks(asking),
         Err(rejection) => ReplyRow::Rejects(rejection, is_head(&head)),
     }

@@ -29,14 +29,14 @@ impl Response {
     ghost use Rattle.http_rows.specs.Responses.{response};
 
     /// Returns the response with the status `code` and `body`, of the media type `kind`, of at most 40
-    /// bytes, in UTF-8. `bodiless` leaves the body out, but not its length. It doesn't allocate.
-    pub fn new(code: Code, kind: &str, body: Bytes, bodiless: bool) -> Response
+    /// bytes, in UTF-8. `is_head_request` leaves the body out, but not its length. It doesn't allocate.
+    pub fn new(code: Code, kind: &str, body: Bytes, is_head_request: bool) -> Response
         requires { length kind.now ≤ 40 }
-        ensures { result ≡ response code kind.now [] body bodiless }
+        ensures { result ≡ response code kind.now [] body is_head_request }
     {
         let mut head = ArrayString::new();
         write_head(code, kind, "", body.as_slice().len(), &mut head);
-        let body = if bodiless { None } else { Some(body) };
+        let body = if is_head_request { None } else { Some(body) };
         Response { head, body }
     }
 

@@ -107,40 +107,51 @@ pub(crate) fn write_head(
     out.push_str("Connection: close\r\n\r\n");
 }
 
-/// Writes a response of type text/plain to the empty `out`; `bodiless` leaves the body out, but not its
-/// length.
-fn write_plain(code: Code, allow: &str, body: &str, bodiless: bool, out: &mut ArrayString<256>)
+/// Writes a response of type text/plain to the empty `out`; `is_head_request` leaves the body out, but
+/// not its length.
+fn write_plain(
+    code: Code,
+    allow: &str,
+    body: &str,
+    is_head_request: bool,
+    out: &mut ArrayString<256>,
+)
     requires empty { out.old.bytes ≡ [] }
     requires allow { length allow.now ≤ 18 }
     requires body { length body.now ≤ 24 }
-    ensures { out.new.bytes ≡ response code (codes "text/plain") allow.now body.now bodiless }
+    ensures { out.new.bytes ≡ response code (codes "text/plain") allow.now body.now is_head_request }
 {
     write_head(code, "text/plain", allow, body.len(), out);
-    if !bodiless {
+    if !is_head_request {
         out.push_str(body);
     }
 }
 
-/// Writes the reply to a request that is rejected with `rejection` to the empty `out`; `bodiless`
+/// Writes the reply to a request that is rejected with `rejection` to the empty `out`; `is_head_request`
 /// leaves the body out, but not its length. It doesn't allocate.
-pub fn write_rejection(rejection: RequestRejection, bodiless: bool, out: &mut ArrayString<256>)
+pub fn write_rejection(
+    rejection: RequestRejection,
+    is_head_request: bool,
+    out: &mut ArrayString<256>,
+)
     requires { out.old.bytes ≡ [] }
-    ensures { out.new.bytes ≡ rejection_of rejection bodiless }
+    ensures { out.new.bytes ≡ rejection_of rejection is_head_request }
 {
     write_plain(
         code_of(rejection),
         allow_of(rejection),
         body_of(rejection),
-        bodiless,
+        is_head_request,
         out,
     );
 }
 
 /// Writes to the empty `out` the reply with status 503 (Service Unavailable), which replaces any other
-/// reply if memory runs out; `bodiless` leaves the body out, but not its length. It doesn't allocate.
-pub fn write_unavailable(bodiless: bool, out: &mut ArrayString<256>)
+/// reply if memory runs out; `is_head_request` leaves the body out, but not its length. It doesn't
+/// allocate.
+pub fn write_unavailable(is_head_request: bool, out: &mut ArrayString<256>)
     requires { out.old.bytes ≡ [] }
-    ensures { out.new.bytes ≡ unavailable_to bodiless }
+    ensures { out.new.bytes ≡ unavailable_to is_head_request }
 {
-    write_plain(Code::Unavailable, "", "no memory\n", bodiless, out);
+    write_plain(Code::Unavailable, "", "no memory\n", is_head_request, out);
 }

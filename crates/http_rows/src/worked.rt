@@ -13,7 +13,7 @@ use crate::request_rejection::RequestRejection;
 /// Proves examples of where a request's head ends, of which texts are paths of the server, of the path
 /// and query of a target, and of the length of a body by its Content-Length.
 #[tactic(auto, unfolding(crate::specs::Heads::empty_line, crate::specs::Heads::head_length))]
-pub fn worked_rows()
+pub fn sample_requests()
     ensures ended { head_length (codes "G / H\r\nA:b\r\n\r\nxy") ≡ Some 14 }
     ensures bare { head_length (codes "G\n\nxy") ≡ Some 3 }
     ensures unended { head_length (codes "G\r\n\r") ≡ None }

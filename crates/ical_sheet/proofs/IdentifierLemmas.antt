@@ -15,7 +15,7 @@ use Rattle.curve_law.specs.declared.kind.Kind.TheVariants.{High, Low, FloodBegin
 use Rattle.decimal_text.specs.Writing.{minus_of, write_of}
 use Rattle.hex.specs.Hex.{IsBytes, decode_of, encode_lower}
 use Rattle.hex.proofs.HexLemmas.{decode_of-encode_lower}
-use Rattle.ical_sheet.specs.Calendars.{IsNarrow, number_of, uid_line}
+use Rattle.ical_sheet.specs.Calendars.{IsNarrow, kind_digit, uid_line}
 
 -- ---- the parts of a text
 
@@ -87,7 +87,7 @@ kind_at octet =
     if octet == 48 then High else if octet == 49 then Low else if octet == 50 then FloodBegins
     else if octet == 51 then EbbBegins else if octet == 52 then MarkRising else MarkFalling
 
-kind-first : (kind : Kind) (rest : List ℕ) → kind_at (slice_index (number_of kind ++ rest) 0) ≡ kind
+kind-first : (kind : Kind) (rest : List ℕ) → kind_at (slice_index (kind_digit kind ++ rest) 0) ≡ kind
 unfolding kind_at
 kind-first High rest = refl
 kind-first Low rest = refl
@@ -96,10 +96,10 @@ kind-first EbbBegins rest = refl
 kind-first MarkRising rest = refl
 kind-first MarkFalling rest = refl
 
-kinds-same : (kind other : Kind) (rest more : List ℕ) → number_of kind ++ rest ≡ number_of other ++ more → (kind ≡ other) × (rest ≡ more)
+kinds-same : (kind other : Kind) (rest more : List ℕ) → kind_digit kind ++ rest ≡ kind_digit other ++ more → (kind ≡ other) × (rest ≡ more)
 kinds-same kind other rest more same =
     let is : kind ≡ other = sym (kind-first kind rest) ∙ ap (λ text. kind_at (slice_index text 0)) same ∙ kind-first other more in
-    (is, append_cancel_left (number_of kind) rest more (same ∙ ap (λ k. number_of k ++ more) (sym is)))
+    (is, append_cancel_left (kind_digit kind) rest more (same ∙ ap (λ k. kind_digit k ++ more) (sym is)))
 
 names-same : (name other : List ℕ) → IsBytes name → IsBytes other → encode_lower name ≡ encode_lower other → name ≡ other
 names-same name other h k same =
@@ -109,7 +109,7 @@ names-same name other h k same =
 
 line-parts : (name : List ℕ) (event : Event) → uid_line name event
     ≡ codes "UID:" ++ (minus_of event.minute ++ (decimal (unsigned_abs event.minute)
-    ++ 45 ∷ (number_of event.kind ++ 45 ∷ (encode_lower name ++ codes "@tide.invalid"))))
+    ++ 45 ∷ (kind_digit event.kind ++ 45 ∷ (encode_lower name ++ codes "@tide.invalid"))))
 unfolding uid_line write_of
 line-parts name event = simp (append_assoc, append-nil, div-one)
 

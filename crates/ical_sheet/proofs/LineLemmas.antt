@@ -26,7 +26,7 @@ use Rattle.hex.specs.Hex.{encode_lower, encode_with, lower_digits}
 use Rattle.report_sheets.specs.declared.head.Head.{Head}
 use Rattle.report_sheets.specs.Sheets.{IsHead}
 use Rattle.zone_time.specs.Dates.{two_digits}
-use Rattle.ical_sheet.specs.Calendars.{IsNarrow, content_lines, event_lines, first_lines, nearest_moment, number_of, stamp_of, summary_line, uid_line}
+use Rattle.ical_sheet.specs.Calendars.{IsNarrow, content_lines, event_lines, first_lines, nearest_moment, kind_digit, stamp_of, summary_line, uid_line}
 use Rattle.ical_sheet.specs.Escaping.{escaped, escaped_octet, is_special}
 use Rattle.ical_sheet.specs.Folding.{IsContentLine, IsUnindented}
 use Rattle.ical_sheet.proofs.EscapingLemmas.{escaped-encode}
@@ -119,7 +119,7 @@ level-plain z small =
     (decimal-plain (unsigned_abs rounded / 100) (rounded-small z small)))
     (plain-cons 46 (last_digits 2 (unsigned_abs rounded)) refl (last_digits-plain 2 (unsigned_abs rounded)))
 
-number-plain : (kind : Kind) → IsPlain (number_of kind)
+number-plain : (kind : Kind) → IsPlain (kind_digit kind)
 number-plain High = refl
 number-plain Low = refl
 number-plain FloodBegins = refl

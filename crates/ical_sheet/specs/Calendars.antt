@@ -14,7 +14,7 @@ use Rattle.hex.specs.Hex.{encode_lower}
 use Rattle.ical_sheet.specs.Escaping.{escaped}
 use Rattle.ical_sheet.specs.Folding.{folded}
 use Rattle.report_sheets.specs.declared.head.Head.{Head}
-use Rattle.report_sheets.specs.Sheets.{SheetMeaning}
+use Rattle.report_sheets.specs.Sheets.{SheetSpec}
 use Rattle.zone_time.specs.Dates.{date_of, two_digits}
 use Rattle.zone_time.specs.Moments.{day_of, minute_of_day}
 
@@ -30,18 +30,18 @@ abbrev pub nearest_moment : ℤ → ℤ
 nearest_moment minute = int_min (int_max minute (negsuc 1035593279)) (pos 4223371679)
 
 -- the number of a kind of event in identifiers, from 0 to 5
-abbrev pub number_of : Kind → List ℕ
-number_of High = codes "0"
-number_of Low = codes "1"
-number_of FloodBegins = codes "2"
-number_of EbbBegins = codes "3"
-number_of MarkRising = codes "4"
-number_of MarkFalling = codes "5"
+abbrev pub kind_digit : Kind → List ℕ
+kind_digit High = codes "0"
+kind_digit Low = codes "1"
+kind_digit FloodBegins = codes "2"
+kind_digit EbbBegins = codes "3"
+kind_digit MarkRising = codes "4"
+kind_digit MarkFalling = codes "5"
 
 -- the unique identifier of an event: its minute, its kind and the station's name
 unfoldable pub uid_line : List ℕ → Event → List ℕ
 uid_line name event =
-    codes "UID:" ++ write_of event.minute 0 ++ codes "-" ++ number_of event.kind ++ codes "-" ++ encode_lower name
+    codes "UID:" ++ write_of event.minute 0 ++ codes "-" ++ kind_digit event.kind ++ codes "-" ++ encode_lower name
     ++ codes "@tide.invalid"
 
 -- the summary of an event: the station's name, the event's name and its level
@@ -81,5 +81,5 @@ pub record IsNarrow (event : Event) : Type 0 where
   pub level : unsigned_abs event.level < 2 ^ 64
 
 -- the definition of the sheet `ical` that accepts at most `limit` events
-abbrev pub ical_sheet : ℕ → SheetMeaning
+abbrev pub ical_sheet : ℕ → SheetSpec
 ical_sheet limit = record { word = codes "ical"; limit = limit; layout = calendar_of }

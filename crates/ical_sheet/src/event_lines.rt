@@ -5,7 +5,7 @@ ghost use Rattle.std.specs.List.{flat_map};
 ghost use Rattle.event_text.specs.Lines.{IsListed, level_text};
 ghost use Rattle.event_text.specs.Words.{has_word};
 ghost use Rattle.decimal_text.specs.Writing.{write_of};
-ghost use Rattle.ical_sheet.specs.Calendars.{event_lines, number_of, stamp_of, summary_line, uid_line};
+ghost use Rattle.ical_sheet.specs.Calendars.{event_lines, kind_digit, stamp_of, summary_line, uid_line};
 ghost use Rattle.ical_sheet.specs.Folding.{folded};
 
 use crate::folding::{push_folded, push_short};
@@ -66,7 +66,7 @@ fn push_minute(line: &mut String, minute: i64) -> Result<(), AllocError>
 
 /// Returns the number of `kind` in identifiers.
 fn number(kind: Kind) -> &'static str
-    ensures { result.now ≡ number_of kind }
+    ensures { result.now ≡ kind_digit kind }
 {
     match kind {
         Kind::High => "0",

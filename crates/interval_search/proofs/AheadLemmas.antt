@@ -7,7 +7,7 @@ use Rattle.std.proofs.lemmas.List.{append-nil}
 use Rattle.std.proofs.Math.Nat.{mul-le-mul_left, mul-le-mul_right, pow-le-pow_right, pow-suc}
 use Rattle.curve_law.specs.declared.point.Point.{Point}
 use Rattle.curve_law.specs.declared.quiet.TheConstants.{MOST_MINUTES}
-use Rattle.curve_law.specs.Meaning.{IsLawful}
+use Rattle.curve_law.specs.CurveSpec.{IsLawful}
 use Rattle.curve_law.specs.CurveStates.{CurveState, evaluated_once}
 use Rattle.curve_law.proofs.CoverLemmas.{by_test, block-few, block-whole, block-halves, block-some, pieces-few, pieces-none, pieces-last, pieces-block}
 use Rattle.interval_search.specs.declared.piece.Piece.{Piece}
@@ -93,7 +93,7 @@ piece-few values end a p ps pieces =
     omega (arith, ints)
 
 pub nearest-is : (values : ℤ → ℤ) (s : CurveState) (end : ℤ) (at p : Point) (ps : List Point)
-    → SearchInvariant values s end at (p ∷ ps) → IsPiece s.facts.meaning values (piece_between at p)
+    → SearchInvariant values s end at (p ∷ ps) → IsPiece s.curve_model.curve_spec values (piece_between at p)
 nearest-is values s end at p ps search_invariant =
     let parts = piece-parts values end at.minute p ps search_invariant.pieces in
     let few = piece-few values end at.minute p ps search_invariant.pieces in
@@ -113,12 +113,12 @@ nearest-is values s end at p ps search_invariant =
 
 -- the nearest piece, by the clause of a call
 pub nearest-piece : (values : ℤ → ℤ) (s : CurveState) (end : ℤ) (at p : Point) (ps : List Point) (piece : Piece)
-    → SearchInvariant values s end at (p ∷ ps) → piece ≡ piece_between at p → IsPiece s.facts.meaning values piece
+    → SearchInvariant values s end at (p ∷ ps) → piece ≡ piece_between at p → IsPiece s.curve_model.curve_spec values piece
 nearest-piece values s end at p ps piece search_invariant is = rw is (nearest-is values s end at p ps search_invariant)
 
 -- there is room for one more pending point
-waiting-few : (values : ℤ → ℤ) (end a : ℤ) (p : Point) (ps : List Point) → ArePieces values end a (p ∷ ps) → length ps < 16
-waiting-few values end a p ps pieces =
+pending-bound : (values : ℤ → ℤ) (end a : ℤ) (p : Point) (ps : List Point) → ArePieces values end a (p ∷ ps) → length ps < 16
+pending-bound values end a p ps pieces =
     let parts = piece-parts values end a p ps pieces in
     let some = parts.0 in
     let few = parts.1 in
@@ -133,14 +133,14 @@ waiting-few values end a p ps pieces =
 
 pub pending-few : (values : ℤ → ℤ) (s : CurveState) (end : ℤ) (at p : Point) (ps : List Point)
     → SearchInvariant values s end at (p ∷ ps) → length ps < 16
-pending-few values s end at p ps search_invariant = waiting-few values end at.minute p ps search_invariant.pieces
+pending-few values s end at p ps search_invariant = pending-bound values end at.minute p ps search_invariant.pieces
 
 -- there is room for one more evaluation
 pub asked-few : (values : ℤ → ℤ) (s : CurveState) (end : ℤ) (at p : Point) (ps : List Point)
     → SearchInvariant values s end at (p ∷ ps) → s.count < 2 ^ 63
 asked-few values s end at p ps search_invariant =
     let few = search_invariant.few in
-    let waiting = waiting-few values end at.minute p ps search_invariant.pieces in
+    let pending = pending-bound values end at.minute p ps search_invariant.pieces in
     omega arith
 
 -- two halves in place of their whole
@@ -220,7 +220,7 @@ middle-fewer test values at m p b some halve is point =
 -- ---- the begin and the end of a search
 
 pub first-search_invariant : (values : ℤ → ℤ) (s t : CurveState) (begin end : ℤ) (p : Point) (ps : List Point)
-    → IsLawful s.facts.meaning → begin ≤ℤ end → s.facts.meaning.first ≤ℤ begin → end ≤ℤ s.facts.meaning.last
+    → IsLawful s.curve_model.curve_spec → begin ≤ℤ end → s.curve_model.curve_spec.first ≤ℤ begin → end ≤ℤ s.curve_model.curve_spec.last
     → s.count ≤ 2 ^ 62 + 2 ^ 60 → t ≡ evaluated_once s → p ≡ record { minute = begin; value = values begin } → ps ≡ []
     → SearchInvariant values t end p ps
 unfolding ArePieces
@@ -229,10 +229,10 @@ first-search_invariant values s t begin end p ps lawful forward first last few a
     let late = lawful.late in
     rw (is, none, after) (record { value = refl; first = first; last = last; pieces = forward; few = omega (arith, ints) })
 
-pub done-waiting : (values : ℤ → ℤ) (end a : ℤ) (ps : List Point) → ArePieces values end a ps → a ≡ end → ps ≡ []
+pub done-pending : (values : ℤ → ℤ) (end a : ℤ) (ps : List Point) → ArePieces values end a ps → a ≡ end → ps ≡ []
 unfolding ArePieces
-done-waiting values end a [] pieces done = refl
-done-waiting values end a (p ∷ ps) pieces done =
+done-pending values end a [] pieces done = refl
+done-pending values end a (p ∷ ps) pieces done =
     let some = pieces.0 in
     let rest = pieces-end values end p.minute ps pieces.3 in
     absurd (omega (arith, ints))
@@ -244,7 +244,7 @@ done-none test end a done =
 
 pub done-pieces : (test : ℤ → ℕ → Bool) (values : ℤ → ℤ) (end a : ℤ) (ps : List Point) → ArePieces values end a ps → a ≡ end
     → pieces_after test end a ps ≡ []
-done-pieces test values end a ps pieces done = rw (done-waiting values end a ps pieces done) (done-none test end a done)
+done-pieces test values end a ps pieces done = rw (done-pending values end a ps pieces done) (done-none test end a done)
 
 pub before-end : (values : ℤ → ℤ) (end a : ℤ) (ps : List Point) → ArePieces values end a ps → (a ≡ end → ⊥) → a <ℤ end
 before-end values end a ps pieces other =

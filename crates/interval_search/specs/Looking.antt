@@ -9,12 +9,12 @@ use Rattle.interval_search.specs.declared.found.Found.{Found}
 pub record Looking (C : Type 0) : Type 0 where
   pub curve : C
   pub at : ℤ
-  pub left : List Cell
+  pub remaining : List Cell
   pub most : ℕ
 
 -- a step of a search returns the first of the remaining cells and moves to its end; it returns None if
 -- no cell remains
 abbrev pub StepsOn : {C : Type 0} → Looking C → Option Found → Looking C → Type 0
-StepsOn old None new = (old.left ≡ []) × (new.left ≡ []) × (new.at ≡ old.at)
+StepsOn old None new = (old.remaining ≡ []) × (new.remaining ≡ []) × (new.at ≡ old.at)
 StepsOn old (Some found) new =
-    (found.at ≡ old.at) × (old.left ≡ found.cell ∷ new.left) × (new.at ≡ old.at +ℤ pos (minutes_of found.cell))
+    (found.at ≡ old.at) × (old.remaining ≡ found.cell ∷ new.remaining) × (new.at ≡ old.at +ℤ pos (minutes_of found.cell))

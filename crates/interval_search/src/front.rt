@@ -5,30 +5,30 @@ ghost use Rattle.curve_law.specs.CurveStates.{evaluated_once};
 ghost use Rattle.curve_law.specs.Pieces.{stays_whole};
 ghost use Rattle.interval_search.specs.Workings.Ahead.{piece_between, pieces_after, SearchInvariant, IsFront, IsPiece, StepsTo};
 
+use crate::pending::Pending;
 use crate::piece::{Piece, block_end, halfway, piece_between, stays_whole};
 use crate::rule::PieceRule;
-use crate::waiting::Waiting;
 use curve_law::{Curve, Point};
 
-/// Removes the nearest end point from `waiting` and returns it; if there isn't one, returns the point
+/// Removes the nearest end point from `pending` and returns it; if there isn't one, returns the point
 /// at the end of the block that begins at `at`.
 #[inline(always)]
 fn nearest_end<C: Curve, R: PieceRule>(
     curve: &mut C,
     rule: &R,
-    waiting: &mut Waiting,
+    pending: &mut Pending,
     at: Point,
     end: i64,
 ) -> Point
-    requires search_invariant { SearchInvariant (R.values (C.state curve.old).facts) (C.state curve.old) end at waiting.old }
+    requires search_invariant { SearchInvariant (R.values (C.state curve.old).curve_model) (C.state curve.old) end at pending.old }
     requires onward { at.minute <ℤ end }
-    ensures unchanged { (C.state curve.new).facts ≡ (C.state curve.old).facts }
-    ensures search_invariant { SearchInvariant (R.values (C.state curve.old).facts) (C.state curve.new) end at (result ∷ waiting.new) }
-    ensures pieces { (test : ℤ → ℕ → Bool) → pieces_after test end at.minute (result ∷ waiting.new)
-        ≡ pieces_after test end at.minute waiting.old }
-    ensures count { (C.state curve.new).count + length waiting.old ≡ (C.state curve.old).count + length waiting.new + 1 }
+    ensures unchanged { (C.state curve.new).curve_model ≡ (C.state curve.old).curve_model }
+    ensures search_invariant { SearchInvariant (R.values (C.state curve.old).curve_model) (C.state curve.new) end at (result ∷ pending.new) }
+    ensures pieces { (test : ℤ → ℕ → Bool) → pieces_after test end at.minute (result ∷ pending.new)
+        ≡ pieces_after test end at.minute pending.old }
+    ensures count { (C.state curve.new).count + length pending.old ≡ (C.state curve.old).count + length pending.new + 1 }
 {
-    match waiting.pop() {
+    match pending.pop() {
         Some(point) => point,
         None => rule.evaluate(curve, block_end(at.minute, end)),
     }
@@ -39,19 +39,19 @@ fn nearest_end<C: Curve, R: PieceRule>(
 fn nearest_piece<C: Curve, R: PieceRule>(
     curve: &mut C,
     rule: &R,
-    waiting: &mut Waiting,
+    pending: &mut Pending,
     at: Point,
     next_end: Point,
     end: i64,
 ) -> Piece
-    requires search_invariant { SearchInvariant (R.values (C.state curve.old).facts) (C.state curve.old) end at (next_end ∷ waiting.old) }
-    ensures unchanged { (C.state curve.new).facts ≡ (C.state curve.old).facts }
-    ensures search_invariant { SearchInvariant (R.values (C.state curve.old).facts) (C.state curve.new) end at (result.end ∷ waiting.new) }
+    requires search_invariant { SearchInvariant (R.values (C.state curve.old).curve_model) (C.state curve.old) end at (next_end ∷ pending.old) }
+    ensures unchanged { (C.state curve.new).curve_model ≡ (C.state curve.old).curve_model }
+    ensures search_invariant { SearchInvariant (R.values (C.state curve.old).curve_model) (C.state curve.new) end at (result.end ∷ pending.new) }
     ensures piece { result ≡ piece_between at result.end }
-    ensures whole { stays_whole (R.whole rule.now (C.state curve.old).facts.meaning) result.begin.minute result.minutes ≡ true }
-    ensures pieces { pieces_after (R.whole rule.now (C.state curve.old).facts.meaning) end at.minute (result.end ∷ waiting.new)
-        ≡ pieces_after (R.whole rule.now (C.state curve.old).facts.meaning) end at.minute (next_end ∷ waiting.old) }
-    ensures count { (C.state curve.new).count + length waiting.old ≡ (C.state curve.old).count + length waiting.new }
+    ensures whole { stays_whole (R.whole rule.now (C.state curve.old).curve_model.curve_spec) result.begin.minute result.minutes ≡ true }
+    ensures pieces { pieces_after (R.whole rule.now (C.state curve.old).curve_model.curve_spec) end at.minute (result.end ∷ pending.new)
+        ≡ pieces_after (R.whole rule.now (C.state curve.old).curve_model.curve_spec) end at.minute (next_end ∷ pending.old) }
+    ensures count { (C.state curve.new).count + length pending.old ≡ (C.state curve.old).count + length pending.new }
 {
     let mut next_end = next_end;
     loop {
@@ -59,7 +59,7 @@ fn nearest_piece<C: Curve, R: PieceRule>(
         if stays_whole(curve, rule, piece) {
             return piece;
         }
-        waiting.push(next_end);
+        pending.push(next_end);
         next_end = rule.evaluate(curve, halfway(piece));
     }
 }
@@ -69,7 +69,7 @@ fn nearest_piece<C: Curve, R: PieceRule>(
 #[derive(Drop)]
 pub struct Front {
     pub at: Point,
-    pub waiting: Waiting,
+    pub pending: Pending,
     pub end: i64,
 }
 
@@ -77,20 +77,20 @@ pub struct Front {
 /// including `end`. It evaluates the curve once. Both ends are minutes of `curve`.
 pub fn front_at<C: Curve, R: PieceRule>(curve: &mut C, rule: &R, begin: i64, end: i64) -> Front
     requires forward { begin ≤ℤ end }
-    requires first { (C.state curve.old).facts.meaning.first ≤ℤ begin }
-    requires last { end ≤ℤ (C.state curve.old).facts.meaning.last }
+    requires first { (C.state curve.old).curve_model.curve_spec.first ≤ℤ begin }
+    requires last { end ≤ℤ (C.state curve.old).curve_model.curve_spec.last }
     requires count_bound { (C.state curve.old).count ≤ 2 ^ 62 + 2 ^ 60 }
     ensures after { C.state curve.new ≡ evaluated_once (C.state curve.old) }
     ensures front { result ≡ record {
-      at = record { minute = begin; value = R.values (C.state curve.old).facts begin };
-      waiting = [];
+      at = record { minute = begin; value = R.values (C.state curve.old).curve_model begin };
+      pending = [];
       end = end;
     } }
-    ensures search_invariant { IsFront (R.values (C.state curve.old).facts) (C.state curve.new) result }
+    ensures search_invariant { IsFront (R.values (C.state curve.old).curve_model) (C.state curve.new) result }
 {
     Front {
         at: rule.evaluate(curve, begin),
-        waiting: Waiting::new(),
+        pending: Pending::new(),
         end,
     }
 }
@@ -103,21 +103,21 @@ pub fn next_piece<C: Curve, R: PieceRule>(
     rule: &R,
     front: &mut Front,
 ) -> Option<Piece>
-    requires { IsFront (R.values (C.state curve.old).facts) (C.state curve.old) front.old }
-    ensures unchanged { (C.state curve.new).facts ≡ (C.state curve.old).facts }
+    requires { IsFront (R.values (C.state curve.old).curve_model) (C.state curve.old) front.old }
+    ensures unchanged { (C.state curve.new).curve_model ≡ (C.state curve.old).curve_model }
     ensures end { front.new.end ≡ front.old.end }
-    ensures search_invariant { IsFront (R.values (C.state curve.old).facts) (C.state curve.new) front.new }
-    ensures piece { IfSome result (IsPiece (C.state curve.old).facts.meaning (R.values (C.state curve.old).facts)) }
-    ensures found { StepsTo (R.whole rule.now (C.state curve.old).facts.meaning) front.old result front.new }
+    ensures search_invariant { IsFront (R.values (C.state curve.old).curve_model) (C.state curve.new) front.new }
+    ensures piece { IfSome result (IsPiece (C.state curve.old).curve_model.curve_spec (R.values (C.state curve.old).curve_model)) }
+    ensures found { StepsTo (R.whole rule.now (C.state curve.old).curve_model.curve_spec) front.old result front.new }
     ensures count { MatchOption result ((C.state curve.new).count ≡ (C.state curve.old).count)
-        (λ _. (C.state curve.new).count + length front.old.waiting ≡ (C.state curve.old).count + length front.new.waiting + 1) }
+        (λ _. (C.state curve.new).count + length front.old.pending ≡ (C.state curve.old).count + length front.new.pending + 1) }
 {
     let Front { at, end, .. } = *front;
     if at.minute == end {
         return None;
     }
-    let next_end = nearest_end(curve, rule, &mut front.waiting, at, end);
-    let piece = nearest_piece(curve, rule, &mut front.waiting, at, next_end, end);
+    let next_end = nearest_end(curve, rule, &mut front.pending, at, end);
+    let piece = nearest_piece(curve, rule, &mut front.pending, at, next_end, end);
     front.at = piece.end;
     Some(piece)
 }

@@ -12,11 +12,11 @@
 mod found;
 mod front;
 mod looking;
+mod pending;
 mod piece;
 mod quiet_pieces;
 mod rule;
 mod span_cells;
-mod waiting;
 
 pub use found::Found;
 pub use front::{Front, front_at, next_piece};

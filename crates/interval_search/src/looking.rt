@@ -31,7 +31,7 @@ impl<C: Curve> Model for Search<C> {
 
     ghost view = { λ s. looking_at s.curve (C.state s.curve) s.front };
 
-    ghost invariant = { λ s. IsFront (C.state s.curve).facts.approximate (C.state s.curve) s.front };
+    ghost invariant = { λ s. IsFront (C.state s.curve).curve_model.approximate (C.state s.curve) s.front };
 }
 
 impl<C: Curve> Search<C> {
@@ -48,13 +48,13 @@ impl<C: Curve> Search<C> {
     /// ```
     pub fn new(curve: C, begin: i64, end: i64) -> Search<C>
         requires forward { begin ≤ℤ end }
-        requires first { (C.state curve).facts.meaning.first ≤ℤ begin }
-        requires last { end ≤ℤ (C.state curve).facts.meaning.last }
+        requires first { (C.state curve).curve_model.curve_spec.first ≤ℤ begin }
+        requires last { end ≤ℤ (C.state curve).curve_model.curve_spec.last }
         requires count_bound { (C.state curve).count ≤ 2 ^ 62 }
         ensures after { C.state result.curve ≡ evaluated_once (C.state curve) }
         ensures at { result.at ≡ begin }
-        ensures left { result.left ≡ cover (C.state curve).facts.meaning begin (unsigned_abs (end -ℤ begin)) }
-        ensures most { result.most ≡ (C.state curve).count + length result.left + 1 }
+        ensures remaining { result.remaining ≡ cover (C.state curve).curve_model.curve_spec begin (unsigned_abs (end -ℤ begin)) }
+        ensures most { result.most ≡ (C.state curve).count + length result.remaining + 1 }
     {
         let mut curve = curve;
         let front = front_at(&mut curve, &QuietPieces, begin, end);
@@ -65,7 +65,7 @@ impl<C: Curve> Search<C> {
     #[inline(always)]
     pub fn next(&mut self) -> Option<Found>
         ensures found { StepsOn self.old result self.new }
-        ensures unchanged { (C.state self.new.curve).facts ≡ (C.state self.old.curve).facts }
+        ensures unchanged { (C.state self.new.curve).curve_model ≡ (C.state self.old.curve).curve_model }
         ensures most { self.new.most ≡ self.old.most }
     {
         next_found(&mut self.curve, &mut self.front)
@@ -74,7 +74,7 @@ impl<C: Curve> Search<C> {
     /// Does nothing. Its contract says that at most 2^61 cells remain, since each has at least one
     /// minute.
     pub fn cells_are_few(&self)
-        ensures { length self.now.left ≤ 2 ^ 61 }
+        ensures { length self.now.remaining ≤ 2 ^ 61 }
     {
         let _end = self.front.end;
     }

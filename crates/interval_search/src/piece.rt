@@ -33,8 +33,8 @@ pub fn piece_between(begin: Point, end: Point) -> Piece
 
 /// Returns true if `piece` isn't halved: it is one minute, or `rule` leaves it whole.
 pub fn stays_whole<C: Curve, R: PieceRule>(curve: &C, rule: &R, piece: Piece) -> bool
-    requires { IsPiece (C.state curve.now).facts.meaning (R.values (C.state curve.now).facts) piece }
-    ensures { result ≡ stays_whole (R.whole rule.now (C.state curve.now).facts.meaning) piece.begin.minute piece.minutes }
+    requires { IsPiece (C.state curve.now).curve_model.curve_spec (R.values (C.state curve.now).curve_model) piece }
+    ensures { result ≡ stays_whole (R.whole rule.now (C.state curve.now).curve_model.curve_spec) piece.begin.minute piece.minutes }
 {
     piece.minutes <= 1 || rule.is_whole(curve, piece)
 }

@@ -2,7 +2,7 @@
 
 ghost use Rattle.std.specs.Prelude.{◌≡◌};
 ghost use Rattle.curve_law.specs.Cover.{is_quiet, cell_of};
-ghost use Rattle.curve_law.specs.CurveStates.{CurveFacts};
+ghost use Rattle.curve_law.specs.CurveStates.{CurveModel};
 ghost use Rattle.interval_search.specs.Workings.Ahead.{IsPiece, interval_of, IsFront};
 ghost use Rattle.interval_search.specs.Workings.Cells.{looking_at};
 ghost use Rattle.interval_search.specs.Looking.{StepsOn};
@@ -21,7 +21,7 @@ pub struct QuietPieces;
 impl PieceRule for QuietPieces {
     ghost whole = { λ _ c a n. is_quiet c a n };
 
-    ghost values = { λ (facts : CurveFacts). facts.approximate };
+    ghost values = { λ (curve_model : CurveModel). curve_model.approximate };
 
     fn evaluate<C: Curve>(&self, curve: &mut C, minute: i64) -> Point {
         approximate_point_at(curve, minute)
@@ -40,8 +40,8 @@ impl PieceRule for QuietPieces {
 
 /// Returns the cell of a piece that isn't halved: a quiet cell, or a cell of one minute.
 fn cell_of<C: Curve>(curve: &C, piece: Piece) -> Cell
-    requires { IsPiece (C.state curve.now).facts.meaning (C.state curve.now).facts.approximate piece }
-    ensures { result ≡ cell_of (C.state curve.now).facts.meaning (interval_of piece) }
+    requires { IsPiece (C.state curve.now).curve_model.curve_spec (C.state curve.now).curve_model.approximate piece }
+    ensures { result ≡ cell_of (C.state curve.now).curve_model.curve_spec (interval_of piece) }
 {
     let Piece {
         begin,
@@ -59,9 +59,9 @@ fn cell_of<C: Curve>(curve: &C, piece: Piece) -> Cell
 /// `None` if the search has reached the end of its span.
 #[inline(always)]
 pub fn next_found<C: Curve>(curve: &mut C, front: &mut Front) -> Option<Found>
-    requires { IsFront (C.state curve.old).facts.approximate (C.state curve.old) front.old }
-    ensures unchanged { (C.state curve.new).facts ≡ (C.state curve.old).facts }
-    ensures search_invariant { IsFront (C.state curve.old).facts.approximate (C.state curve.new) front.new }
+    requires { IsFront (C.state curve.old).curve_model.approximate (C.state curve.old) front.old }
+    ensures unchanged { (C.state curve.new).curve_model ≡ (C.state curve.old).curve_model }
+    ensures search_invariant { IsFront (C.state curve.old).curve_model.approximate (C.state curve.new) front.new }
     ensures found { StepsOn (looking_at curve.old (C.state curve.old) front.old) result
         (looking_at curve.new (C.state curve.new) front.new) }
     ensures most { (looking_at curve.new (C.state curve.new) front.new).most ≡ (looking_at curve.old (C.state curve.old) front.old).most }

@@ -29,13 +29,13 @@ pub fn search<C: Curve>(
     end: i64,
 ) -> Result<Cells, AllocError>
     requires forward { begin ≤ℤ end }
-    requires first { (C.state curve.old).facts.meaning.first ≤ℤ begin }
-    requires last { end ≤ℤ (C.state curve.old).facts.meaning.last }
+    requires first { (C.state curve.old).curve_model.curve_spec.first ≤ℤ begin }
+    requires last { end ≤ℤ (C.state curve.old).curve_model.curve_spec.last }
     requires count_bound { (C.state curve.old).count ≤ 2 ^ 62 }
-    ensures cells { IfOk result (λ cells. cells ≡ cover (C.state curve.old).facts.meaning begin (unsigned_abs (end -ℤ begin))) }
+    ensures cells { IfOk result (λ cells. cells ≡ cover (C.state curve.old).curve_model.curve_spec begin (unsigned_abs (end -ℤ begin))) }
     ensures count { (C.state curve.new).count
-        ≤ (C.state curve.old).count + length (cover (C.state curve.old).facts.meaning begin (unsigned_abs (end -ℤ begin))) + 1 }
-    ensures unchanged { (C.state curve.new).facts ≡ (C.state curve.old).facts }
+        ≤ (C.state curve.old).count + length (cover (C.state curve.old).curve_model.curve_spec begin (unsigned_abs (end -ℤ begin))) + 1 }
+    ensures unchanged { (C.state curve.new).curve_model ≡ (C.state curve.old).curve_model }
 {
     let mut front = front_at(curve, &QuietPieces, begin, end);
     let mut cells = Vec::new(alloc);

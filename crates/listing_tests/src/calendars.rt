@@ -15,12 +15,13 @@ use zone_time::{Zone, read_zone};
 const SET_BACK: &[u8] = b"TZif\0\0\0\0\0\0\0\0\0\0\0\0\0\0\0\0\0\0\0\0\0\0\0\0\0\0\0\0\
     \0\0\0\x01\0\0\0\x02\0\0\0\x08\x38\x7a\x3a\x40\x01\0\0\x54\x60\0\0\xff\xff\xf1\xf0\0\x04AAA\0BBB\0";
 
-/// Returns the zone `ahead` minutes ahead of universal time, or the file's zone if there is no number.
-fn zone_of(alloc: Global, ahead: Option<i32>) -> Zone
+/// Returns the zone `utc_offset` minutes ahead of universal time, or the file's zone if there is no
+/// number.
+fn zone_of(alloc: Global, utc_offset: Option<i32>) -> Zone
     ensures { IsZone result }
 {
-    match ahead {
-        Some(ahead) if (-1560..=1560).contains(&ahead) => Zone::Fixed(ahead),
+    match utc_offset {
+        Some(utc_offset) if (-1560..=1560).contains(&utc_offset) => Zone::Fixed(utc_offset),
         Some(_) => Zone::Utc,
         None => match read_zone(alloc, SET_BACK) {
             Ok(zone) => zone,
@@ -83,11 +84,11 @@ static CALENDARS: &[Calendar] = &[
 
 /// Returns true if a calendar of the events has this text.
 fn is_calendar(alloc: Global, name: &Text, calendar: &Calendar) -> bool {
-    let &(ahead, begin, end, items, expected) = calendar;
+    let &(utc_offset, begin, end, items, expected) = calendar;
     if !is_in_years(begin) || !is_in_years(end) || end < begin {
         return false;
     }
-    let zone = zone_of(alloc, ahead);
+    let zone = zone_of(alloc, utc_offset);
     match events_of(alloc, Units::Feet, items) {
         Ok(events) => {
             let text = calendar_text(alloc, name, Units::Feet, &events, &zone, begin, end);

@@ -90,14 +90,14 @@ fn rows_of(alloc: Global, items: &[(i64, i64)]) -> Result<Rows, AllocError>
     }
 }
 
-/// Returns the zone `ahead` minutes ahead of universal time, or universal time if `ahead` is 0.
-pub fn zone_of(ahead: i32) -> Zone
+/// Returns the zone `utc_offset` minutes ahead of universal time, or universal time if `utc_offset` is 0.
+pub fn zone_of(utc_offset: i32) -> Zone
     ensures { IsZone result }
 {
-    if ahead == 0 || !(-1560..=1560).contains(&ahead) {
+    if utc_offset == 0 || !(-1560..=1560).contains(&utc_offset) {
         Zone::Utc
     } else {
-        Zone::Fixed(ahead)
+        Zone::Fixed(utc_offset)
     }
 }
 
@@ -186,8 +186,8 @@ static EVENTS: &[EventLists] = &[
 ];
 
 fn are_lists_of(alloc: Global, name: &Text, lists: &EventLists) -> bool {
-    let &(_, units, ahead, items, plain, csv) = lists;
-    let zone = zone_of(ahead);
+    let &(_, units, utc_offset, items, plain, csv) = lists;
+    let zone = zone_of(utc_offset);
     match events_of(alloc, units, items) {
         Ok(events) => {
             is_text(plain_events(alloc, name, units, &events, &zone), plain)
@@ -235,8 +235,8 @@ static HEIGHTS: &[HeightLists] = &[
 ];
 
 fn are_height_lists(alloc: Global, name: &Text, lists: &HeightLists) -> bool {
-    let &(ahead, items, plain, csv) = lists;
-    let zone = zone_of(ahead);
+    let &(utc_offset, items, plain, csv) = lists;
+    let zone = zone_of(utc_offset);
     match rows_of(alloc, items) {
         Ok(rows) => {
             is_text(plain_heights(alloc, name, Units::Feet, &rows, &zone), plain)
@@ -283,8 +283,8 @@ static CLOCKS: &[Clock] = &[
 ];
 
 fn is_clock(alloc: Global, name: &Text, clock: &Clock) -> bool {
-    let &(rising, ahead, items, expected) = clock;
-    let zone = zone_of(ahead);
+    let &(rising, utc_offset, items, expected) = clock;
+    let zone = zone_of(utc_offset);
     match events_of(alloc, Units::Feet, items) {
         Ok(events) => {
             let now = 15_791_220;

@@ -67,14 +67,14 @@ fn report_of_three(
 
 /// Returns true if a text consists of these parts.
 fn consists_of(text: &[u8], parts: &[&str]) -> bool {
-    let mut left = text;
+    let mut remaining = text;
     for part in parts {
-        match left.strip_prefix(part.as_bytes()) {
-            Some(rest) => left = rest,
+        match remaining.strip_prefix(part.as_bytes()) {
+            Some(rest) => remaining = rest,
             None => return false,
         }
     }
-    left.is_empty()
+    remaining.is_empty()
 }
 
 const TALLY: &str = "Pier\n2 High Tide\n2 Low Tide\n";

@@ -28,7 +28,7 @@ impl Counter {
 }
 
 impl Sheet for Counter {
-    ghost meaning = { λ sheet. record {
+    ghost sheet_spec = { λ sheet. record {
       word = sheet.word;
       limit = sheet.collected.limit;
       layout = λ _ list. sheet.word ++ codes " " ++ decimal (length list) ++ codes "\n";
@@ -87,7 +87,7 @@ impl Refusing {
 }
 
 impl Sheet for Refusing {
-    ghost meaning = { λ sheet. record { word = codes "refusing"; limit = sheet.collected.limit; layout = λ _ _. codes "kept" } };
+    ghost sheet_spec = { λ sheet. record { word = codes "refusing"; limit = sheet.collected.limit; layout = λ _ _. codes "kept" } };
 
     ghost heading = { λ sheet. sheet.collected.head };
 

@@ -35,9 +35,9 @@ static HIGHEST: &[(i32, &str)] = &[
     ),
 ];
 
-fn is_highest(alloc: Global, name: &Text, ahead: i32, expected: &str) -> bool {
+fn is_highest(alloc: Global, name: &Text, utc_offset: i32, expected: &str) -> bool {
     let (minute, level) = (29_098_353, 12_220_455);
-    let zone = zone_of(ahead);
+    let zone = zone_of(utc_offset);
     let text = highest_text(alloc, name, Units::Feet, minute, level, &zone);
     is_text(text, expected)
 }
@@ -60,8 +60,8 @@ const ABOUT: &str = "Boston, Boston Harbor\n\
     agreement 98943212089632423480202598400000\n";
 
 fn check_boston(rt: &impl Abort, alloc: Global, name: &Text) {
-    for &(ahead, expected) in HIGHEST {
-        assert_holds(rt, is_highest(alloc, name, ahead, expected), expected);
+    for &(utc_offset, expected) in HIGHEST {
+        assert_holds(rt, is_highest(alloc, name, utc_offset, expected), expected);
     }
     assert_holds(rt, is_about(alloc, name, ABOUT), ABOUT);
 }

@@ -15,7 +15,7 @@ use Rattle.std.specs.Option.{ForSome}
 use Rattle.std.proofs.lemmas.List.{length-append}
 use Rattle.std.proofs.lemmas.List.Elements.{All-get_or, All-tail}
 use Rattle.std.proofs.lemmas.Option.{slice_get_cases}
-use Rattle.tide_edge.specs.FileStates.{Folder, Opening, Openings, Store, listed, openings_of}
+use Rattle.tide_edge.specs.FileStates.{Folder, Opening, Openings, FileContents, as_list, openings_of}
 use Rattle.tide_edge.specs.FileStates.{FilesState}
 use Rattle.tide_edge.specs.StoreLaws.{IsLawful, IsOfStore}
 use Rattle.tide_edge.proofs.ReadingLemmas.{all_of_store, go_on, once_as, shows_by_law}
@@ -25,36 +25,36 @@ use Rattle.tide_edge.specs.declared.read_all_fault.ReadAllFault.TheVariants as r
 use Rattle.tide_fault.specs.declared.slot.Slot.{Slot}
 use Rattle.zone_time.specs.declared.zone.Zone.{Zone as TheZone}
 use Rattle.tide_fault.specs.declared.slot.Slot.TheVariants.{File, Offsets, Zone, Certificate}
-use Rattle.named_files.specs.declared.no_answer.NoAnswer.{NoAnswer}
-use Rattle.named_files.specs.NoAnswers.{IsOf, file_of, source_of}
+use Rattle.named_files.specs.declared.run_fault.RunFault.{RunFault}
+use Rattle.named_files.specs.RunFaults.{IsOf, file_of, source_of}
 use Rattle.named_files.specs.Opened.{AreOpened, AreShown, AreShownFor, IsShown, Opened, folders_shown, index_of, names_of, names_to, shown}
 use Rattle.named_files.specs.declared.materials.Materials.{Materials}
 use Rattle.named_files.specs.Readings.{Folders, book_named, bytes_from, bytes_of, certificate_named, files_in, limit_of, table_named, zone_file, zone_named}
 use Rattle.named_files.proofs.ReadingLemmas.{excuses_book, excuses_bytes, meets_at, named_book, named_from}
 
-out_of_memory_meets : {T : Type 0} (firm : Type 0) (expected result : Result T NoAnswer) → IsOutOfMemory source_of result
+out_of_memory_meets : {T : Type 0} (firm : Type 0) (expected result : Result T RunFault) → IsOutOfMemory source_of result
     → Meets source_of firm expected result
 out_of_memory_meets firm expected (Ok value) of_memory = absurd of_memory
 out_of_memory_meets firm expected (Err none) of_memory = rw of_memory tt
 
-out_of_memory_whole : {T : Type 0} (P : Type 0) (result : Result T NoAnswer) → IsOutOfMemory source_of result → OnOk result P
+out_of_memory_whole : {T : Type 0} (P : Type 0) (result : Result T RunFault) → IsOutOfMemory source_of result → OnOk result P
 out_of_memory_whole P (Ok value) of_memory = absurd of_memory
 out_of_memory_whole P (Err none) of_memory = tt
 
-pub always_whole : {T : Type 0} (P : Type 0) (result : Result T NoAnswer) → P → OnOk result P
+pub always_whole : {T : Type 0} (P : Type 0) (result : Result T RunFault) → P → OnOk result P
 always_whole P (Ok value) p = p
 always_whole P (Err none) p = tt
 
-pub never_whole : {T : Type 0} (P : Type 0) (result : Result T NoAnswer) (none : NoAnswer) → IsErrAnd result (λ e. e ≡ none) → OnOk result P
+pub never_whole : {T : Type 0} (P : Type 0) (result : Result T RunFault) (none : RunFault) → IsErrAnd result (λ e. e ≡ none) → OnOk result P
 never_whole P (Ok value) none is = absurd is
 never_whole P (Err it) none is = tt
 
 -- a file that is named
-pub opened_named : {T : Type 0} (slot : Slot) (name : List ℕ) (expected : Option (List ℕ) → Result T NoAnswer) (before after : Openings)
-    (result : Result T NoAnswer) → OpenedOnce source_of expected (limit_of slot) name before after result
+pub opened_named : {T : Type 0} (slot : Slot) (name : List ℕ) (expected : Option (List ℕ) → Result T RunFault) (before after : Openings)
+    (result : Result T RunFault) → OpenedOnce source_of expected (limit_of slot) name before after result
     → Opened slot (Some name) (λ folder. expected (folder name)) before after result
 opened_named slot name expected before after result (inl (same, of_memory)) = record {
-  openings = [];
+  open_log = [];
   unopened = name ∷ [];
   all = ap openings_of same ∙ sym (append-nil (openings_of before));
   names = refl;
@@ -62,7 +62,7 @@ opened_named slot name expected before after result (inl (same, of_memory)) = re
   answer = λ firm folder is. out_of_memory_meets (IsTrue firm) (expected (folder name)) result of_memory;
 }
 opened_named slot name expected before after result (inr (opening, named, is, answer)) = record {
-  openings = opening ∷ [];
+  open_log = opening ∷ [];
   unopened = [];
   all = ap openings_of is;
   names = ap (λ n. n ∷ []) (sym named);
@@ -72,11 +72,11 @@ opened_named slot name expected before after result (inr (opening, named, is, an
 }
 
 -- no file is named
-pub opened_none : {T : Type 0} (slot : Slot) (expected : Folder → Result T NoAnswer) (before : Openings) (result : Result T NoAnswer)
+pub opened_none : {T : Type 0} (slot : Slot) (expected : Folder → Result T RunFault) (before : Openings) (result : Result T RunFault)
     → ((firm : Bool) (folder : Folder) → Meets source_of (IsTrue firm) (expected folder) result)
     → Opened slot None expected before before result
 opened_none slot expected before result meets = record {
-  openings = [];
+  open_log = [];
   unopened = [];
   all = sym (append-nil (openings_of before));
   names = refl;
@@ -85,14 +85,14 @@ opened_none slot expected before result meets = record {
 }
 
 -- a fact that follows from the expected result of a file
-pub opened_as : {T S : Type 0} (slot : Slot) (name : Option (List ℕ)) (expected : Folder → Result T NoAnswer)
-    (also : Folder → Result S NoAnswer) (before after : Openings) (result : Result T NoAnswer) (other : Result S NoAnswer)
+pub opened_as : {T S : Type 0} (slot : Slot) (name : Option (List ℕ)) (expected : Folder → Result T RunFault)
+    (also : Folder → Result S RunFault) (before after : Openings) (result : Result T RunFault) (other : Result S RunFault)
     → ((firm : Bool) (folder : Folder) → Meets source_of (IsTrue firm) (expected folder) result
     → Meets source_of (IsTrue firm) (also folder) other)
     → ((left : List (List ℕ)) → OnOk result (left ≡ []) → OnOk other (left ≡ []))
     → Opened slot name expected before after result → Opened slot name also before after other
 opened_as slot name expected also before after result other says whole o = record {
-  openings = o.openings;
+  open_log = o.open_log;
   unopened = o.unopened;
   all = o.all;
   names = o.names;
@@ -110,7 +110,7 @@ pub shown_at : (slot : Slot) (firm : Bool) (folder : Folder) (before here more :
     → IfSome (slice_get (before ++ (here ++ more)) index) (λ o. Shows (limit_of slot) firm o (folder o.name))
     → IsShown slot firm here folder
 shown_at slot firm folder before [] more index at shows = tt
-shown_at slot firm folder before (opening ∷ rest) more index at shows = rw (at, get_behind before opening (rest ++ more)) at shows
+shown_at slot firm folder before (opening ∷ unread_bytes) more index at shows = rw (at, get_behind before opening (unread_bytes ++ more)) at shows
 
 -- ---- The contents of a file, from its bytes
 
@@ -176,40 +176,40 @@ names_on first second names more left is next =
     ∙ ap (λ n. n ++ left) (sym (map-append first second))
 
 -- a file that was read was opened, if it is named
-pub all_named : {T : Type 0} (slot : Slot) (name : Option (List ℕ)) (expected : Folder → Result T NoAnswer) (before after : Openings)
-    (value : T) (o : Opened slot name expected before after (Ok value)) → listed name ≡ map (λ it. it.name) o.openings
+pub all_named : {T : Type 0} (slot : Slot) (name : Option (List ℕ)) (expected : Folder → Result T RunFault) (before after : Openings)
+    (value : T) (o : Opened slot name expected before after (Ok value)) → as_list name ≡ map (λ it. it.name) o.open_log
 all_named slot name expected before after value o =
-    o.names ∙ ap (λ left. map (λ it. it.name) o.openings ++ left) o.whole ∙ append-nil (map (λ it. it.name) o.openings)
+    o.names ∙ ap (λ left. map (λ it. it.name) o.open_log ++ left) o.whole ∙ append-nil (map (λ it. it.name) o.open_log)
 
-length-names : (openings : List Opening) → length (map (λ o. o.name) openings) ≡ length openings
+length-names : (open_log : List Opening) → length (map (λ o. o.name) open_log) ≡ length open_log
 length-names [] = refl
-length-names (o ∷ openings) = ap suc (length-names openings)
+length-names (o ∷ open_log) = ap suc (length-names open_log)
 
-pub as_many : {T : Type 0} (slot : Slot) (name : Option (List ℕ)) (expected : Folder → Result T NoAnswer) (before after : Openings)
-    (value : T) (o : Opened slot name expected before after (Ok value)) → length (listed name) ≡ length o.openings
-as_many slot name expected before after value o = ap length (all_named slot name expected before after value o) ∙ length-names o.openings
+pub as_many : {T : Type 0} (slot : Slot) (name : Option (List ℕ)) (expected : Folder → Result T RunFault) (before after : Openings)
+    (value : T) (o : Opened slot name expected before after (Ok value)) → length (as_list name) ≡ length o.open_log
+as_many slot name expected before after value o = ap length (all_named slot name expected before after value o) ∙ length-names o.open_log
 
 -- the last of the files that were opened
-pub last_all : {T : Type 0} (slot : Slot) (name : Option (List ℕ)) (expected : Folder → Result T NoAnswer) (before after : Openings)
-    (result : Result T NoAnswer) (o : Opened slot name expected before after result)
-    → openings_of after ≡ openings_of before ++ (o.openings ++ [])
-last_all slot name expected before after result o = o.all ∙ ap (λ it. openings_of before ++ it) (sym (append-nil o.openings))
+pub last_all : {T : Type 0} (slot : Slot) (name : Option (List ℕ)) (expected : Folder → Result T RunFault) (before after : Openings)
+    (result : Result T RunFault) (o : Opened slot name expected before after result)
+    → openings_of after ≡ openings_of before ++ (o.open_log ++ [])
+last_all slot name expected before after result o = o.all ∙ ap (λ it. openings_of before ++ it) (sym (append-nil o.open_log))
 
-pub last_names : {T : Type 0} (slot : Slot) (name : Option (List ℕ)) (expected : Folder → Result T NoAnswer) (before after : Openings)
-    (result : Result T NoAnswer) (o : Opened slot name expected before after result)
-    → listed name ≡ map (λ it. it.name) (o.openings ++ []) ++ o.unopened
+pub last_names : {T : Type 0} (slot : Slot) (name : Option (List ℕ)) (expected : Folder → Result T RunFault) (before after : Openings)
+    (result : Result T RunFault) (o : Opened slot name expected before after result)
+    → as_list name ≡ map (λ it. it.name) (o.open_log ++ []) ++ o.unopened
 last_names slot name expected before after result o =
-    o.names ∙ ap (λ it. map (λ it. it.name) it ++ o.unopened) (sym (append-nil o.openings))
+    o.names ∙ ap (λ it. map (λ it. it.name) it ++ o.unopened) (sym (append-nil o.open_log))
 
 -- ---- The names up to a fault
 
 pub up_to : (name : List ℕ) (question : Question) (slot : Slot)
     → (more : List (List ℕ)) × (names_of name question ≡ names_to name question (Some slot) ++ more)
-up_to name question File = (listed question.offsets ++ (listed (zone_file question.zone) ++ listed question.certificate), refl)
-up_to name question Offsets = (listed (zone_file question.zone) ++ listed question.certificate, refl)
+up_to name question File = (as_list question.offsets ++ (as_list (zone_file question.zone) ++ as_list question.certificate), refl)
+up_to name question Offsets = (as_list (zone_file question.zone) ++ as_list question.certificate, refl)
 up_to name question Zone = (
-  listed question.certificate,
-  ap (λ n. name ∷ n) (sym (append_assoc (listed question.offsets) (listed (zone_file question.zone)) (listed question.certificate))),
+  as_list question.certificate,
+  ap (λ n. name ∷ n) (sym (append_assoc (as_list question.offsets) (as_list (zone_file question.zone)) (as_list question.certificate))),
 )
 up_to name question Certificate = ([], sym (append-nil (names_of name question)))
 
@@ -220,21 +220,21 @@ stops_at name question slot (Some other) is =
     ([], ap (λ it. names_to name question (Some it)) (is other refl) ∙ sym (append-nil (names_to name question (Some slot))))
 
 -- the files that were opened up to one that is the reason
-stopped : (question : Question) (name : List ℕ) (slot : Slot) (before after : Openings) (none : NoAnswer) (openings : List Opening)
-    (left : List (List ℕ)) → IsOf slot none → openings_of after ≡ openings_of before ++ openings
-    → names_to name question (Some slot) ≡ map (λ o. o.name) openings ++ left
-    → ((firm : Bool) (folders : Folders) → AreShown question firm openings folders
+stopped : (question : Question) (name : List ℕ) (slot : Slot) (before after : Openings) (none : RunFault) (open_log : List Opening)
+    (left : List (List ℕ)) → IsOf slot none → openings_of after ≡ openings_of before ++ open_log
+    → names_to name question (Some slot) ≡ map (λ o. o.name) open_log ++ left
+    → ((firm : Bool) (folders : Folders) → AreShown question firm open_log folders
     → Meets {T = Materials} source_of (IsTrue firm) (files_in folders question name) (Err none))
-    → (result : Result Materials NoAnswer) → IsErrAnd result (λ e. e ≡ none) → AreOpened question name before after result
-stopped question name slot before after none openings left of_slot all names answer (Ok read) is = absurd is
-stopped question name slot before after none openings left of_slot all names answer (Err it) is =
+    → (result : Result Materials RunFault) → IsErrAnd result (λ e. e ≡ none) → AreOpened question name before after result
+stopped question name slot before after none open_log left of_slot all names answer (Ok read) is = absurd is
+stopped question name slot before after none open_log left of_slot all names answer (Err it) is =
     let to = stops_at name question slot (file_of none) of_slot in
     rw is
     (record {
-      openings = openings;
+      open_log = open_log;
       unopened = left ++ to.0;
       all = all;
-      names = to.1 ∙ ap (λ n. n ++ to.0) names ∙ append_assoc (map (λ o. o.name) openings) left to.0;
+      names = to.1 ∙ ap (λ n. n ++ to.0) names ∙ append_assoc (map (λ o. o.name) open_log) left to.0;
       whole = tt;
       answer = answer;
     })
@@ -270,86 +270,86 @@ module _ (firm : Bool) (folders : Folders) where
 -- ---- The files of a request
 
 -- each file is read by its own name
-abbrev pub book_shown : List ℕ → Folder → Result TheBook NoAnswer
+abbrev pub book_shown : List ℕ → Folder → Result TheBook RunFault
 book_shown name folder = book_named folder name
 
-abbrev pub table_shown : Option (List ℕ) → Folder → Result (List TableRow) NoAnswer
+abbrev pub table_shown : Option (List ℕ) → Folder → Result (List TableRow) RunFault
 table_shown name folder = table_named folder name
 
-abbrev zone_shown : ZoneWord → Folder → Result TheZone NoAnswer
+abbrev zone_shown : ZoneWord → Folder → Result TheZone RunFault
 zone_shown word folder = zone_named folder word
 
-abbrev certificate_shown : Option (List ℕ) → Folder → Result (List ℕ) NoAnswer
+abbrev certificate_shown : Option (List ℕ) → Folder → Result (List ℕ) RunFault
 certificate_shown name folder = certificate_named folder name
 
-pub stopped_at_book : (question : Question) (name : List ℕ) (before after : Openings) (none : NoAnswer) (result : Result Materials NoAnswer)
+pub stopped_at_book : (question : Question) (name : List ℕ) (before after : Openings) (none : RunFault) (result : Result Materials RunFault)
     → IsErrAnd result (λ e. e ≡ none) → IsOf File none → Opened File (Some name) (book_shown name) before after (Err none)
     → AreOpened question name before after result
 unfolding files_in
 stopped_at_book question name before after none result is of_book book =
-    let openings = book.openings ++ [] in
-    stopped question name File before after none openings book.unopened of_book
+    let open_log = book.open_log ++ [] in
+    stopped question name File before after none open_log book.unopened of_book
     (last_all File (Some name) (book_shown name) before after (Err none) book)
     (last_names File (Some name) (book_shown name) before after (Err none) book)
     (λ firm folders shows. meets_at (IsTrue firm) (book_named (folders File) name) _ (Err none) none refl
-    (book.answer firm (folders File) (shown_first firm folders book.openings [] (shows File))))
+    (book.answer firm (folders File) (shown_first firm folders book.open_log [] (shows File))))
     result is
 
-pub stopped_at_table : (question : Question) (name : List ℕ) (before between after : Openings) (read : TheBook) (none : NoAnswer)
-    (result : Result Materials NoAnswer) → IsErrAnd result (λ e. e ≡ none) → IsOf Offsets none
+pub stopped_at_table : (question : Question) (name : List ℕ) (before between after : Openings) (read : TheBook) (none : RunFault)
+    (result : Result Materials RunFault) → IsErrAnd result (λ e. e ≡ none) → IsOf Offsets none
     → Opened File (Some name) (book_shown name) before between (Ok read)
     → Opened Offsets question.offsets (table_shown question.offsets) between after (Err none)
     → AreOpened question name before after result
 unfolding files_in
 stopped_at_table question name before between after read none result is of_table book table =
-    let last = table.openings ++ [] in
-    let openings = book.openings ++ last in
+    let last = table.open_log ++ [] in
+    let open_log = book.open_log ++ last in
     let one = as_many File (Some name) (book_shown name) before between read book in
-    stopped question name Offsets before after none openings table.unopened of_table
-    (go_on before between after book.openings last book.all
+    stopped question name Offsets before after none open_log table.unopened of_table
+    (go_on before between after book.open_log last book.all
     (last_all Offsets question.offsets (table_shown question.offsets) between after (Err none) table))
-    (names_on book.openings last (name ∷ []) (listed question.offsets) table.unopened
+    (names_on book.open_log last (name ∷ []) (as_list question.offsets) table.unopened
     (all_named File (Some name) (book_shown name) before between read book)
     (last_names Offsets question.offsets (table_shown question.offsets) between after (Err none) table))
-    (λ firm folders shows. rw (book.answer firm (folders File) (shown_first firm folders book.openings last (shows File)))
+    (λ firm folders shows. rw (book.answer firm (folders File) (shown_first firm folders book.open_log last (shows File)))
     (meets_at (IsTrue firm) (table_named (folders Offsets) question.offsets) _ (Err none) none refl
-    (table.answer firm (folders Offsets) (shown_second firm folders book.openings table.openings [] one (shows Offsets)))))
+    (table.answer firm (folders Offsets) (shown_second firm folders book.open_log table.open_log [] one (shows Offsets)))))
     result is
 
 pub stopped_at_zone : (question : Question) (name : List ℕ) (before between beyond after : Openings) (read : TheBook) (rows : List TableRow)
-    (none : NoAnswer) (result : Result Materials NoAnswer) → IsErrAnd result (λ e. e ≡ none) → IsOf Zone none
+    (none : RunFault) (result : Result Materials RunFault) → IsErrAnd result (λ e. e ≡ none) → IsOf Zone none
     → Opened File (Some name) (book_shown name) before between (Ok read)
     → Opened Offsets question.offsets (table_shown question.offsets) between beyond (Ok rows)
     → Opened Zone (zone_file question.zone) (zone_shown question.zone) beyond after (Err none)
     → AreOpened question name before after result
 unfolding files_in
 stopped_at_zone question name before between beyond after read rows none result is of_zone book table zone =
-    let third = zone.openings ++ [] in
-    let last = table.openings ++ third in
-    let openings = book.openings ++ last in
+    let third = zone.open_log ++ [] in
+    let last = table.open_log ++ third in
+    let open_log = book.open_log ++ last in
     let one = as_many File (Some name) (book_shown name) before between read book in
     let two = as_many Offsets question.offsets (table_shown question.offsets) between beyond rows table in
-    stopped question name Zone before after none openings zone.unopened of_zone
-    (go_on before between after book.openings last book.all
-    (go_on between beyond after table.openings third table.all
+    stopped question name Zone before after none open_log zone.unopened of_zone
+    (go_on before between after book.open_log last book.all
+    (go_on between beyond after table.open_log third table.all
     (last_all Zone (zone_file question.zone) (zone_shown question.zone) beyond after (Err none) zone)))
-    (names_on book.openings last (name ∷ []) (listed question.offsets ++ listed (zone_file question.zone)) zone.unopened
+    (names_on book.open_log last (name ∷ []) (as_list question.offsets ++ as_list (zone_file question.zone)) zone.unopened
     (all_named File (Some name) (book_shown name) before between read book)
-    (names_on table.openings third (listed question.offsets) (listed (zone_file question.zone)) zone.unopened
+    (names_on table.open_log third (as_list question.offsets) (as_list (zone_file question.zone)) zone.unopened
     (all_named Offsets question.offsets (table_shown question.offsets) between beyond rows table)
     (last_names Zone (zone_file question.zone) (zone_shown question.zone) beyond after (Err none) zone)))
     (λ firm folders shows. rw (
-      book.answer firm (folders File) (shown_first firm folders book.openings last (shows File)),
-      table.answer firm (folders Offsets) (shown_second firm folders book.openings table.openings third one (shows Offsets)),
+      book.answer firm (folders File) (shown_first firm folders book.open_log last (shows File)),
+      table.answer firm (folders Offsets) (shown_second firm folders book.open_log table.open_log third one (shows Offsets)),
     )
     (meets_at (IsTrue firm) (zone_named (folders Zone) question.zone) _ (Err none) none refl
     (zone.answer firm (folders Zone)
-    (shown_third firm folders book.openings table.openings zone.openings [] (length (listed question.offsets)) one two (shows Zone)))))
+    (shown_third firm folders book.open_log table.open_log zone.open_log [] (length (as_list question.offsets)) one two (shows Zone)))))
     result is
 
 pub stopped_at_certificate : (question : Question) (name : List ℕ) (before between beyond later after : Openings)
     (read : TheBook) (rows : List TableRow)
-    (clock : TheZone) (none : NoAnswer) (result : Result Materials NoAnswer) → IsErrAnd result (λ e. e ≡ none) → IsOf Certificate none
+    (clock : TheZone) (none : RunFault) (result : Result Materials RunFault) → IsErrAnd result (λ e. e ≡ none) → IsOf Certificate none
     → Opened File (Some name) (book_shown name) before between (Ok read)
     → Opened Offsets question.offsets (table_shown question.offsets) between beyond (Ok rows)
     → Opened Zone (zone_file question.zone) (zone_shown question.zone) beyond later (Ok clock)
@@ -358,36 +358,36 @@ pub stopped_at_certificate : (question : Question) (name : List ℕ) (before bet
 unfolding files_in
 stopped_at_certificate question name before between beyond later after read rows clock none result is of_certificate
     book table zone certificate =
-    let fourth = certificate.openings ++ [] in
-    let third = zone.openings ++ fourth in
-    let last = table.openings ++ third in
-    let openings = book.openings ++ last in
+    let fourth = certificate.open_log ++ [] in
+    let third = zone.open_log ++ fourth in
+    let last = table.open_log ++ third in
+    let open_log = book.open_log ++ last in
     let one = as_many File (Some name) (book_shown name) before between read book in
     let two = as_many Offsets question.offsets (table_shown question.offsets) between beyond rows table in
     let three = as_many Zone (zone_file question.zone) (zone_shown question.zone) beyond later clock zone in
-    stopped question name Certificate before after none openings certificate.unopened of_certificate
-    (go_on before between after book.openings last book.all
-    (go_on between beyond after table.openings third table.all
-    (go_on beyond later after zone.openings fourth zone.all
+    stopped question name Certificate before after none open_log certificate.unopened of_certificate
+    (go_on before between after book.open_log last book.all
+    (go_on between beyond after table.open_log third table.all
+    (go_on beyond later after zone.open_log fourth zone.all
     (last_all Certificate question.certificate (certificate_shown question.certificate) later after (Err none) certificate))))
-    (names_on book.openings last (name ∷ []) _ certificate.unopened
+    (names_on book.open_log last (name ∷ []) _ certificate.unopened
     (all_named File (Some name) (book_shown name) before between read book)
-    (names_on table.openings third (listed question.offsets) _ certificate.unopened
+    (names_on table.open_log third (as_list question.offsets) _ certificate.unopened
     (all_named Offsets question.offsets (table_shown question.offsets) between beyond rows table)
-    (names_on zone.openings fourth (listed (zone_file question.zone)) (listed question.certificate) certificate.unopened
+    (names_on zone.open_log fourth (as_list (zone_file question.zone)) (as_list question.certificate) certificate.unopened
     (all_named Zone (zone_file question.zone) (zone_shown question.zone) beyond later clock zone)
     (last_names Certificate question.certificate (certificate_shown question.certificate) later after (Err none) certificate))))
     (λ firm folders shows. rw (
-      book.answer firm (folders File) (shown_first firm folders book.openings last (shows File)),
-      table.answer firm (folders Offsets) (shown_second firm folders book.openings table.openings third one (shows Offsets)),
+      book.answer firm (folders File) (shown_first firm folders book.open_log last (shows File)),
+      table.answer firm (folders Offsets) (shown_second firm folders book.open_log table.open_log third one (shows Offsets)),
       zone.answer firm (folders Zone)
-          (shown_third firm folders book.openings table.openings zone.openings fourth (length (listed question.offsets)) one two
+          (shown_third firm folders book.open_log table.open_log zone.open_log fourth (length (as_list question.offsets)) one two
           (shows Zone)),
     )
     (meets_at (IsTrue firm) (certificate_named (folders Certificate) question.certificate) _ (Err none) none refl
     (certificate.answer firm (folders Certificate)
-    (shown_fourth firm folders book.openings table.openings zone.openings certificate.openings (length (listed question.offsets))
-    (length (listed (zone_file question.zone))) one two three (shows Certificate)))))
+    (shown_fourth firm folders book.open_log table.open_log zone.open_log certificate.open_log (length (as_list question.offsets))
+    (length (as_list (zone_file question.zone))) one two three (shows Certificate)))))
     result is
 
 pub all_opened : (question : Question) (name : List ℕ) (before between beyond later after : Openings) (read : TheBook)
@@ -400,40 +400,40 @@ pub all_opened : (question : Question) (name : List ℕ) (before between beyond 
     → AreOpened question name before after (Ok (record { book = read; table = rows; zone = clock; certificate = bytes }))
 unfolding files_in
 all_opened question name before between beyond later after read rows clock bytes book table zone certificate =
-    let fourth = certificate.openings ++ [] in
-    let third = zone.openings ++ fourth in
-    let last = table.openings ++ third in
-    let openings = book.openings ++ last in
+    let fourth = certificate.open_log ++ [] in
+    let third = zone.open_log ++ fourth in
+    let last = table.open_log ++ third in
+    let open_log = book.open_log ++ last in
     let one = as_many File (Some name) (book_shown name) before between read book in
     let two = as_many Offsets question.offsets (table_shown question.offsets) between beyond rows table in
     let three = as_many Zone (zone_file question.zone) (zone_shown question.zone) beyond later clock zone in
     record {
-      openings = openings;
+      open_log = open_log;
       unopened = certificate.unopened;
       all =
-          go_on before between after book.openings last book.all
-          (go_on between beyond after table.openings third table.all
-          (go_on beyond later after zone.openings fourth zone.all
+          go_on before between after book.open_log last book.all
+          (go_on between beyond after table.open_log third table.all
+          (go_on beyond later after zone.open_log fourth zone.all
           (last_all Certificate question.certificate (certificate_shown question.certificate) later after (Ok bytes) certificate)));
       names =
-          names_on book.openings last (name ∷ []) _ certificate.unopened
+          names_on book.open_log last (name ∷ []) _ certificate.unopened
           (all_named File (Some name) (book_shown name) before between read book)
-          (names_on table.openings third (listed question.offsets) _ certificate.unopened
+          (names_on table.open_log third (as_list question.offsets) _ certificate.unopened
           (all_named Offsets question.offsets (table_shown question.offsets) between beyond rows table)
-          (names_on zone.openings fourth (listed (zone_file question.zone)) (listed question.certificate) certificate.unopened
+          (names_on zone.open_log fourth (as_list (zone_file question.zone)) (as_list question.certificate) certificate.unopened
           (all_named Zone (zone_file question.zone) (zone_shown question.zone) beyond later clock zone)
           (last_names Certificate question.certificate (certificate_shown question.certificate) later after (Ok bytes) certificate)));
       whole = certificate.whole;
       answer = λ firm folders shows.
           rw (
-            book.answer firm (folders File) (shown_first firm folders book.openings last (shows File)),
-            table.answer firm (folders Offsets) (shown_second firm folders book.openings table.openings third one (shows Offsets)),
+            book.answer firm (folders File) (shown_first firm folders book.open_log last (shows File)),
+            table.answer firm (folders Offsets) (shown_second firm folders book.open_log table.open_log third one (shows Offsets)),
             zone.answer firm (folders Zone)
-                (shown_third firm folders book.openings table.openings zone.openings fourth (length (listed question.offsets)) one two
+                (shown_third firm folders book.open_log table.open_log zone.open_log fourth (length (as_list question.offsets)) one two
                 (shows Zone)),
             certificate.answer firm (folders Certificate)
-                (shown_fourth firm folders book.openings table.openings zone.openings certificate.openings
-                (length (listed question.offsets)) (length (listed (zone_file question.zone))) one two three (shows Certificate)),
+                (shown_fourth firm folders book.open_log table.open_log zone.open_log certificate.open_log
+                (length (as_list question.offsets)) (length (as_list (zone_file question.zone))) one two three (shows Certificate)),
           )
           refl;
     }
@@ -454,12 +454,12 @@ shows_itself_at slot (Some o) =
     record { read = λ t. by.0 t; absent = λ firm out why. by.1 out }
 
 -- the contents that the openings show agree with what was read
-pub shows_itself : (question : Question) (openings : List Opening) → AreShown question true openings (folders_shown question openings)
-shows_itself question openings = λ slot. shows_itself_at slot (slice_get openings (index_of question slot))
+pub shows_itself : (question : Question) (open_log : List Opening) → AreShown question true open_log (folders_shown question open_log)
+shows_itself question open_log = λ slot. shows_itself_at slot (slice_get open_log (index_of question slot))
 
-each : (P : Opening → Type 0) (openings : List Opening) (index : ℕ) → All P openings → IfSome (slice_get openings index) P
-each P openings index all = elim (slice_get_cases openings index).1 [
-  | inl here ↦ rw here.2 (subst P here.3 (All-get_or P openings index here.0 here.1 all))
+each : (P : Opening → Type 0) (open_log : List Opening) (index : ℕ) → All P open_log → IfSome (slice_get open_log index) P
+each P open_log index all = elim (slice_get_cases open_log index).1 [
+  | inl here ↦ rw here.2 (subst P here.3 (All-get_or P open_log index here.0 here.1 all))
   | inr past ↦ rw past.1 tt
 ]
 
@@ -468,31 +468,31 @@ some_as P Q None says is = tt
 some_as P Q (Some o) says is = says o is
 
 -- the contents of observable files agree with what was read of them
-pub shows_own : (question : Question) (firm : Bool) (openings : List Opening) (store : Store) → (IsTrue firm → IsTrue store.is_steady)
-    → All (IsOfStore store) openings → AreShown question firm openings (λ slot. store.folder)
-shows_own question firm openings store steady of = λ slot.
-    let shows : (o : Opening) → IsOfStore store o → Shows (limit_of slot) firm o (store.folder o.name) =
-    λ o is. shows_by_law (limit_of slot) firm store o steady is in
-    some_as (IsOfStore store) (λ o. Shows (limit_of slot) firm o (store.folder o.name)) (slice_get openings (index_of question slot)) shows
-    (each (IsOfStore store) openings (index_of question slot) of)
+pub shows_own : (question : Question) (firm : Bool) (open_log : List Opening) (file_contents : FileContents) → (IsTrue firm → IsTrue file_contents.is_steady)
+    → All (IsOfStore file_contents) open_log → AreShown question firm open_log (λ slot. file_contents.folder)
+shows_own question firm open_log file_contents steady of = λ slot.
+    let shows : (o : Opening) → IsOfStore file_contents o → Shows (limit_of slot) firm o (file_contents.folder o.name) =
+    λ o is. shows_by_law (limit_of slot) firm file_contents o steady is in
+    some_as (IsOfStore file_contents) (λ o. Shows (limit_of slot) firm o (file_contents.folder o.name)) (slice_get open_log (index_of question slot)) shows
+    (each (IsOfStore file_contents) open_log (index_of question slot) of)
 
 -- the same for the arguments of a command line
-pub shows_itself_for : {E : Type 0} (asked : Result Question E) (openings : List Opening) (folders : Folders)
-    → ((question : Question) → asked ≡ Ok question → folders ≡ folders_shown question openings)
-    → AreShownFor asked true openings folders
-shows_itself_for (Ok question) openings folders are = rw (are question refl) (shows_itself question openings)
-shows_itself_for (Err fault) openings folders are = tt
+pub shows_itself_for : {E : Type 0} (asked : Result Question E) (open_log : List Opening) (folders : Folders)
+    → ((question : Question) → asked ≡ Ok question → folders ≡ folders_shown question open_log)
+    → AreShownFor asked true open_log folders
+shows_itself_for (Ok question) open_log folders are = rw (are question refl) (shows_itself question open_log)
+shows_itself_for (Err fault) open_log folders are = tt
 
-behind : (P : Opening → Type 0) (before openings : List Opening) → All P (before ++ openings) → All P openings
-behind P [] openings all = all
-behind P (o ∷ before) openings all = behind P before openings (All-tail P o (before ++ openings) all)
+behind : (P : Opening → Type 0) (before open_log : List Opening) → All P (before ++ open_log) → All P open_log
+behind P [] open_log all = all
+behind P (o ∷ before) open_log all = behind P before open_log (All-tail P o (before ++ open_log) all)
 
-pub shows_own_for : {E : Type 0} (asked : Result Question E) (firm : Bool) (openings : List Opening) (before after : FilesState)
-    → (IsTrue firm → IsTrue before.store.is_steady) → IsLawful after → after.store ≡ before.store
-    → openings_of after.openings ≡ openings_of before.openings ++ openings → IsTrue before.store.is_observable
-    → AreShownFor asked firm openings (λ slot. before.store.folder)
-shows_own_for (Ok question) firm openings before after steady lawful store all t =
-    let whole : All (IsOfStore before.store) (openings_of after.openings) = rw store at (all_of_store after (lawful (rw store t))) in
-    let both : All (IsOfStore before.store) (openings_of before.openings ++ openings) = rw all at whole in
-    shows_own question firm openings before.store steady (behind (IsOfStore before.store) (openings_of before.openings) openings both)
-shows_own_for (Err fault) firm openings before after steady lawful store all t = tt
+pub shows_own_for : {E : Type 0} (asked : Result Question E) (firm : Bool) (open_log : List Opening) (before after : FilesState)
+    → (IsTrue firm → IsTrue before.file_contents.is_steady) → IsLawful after → after.file_contents ≡ before.file_contents
+    → openings_of after.open_log ≡ openings_of before.open_log ++ open_log → IsTrue before.file_contents.is_observable
+    → AreShownFor asked firm open_log (λ slot. before.file_contents.folder)
+shows_own_for (Ok question) firm open_log before after steady lawful file_contents all t =
+    let whole : All (IsOfStore before.file_contents) (openings_of after.open_log) = rw file_contents at (all_of_store after (lawful (rw file_contents t))) in
+    let both : All (IsOfStore before.file_contents) (openings_of before.open_log ++ open_log) = rw all at whole in
+    shows_own question firm open_log before.file_contents steady (behind (IsOfStore before.file_contents) (openings_of before.open_log) open_log both)
+shows_own_for (Err fault) firm open_log before after steady lawful file_contents all t = tt

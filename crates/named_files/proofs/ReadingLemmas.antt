@@ -1,7 +1,7 @@
 -- The contents of files, from the steps of reading.
 use Rattle.std.proofs.Common.{◌≡◌, ◌∙◌, ap, sym, ℕ, ◌≤◌, nat_le, Bool, true, false, cond, List, length, Option, Some, None, Result, Ok, Err, arith, refl, subst}
 use Rattle.std.specs.Result.{IsErrAnd}
-use Rattle.decimal_text.specs.Expected.{◌>>=◌, Excused, ReturnsUnless}
+use Rattle.decimal_text.specs.Expected.{◌>>=◌, Excused, EqualsUnlessNoMemory}
 use Rattle.harmonics_book.specs.declared.book.Book.{Book as TheBook}
 use Rattle.harmonics_text.specs.declared.fault.BookFault.TheVariants as form
 use Rattle.harmonics_text.specs.Reading.{At, book_of}
@@ -30,49 +30,49 @@ use Rattle.zone_time.specs.declared.zone.Zone.{Zone as TheZone}
 use Rattle.zone_time.specs.declared.zone_fault.ZoneFault.{ZoneFault}
 use Rattle.zone_time.specs.declared.zone_fault.ZoneFault.TheVariants as zones
 use Rattle.zone_time.specs.Zones.{is_out_of_memory as zone_is_out_of_memory}
-use Rattle.named_files.specs.declared.no_answer.NoAnswer.{NoAnswer}
-use Rattle.named_files.specs.declared.no_answer.NoAnswer.TheVariants.{Unread, Faulty, Refused}
-use Rattle.named_files.specs.NoAnswers.{IsOf, file_of, is_unread, reading_failed, source_of, faulty, is_out_of_memory}
+use Rattle.named_files.specs.declared.run_fault.RunFault.{RunFault}
+use Rattle.named_files.specs.declared.run_fault.RunFault.TheVariants.{Unread, Faulty, Refused}
+use Rattle.named_files.specs.RunFaults.{IsOf, file_of, is_unread, reading_failed, source_of, faulty, is_out_of_memory}
 use Rattle.named_files.specs.Readings.{allowed_for, allowed_to, files_allowed, zone_file, book_from, book_named, bytes_from, bytes_of, fault_of_loading, fault_of_reading, limit_of, table_from, zone_from}
 
 -- ---- Steps, one after the other
 
 -- a fault of the first step is one of the whole
-excuses_next : {A B : Type 0} (firm : Type 0) (source : Source) (step : Result A NoAnswer)
-    (next : A → Result B NoAnswer) (none : NoAnswer) → Excuses source firm step none
+excuses_next : {A B : Type 0} (firm : Type 0) (source : Source) (step : Result A RunFault)
+    (next : A → Result B RunFault) (none : RunFault) → Excuses source firm step none
     → Excuses source firm (step >>= next) none
 excuses_next firm memory step next none excused = tt
 excuses_next firm outside step next none excused = λ f. rw (excused f) refl
 excuses_next firm given step next none excused = rw excused refl
 
 -- a result that is an excused fault meets the expected one
-meets_fault : {A : Type 0} (firm : Type 0) (expected result : Result A NoAnswer) (none : NoAnswer)
+meets_fault : {A : Type 0} (firm : Type 0) (expected result : Result A RunFault) (none : RunFault)
     → IsErrAnd result (λ e. e ≡ none) → Excuses (source_of none) firm expected none
     → Meets source_of firm expected result
 meets_fault firm expected (Ok value) none is excused = absurd is
 meets_fault firm expected (Err e) none is excused =
-    let P : NoAnswer → Type 0 = λ x. Excuses (source_of x) firm expected x in subst P (sym is) excused
+    let P : RunFault → Type 0 = λ x. Excuses (source_of x) firm expected x in subst P (sym is) excused
 
-pub meets_at : {A B : Type 0} (firm : Type 0) (step : Result A NoAnswer) (next : A → Result B NoAnswer)
-    (result : Result B NoAnswer) (none : NoAnswer) → IsErrAnd result (λ e. e ≡ none)
+pub meets_at : {A B : Type 0} (firm : Type 0) (step : Result A RunFault) (next : A → Result B RunFault)
+    (result : Result B RunFault) (none : RunFault) → IsErrAnd result (λ e. e ≡ none)
     → Excuses (source_of none) firm step none → Meets source_of firm (step >>= next) result
 meets_at firm step next result none is excused =
     meets_fault firm (step >>= next) result none is (excuses_next firm (source_of none) step next none excused)
 
 -- reading has failed, if a step has
-pub failed_at : {A : Type 0} (result : Result A NoAnswer) (none : NoAnswer) → IsErrAnd result (λ e. e ≡ none)
+pub failed_at : {A : Type 0} (result : Result A RunFault) (none : RunFault) → IsErrAnd result (λ e. e ≡ none)
     → reading_failed result ≡ is_unread none
 failed_at (Ok value) none is = absurd is
 failed_at (Err e) none is = ap is_unread is
 
 -- ---- The excuses of a fault
 
-inside_excuses : {A : Type 0} (firm : Type 0) (out_of_memory : Bool) (expected : Result A NoAnswer) (none : NoAnswer)
+inside_excuses : {A : Type 0} (firm : Type 0) (out_of_memory : Bool) (expected : Result A RunFault) (none : RunFault)
     → Excused out_of_memory expected none → Excuses (cond out_of_memory memory given) firm expected none
 inside_excuses firm true expected none excused = tt
 inside_excuses firm false expected none excused = excused
 
-returned_excuses : {A : Type 0} (firm : Type 0) (expected : Result A NoAnswer) (none : NoAnswer)
+returned_excuses : {A : Type 0} (firm : Type 0) (expected : Result A RunFault) (none : RunFault)
     → Excused (is_out_of_memory none) expected none → Excuses (source_of none) firm expected none
 returned_excuses firm expected Unread excused = λ f. excused
 returned_excuses firm expected (Faulty fault) excused = inside_excuses firm (fault_is_out_of_memory fault) expected (Faulty fault) excused
@@ -80,20 +80,20 @@ returned_excuses firm expected (Refused refusal rows) excused =
     inside_excuses firm (refusal_is_out_of_memory refusal) expected (Refused refusal rows) excused
 
 -- a step that touches no file and no clock
-pub meets_inside : {A : Type 0} (firm : Type 0) (expected result : Result A NoAnswer)
-    → ReturnsUnless is_out_of_memory expected result → Meets source_of firm expected result
+pub meets_inside : {A : Type 0} (firm : Type 0) (expected result : Result A RunFault)
+    → EqualsUnlessNoMemory is_out_of_memory expected result → Meets source_of firm expected result
 meets_inside firm expected (Ok value) returned = returned
 meets_inside firm expected (Err none) returned = returned_excuses firm expected none returned
 
 -- a table and a zone that were read, with the reasons of a run
-pub table_inside : (expected read : Result (List TableRow) OffsetFault) → ReturnsUnless table_is_out_of_memory expected read
-    → ReturnsUnless is_out_of_memory (table_from expected) (table_from read)
+pub table_inside : (expected read : Result (List TableRow) OffsetFault) → EqualsUnlessNoMemory table_is_out_of_memory expected read
+    → EqualsUnlessNoMemory is_out_of_memory (table_from expected) (table_from read)
 table_inside expected (Ok rows) returned = rw returned refl
 table_inside expected (Err table.NoMemory) returned = tt
 table_inside expected (Err (table.At row why)) returned = rw returned refl
 
-pub zone_inside : (expected read : Result TheZone ZoneFault) → ReturnsUnless zone_is_out_of_memory expected read
-    → ReturnsUnless is_out_of_memory (zone_from expected) (zone_from read)
+pub zone_inside : (expected read : Result TheZone ZoneFault) → EqualsUnlessNoMemory zone_is_out_of_memory expected read
+    → EqualsUnlessNoMemory is_out_of_memory (zone_from expected) (zone_from read)
 zone_inside expected (Ok zone) returned = rw returned refl
 zone_inside expected (Err zones.NoMemory) returned = tt
 zone_inside expected (Err zones.BadZone) returned = rw returned refl
@@ -108,8 +108,8 @@ pub faulty_excuses : {A : Type 0} (firm : Type 0) (step : Result A Fault) (fault
     → Excuses (source_of (Faulty fault)) firm (faulty step) (Faulty fault)
 faulty_excuses firm step fault excused = faulty_inside firm (fault_is_out_of_memory fault) step fault excused
 
-pub excuses_weaker : {A : Type 0} (firm weaker : Type 0) (source : Source) (expected : Result A NoAnswer)
-    (none : NoAnswer) → (firm → weaker) → Excuses source weaker expected none → Excuses source firm expected none
+pub excuses_weaker : {A : Type 0} (firm weaker : Type 0) (source : Source) (expected : Result A RunFault)
+    (none : RunFault) → (firm → weaker) → Excuses source weaker expected none → Excuses source firm expected none
 excuses_weaker firm weaker memory expected none implies excused = tt
 excuses_weaker firm weaker outside expected none implies excused = λ f. excused (implies f)
 excuses_weaker firm weaker given expected none implies excused = excused
@@ -125,7 +125,7 @@ excuses_bytes firm slot file reading.NoMemory excused = tt
 
 -- ---- The harmonic constants, which are loaded in pieces
 
-unfoldable pub named_from : Result TheBook LoadFault → Result TheBook NoAnswer
+unfoldable pub named_from : Result TheBook LoadFault → Result TheBook RunFault
 named_from (Ok book) = Ok book
 named_from (Err fault) = Err (fault_of_loading fault)
 
@@ -174,12 +174,12 @@ excuses_book firm folder name (load.Book (form.At line why)) excused =
 wider : (a b : Allowance) (failed : Bool) (before after : FilesState) → a.files ≤ b.files → a.bytes ≤ b.bytes
     → ReadWithin a failed before after → ReadWithin b failed before after
 wider a b failed before after files bytes read = record {
-  openings = read.openings;
+  open_log = read.open_log;
   all = read.all;
   opens = omega (arith, read.opens, files);
   ends = omega (arith, read.ends, files);
   bytes = omega (arith, read.bytes, bytes);
-  store = read.store;
+  file_contents = read.file_contents;
   faults = read.faults;
 }
 
@@ -235,16 +235,16 @@ said_at question slot (Some other) failed before after is read =
     subst (λ (s : Slot). ReadWithin (allowed_to question (Some s)) failed before after) (sym (is other refl)) read
 
 -- the returned fault is that of the step that read the file
-pub last_at : {A : Type 0} (question : Question) (slot : Slot) (result : Result A NoAnswer) (none : NoAnswer) (before after : FilesState)
+pub last_at : {A : Type 0} (question : Question) (slot : Slot) (result : Result A RunFault) (none : RunFault) (before after : FilesState)
     → IsErrAnd result (λ e. e ≡ none) → IsOf slot none → ReadWithin (allowed_to question (Some slot)) (is_unread none) before after
     → IfErr result (λ e. ReadWithin (allowed_to question (file_of e)) (is_unread e) before after)
 last_at question slot (Ok value) none before after is of_slot read = absurd is
 last_at question slot (Err e) none before after is of_slot read =
-    subst (λ (x : NoAnswer). ReadWithin (allowed_to question (file_of x)) (is_unread x) before after) (sym is)
+    subst (λ (x : RunFault). ReadWithin (allowed_to question (file_of x)) (is_unread x) before after) (sym is)
     (said_at question slot (file_of none) (is_unread none) before after of_slot read)
 
 -- what was read up to the reason is within what is read of all
-pub read_of_last : {A : Type 0} (question : Question) (result : Result A NoAnswer) (none : NoAnswer) (before after : FilesState)
+pub read_of_last : {A : Type 0} (question : Question) (result : Result A RunFault) (none : RunFault) (before after : FilesState)
     → IsErrAnd result (λ e. e ≡ none) → IfErr result (λ e. ReadWithin (allowed_to question (file_of e)) (is_unread e) before after)
     → ReadWithin (files_allowed question) (reading_failed result) before after
 read_of_last question (Ok value) none before after is last = absurd is

@@ -7,16 +7,16 @@ use Rattle.tide_fault.specs.declared.fault.Fault.TheVariants.{Ask, NoSheet, TooL
 use Rattle.tide_fault.specs.declared.refusal.Refusal.{Refusal}
 use Rattle.tide_fault.specs.declared.refusal.Refusal.TheVariants as refusals
 use Rattle.tide_fault.specs.Faults.{status_of_refusal}
-use Rattle.named_files.specs.declared.no_answer.NoAnswer.{NoAnswer}
-use Rattle.named_files.specs.declared.no_answer.NoAnswer.TheVariants.{Unread, Faulty}
-use Rattle.named_files.specs.declared.no_answer.NoAnswer.TheVariants as none_of
-use Rattle.named_files.specs.NoAnswers.{status_of, is_read_fault, is_unread}
+use Rattle.named_files.specs.declared.run_fault.RunFault.{RunFault}
+use Rattle.named_files.specs.declared.run_fault.RunFault.TheVariants.{Unread, Faulty}
+use Rattle.named_files.specs.declared.run_fault.RunFault.TheVariants as none_of
+use Rattle.named_files.specs.RunFaults.{status_of, is_read_fault, is_unread}
 
 refusal_is_none : (refusal : Refusal) → is_read_fault (status_of_refusal refusal) ≡ false
 refusal_is_none refusals.NoMemory = refl
 refusal_is_none _ = refl
 
-pub reported_as_it_is : (none : NoAnswer) → is_read_fault (status_of none) ≡ is_unread none
+pub reported_as_it_is : (none : RunFault) → is_read_fault (status_of none) ≡ is_unread none
 reported_as_it_is Unread = refl
 reported_as_it_is (Faulty (Ask ask.NoMemory)) = refl
 reported_as_it_is (Faulty (Ask _)) = refl

@@ -10,13 +10,13 @@ use Rattle.tide_fault.specs.declared.fault.Fault.TheVariants.{Ask, NoSheet, TooL
 use Rattle.tide_fault.specs.declared.refusal.Refusal.TheVariants as refusals
 use Rattle.tide_fault.specs.declared.status.Status.{Status}
 use Rattle.tide_fault.specs.declared.status.Status.TheVariants.{NoMemory}
-use Rattle.named_files.specs.declared.no_answer.NoAnswer.{NoAnswer}
-use Rattle.named_files.specs.declared.no_answer.NoAnswer.TheVariants.{Unread, Faulty}
-use Rattle.named_files.specs.declared.no_answer.NoAnswer.TheVariants as none_of
-use Rattle.named_files.specs.NoAnswers.{source_of, status_of}
+use Rattle.named_files.specs.declared.run_fault.RunFault.{RunFault}
+use Rattle.named_files.specs.declared.run_fault.RunFault.TheVariants.{Unread, Faulty}
+use Rattle.named_files.specs.declared.run_fault.RunFault.TheVariants as none_of
+use Rattle.named_files.specs.RunFaults.{source_of, status_of}
 use Rattle.named_files.specs.Reporting.{Reports}
 
-settles : {T : Type 0} (expected : Result T NoAnswer) (none : NoAnswer) → Excuses (source_of none) (IsTrue true) expected none
+settles : {T : Type 0} (expected : Result T RunFault) (none : RunFault) → Excuses (source_of none) (IsTrue true) expected none
     → ¬ (status_of none ≡ NoMemory) → expected ≡ Err none
 settles expected Unread excuses other = excuses refl
 settles expected (Faulty (Ask ask.NoMemory)) excuses other = absurd (other refl)
@@ -34,7 +34,7 @@ settles expected (none_of.Refused refusals.NoMemory rows) excuses other = absurd
 settles expected (none_of.Refused _ rows) excuses other = excuses
 
 -- a fault is the expected one, by the status with which its line was written
-pub reported_settles : {T : Type 0} (expected : Result T NoAnswer) (none : NoAnswer) (status : Status) (before after : SinkState)
+pub reported_settles : {T : Type 0} (expected : Result T RunFault) (none : RunFault) (status : Status) (before after : SinkState)
     → Excuses (source_of none) (IsTrue true) expected none → Reports none status before after → ¬ (status ≡ NoMemory) → expected ≡ Err none
 reported_settles expected none status before after excuses reported other =
     elim reported [

@@ -1,4 +1,4 @@
-pub mod NoAnswers
+pub mod RunFaults
 pub mod Opened
 pub mod Readings
 pub mod Reporting

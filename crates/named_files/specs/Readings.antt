@@ -27,8 +27,8 @@ use Rattle.zone_time.specs.declared.zone_fault.ZoneFault.{ZoneFault}
 use Rattle.zone_time.specs.declared.zone_fault.ZoneFault.TheVariants as zones
 use Rattle.zone_time.specs.Zones.{zone_of}
 use Rattle.named_files.specs.declared.materials.Materials.{Materials}
-use Rattle.named_files.specs.declared.no_answer.NoAnswer.{NoAnswer}
-use Rattle.named_files.specs.declared.no_answer.NoAnswer.TheVariants.{Unread, Faulty}
+use Rattle.named_files.specs.declared.run_fault.RunFault.{RunFault}
+use Rattle.named_files.specs.declared.run_fault.RunFault.TheVariants.{Unread, Faulty}
 use Rattle.decimal_text.specs.declared.limits.TheConstants.{MOST_BYTES}
 
 -- ---- The bytes of a file
@@ -42,22 +42,22 @@ limit_of slots.Zone = 1048576
 limit_of slots.Certificate = MOST_BYTES
 
 -- the reason why a file couldn't be read
-abbrev pub fault_of_reading : Slot → ReadAllFault → NoAnswer
+abbrev pub fault_of_reading : Slot → ReadAllFault → RunFault
 fault_of_reading slot reading.Failed = Unread
 fault_of_reading slot reading.TooLong = Faulty (TooLong slot)
 fault_of_reading slot reading.NoMemory = Faulty (Refused NoMemory)
 
 -- the bytes of a file, or the reason why it couldn't be read
-abbrev pub bytes_from : Slot → Result (List ℕ) ReadAllFault → Result (List ℕ) NoAnswer
+abbrev pub bytes_from : Slot → Result (List ℕ) ReadAllFault → Result (List ℕ) RunFault
 bytes_from slot (Ok bytes) = Ok bytes
 bytes_from slot (Err fault) = Err (fault_of_reading slot fault)
 
 -- the bytes of a file with these contents, or the reason why it can't be read
-abbrev pub bytes_of : Slot → Option (List ℕ) → Result (List ℕ) NoAnswer
+abbrev pub bytes_of : Slot → Option (List ℕ) → Result (List ℕ) RunFault
 bytes_of slot file = bytes_from slot (whole (limit_of slot) file)
 
 -- the reason why a harmonics file, which is parsed while it is read, couldn't be loaded
-abbrev pub fault_of_loading : LoadFault → NoAnswer
+abbrev pub fault_of_loading : LoadFault → RunFault
 fault_of_loading load.Failed = Unread
 fault_of_loading load.TooLong = Faulty (TooLong slots.File)
 fault_of_loading (load.Book fault) = Faulty (Book fault)
@@ -65,17 +65,17 @@ fault_of_loading (load.Book fault) = Faulty (Book fault)
 -- ---- The contents
 
 -- the harmonic constants of a file, or the reason why there are none
-abbrev pub book_from : Result TheBook At → Result TheBook NoAnswer
+abbrev pub book_from : Result TheBook At → Result TheBook RunFault
 book_from (Ok book) = Ok book
 book_from (Err at) = Err (Faulty (Book (form.At at.line at.why)))
 
 -- the rows of a table's file, or the reason why there are none
-abbrev pub table_from : Result (List TableRow) OffsetFault → Result (List TableRow) NoAnswer
+abbrev pub table_from : Result (List TableRow) OffsetFault → Result (List TableRow) RunFault
 table_from (Ok rows) = Ok rows
 table_from (Err fault) = Err (Faulty (Offsets fault))
 
 -- the zone of a file, or the reason why there is none
-abbrev pub zone_from : Result Zone ZoneFault → Result Zone NoAnswer
+abbrev pub zone_from : Result Zone ZoneFault → Result Zone RunFault
 zone_from (Ok zone) = Ok zone
 zone_from (Err zones.BadZone) = Err (Faulty BadZone)
 zone_from (Err zones.NoMemory) = Err (Faulty (Refused NoMemory))
@@ -83,20 +83,20 @@ zone_from (Err zones.NoMemory) = Err (Faulty (Refused NoMemory))
 -- ---- By the names of a request
 
 -- the harmonic constants in the file with a name, or the reason why there are none
-unfoldable pub book_named : Folder → List ℕ → Result TheBook NoAnswer
+unfoldable pub book_named : Folder → List ℕ → Result TheBook RunFault
 book_named folder name = do
   bytes ← bytes_of slots.File (folder name)
   book_from (book_of bytes)
 
 -- the rows in the file with a name; no rows if no table is named
-unfoldable pub table_named : Folder → Option (List ℕ) → Result (List TableRow) NoAnswer
+unfoldable pub table_named : Folder → Option (List ℕ) → Result (List TableRow) RunFault
 table_named folder None = Ok []
 table_named folder (Some name) = do
   bytes ← bytes_of slots.Offsets (folder name)
   table_from (table_of bytes)
 
 -- the zone of a request, which may name a file
-unfoldable pub zone_named : Folder → ZoneWord → Result Zone NoAnswer
+unfoldable pub zone_named : Folder → ZoneWord → Result Zone RunFault
 zone_named folder words.Utc = Ok Utc
 zone_named folder (words.Fixed minutes) = Ok (Fixed minutes)
 zone_named folder (words.Named name) = do
@@ -105,7 +105,7 @@ zone_named folder (words.Named name) = do
 
 -- the text of the certificate in the file with a name; no bytes if no certificate is named; its format
 -- is checked when the request is answered
-unfoldable pub certificate_named : Folder → Option (List ℕ) → Result (List ℕ) NoAnswer
+unfoldable pub certificate_named : Folder → Option (List ℕ) → Result (List ℕ) RunFault
 certificate_named folder None = Ok []
 certificate_named folder (Some name) = bytes_of slots.Certificate (folder name)
 
@@ -115,7 +115,7 @@ abbrev pub Folders : Type 0
 Folders = Slot → Folder
 
 -- the contents of all files of a request in the order of reading; its harmonics file has this name
-unfoldable pub files_in : Folders → Question → List ℕ → Result Materials NoAnswer
+unfoldable pub files_in : Folders → Question → List ℕ → Result Materials RunFault
 files_in folders question name = do
   book ← book_named (folders slots.File) name
   table ← table_named (folders slots.Offsets) question.offsets

@@ -3,8 +3,8 @@ use Rattle.std.specs.Prelude.{◌≡◌, ◌⊎◌, ℕ, Bool, false, List, code
 use Rattle.tide_edge.specs.SinkStates.{SinkState, Wrote}
 use Rattle.tide_fault.specs.declared.status.Status.{Status}
 use Rattle.tide_fault.specs.declared.status.Status.TheVariants.{NoMemory}
-use Rattle.named_files.specs.declared.no_answer.NoAnswer.{NoAnswer}
-use Rattle.named_files.specs.NoAnswers.{status_of, line_of, is_unread}
+use Rattle.named_files.specs.declared.run_fault.RunFault.{RunFault}
+use Rattle.named_files.specs.RunFaults.{status_of, line_of, is_unread}
 
 -- a line was written, or a failed write cut it short
 abbrev pub WroteLine : SinkState → SinkState → List ℕ → Type 0
@@ -17,7 +17,7 @@ ReportsFault own line status before after =
 
 -- the status and the line for a reason why there is no answer; or memory ran out, except if a file or
 -- the clock couldn't be read
-abbrev pub Reports : NoAnswer → Status → SinkState → SinkState → Type 0
+abbrev pub Reports : RunFault → Status → SinkState → SinkState → Type 0
 Reports none status before after =
     ((status ≡ status_of none) × WroteLine before after (line_of none))
     ⊎ ((status ≡ NoMemory) × (is_unread none ≡ false) × WroteLine before after (codes "no memory\n"))

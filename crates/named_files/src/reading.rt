@@ -5,7 +5,7 @@ ghost use Rattle.harmonics_book.specs.Books.{IsBook};
 ghost use Rattle.question.specs.Asked.{IsZoneWord};
 ghost use Rattle.zone_time.specs.Zones.{IsZone};
 ghost use Rattle.tide_edge.specs.Whole.{ReadWithin, one_file};
-ghost use Rattle.named_files.specs.NoAnswers.{IsOf, file_of, is_unread, reading_failed};
+ghost use Rattle.named_files.specs.RunFaults.{IsOf, file_of, is_unread, reading_failed};
 ghost use Rattle.named_files.specs.Opened.{AreOpened, Opened};
 ghost use Rattle.named_files.specs.Readings.{
   allowed_for,
@@ -26,7 +26,7 @@ ghost use Rattle.named_files.specs.Workings.Materials.{AreMaterials};
 ghost use Rattle.decimal_text.specs.declared.limits.TheConstants.{MOST_BYTES};
 
 use crate::materials::Materials;
-use crate::no_answer::NoAnswer;
+use crate::run_fault::RunFault;
 use book_loading::{LoadFault, load_book};
 use decimal_text::{Bytes, MOST_BYTES, Text};
 use harmonics_book::Book;
@@ -42,16 +42,16 @@ use zone_time::{Zone, ZoneFault, read_zone};
 /// opened; none is opened after a fault, and none twice.
 ///
 /// # Errors
-/// The first fault: [`NoAnswer::Unread`] if a file couldn't be opened or read, and [`NoAnswer::Faulty`]
+/// The first fault: [`RunFault::Unread`] if a file couldn't be opened or read, and [`RunFault::Faulty`]
 /// if a file is too long or isn't in its format, or if memory ran out.
 pub fn read_files<F: Files>(
     alloc: Global,
     files: &mut F,
     question: &ValidQuestion<'_>,
     name: &Text,
-) -> Result<Materials, NoAnswer>
+) -> Result<Materials, RunFault>
     requires zone { IsZoneWord question.now.zone }
-    ensures opened { AreOpened question.now name.now (F.state files.old).openings (F.state files.new).openings result }
+    ensures opened { AreOpened question.now name.now (F.state files.old).open_log (F.state files.new).open_log result }
     ensures valid { IfOk result AreMaterials }
     ensures read { ReadWithin (files_allowed question.now) (reading_failed result) (F.state files.old) (F.state files.new) }
     ensures last { IfErr result (λ none.
@@ -73,18 +73,18 @@ pub fn read_files<F: Files>(
 /// Reads the harmonic constants in the file `name`. A file that is too long isn't read to its end.
 ///
 /// # Errors
-/// [`NoAnswer::Unread`] if the file couldn't be opened or read, and [`NoAnswer::Faulty`] if it is too
+/// [`RunFault::Unread`] if the file couldn't be opened or read, and [`RunFault::Faulty`] if it is too
 /// long or has a bad line, or if memory ran out.
-pub fn read_book<F: Files>(alloc: Global, files: &mut F, name: &Text) -> Result<Book, NoAnswer>
+pub fn read_book<F: Files>(alloc: Global, files: &mut F, name: &Text) -> Result<Book, RunFault>
     ensures opened { Opened Slot.File (Some name.now) (λ folder. book_named folder name.now)
-        (F.state files.old).openings (F.state files.new).openings result }
+        (F.state files.old).open_log (F.state files.new).open_log result }
     ensures valid { IfOk result IsBook }
     ensures read { ReadWithin (one_file (limit_of Slot.File)) (reading_failed result) (F.state files.old) (F.state files.new) }
     ensures fault { IfErr result (IsOf Slot.File) }
 {
     match load_book(alloc, files, name, limit_of(Slot::File)) {
         Ok(book) => Ok(book),
-        Err(fault) => Err(NoAnswer::from(fault)),
+        Err(fault) => Err(RunFault::from(fault)),
     }
 }
 
@@ -92,15 +92,15 @@ pub fn read_book<F: Files>(alloc: Global, files: &mut F, name: &Text) -> Result<
 /// is no name.
 ///
 /// # Errors
-/// [`NoAnswer::Unread`] if the file couldn't be opened or read, and [`NoAnswer::Faulty`] if it is too
+/// [`RunFault::Unread`] if the file couldn't be opened or read, and [`RunFault::Faulty`] if it is too
 /// long or has a bad row, or if memory ran out.
 pub fn read_table<F: Files>(
     alloc: Global,
     files: &mut F,
     name: &Option<Text>,
-) -> Result<OffsetTable, NoAnswer>
+) -> Result<OffsetTable, RunFault>
     ensures opened { Opened Slot.Offsets name.now (λ folder. table_named folder name.now)
-        (F.state files.old).openings (F.state files.new).openings result }
+        (F.state files.old).open_log (F.state files.new).open_log result }
     ensures unnamed { name.now ≡ None → result ≡ Ok [] }
     ensures read { ReadWithin (allowed_for Slot.Offsets name.now) (reading_failed result) (F.state files.old) (F.state files.new) }
     ensures fault { IfErr result (IsOf Slot.Offsets) }
@@ -115,14 +115,14 @@ pub fn read_table<F: Files>(
 }
 
 /// Returns the table that was read, or the reason why there is none. It doesn't allocate.
-fn table_from(read: Result<OffsetTable, OffsetFault>) -> Result<OffsetTable, NoAnswer>
+fn table_from(read: Result<OffsetTable, OffsetFault>) -> Result<OffsetTable, RunFault>
     ensures exact { result ≡ table_from read }
     ensures read { reading_failed result ≡ false }
     ensures fault { IfErr result (IsOf Slot.Offsets) }
 {
     match read {
         Ok(table) => Ok(table),
-        Err(fault) => Err(NoAnswer::Faulty(Fault::Offsets(fault))),
+        Err(fault) => Err(RunFault::Faulty(Fault::Offsets(fault))),
     }
 }
 
@@ -131,10 +131,10 @@ fn read_zone_named<F: Files>(
     alloc: Global,
     files: &mut F,
     word: &ZoneWord,
-) -> Result<Zone, NoAnswer>
+) -> Result<Zone, RunFault>
     requires { IsZoneWord word.now }
     ensures opened { Opened Slot.Zone (zone_file word.now) (λ folder. zone_named folder word.now)
-        (F.state files.old).openings (F.state files.new).openings result }
+        (F.state files.old).open_log (F.state files.new).open_log result }
     ensures unnamed { zone_file word.now ≡ None → result ≡ zone_named (λ _. None) word.now }
     ensures valid { IfOk result IsZone }
     ensures read { ReadWithin (allowed_for Slot.Zone (zone_file word.now)) (reading_failed result) (F.state files.old) (F.state files.new) }
@@ -151,7 +151,7 @@ fn read_zone_named<F: Files>(
 }
 
 /// Returns the zone that was read, or the reason why there is none. It doesn't allocate.
-fn zone_from(read: Result<Zone, ZoneFault>) -> Result<Zone, NoAnswer>
+fn zone_from(read: Result<Zone, ZoneFault>) -> Result<Zone, RunFault>
     requires { IfOk read IsZone }
     ensures exact { result ≡ zone_from read }
     ensures valid { IfOk result IsZone }
@@ -160,8 +160,8 @@ fn zone_from(read: Result<Zone, ZoneFault>) -> Result<Zone, NoAnswer>
 {
     match read {
         Ok(zone) => Ok(zone),
-        Err(ZoneFault::BadZone) => Err(NoAnswer::Faulty(Fault::BadZone)),
-        Err(ZoneFault::NoMemory) => Err(NoAnswer::Faulty(Fault::Refused(Refusal::NoMemory))),
+        Err(ZoneFault::BadZone) => Err(RunFault::Faulty(Fault::BadZone)),
+        Err(ZoneFault::NoMemory) => Err(RunFault::Faulty(Fault::Refused(Refusal::NoMemory))),
     }
 }
 
@@ -170,9 +170,9 @@ fn read_certificate<F: Files>(
     alloc: Global,
     files: &mut F,
     name: &Option<Text>,
-) -> Result<Bytes, NoAnswer>
+) -> Result<Bytes, RunFault>
     ensures opened { Opened Slot.Certificate name.now (λ folder. certificate_named folder name.now)
-        (F.state files.old).openings (F.state files.new).openings result }
+        (F.state files.old).open_log (F.state files.new).open_log result }
     ensures unnamed { name.now ≡ None → result ≡ Ok [] }
     ensures within { IfOk result (λ bytes. length bytes ≤ MOST_BYTES) }
     ensures read { ReadWithin (allowed_for Slot.Certificate name.now) (reading_failed result) (F.state files.old) (F.state files.new) }
@@ -190,8 +190,8 @@ fn read_file<F: Files>(
     files: &mut F,
     name: &Text,
     slot: Slot,
-) -> Result<Bytes, NoAnswer>
-    ensures opened { Opened slot (Some name.now) (λ folder. bytes_of slot (folder name.now)) (F.state files.old).openings (F.state files.new).openings result }
+) -> Result<Bytes, RunFault>
+    ensures opened { Opened slot (Some name.now) (λ folder. bytes_of slot (folder name.now)) (F.state files.old).open_log (F.state files.new).open_log result }
     ensures within { IfOk result (λ bytes. length bytes ≤ limit_of slot) }
     ensures read { ReadWithin (one_file (limit_of slot)) (reading_failed result) (F.state files.old) (F.state files.new) }
     ensures fault { IfErr result (IsOf slot) }
@@ -214,27 +214,27 @@ fn limit_of(slot: Slot) -> u64
 }
 
 /// Returns the reason why the file of `slot` couldn't be read.
-fn fault_of_reading(slot: Slot, fault: ReadAllFault) -> NoAnswer
+fn fault_of_reading(slot: Slot, fault: ReadAllFault) -> RunFault
     ensures { result ≡ fault_of_reading slot fault }
 {
     match fault {
-        ReadAllFault::Failed => NoAnswer::Unread,
-        ReadAllFault::TooLong => NoAnswer::Faulty(Fault::TooLong(slot)),
-        ReadAllFault::NoMemory => NoAnswer::Faulty(Fault::Refused(Refusal::NoMemory)),
+        ReadAllFault::Failed => RunFault::Unread,
+        ReadAllFault::TooLong => RunFault::Faulty(Fault::TooLong(slot)),
+        ReadAllFault::NoMemory => RunFault::Faulty(Fault::Refused(Refusal::NoMemory)),
     }
 }
 
-impl From<LoadFault> for NoAnswer {
+impl From<LoadFault> for RunFault {
     ghost use Rattle.std.specs.Prelude.{◌≡◌};
     ghost use Rattle.named_files.specs.Readings.{fault_of_loading};
 
     ghost from_gives = { λ load none. none ≡ fault_of_loading load };
 
-    fn from(fault: LoadFault) -> NoAnswer {
+    fn from(fault: LoadFault) -> RunFault {
         match fault {
-            LoadFault::Failed => NoAnswer::Unread,
-            LoadFault::TooLong => NoAnswer::Faulty(Fault::TooLong(Slot::File)),
-            LoadFault::Book(form) => NoAnswer::Faulty(Fault::Book(form)),
+            LoadFault::Failed => RunFault::Unread,
+            LoadFault::TooLong => RunFault::Faulty(Fault::TooLong(Slot::File)),
+            LoadFault::Book(form) => RunFault::Faulty(Fault::Book(form)),
         }
     }
 }

@@ -2,11 +2,11 @@
 
 ghost use Rattle.std.specs.Prelude.{◌≡◌, Bool};
 ghost use Rattle.tide_fault.specs.Faults.{line_of as line_of_fault, status_of as status_of_fault};
-ghost use Rattle.named_files.specs.NoAnswers.{is_read_fault, is_unread};
+ghost use Rattle.named_files.specs.RunFaults.{is_read_fault, is_unread};
 ghost use Rattle.tide_edge.specs.SinkStates.{Wrote};
 ghost use Rattle.named_files.specs.Reporting.{Reports, ReportsFault};
 
-use crate::no_answer::NoAnswer;
+use crate::run_fault::RunFault;
 use station_table::OffsetTable;
 use std::alloc::Global;
 use tide_edge::{Sink, write_all};
@@ -14,17 +14,17 @@ use tide_fault::{Fault, Status, fault_line, fault_status};
 
 /// Writes the line for `none`, the reason why there is no answer, to `err`. Returns the exit status for
 /// it, even if the write fails.
-pub fn report<E: Sink>(alloc: Global, none: NoAnswer, err: &mut E) -> Status
+pub fn report<E: Sink>(alloc: Global, none: RunFault, err: &mut E) -> Status
     ensures reported { Reports none result (E.state err.old) (E.state err.new) }
     ensures read { is_read_fault result ≡ is_unread none }
 {
     match none {
-        NoAnswer::Unread => refuse(err, Status::ReadFault, b"read fault\n"),
-        NoAnswer::Faulty(fault) => {
+        RunFault::Unread => refuse(err, Status::ReadFault, b"read fault\n"),
+        RunFault::Faulty(fault) => {
             let table = OffsetTable::new(alloc);
             report_fault(alloc, &fault, &table, err)
         }
-        NoAnswer::Refused(refusal, table) => {
+        RunFault::Refused(refusal, table) => {
             report_fault(alloc, &Fault::Refused(refusal), &table, err)
         }
     }

@@ -12,32 +12,32 @@ ghost use Rattle.tide_fault.specs.declared.fault.Fault.{Fault};
 ghost use Rattle.tide_fault.specs.declared.refusal.Refusal.{Refusal};
 ghost use Rattle.tide_fault.specs.declared.status.Status.{Status};
 ghost use Rattle.zone_time.specs.declared.zone.Zone.{Zone};
-ghost use Rattle.named_files.specs.NoAnswers.{line_of, status_of};
+ghost use Rattle.named_files.specs.RunFaults.{line_of, status_of};
 ghost use Rattle.named_files.specs.Readings.{files_in};
 ghost use Rattle.named_files.specs.Worked.{pier_alone};
 
-use crate::no_answer::NoAnswer;
+use crate::run_fault::RunFault;
 
 /// Proves examples of the contents of a request's files: an empty file under each name, and the pier's
 /// constants as the harmonics file only.
 pub fn worked_files()
     ensures form_before_table { files_in (λ slot name. Some [])
         (record (bare Command.Stations) { offsets = Some (codes "o.csv") }) (codes "pier.txt")
-        ≡ Err (NoAnswer.Faulty (Fault.Book (BookFault.At 1 Why.CutShort))) }
+        ≡ Err (RunFault.Faulty (Fault.Book (BookFault.At 1 Why.CutShort))) }
     ensures alone { files_in pier_alone (bare Command.Stations) (codes "pier.txt")
         ≡ Ok (record { book = pier_book; table = []; zone = Zone.Utc; certificate = [] }) }
     ensures absent_table { files_in pier_alone (record (bare Command.Stations) { offsets = Some (codes "o.csv") })
-        (codes "pier.txt") ≡ Err NoAnswer.Unread }
+        (codes "pier.txt") ≡ Err RunFault.Unread }
     ensures absent_zone { files_in pier_alone (record (bare Command.Clock) { zone = ZoneWord.Named (codes "zone") })
-        (codes "pier.txt") ≡ Err NoAnswer.Unread }
+        (codes "pier.txt") ≡ Err RunFault.Unread }
     ensures absent_certificate { files_in pier_alone (record (bare Command.Check) { certificate = Some (codes "cert") })
-        (codes "pier.txt") ≡ Err NoAnswer.Unread }
+        (codes "pier.txt") ≡ Err RunFault.Unread }
 {}
 
 /// Proves examples of the lines and the exit statuses for reasons why there is no answer.
 #[tactic(auto, unfolding(tide_fault::specs::Faults::line_of, tide_fault::specs::Faults::refusal_line))]
 pub fn worked_faults()
-    ensures reference { line_of (NoAnswer.Refused (Refusal.NoReference 2) dock_rows) ≡ codes "refused: no reference Nowhere\n" }
-    ensures refused { status_of (NoAnswer.Refused (Refusal.NoReference 2) dock_rows) ≡ Status.Refused }
-    ensures unread { status_of NoAnswer.Unread ≡ Status.ReadFault }
+    ensures reference { line_of (RunFault.Refused (Refusal.NoReference 2) dock_rows) ≡ codes "refused: no reference Nowhere\n" }
+    ensures refused { status_of (RunFault.Refused (Refusal.NoReference 2) dock_rows) ≡ Status.Refused }
+    ensures unread { status_of RunFault.Unread ≡ Status.ReadFault }
 {}

@@ -10,8 +10,8 @@ use Rattle.std.proofs.lemmas.List.Elements.{recursion_from_All}
 use Rattle.std.proofs.lemmas.Option.{cond_some, same_Some, option_and_then_some}
 use Rattle.zone_time.specs.Moments.{moment_text}
 use Rattle.cert_text.specs.Lines.{last_line}
-use Rattle.cert_text.specs.Workings.LineReading.{after, size_of, number_of}
-use Rattle.cert_text.proofs.NumberLemmas.{size_is, size_of-decimal, number_is, number_of-signed}
+use Rattle.cert_text.specs.Workings.LineReading.{after, size_of, parse_number}
+use Rattle.cert_text.proofs.NumberLemmas.{size_is, size_of-decimal, number_is, parse_number-signed}
 use Rattle.cert_text.proofs.PartLemmas.{same_bytes}
 use Rattle.cert_text.proofs.LineLemmas.{after_is, after-append}
 use Rattle.cert_text.proofs.CutLemmas.{is_free, AreFree}
@@ -28,13 +28,13 @@ use Rattle.peak_text.specs.Workings.PeakLineReading.{value_of, under_for, under_
 pub value_is : (line : List ℕ) (v : ℤ) → value_of line ≡ Some v → SpellsValue v line
 unfolding value_of
 value_is line v e =
-    option_and_then_some (number_of 37) (after (codes "value ") line) v e (λ text found number.
+    option_and_then_some (parse_number 37) (after (codes "value ") line) v e (λ text found number.
     let got = number_is 37 text v (lit≤ tt) number in
     (got.0, rw got.1 (after_is (codes "value ") line text found)))
 
 pub value_read : (v : ℤ) (line : List ℕ) → SpellsValue v line → value_of line ≡ Some v
 unfolding value_of
-value_read v line h = rw (h.1, after-append (codes "value ") (signed_decimal v)) (number_of-signed 37 v (lit< tt) (lit≤ tt) h.0)
+value_read v line h = rw (h.1, after-append (codes "value ") (signed_decimal v)) (parse_number-signed 37 v (lit< tt) (lit≤ tt) h.0)
 
 -- ---- cells
 

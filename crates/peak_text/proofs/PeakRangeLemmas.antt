@@ -2,7 +2,7 @@
 use Rattle.std.proofs.Common.{◌≡◌, ℕ, suc, ◌==◌, ℤ, pos, ◌+ℤ◌, List, [], ◌∷◌, All}
 use Rattle.std.proofs.lemmas.Bool.Decides.{Decides-eqb}
 use Rattle.std.proofs.lemmas.List.Elements.{All-nil, All-cons}
-use Rattle.curve_law.specs.Meaning.{Meaning}
+use Rattle.curve_law.specs.CurveSpec.{CurveSpec}
 use Rattle.highest_water.specs.declared.peak.Peak.{Peak}
 use Rattle.highest_water.specs.declared.peak_cell.PeakCell.{PeakCell}
 use Rattle.highest_water.specs.declared.peak_cell.PeakCell.TheVariants.{Under, Single}
@@ -14,7 +14,7 @@ use Rattle.curve_law.proofs.VerdictLemmas.{accepted_true, tested}
 use Rattle.highest_water.proofs.VerdictLemmas.{both_accepted}
 use Rattle.peak_text.specs.PeakTexts.{IsPeakCell}
 
-cell-range : (c : Meaning) (at value a : ℤ) (number : ℕ) (cell : PeakCell)
+cell-range : (c : CurveSpec) (at value a : ℤ) (number : ℕ) (cell : PeakCell)
     → cell_verdict c at value a number cell ≡ Accepted → IsPeakCell cell
 unfolding cell_verdict
 cell-range c at value a number (Under n) ok =
@@ -22,7 +22,7 @@ cell-range c at value a number (Under n) ok =
     (under-two c at value a n under, under-few c at value a n under)
 cell-range c at value a number Single ok = tt
 
-cells-range : (c : Meaning) (at value a : ℤ) (number : ℕ) (cells : List PeakCell)
+cells-range : (c : CurveSpec) (at value a : ℤ) (number : ℕ) (cells : List PeakCell)
     → cells_verdict c at value a number cells ≡ Accepted → All IsPeakCell cells
 unfolding cells_verdict
 cells-range c at value a number [] ok = All-nil IsPeakCell
@@ -34,7 +34,7 @@ cells-range c at value a number (cell ∷ cells) ok =
     (cells-range c at value (a +ℤ pos (minutes_of cell)) (suc number) cells parts.1)
 
 -- accepted cells have the minutes of the span, whatever the curve is
-pub verdict-cells : (c : Meaning) (a : ℤ) (n : ℕ) (peak : Peak) → peak_verdict c a n peak ≡ Accepted
+pub verdict-cells : (c : CurveSpec) (a : ℤ) (n : ℕ) (peak : Peak) → peak_verdict c a n peak ≡ Accepted
     → (all_minutes peak.cells ≡ n) × All IsPeakCell peak.cells
 unfolding peak_verdict
 verdict-cells c a n peak ok =

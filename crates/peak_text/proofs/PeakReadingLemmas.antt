@@ -3,7 +3,7 @@
 use Rattle.std.proofs.Common.{◌≡◌, ℕ, ◌+◌, List, [], ◌∷◌, ◌++◌, codes, Result, Ok, Err, ℤ, pos, refl, sym, ap, ◌∙◌, subst, lit<}
 use Rattle.std.specs.Prelude.{IfOk, IsErrAnd}
 use Rattle.std.specs.Fmt.{signed_decimal}
-use Rattle.decimal_text.specs.Expected.{ReturnsUnless}
+use Rattle.decimal_text.specs.Expected.{EqualsUnlessNoMemory}
 use Rattle.cert_text.specs.declared.fault.CertFault.{CertFault as ReadingFault}
 use Rattle.cert_text.specs.declared.fault.CertFault.TheVariants as reading
 use Rattle.cert_text.specs.Lines.{last_line}
@@ -147,7 +147,7 @@ peak_by old o p q r s t new station name begin end minute value cells first seco
 reader : IsReaderOf SpellsPeak peak_part
 reader = record {
   reader = peak_reader;
-  taken = peak_taken;
+  lines_read = peak_taken;
   free = λ c lines h. let is = peak_lines_of-spelled c lines h in subst AreFree (sym is.1) (lines_free c is.0);
 }
 
@@ -193,14 +193,14 @@ peak_of-text c h = ap with_fault (by_line.text_reads SpellsPeak peak_part reader
 
 -- the result of reading part by part, with the faults of this crate
 pub given_whole : (bytes : List ℕ) (c : PeakCertificate)
-    → ReturnsUnless reading_is_out_of_memory (read_by peak_part bytes) (Ok c)
-    → ReturnsUnless is_out_of_memory (peak_of bytes) (Ok c)
+    → EqualsUnlessNoMemory reading_is_out_of_memory (read_by peak_part bytes) (Ok c)
+    → EqualsUnlessNoMemory is_out_of_memory (peak_of bytes) (Ok c)
 unfolding peak_of
 given_whole bytes c h = ap with_fault h
 
 pub given_fault : (bytes : List ℕ) (fault : ReadingFault)
-    → ReturnsUnless reading_is_out_of_memory (read_by peak_part bytes) (Err fault)
-    → ReturnsUnless is_out_of_memory (peak_of bytes) (Err (fault_of fault))
+    → EqualsUnlessNoMemory reading_is_out_of_memory (read_by peak_part bytes) (Err fault)
+    → EqualsUnlessNoMemory is_out_of_memory (peak_of bytes) (Err (fault_of fault))
 unfolding peak_of
 given_fault bytes reading.NoMemory h = tt
 given_fault bytes (reading.NotACertificate line) h = ap with_fault h
@@ -212,7 +212,7 @@ reported_fault (Err own) fault h = ap Err (sym h)
 
 -- the result of reading follows the grammar
 pub reads_given : (bytes : List ℕ) (result : Result PeakCertificate PeakFault)
-    → ReturnsUnless is_out_of_memory (peak_of bytes) result → ReadsPeak bytes result
+    → EqualsUnlessNoMemory is_out_of_memory (peak_of bytes) result → ReadsPeak bytes result
 reads_given bytes (Ok c) h = subst (ReadsPeak bytes) h (reads-peak_of bytes)
 reads_given bytes (Err NoMemory) h = tt
 reads_given bytes (Err (NotACertificate line)) h = subst (ReadsPeak bytes) h (reads-peak_of bytes)

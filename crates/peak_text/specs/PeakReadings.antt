@@ -44,7 +44,7 @@ fault_of (reading.NotACertificate line) = NotACertificate line
 
 -- the result of reading part by part with a fault of this crate
 abbrev pub with_fault : {C : Type 0} → Result C ReadingFault → Result C PeakFault
-with_fault (Ok said) = Ok said
+with_fault (Ok decoded) = Ok decoded
 with_fault (Err fault) = Err (fault_of fault)
 
 -- the certificate of a highest water that the bytes are the text of or, if there is none, the line of

@@ -3,7 +3,7 @@
 ghost use Rattle.std.specs.Prelude.{◌≡◌};
 ghost use Rattle.peak_text.specs.Workings.PeakLineReading.{value_of, under_for, under_of, cell_of};
 
-use cert_text::{after, number_of, size_of};
+use cert_text::{after, parse_number, size_of};
 use curve_law::MOST_MINUTES;
 use highest_water::PeakCell;
 
@@ -20,7 +20,7 @@ const MINUTE_DIGITS: usize = 4;
 pub fn value_of(line: &[u8]) -> Option<i128>
     ensures { result ≡ value_of line.now }
 {
-    number_of(after(b"value ".as_slice(), line)?, VALUE_DIGITS)
+    parse_number(after(b"value ".as_slice(), line)?, VALUE_DIGITS)
 }
 
 /// Returns a cell of `minutes` that is under the highest water, or `None` unless they are 2 to 1,024.

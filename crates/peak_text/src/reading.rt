@@ -1,7 +1,7 @@
 //! Certificates of a highest water read from text.
 
 ghost use Rattle.std.specs.Prelude.{◌≤◌, length, IfOk};
-ghost use Rattle.decimal_text.specs.Expected.{ReturnsUnless};
+ghost use Rattle.decimal_text.specs.Expected.{EqualsUnlessNoMemory};
 ghost use Rattle.decimal_text.specs.declared.limits.TheConstants.{MOST_BYTES};
 ghost use Rattle.cert_text.specs.ByLine.{Takes, TakesExactly, line_of};
 ghost use Rattle.peak_text.specs.PeakTexts.{IsPeakCertificate};
@@ -25,7 +25,7 @@ impl ItemForm for CellForm {
 
     type Item = PeakCell;
 
-    ghost meaning = { λ _. cell_of };
+    ghost item_of = { λ _. cell_of };
 
     fn read_item(&self, line: &[u8]) -> Option<PeakCell> {
         cell_of(line)
@@ -78,7 +78,7 @@ fn read_lines(alloc: Global, lines: &mut LineCursor<'_>) -> Result<PeakCertifica
 /// past the last. If memory runs out, [`PeakFault::NoMemory`] is returned in place of any other result.
 pub fn read_peak(alloc: Global, bytes: &[u8]) -> Result<PeakCertificate, PeakFault>
     requires { length bytes.now ≤ MOST_BYTES }
-    ensures exact { ReturnsUnless is_out_of_memory (peak_of bytes.now) result }
+    ensures exact { EqualsUnlessNoMemory is_out_of_memory (peak_of bytes.now) result }
     ensures reads { ReadsPeak bytes.now result }
     ensures valid { IfOk result IsPeakCertificate }
 {

@@ -24,7 +24,7 @@ use Rattle.question.specs.contracts.key.Key.{the_type}
 use Rattle.question.specs.Asked.{IsZoneWord, HasSpan, HasNeeded, NamesFiles, IsAsked}
 use Rattle.question.specs.Forms.{mark_of, step_of, zone_of, port_of}
 use Rattle.question.specs.Keys.{all_keys, name_of, row_of, has_key, is_needed, key_named}
-use Rattle.question.specs.Questions.{Said, nothing_said, also, refuse_if, has_form, with_item, with_items, missing_key, complete, asked, question_with}
+use Rattle.question.specs.Questions.{KeyTexts, no_key_texts, also, refuse_if, has_form, with_item, with_items, missing_key, complete, question_from, question_with}
 use Rattle.question.proofs.FormLemmas.{moment_of-range, mark_of-range, step_of-range, zone_of-range, port_of-range}
 
 -- ---- keys of the table
@@ -98,76 +98,76 @@ none_missing None done ok = refl
 none_missing (Some k) done ok = absurd cc
 
 -- each text that was given has the form of its key
-abbrev AllFit : Origin → Said → Type 0
-AllFit origin said = (k : Key) (text : List ℕ) → is_in k all_keys ≡ true → said k ≡ Some text → has_form origin k text ≡ true
+abbrev AllFit : Origin → KeyTexts → Type 0
+AllFit origin key_texts = (k : Key) (text : List ℕ) → is_in k all_keys ≡ true → key_texts k ≡ Some text → has_form origin k text ≡ true
 
-also_fits : (origin : Origin) (said : Said) (new : Key) (text : List ℕ) → is_in new all_keys ≡ true
-    → has_form origin new text ≡ true → AllFit origin said → AllFit origin (also new text said)
-also_fits origin said new text member good fit k other known is =
+also_fits : (origin : Origin) (key_texts : KeyTexts) (new : Key) (text : List ℕ) → is_in new all_keys ≡ true
+    → has_form origin new text ≡ true → AllFit origin key_texts → AllFit origin (also new text key_texts)
+also_fits origin key_texts new text member good fit k other known is =
     elim (bytes_eq (name_of k) (name_of new)) as (λ b. bytes_eq (name_of k) (name_of new) ≡ b
-    → (if b then Some text else said k) ≡ Some other → has_form origin k other ≡ true) [
+    → (if b then Some text else key_texts k) ≡ Some other → has_form origin k other ≡ true) [
       | true ↦ λ same here. let one : new ≡ k = sym (same_named k new known member same) in let words : text ≡ other = cc in
           subst (λ i. has_form origin i other ≡ true) one (rw (← words) good)
       | false ↦ λ differs before. fit k other known before
     ] refl is
 
-item_fits : (origin : Origin) (command : Command) (place : ℕ) (item : Item) (said more : Said) → AllFit origin said
-    → with_item origin command place item said ≡ Ok more → AllFit origin more
+item_fits : (origin : Origin) (command : Command) (item_number : ℕ) (item : Item) (key_texts more : KeyTexts) → AllFit origin key_texts
+    → with_item origin command item_number item key_texts ≡ Ok more → AllFit origin more
 unfolding with_item
-item_fits origin command place item said more fit ok =
-    let text = then_ok (ok_or item.value (NotAPair place)) _ more ok in
-    let new = then_ok (ok_or (key_named origin command item.key) (UnknownKey place)) _ more text.2 in
-    let once = then_ok (refuse_if (is_some (said new.0)) (RepeatedKey place)) _ more new.2 in
-    let good = then_ok (refuse_if (not (has_form origin new.0 text.0)) (BadValue place)) _ more once.2 in
-    let same : also new.0 text.0 said ≡ more = (let last = good.2 in cc) in
-    let found = ok_some (key_named origin command item.key) (UnknownKey place) new.0 new.1 in
+item_fits origin command item_number item key_texts more fit ok =
+    let text = then_ok (ok_or item.value (NotAPair item_number)) _ more ok in
+    let new = then_ok (ok_or (key_named origin command item.key) (UnknownKey item_number)) _ more text.2 in
+    let once = then_ok (refuse_if (is_some (key_texts new.0)) (RepeatedKey item_number)) _ more new.2 in
+    let good = then_ok (refuse_if (not (has_form origin new.0 text.0)) (BadValue item_number)) _ more once.2 in
+    let same : also new.0 text.0 key_texts ≡ more = (let last = good.2 in cc) in
+    let found = ok_some (key_named origin command item.key) (UnknownKey item_number) new.0 new.1 in
     let member = found_in (λ k. bytes_eq (name_of k) item.key && has_key origin command k) all_keys new.0 found in
-    subst (AllFit origin) same (also_fits origin said new.0 text.0 member
-    (not_refused (has_form origin new.0 text.0) (BadValue place) good.0 good.1) fit)
+    subst (AllFit origin) same (also_fits origin key_texts new.0 text.0 member
+    (not_refused (has_form origin new.0 text.0) (BadValue item_number) good.0 good.1) fit)
 
-items_fit : (origin : Origin) (command : Command) (items : List Item) (place : ℕ) (said more : Said) → AllFit origin said
-    → with_items origin command place items said ≡ Ok more → AllFit origin more
+items_fit : (origin : Origin) (command : Command) (items : List Item) (item_number : ℕ) (key_texts more : KeyTexts) → AllFit origin key_texts
+    → with_items origin command item_number items key_texts ≡ Ok more → AllFit origin more
 unfolding with_items
-items_fit origin command [] place said more fit ok = let same : said ≡ more = cc in subst (AllFit origin) same fit
-items_fit origin command (item ∷ items) place said more fit ok =
-    let one = then_ok (with_item origin command place item said) _ more ok in
-    items_fit origin command items (place + 1) one.0 more (item_fits origin command place item said one.0 fit one.1) one.2
+items_fit origin command [] item_number key_texts more fit ok = let same : key_texts ≡ more = cc in subst (AllFit origin) same fit
+items_fit origin command (item ∷ items) item_number key_texts more fit ok =
+    let one = then_ok (with_item origin command item_number item key_texts) _ more ok in
+    items_fit origin command items (item_number + 1) one.0 more (item_fits origin command item_number item key_texts one.0 fit one.1) one.2
 
-none_fit : (origin : Origin) → AllFit origin nothing_said
+none_fit : (origin : Origin) → AllFit origin no_key_texts
 none_fit origin k text known is = absurd cc
 
 -- ---- required keys are present
 
-record WasRead (origin : Origin) (command : Command) (said : Said) : Type 0 where
-  pub fit : AllFit origin said
-  pub whole : missing_key origin command said ≡ None
+record WasRead (origin : Origin) (command : Command) (key_texts : KeyTexts) : Type 0 where
+  pub fit : AllFit origin key_texts
+  pub whole : missing_key origin command key_texts ≡ None
 
 present : (needed has : Bool) → needed ≡ true → (needed && not has) ≡ false → has ≡ true
 present true true e h = refl
 present true false e h = absurd cc
 present false has e h = absurd cc
 
-value_there : {V : Type 0} (form : List ℕ → Option V) (said : Option (List ℕ)) → is_some said ≡ true
-    → ((text : List ℕ) → said ≡ Some text → is_some (form text) ≡ true) → IsSome (option_and_then form said)
+value_there : {V : Type 0} (form : List ℕ → Option V) (key_texts : Option (List ℕ)) → is_some key_texts ≡ true
+    → ((text : List ℕ) → key_texts ≡ Some text → is_some (form text) ≡ true) → IsSome (option_and_then form key_texts)
 value_there form None there fit = absurd cc
 value_there form (Some text) there fit = fit text refl
 
-there : {origin : Origin} {command : Command} {said : Said} → WasRead origin command said → (k : Key) → is_in k all_keys ≡ true
-    → is_needed origin command k ≡ true → IsSome (option_and_then ((row_of k).form origin) (said k))
-there {origin} {command} {said} read k known needed =
-    let absent = none_found (λ k. is_needed origin command k && not (is_some (said k))) all_keys k read.whole known in
-    value_there ((row_of k).form origin) (said k) (present _ _ needed absent) (λ text is. read.fit k text known is)
+there : {origin : Origin} {command : Command} {key_texts : KeyTexts} → WasRead origin command key_texts → (k : Key) → is_in k all_keys ≡ true
+    → is_needed origin command k ≡ true → IsSome (option_and_then ((row_of k).form origin) (key_texts k))
+there {origin} {command} {key_texts} read k known needed =
+    let absent = none_found (λ k. is_needed origin command k && not (is_some (key_texts k))) all_keys k read.whole known in
+    value_there ((row_of k).form origin) (key_texts k) (present _ _ needed absent) (λ text is. read.fit k text known is)
 
 -- both origins require the key
-in_both : (origin : Origin) {command : Command} {said : Said} → WasRead origin command said → (k : Key) → is_in k all_keys ≡ true
+in_both : (origin : Origin) {command : Command} {key_texts : KeyTexts} → WasRead origin command key_texts → (k : Key) → is_in k all_keys ≡ true
     → is_needed Line command k ≡ true → is_needed Query command k ≡ true
-    → IsSome (option_and_then ((row_of k).form origin) (said k))
+    → IsSome (option_and_then ((row_of k).form origin) (key_texts k))
 in_both Line read k known line query = there read k known line
 in_both Query read k known line query = there read k known query
 
-span_there : (origin : Origin) {command : Command} {said : Said} → WasRead origin command said
+span_there : (origin : Origin) {command : Command} {key_texts : KeyTexts} → WasRead origin command key_texts
     → is_needed Line command key.Station ≡ true → is_needed Query command key.Station ≡ true
-    → is_needed Line command key.Begin ≡ true → is_needed Query command key.Begin ≡ true → HasSpan (asked origin command said)
+    → is_needed Line command key.Begin ≡ true → is_needed Query command key.Begin ≡ true → HasSpan (question_from origin command key_texts)
 unfolding is_in
 span_there origin read station_line station_query line query = record {
   station = in_both origin read key.Station refl station_line station_query;
@@ -175,8 +175,8 @@ span_there origin read station_line station_query line query = record {
   end = in_both origin read key.End refl line query;
 }
 
-needed_there : (origin : Origin) (command : Command) {said : Said} → WasRead origin command said
-    → HasNeeded command (asked origin command said)
+needed_there : (origin : Origin) (command : Command) {key_texts : KeyTexts} → WasRead origin command key_texts
+    → HasNeeded command (question_from origin command key_texts)
 unfolding is_in
 needed_there origin Predict read = span_there origin read refl refl refl refl
 needed_there origin Certify read = span_there origin read refl refl refl refl
@@ -194,8 +194,8 @@ needed_there origin Peak read = span_there origin read refl refl refl refl
 needed_there origin PeakCheck read = tt
 needed_there origin About read = in_both origin read key.Station refl refl refl
 
-files_there : {said : Said} (origin : Origin) (command : Command) → WasRead origin command said
-    → NamesFiles origin (asked origin command said)
+files_there : {key_texts : KeyTexts} (origin : Origin) (command : Command) → WasRead origin command key_texts
+    → NamesFiles origin (question_from origin command key_texts)
 unfolding is_in
 files_there Query command read = tt
 files_there Line Predict read = there read key.File refl refl
@@ -216,8 +216,8 @@ files_there Line About read = there read key.File refl refl
 
 -- ---- values are in their ranges
 
-in_range : {V : Type 0} (P : V → Type 0) (form : List ℕ → Option V) (said : Option (List ℕ))
-    → ((text : List ℕ) (v : V) → form text ≡ Some v → P v) → ForSome (option_and_then form said) P
+in_range : {V : Type 0} (P : V → Type 0) (form : List ℕ → Option V) (key_texts : Option (List ℕ))
+    → ((text : List ℕ) (v : V) → form text ≡ Some v → P v) → ForSome (option_and_then form key_texts) P
 in_range P form None range v is = absurd cc
 in_range P form (Some text) range v is = range text v is
 
@@ -234,23 +234,23 @@ IsPort port = (1 ≤ port) × (port ≤ 65535)
 abbrev IsMark : ℤ → Type 0
 IsMark millionths = unsigned_abs millionths ≤ 10000000000
 
-was_asked : (origin : Origin) (command : Command) (said : Said) → WasRead origin command said → IsAsked (asked origin command said)
-was_asked origin command said read =
-    let step = or_default IsStep (option_and_then step_of (said key.Step)) (pos 60)
-    (in_range IsStep step_of (said key.Step) step_of-range) (omega (arith, ints), omega (arith, ints)) in
-    let port = or_default IsPort (option_and_then port_of (said key.Port)) 8080
-    (in_range IsPort port_of (said key.Port) port_of-range) (omega arith, omega arith) in
+was_asked : (origin : Origin) (command : Command) (key_texts : KeyTexts) → WasRead origin command key_texts → IsAsked (question_from origin command key_texts)
+was_asked origin command key_texts read =
+    let step = or_default IsStep (option_and_then step_of (key_texts key.Step)) (pos 60)
+    (in_range IsStep step_of (key_texts key.Step) step_of-range) (omega (arith, ints), omega (arith, ints)) in
+    let port = or_default IsPort (option_and_then port_of (key_texts key.Port)) 8080
+    (in_range IsPort port_of (key_texts key.Port) port_of-range) (omega arith, omega arith) in
     record {
       whole = needed_there origin command read;
       ranges = record {
-        begin = in_range IsMoment moment_of (said key.Begin) moment_of-range;
-        end = in_range IsMoment moment_of (said key.End) moment_of-range;
-        mark = in_range IsMark mark_of (said key.Mark) mark_of-range;
+        begin = in_range IsMoment moment_of (key_texts key.Begin) moment_of-range;
+        end = in_range IsMoment moment_of (key_texts key.End) moment_of-range;
+        mark = in_range IsMark mark_of (key_texts key.Mark) mark_of-range;
         step_first = step.0;
         step_last = step.1;
       };
-      zone = or_default IsZoneWord (option_and_then (zone_of origin) (said key.Zone)) Utc
-          (in_range IsZoneWord (zone_of origin) (said key.Zone) (zone_of-range origin)) tt;
+      zone = or_default IsZoneWord (option_and_then (zone_of origin) (key_texts key.Zone)) Utc
+          (in_range IsZoneWord (zone_of origin) (key_texts key.Zone) (zone_of-range origin)) tt;
       port_first = port.0;
       port_last = port.1;
     }
@@ -258,19 +258,19 @@ was_asked origin command said read =
 -- ---- the question of a command with items
 
 record WasAsked (origin : Origin) (command : Command) (question : Question) : Type 0 where
-  pub said : Said
-  pub read : WasRead origin command said
-  pub is : asked origin command said ≡ question
+  pub key_texts : KeyTexts
+  pub read : WasRead origin command key_texts
+  pub is : question_from origin command key_texts ≡ question
 
 was_read : (origin : Origin) (command : Command) (items : List Item) (question : Question)
     → question_with origin command items ≡ Ok question → WasAsked origin command question
 was_read origin command items question ok =
-    let said = then_ok (with_items origin command 1 items nothing_said) _ question ok in
-    let whole = then_ok (complete (missing_key origin command said.0)) _ question said.2 in
+    let key_texts = then_ok (with_items origin command 1 items no_key_texts) _ question ok in
+    let whole = then_ok (complete (missing_key origin command key_texts.0)) _ question key_texts.2 in
     record {
-      said = said.0;
+      key_texts = key_texts.0;
       read = record {
-        fit = items_fit origin command items 1 nothing_said said.0 (none_fit origin) said.1;
+        fit = items_fit origin command items 1 no_key_texts key_texts.0 (none_fit origin) key_texts.1;
         whole = none_missing _ whole.0 whole.1;
       };
       is = (let last = whole.2 in cc);
@@ -280,7 +280,7 @@ pub question_with-asked : (origin : Origin) (command : Command) (items : List It
     → question_with origin command items ≡ Ok question → IsAsked question
 question_with-asked origin command items question ok =
     let well = was_read origin command items question ok in
-    subst IsAsked well.is (was_asked origin command well.said well.read)
+    subst IsAsked well.is (was_asked origin command well.key_texts well.read)
 
 pub question_with-named : (origin : Origin) (command : Command) (items : List Item) (question : Question)
     → question_with origin command items ≡ Ok question → NamesFiles origin question

@@ -14,7 +14,7 @@ use Rattle.question.specs.declared.origin.Origin.TheVariants.{Line, Query}
 use Rattle.question.specs.declared.question.ZoneWord.{ZoneWord}
 use Rattle.question.specs.declared.question.ZoneWord.TheVariants.{Utc, Fixed, Named}
 use Rattle.question.specs.Asked.{IsZoneWord}
-use Rattle.question.specs.Forms.{some_text, number_of, port_of, step_of, mark_from, mark_of, two_digits_of, clock_of, offset_of, file_zone, zone_of, after, is_colon}
+use Rattle.question.specs.Forms.{some_text, parse_number, port_of, step_of, mark_from, mark_of, two_digits_of, clock_of, offset_of, file_zone, zone_of, after, is_colon}
 use Rattle.std.specs.List.{before_first, after_first}
 
 pub moment_of-range : (text : List ℕ) (m : ℤ) → moment_of text ≡ Some m → IsMoment m
@@ -25,15 +25,15 @@ if_some : {A : Type 0} (b : Bool) (x y : A) → (if b then Some x else None) ≡
 if_some true x y h = (refl, cc)
 if_some false x y h = absurd (cc)
 
-pub number_of-range : (digits least most : ℕ) (text : List ℕ) (n : ℕ) → number_of digits least most text ≡ Some n → (least ≤ n) × (n ≤ most)
-unfolding number_of
-number_of-range digits least most text n h =
+pub parse_number-range : (digits least most : ℕ) (text : List ℕ) (n : ℕ) → parse_number digits least most text ≡ Some n → (least ≤ n) × (n ≤ most)
+unfolding parse_number
+parse_number-range digits least most text n h =
     let is = if_some _ (digits_value 10 text) n h in
     let last = and_parts _ _ is.0 in let front = and_parts _ _ last.0 in
     (rw (← is.1) (leb-true least (digits_value 10 text) front.1), rw (← is.1) (leb-true (digits_value 10 text) most last.1))
 
 pub port_of-range : (text : List ℕ) (n : ℕ) → port_of text ≡ Some n → (1 ≤ n) × (n ≤ 65535)
-port_of-range text n h = number_of-range 5 1 65535 text n h
+port_of-range text n h = parse_number-range 5 1 65535 text n h
 
 option_map-some : {A B : Type 0} (f : A → B) (o : Option A) (y : B) → option_map f o ≡ Some y → (x : A) × (o ≡ Some x) × (f x ≡ y)
 option_map-some f None y h = absurd (cc)
@@ -46,8 +46,8 @@ and_then-some f (Some x) y h = (x, refl, h)
 
 pub step_of-range : (text : List ℕ) (m : ℤ) → step_of text ≡ Some m → (pos 1 ≤ℤ m) × (m ≤ℤ pos 44640)
 step_of-range text m h =
-    let n = option_map-some pos (number_of 6 1 44640 text) m h in
-    let range = number_of-range 6 1 44640 text n.0 n.1 in
+    let n = option_map-some pos (parse_number 6 1 44640 text) m h in
+    let range = parse_number-range 6 1 44640 text n.0 n.1 in
     (rw (← n.2) (omega (arith, ints, range)), rw (← n.2) (omega (arith, ints, range)))
 
 pub mark_of-range : (text : List ℕ) (m : ℤ) → mark_of text ≡ Some m → unsigned_abs m ≤ 10000000000
@@ -61,8 +61,8 @@ mark_of-range text m h =
 
 two_digits_of-range : (most : ℕ) (text : List ℕ) (n : ℕ) → two_digits_of most text ≡ Some n → n ≤ most
 two_digits_of-range most text n h =
-    elim (eqb (length text) 2) as (λ b. (if b then number_of 2 0 most text else None) ≡ Some n → n ≤ most) [
-      | true ↦ λ is. (number_of-range 2 0 most text n is).1
+    elim (eqb (length text) 2) as (λ b. (if b then parse_number 2 0 most text else None) ≡ Some n → n ≤ most) [
+      | true ↦ λ is. (parse_number-range 2 0 most text n is).1
       | false ↦ λ is. absurd (cc)
     ] h
 

@@ -12,8 +12,8 @@ use Rattle.question.specs.declared.origin.Origin.{Origin}
 use Rattle.question.specs.declared.pairs.Item.{Item}
 use Rattle.question.specs.Keys.{all_keys, name_of, has_key, key_named}
 use Rattle.question.specs.declared.key.Key.TheVariants as key
-use Rattle.question.specs.Questions.{Said, also, asked}
-use Rattle.question.specs.Workings.Said.{text_after, said_by, with_value}
+use Rattle.question.specs.Questions.{KeyTexts, also, question_from}
+use Rattle.question.specs.Workings.KeyTexts.{text_after, key_texts_of, with_value}
 
 -- the text for a key after one more item
 text_after-end : (items : List Item) (item : Item) (k : Key) (earlier : Option (List ℕ))
@@ -43,31 +43,31 @@ named_so origin command name k is =
     (and_parts _ _ (found_passes (λ k. bytes_eq (name_of k) name && has_key origin command k) all_keys k is)).0
 
 -- an item without a fault gives its text to its key
-pub said_by-more : (origin : Origin) (command : Command) (items : List Item) (item : Item) (k : Key) (text : List ℕ)
-    → item.value ≡ Some text → key_named origin command item.key ≡ Some k → also k text (said_by items) ≡ said_by (items ++ item ∷ [])
-said_by-more origin command items item k text value named =
+pub key_texts_of-more : (origin : Origin) (command : Command) (items : List Item) (item : Item) (k : Key) (text : List ℕ)
+    → item.value ≡ Some text → key_named origin command item.key ≡ Some k → also k text (key_texts_of items) ≡ key_texts_of (items ++ item ∷ [])
+key_texts_of-more origin command items item k text value named =
     fun_ext (λ j. rw (text_after-end items item j None, value, named_so origin command item.key k named))
 
 -- a value that was put into a question is that of one more text
-also_asked : (origin : Origin) (command : Command) (k : Key) (text : List ℕ) (said : Said)
-    → with_value origin k text (asked origin command said) ≡ asked origin command (also k text said)
-also_asked origin command key.File text said = refl
-also_asked origin command key.Offsets text said = refl
-also_asked origin command key.Certificate text said = refl
-also_asked origin command key.Station text said = refl
-also_asked origin command key.Begin text said = refl
-also_asked origin command key.End text said = refl
-also_asked origin command key.Mark text said = refl
-also_asked origin command key.Step text said = refl
-also_asked origin command key.Zone text said = refl
-also_asked origin command key.Layout text said = refl
-also_asked origin command key.Seed text said = refl
-also_asked origin command key.Port text said = refl
-also_asked origin command key.Sheets text said = refl
+also_asked : (origin : Origin) (command : Command) (k : Key) (text : List ℕ) (key_texts : KeyTexts)
+    → with_value origin k text (question_from origin command key_texts) ≡ question_from origin command (also k text key_texts)
+also_asked origin command key.File text key_texts = refl
+also_asked origin command key.Offsets text key_texts = refl
+also_asked origin command key.Certificate text key_texts = refl
+also_asked origin command key.Station text key_texts = refl
+also_asked origin command key.Begin text key_texts = refl
+also_asked origin command key.End text key_texts = refl
+also_asked origin command key.Mark text key_texts = refl
+also_asked origin command key.Step text key_texts = refl
+also_asked origin command key.Zone text key_texts = refl
+also_asked origin command key.Layout text key_texts = refl
+also_asked origin command key.Seed text key_texts = refl
+also_asked origin command key.Port text key_texts = refl
+also_asked origin command key.Sheets text key_texts = refl
 
 -- the question with the value of one more item
 pub asked-more : (origin : Origin) (command : Command) (items : List Item) (item : Item) (k : Key) (text : List ℕ)
     → item.value ≡ Some text → key_named origin command item.key ≡ Some k
-    → with_value origin k text (asked origin command (said_by items)) ≡ asked origin command (said_by (items ++ item ∷ []))
+    → with_value origin k text (question_from origin command (key_texts_of items)) ≡ question_from origin command (key_texts_of (items ++ item ∷ []))
 asked-more origin command items item k text value named =
-    also_asked origin command k text (said_by items) ∙ ap (asked origin command) (said_by-more origin command items item k text value named)
+    also_asked origin command k text (key_texts_of items) ∙ ap (question_from origin command) (key_texts_of-more origin command items item k text value named)

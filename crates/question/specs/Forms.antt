@@ -17,23 +17,23 @@ unfoldable pub some_text : List ℕ → Option (List ℕ)
 some_text text = if nat_lt 0 (length text) then Some text else None
 
 -- the number that a text writes in 1 to `digits` digits, if it is from `least` to `most`, both included
-unfoldable pub number_of : ℕ → ℕ → ℕ → List ℕ → Option ℕ
-number_of digits least most text =
+unfoldable pub parse_number : ℕ → ℕ → ℕ → List ℕ → Option ℕ
+parse_number digits least most text =
     if nat_lt 0 (length text) && nat_le (length text) digits && list_all is_ascii_digit text
     && nat_le least (digits_value 10 text) && nat_le (digits_value 10 text) most
     then Some (digits_value 10 text) else None
 
 -- the seed that a text writes, from 0 to 2^64 - 1
 abbrev pub seed_of : List ℕ → Option ℕ
-seed_of text = number_of 20 0 18446744073709551615 text
+seed_of text = parse_number 20 0 18446744073709551615 text
 
 -- the port that a text writes, from 1 to 65,535
 abbrev pub port_of : List ℕ → Option ℕ
-port_of text = number_of 5 1 65535 text
+port_of text = parse_number 5 1 65535 text
 
 -- the minutes from one height to the next that a text writes, from 1 to 44,640
 abbrev pub step_of : List ℕ → Option ℤ
-step_of text = option_map pos (number_of 6 1 44640 text)
+step_of text = option_map pos (parse_number 6 1 44640 text)
 
 -- a mark in millionths of the station's unit: a decimal read in millionths, if it is from
 -- -10,000,000,000 to 10,000,000,000
@@ -55,7 +55,7 @@ is_colon byte = byte == 58
 
 -- the number that exactly two digits write, from 0 to `most`
 abbrev pub two_digits_of : ℕ → List ℕ → Option ℕ
-two_digits_of most text = if length text == 2 then number_of 2 0 most text else None
+two_digits_of most text = if length text == 2 then parse_number 2 0 most text else None
 
 -- the size in minutes of an offset such as `05:30`: hours from 0 to 15 and minutes from 0 to 59
 unfoldable pub clock_of : List ℕ → Option ℕ

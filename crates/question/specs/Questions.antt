@@ -52,16 +52,16 @@ is_out_of_memory NoMemory = true
 is_out_of_memory _ = false
 
 -- the text that items (arguments, or pairs of a query) give to each key, if any
-abbrev pub Said : Type 0
-Said = Key → Option (List ℕ)
+abbrev pub KeyTexts : Type 0
+KeyTexts = Key → Option (List ℕ)
 
 -- no key has a text
-abbrev pub nothing_said : Said
-nothing_said k = None
+abbrev pub no_key_texts : KeyTexts
+no_key_texts k = None
 
 -- the texts of keys with `text` for the key `new`; keys are compared by their names
-abbrev pub also : Key → List ℕ → Said → Said
-also new text said k = if bytes_eq (name_of k) (name_of new) then Some text else said k
+abbrev pub also : Key → List ℕ → KeyTexts → KeyTexts
+also new text key_texts k = if bytes_eq (name_of k) (name_of new) then Some text else key_texts k
 
 -- success, or the fault if the condition is true
 abbrev pub refuse_if : Bool → AskFault → Result (Unit {0}) AskFault
@@ -78,23 +78,23 @@ command_of origin None = Err NoCommand
 command_of origin (Some word) = ok_or (command_named origin word) UnknownCommand
 
 -- the texts of keys after another item, or the first fault of the item
-unfoldable pub with_item : Origin → Command → ℕ → Item → Said → Result Said AskFault
-with_item origin command place item said = do
-  text ← ok_or item.value (NotAPair place)
-  k ← ok_or (key_named origin command item.key) (UnknownKey place)
-  new ← refuse_if (is_some (said k)) (RepeatedKey place)
-  good ← refuse_if (not (has_form origin k text)) (BadValue place)
-  Ok (also k text said)
+unfoldable pub with_item : Origin → Command → ℕ → Item → KeyTexts → Result KeyTexts AskFault
+with_item origin command item_number item key_texts = do
+  text ← ok_or item.value (NotAPair item_number)
+  k ← ok_or (key_named origin command item.key) (UnknownKey item_number)
+  new ← refuse_if (is_some (key_texts k)) (RepeatedKey item_number)
+  good ← refuse_if (not (has_form origin k text)) (BadValue item_number)
+  Ok (also k text key_texts)
 
--- the texts of keys after items, read from the left; the first item has the number `place`
-unfoldable pub with_items : Origin → Command → ℕ → List Item → Said → Result Said AskFault
-with_items origin command place [] said = Ok said
-with_items origin command place (item ∷ items) said =
-    with_item origin command place item said >>= with_items origin command (place + 1) items
+-- the texts of keys after items, read from the left; the first item has the number `item_number`
+unfoldable pub with_items : Origin → Command → ℕ → List Item → KeyTexts → Result KeyTexts AskFault
+with_items origin command item_number [] key_texts = Ok key_texts
+with_items origin command item_number (item ∷ items) key_texts =
+    with_item origin command item_number item key_texts >>= with_items origin command (item_number + 1) items
 
 -- the first key of the table that the command requires and that has no text
-abbrev pub missing_key : Origin → Command → Said → Option Key
-missing_key origin command said = find (λ k. is_needed origin command k && not (is_some (said k))) all_keys
+abbrev pub missing_key : Origin → Command → KeyTexts → Option Key
+missing_key origin command key_texts = find (λ k. is_needed origin command k && not (is_some (key_texts k))) all_keys
 
 -- the fault that a key is missing, if one is
 abbrev pub complete : Option Key → Result (Unit {0}) AskFault
@@ -103,34 +103,34 @@ complete (Some k) = Err (MissingKey k)
 
 -- the question's field for a key: the value of the key's text, or the default or None if the key has no
 -- text
-abbrev pub field_of : Origin → Said → (k : Key) → Field k
-field_of origin said k = (row_of k).need.field (option_and_then ((row_of k).form origin) (said k))
+abbrev pub field_of : Origin → KeyTexts → (k : Key) → Field k
+field_of origin key_texts k = (row_of k).need.field (option_and_then ((row_of k).form origin) (key_texts k))
 
 -- the question of a command whose keys have these texts; a key without a text has its default
-abbrev pub asked : Origin → Command → Said → Question
-asked origin command said = record {
+abbrev pub question_from : Origin → Command → KeyTexts → Question
+question_from origin command key_texts = record {
   command = command;
-  file = field_of origin said key.File;
-  offsets = field_of origin said key.Offsets;
-  certificate = field_of origin said key.Certificate;
-  station = field_of origin said key.Station;
-  begin = field_of origin said key.Begin;
-  end = field_of origin said key.End;
-  mark = field_of origin said key.Mark;
-  step = field_of origin said key.Step;
-  zone = field_of origin said key.Zone;
-  layout = field_of origin said key.Layout;
-  seed = field_of origin said key.Seed;
-  port = field_of origin said key.Port;
-  sheets = field_of origin said key.Sheets;
+  file = field_of origin key_texts key.File;
+  offsets = field_of origin key_texts key.Offsets;
+  certificate = field_of origin key_texts key.Certificate;
+  station = field_of origin key_texts key.Station;
+  begin = field_of origin key_texts key.Begin;
+  end = field_of origin key_texts key.End;
+  mark = field_of origin key_texts key.Mark;
+  step = field_of origin key_texts key.Step;
+  zone = field_of origin key_texts key.Zone;
+  layout = field_of origin key_texts key.Layout;
+  seed = field_of origin key_texts key.Seed;
+  port = field_of origin key_texts key.Port;
+  sheets = field_of origin key_texts key.Sheets;
 }
 
 -- the question of a command with items: first the items are read, then the required keys are checked
 abbrev pub question_with : Origin → Command → List Item → Result Question AskFault
 question_with origin command items = do
-  said ← with_items origin command 1 items nothing_said
-  whole ← complete (missing_key origin command said)
-  Ok (asked origin command said)
+  key_texts ← with_items origin command 1 items no_key_texts
+  whole ← complete (missing_key origin command key_texts)
+  Ok (question_from origin command key_texts)
 
 -- the question of a command and its items: first the command is read
 unfoldable pub question_of : Pairs → Result Question AskFault

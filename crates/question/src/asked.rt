@@ -4,8 +4,8 @@ ghost use Rattle.std.specs.Prelude.{◌≡◌, IfOk, OnOk, is_some, unwrap_or};
 ghost use Rattle.question.specs.Forms.{some_text, zone_of, sheets_of};
 ghost use Rattle.question.specs.declared.origin.Origin.{Origin};
 ghost use Rattle.question.specs.declared.question.ZoneWord.TheVariants.{Utc};
-ghost use Rattle.question.specs.Questions.{asked, has_form, nothing_said};
-ghost use Rattle.question.specs.Workings.Said.{with_value};
+ghost use Rattle.question.specs.Questions.{question_from, has_form, no_key_texts};
+ghost use Rattle.question.specs.Workings.KeyTexts.{with_value};
 
 use crate::command::Command;
 use crate::key::Key;
@@ -25,7 +25,7 @@ const DEFAULT_PORT: u16 = 8080;
 
 /// Returns the question of `command` in which each key has its default.
 pub fn bare_question(command: Command) -> Question
-    ensures { (origin : Origin) → result ≡ asked origin command nothing_said }
+    ensures { (origin : Origin) → result ≡ question_from origin command no_key_texts }
 {
     Question {
         command,

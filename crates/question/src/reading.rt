@@ -1,19 +1,19 @@
 //! Reading pairs as a question.
 
 ghost use Rattle.std.specs.Prelude.{◌≡◌, ◌+◌, ◌++◌, [], ◌∷◌, length, IfOk, OnOk};
-ghost use Rattle.decimal_text.specs.Expected.{ReturnsUnless};
+ghost use Rattle.decimal_text.specs.Expected.{EqualsUnlessNoMemory};
 ghost use Rattle.question.specs.Asked.{IsAsked, NamesFiles};
-ghost use Rattle.question.specs.Questions.{is_out_of_memory, nothing_said, asked, command_of, with_item, with_items, question_of, question_with};
-ghost use Rattle.question.specs.Workings.Said.{said_by, Makes};
+ghost use Rattle.question.specs.Questions.{is_out_of_memory, no_key_texts, question_from, command_of, with_item, with_items, question_of, question_with};
+ghost use Rattle.question.specs.Workings.KeyTexts.{key_texts_of, Makes};
 
 use crate::asked::{bare_question, put_value};
 use crate::command::{Command, command_named};
 use crate::fault::AskFault;
 use crate::key::key_named;
+use crate::key_texts::{has_key_text, missing_key, text_of};
 use crate::origin::Origin;
 use crate::pairs::{Item, Items, Pairs};
 use crate::question::Question;
-use crate::said::{is_said, missing_key, text_of};
 use decimal_text::Text;
 use std::alloc::Global;
 
@@ -38,7 +38,7 @@ use std::alloc::Global;
 /// ```
 #[tactic(auto, unfolding(crate::specs::Questions::question_of))]
 pub fn read_question(alloc: Global, pairs: &Pairs) -> Result<Question, AskFault>
-    ensures exact { ReturnsUnless is_out_of_memory (question_of pairs.now) result }
+    ensures exact { EqualsUnlessNoMemory is_out_of_memory (question_of pairs.now) result }
     ensures asked { IfOk result IsAsked }
     ensures named { IfOk result (NamesFiles pairs.now.origin) }
 {
@@ -59,7 +59,7 @@ pub fn read_items(
     command: Command,
     items: &Items,
 ) -> Result<Question, AskFault>
-    ensures exact { ReturnsUnless is_out_of_memory (question_with origin command items.now) result }
+    ensures exact { EqualsUnlessNoMemory is_out_of_memory (question_with origin command items.now) result }
     ensures asked { IfOk result IsAsked }
     ensures named { IfOk result (NamesFiles origin) }
 {
@@ -73,7 +73,7 @@ fn read_fields(
     command: Command,
     items: &Items,
 ) -> Result<Question, AskFault>
-    ensures { ReturnsUnless is_out_of_memory (question_with origin command items.now) result }
+    ensures { EqualsUnlessNoMemory is_out_of_memory (question_with origin command items.now) result }
 {
     let mut question = bare_question(command);
     let read = fill(alloc, origin, command, items.as_slice(), &mut question);
@@ -97,7 +97,7 @@ fn fill(
     items: &[Item],
     question: &mut Question,
 ) -> Result<(), AskFault>
-    requires { question.old ≡ asked origin command nothing_said }
+    requires { question.old ≡ question_from origin command no_key_texts }
     ensures { Makes (question_with origin command items.now) question.new result }
 {
     read_values(alloc, origin, command, items, question)?;
@@ -114,9 +114,9 @@ fn read_values(
     items: &[Item],
     question: &mut Question,
 ) -> Result<(), AskFault>
-    requires { question.old ≡ asked origin command nothing_said }
-    ensures said { Makes (with_items origin command 1 items.now nothing_said) (said_by items.now) result }
-    ensures asked { OnOk result (question.new ≡ asked origin command (said_by items.now)) }
+    requires { question.old ≡ question_from origin command no_key_texts }
+    ensures key_texts { Makes (with_items origin command 1 items.now no_key_texts) (key_texts_of items.now) result }
+    ensures asked { OnOk result (question.new ≡ question_from origin command (key_texts_of items.now)) }
 {
     for (at, item) in items.iter().enumerate() {
         read_value(alloc, origin, command, &items[..at], item, question)?;
@@ -134,25 +134,25 @@ fn read_value(
     item: &Item,
     question: &mut Question,
 ) -> Result<(), AskFault>
-    requires { question.old ≡ asked origin command (said_by earlier.now) }
-    ensures said { Makes (with_item origin command (length earlier.now + 1) item.now (said_by earlier.now))
-        (said_by (earlier.now ++ item.now ∷ [])) result }
-    ensures asked { OnOk result (question.new ≡ asked origin command (said_by (earlier.now ++ item.now ∷ []))) }
+    requires { question.old ≡ question_from origin command (key_texts_of earlier.now) }
+    ensures key_texts { Makes (with_item origin command (length earlier.now + 1) item.now (key_texts_of earlier.now))
+        (key_texts_of (earlier.now ++ item.now ∷ [])) result }
+    ensures asked { OnOk result (question.new ≡ question_from origin command (key_texts_of (earlier.now ++ item.now ∷ []))) }
 {
-    let place = earlier.len() as u64 + 1;
+    let item_number = earlier.len() as u64 + 1;
     let Some(text) = text_of(item) else {
-        return Err(AskFault::NotAPair(place));
+        return Err(AskFault::NotAPair(item_number));
     };
     let Some(key) = key_named(origin, command, item.key.as_str()) else {
-        return Err(AskFault::UnknownKey(place));
+        return Err(AskFault::UnknownKey(item_number));
     };
-    if is_said(earlier, key) {
-        return Err(AskFault::RepeatedKey(place));
+    if has_key_text(earlier, key) {
+        return Err(AskFault::RepeatedKey(item_number));
     }
     let is_read = put_value(alloc, origin, key, text, question)?;
     if is_read {
         Ok(())
     } else {
-        Err(AskFault::BadValue(place))
+        Err(AskFault::BadValue(item_number))
     }
 }

@@ -5,7 +5,7 @@ ghost use Rattle.std.specs.Option.{ForSome};
 ghost use Rattle.std.specs.List.{list_all};
 ghost use Rattle.std.specs.Char.{is_ascii_digit};
 ghost use Rattle.std.specs.Str.Parse.{digits_value};
-ghost use Rattle.question.specs.Forms.{some_text, number_of, seed_of, port_of, step_of, mark_of};
+ghost use Rattle.question.specs.Forms.{some_text, parse_number, seed_of, port_of, step_of, mark_of};
 
 use decimal_text::{Text, are_digits, read};
 use std::alloc::{AllocError, Global};
@@ -41,9 +41,9 @@ fn value(digits: &str) -> Option<u64>
 
 /// Returns the number that `text` writes in 1 to `digits` digits, or `None` unless it is from `least` to
 /// `most`, both included.
-#[tactic(auto, unfolding(crate::specs::Forms::number_of))]
+#[tactic(auto, unfolding(crate::specs::Forms::parse_number))]
 pub fn number(text: &str, digits: usize, least: u64, most: u64) -> Option<u64>
-    ensures value { result ≡ number_of digits least most text.now }
+    ensures value { result ≡ parse_number digits least most text.now }
     ensures range { ForSome result (λ n. n ≤ most) }
 {
     if text.is_empty() || text.len() > digits || !are_digits(text.as_bytes()) {

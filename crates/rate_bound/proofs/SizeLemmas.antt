@@ -13,15 +13,15 @@ use Rattle.station_curve.proofs.Ranges.{level_small, slope_small, in_domain, all
 use Rattle.rate_bound.specs.declared.version.Version.{Version}
 use Rattle.rate_bound.specs.Scale.{IsScale}
 use Rattle.rate_bound.specs.Sizes.{slope_limit, mark_limit, IsBelow}
-use Rattle.rate_bound.specs.Meanings.{turn_meaning, mark_meaning, predicted_turn, predicted_mark}
+use Rattle.rate_bound.specs.CurveSpecs.{turn_spec, mark_spec, predicted_turn, predicted_mark}
 use Rattle.rate_bound.specs.Workings.MarkLaw.{mark_small}
 
-pub turn_small : (version : Version) (c : Prediction) → IsPrediction c → IsBelow slope_limit (turn_meaning version c)
+pub turn_small : (version : Version) (c : Prediction) → IsPrediction c → IsBelow slope_limit (turn_spec version c)
 turn_small version c valid = λ m at.
     slope_small c.book c.station m valid.limits (in_domain c m valid (record { least = at.first; most = at.last }))
 
 pub mark_below : (version : Version) (c : Prediction) (times plus mark : ℤ) (slack : Bool) → IsPrediction c → IsScale times plus mark
-    → IsBelow mark_limit (mark_meaning version c times plus mark slack)
+    → IsBelow mark_limit (mark_spec version c times plus mark slack)
 mark_below version c times plus mark slack valid scale = λ m at.
     mark_small times plus mark (predicted_level c.book c.station m) scale
     (level_small c.book c.station m valid.limits (in_domain c m valid (record { least = at.first; most = at.last })))

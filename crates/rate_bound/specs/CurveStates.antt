@@ -5,13 +5,13 @@ use Rattle.station_curve.specs.Approximate.{approximate_level_of, approximate_sl
 use Rattle.station_curve.specs.Errors.{level_error_of, slope_error_of}
 use Rattle.rate_bound.specs.declared.mark.MarkCurve.{MarkCurve}
 use Rattle.rate_bound.specs.declared.turn.TurnCurve.{TurnCurve}
-use Rattle.rate_bound.specs.Meanings.{over_mark, mark_meaning, turn_meaning}
+use Rattle.rate_bound.specs.CurveSpecs.{over_mark, mark_spec, turn_spec}
 
 -- the state of the slope's curve: its facts, and the number of its evaluations until now
 abbrev pub turn_state : TurnCurve → CurveState
 turn_state c = record {
-  facts = record {
-    meaning = turn_meaning c.version c.station.now;
+  curve_model = record {
+    curve_spec = turn_spec c.version c.station.now;
     approximate = approximate_slope_of c.station.now.book c.station.now.station;
     error = slope_error_of c.station.now;
   };
@@ -22,8 +22,8 @@ turn_state c = record {
 -- now
 abbrev pub mark_state : MarkCurve → CurveState
 mark_state c = record {
-  facts = record {
-    meaning = mark_meaning c.version c.station.now c.times c.plus c.mark c.slack;
+  curve_model = record {
+    curve_spec = mark_spec c.version c.station.now c.times c.plus c.mark c.slack;
     approximate = λ m. over_mark c.times c.plus c.mark (approximate_level_of c.station.now.book c.station.now.station m);
     error = unsigned_abs c.times * level_error_of c.station.now;
   };

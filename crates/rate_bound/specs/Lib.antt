@@ -1,6 +1,6 @@
 pub mod Rates
 pub mod Scale
 pub mod Sizes
-pub mod Meanings
+pub mod CurveSpecs
 pub mod CurveStates
 pub mod Workings

@@ -1,6 +1,6 @@
 -- The size of the values of both curves (this project): they fit 128 bits with room for sums.
 use Rattle.std.specs.Prelude.{ℕ, ◌*◌, ◌^◌, ◌<◌, ℤ, unsigned_abs}
-use Rattle.curve_law.specs.Meaning.{Meaning, IsMinute}
+use Rattle.curve_law.specs.CurveSpec.{CurveSpec, IsMinute}
 
 -- the limit, not included, on the size of a slope, in billionths of a millionth of the station's unit a
 -- minute, times 34,377,467,708 (the units of angle in a radian) and 4,147,200,000 (the total weight of
@@ -14,5 +14,5 @@ abbrev pub mark_limit : ℕ
 mark_limit = 5 * 10 ^ 36
 
 -- at each minute of a curve its value is below `most` in size
-abbrev pub IsBelow : ℕ → Meaning → Type 0
+abbrev pub IsBelow : ℕ → CurveSpec → Type 0
 IsBelow most c = (m : ℤ) → IsMinute c m → unsigned_abs (c.track.value m) < most

@@ -1,7 +1,7 @@
 //! Theorems about the curves of every station.
 
 ghost use Rattle.std.specs.Prelude.{◌≡◌, ℤ, Bool, length, Ok};
-ghost use Rattle.curve_law.specs.Meaning.{IsLawful};
+ghost use Rattle.curve_law.specs.CurveSpec.{IsLawful};
 ghost use Rattle.harmonics_book.specs.declared.book.Station.{Station};
 ghost use Rattle.harmonics_book.specs.declared.book.Book.{Book};
 ghost use Rattle.harmonics_book.specs.Books.{IsBook, IsStation};
@@ -9,7 +9,7 @@ ghost use Rattle.station_curve.specs.Curves.{Prediction, IsPrediction, curve_of}
 ghost use Rattle.rate_bound.specs.declared.version.Version.{Version};
 ghost use Rattle.rate_bound.specs.Scale.{IsScale};
 ghost use Rattle.rate_bound.specs.Sizes.{slope_limit, mark_limit, IsBelow};
-ghost use Rattle.rate_bound.specs.Meanings.{turn_meaning, mark_meaning, predicted_turn, predicted_mark};
+ghost use Rattle.rate_bound.specs.CurveSpecs.{turn_spec, mark_spec, predicted_turn, predicted_mark};
 
 /// Proves that both curves of a station, its slope and its level less a mark, are lawful: in each
 /// minute of a cell, the value changes by at most the cell's rate. The station's constants are within
@@ -17,18 +17,18 @@ ghost use Rattle.rate_bound.specs.Meanings.{turn_meaning, mark_meaning, predicte
 /// millionths of its unit and, times the speeds in units of 1/600,000,000 degree a minute, to at most
 /// 10^17.
 pub fn curves_are_lawful()
-    ensures turn { (version : Version) (c : Prediction) → IsPrediction c → IsLawful (turn_meaning version c) }
+    ensures turn { (version : Version) (c : Prediction) → IsPrediction c → IsLawful (turn_spec version c) }
     ensures mark { (version : Version) (c : Prediction) (times plus mark : ℤ) (slack : Bool) →
-        IsPrediction c → IsScale times plus mark → IsLawful (mark_meaning version c times plus mark slack) }
+        IsPrediction c → IsScale times plus mark → IsLawful (mark_spec version c times plus mark slack) }
 {}
 
 /// Proves that from the first minute to the last, both included, each slope is below 10^37 in size, and
 /// each level less a mark below 5 * 10^36. It says this of a curve and of a station that has a curve.
-/// The units are those of the values of `turn_meaning` and `mark_meaning`.
+/// The units are those of the values of `turn_spec` and `mark_spec`.
 pub fn values_are_small()
-    ensures turn { (version : Version) (c : Prediction) → IsPrediction c → IsBelow slope_limit (turn_meaning version c) }
+    ensures turn { (version : Version) (c : Prediction) → IsPrediction c → IsBelow slope_limit (turn_spec version c) }
     ensures mark { (version : Version) (c : Prediction) (times plus mark : ℤ) (slack : Bool) →
-        IsPrediction c → IsScale times plus mark → IsBelow mark_limit (mark_meaning version c times plus mark slack) }
+        IsPrediction c → IsScale times plus mark → IsBelow mark_limit (mark_spec version c times plus mark slack) }
     ensures station_turn { (version : Version) (b : Book) (s : Station) (c : Prediction) →
         IsBook b → IsStation (length b.constituents) s → curve_of b s ≡ Ok c →
         IsBelow slope_limit (predicted_turn version b s) }

@@ -34,7 +34,7 @@ pub struct MarkCurve<'a> {
 }
 
 impl<'a> MarkCurve<'a> {
-    ghost use Rattle.rate_bound.specs.Meanings.{mark_meaning};
+    ghost use Rattle.rate_bound.specs.CurveSpecs.{mark_spec};
 
     /// Returns the curve of the reference's level times `times` millionths, plus `plus` less `mark`,
     /// with rates only outside the blends at new years. `times` is from 1 to 100,000,000, and `plus` and
@@ -45,8 +45,8 @@ impl<'a> MarkCurve<'a> {
     pub fn over(station: &'a StationCurve, times: i64, plus: i64, mark: i64, slack: bool) -> Self
         requires scale { IsScale times plus mark }
         requires slack { OnTrue slack (mark ≡ pos 0) }
-        ensures meaning { (⟦<MarkCurve<'a> as Curve>⟧.state result).facts.meaning
-            ≡ mark_meaning First station.now times plus mark slack }
+        ensures curve_spec { (⟦<MarkCurve<'a> as Curve>⟧.state result).curve_model.curve_spec
+            ≡ mark_spec First station.now times plus mark slack }
         ensures count { (⟦<MarkCurve<'a> as Curve>⟧.state result).count ≡ 0 }
     {
         MarkCurve::new(station, Version::First, times, plus, mark, slack)
@@ -59,8 +59,8 @@ impl<'a> MarkCurve<'a> {
     pub fn blended(station: &'a StationCurve, times: i64, plus: i64, mark: i64, slack: bool) -> Self
         requires scale { IsScale times plus mark }
         requires slack { OnTrue slack (mark ≡ pos 0) }
-        ensures meaning { (⟦<MarkCurve<'a> as Curve>⟧.state result).facts.meaning
-            ≡ mark_meaning Second station.now times plus mark slack }
+        ensures curve_spec { (⟦<MarkCurve<'a> as Curve>⟧.state result).curve_model.curve_spec
+            ≡ mark_spec Second station.now times plus mark slack }
         ensures count { (⟦<MarkCurve<'a> as Curve>⟧.state result).count ≡ 0 }
     {
         MarkCurve::new(station, Version::Second, times, plus, mark, slack)
@@ -80,8 +80,8 @@ impl<'a> MarkCurve<'a> {
     ) -> MarkCurve<'a>
         requires scale { IsScale times plus mark }
         requires slack { OnTrue slack (mark ≡ pos 0) }
-        ensures meaning { (⟦<MarkCurve<'a> as Curve>⟧.state result).facts.meaning
-            ≡ mark_meaning version station.now times plus mark slack }
+        ensures curve_spec { (⟦<MarkCurve<'a> as Curve>⟧.state result).curve_model.curve_spec
+            ≡ mark_spec version station.now times plus mark slack }
         ensures count { (⟦<MarkCurve<'a> as Curve>⟧.state result).count ≡ 0 }
     {
         station.limits_hold();

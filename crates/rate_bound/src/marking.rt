@@ -2,7 +2,7 @@
 
 ghost use Rattle.std.specs.Prelude.{◌≡◌, ◌*◌, ◌^◌, ◌≤◌, pos, ◌+ℤ◌, ◌-ℤ◌, ◌*ℤ◌, ◌≤ℤ◌, unsigned_abs};
 ghost use Rattle.year_blend.specs.Weights.{total_weight};
-ghost use Rattle.rate_bound.specs.Meanings.{over_mark};
+ghost use Rattle.rate_bound.specs.CurveSpecs.{over_mark};
 
 use year_blend::TOTAL_WEIGHT;
 

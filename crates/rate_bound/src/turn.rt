@@ -25,14 +25,14 @@ pub struct TurnCurve<'a> {
 }
 
 impl<'a> TurnCurve<'a> {
-    ghost use Rattle.rate_bound.specs.Meanings.{turn_meaning};
+    ghost use Rattle.rate_bound.specs.CurveSpecs.{turn_spec};
 
     /// Returns the curve of the slope of `station` with rates only outside the blends at new years. It
     /// is not yet evaluated.
     ///
     /// The program doesn't call it: it names the version in [`new`](TurnCurve::new).
     pub fn over(station: &'a StationCurve) -> TurnCurve<'a>
-        ensures meaning { (⟦<TurnCurve<'a> as Curve>⟧.state result).facts.meaning ≡ turn_meaning First station.now }
+        ensures curve_spec { (⟦<TurnCurve<'a> as Curve>⟧.state result).curve_model.curve_spec ≡ turn_spec First station.now }
         ensures count { (⟦<TurnCurve<'a> as Curve>⟧.state result).count ≡ 0 }
     {
         TurnCurve::new(station, Version::First)
@@ -43,7 +43,7 @@ impl<'a> TurnCurve<'a> {
     ///
     /// The program doesn't call it: it names the version in [`new`](TurnCurve::new).
     pub fn blended(station: &'a StationCurve) -> TurnCurve<'a>
-        ensures meaning { (⟦<TurnCurve<'a> as Curve>⟧.state result).facts.meaning ≡ turn_meaning Second station.now }
+        ensures curve_spec { (⟦<TurnCurve<'a> as Curve>⟧.state result).curve_model.curve_spec ≡ turn_spec Second station.now }
         ensures count { (⟦<TurnCurve<'a> as Curve>⟧.state result).count ≡ 0 }
     {
         TurnCurve::new(station, Version::Second)
@@ -51,7 +51,7 @@ impl<'a> TurnCurve<'a> {
 
     /// Returns the curve of the slope of `station` with the rates of `version`. It is not yet evaluated.
     pub fn new(station: &'a StationCurve, version: Version) -> TurnCurve<'a>
-        ensures meaning { (⟦<TurnCurve<'a> as Curve>⟧.state result).facts.meaning ≡ turn_meaning version station.now }
+        ensures curve_spec { (⟦<TurnCurve<'a> as Curve>⟧.state result).curve_model.curve_spec ≡ turn_spec version station.now }
         ensures count { (⟦<TurnCurve<'a> as Curve>⟧.state result).count ≡ 0 }
     {
         station.limits_hold();

@@ -12,7 +12,7 @@ ghost use Rattle.harmonics_book.specs.declared.book.Units.TheVariants.{Feet};
 ghost use Rattle.station_curve.specs.Worked.{small_station, pier_book, shifted_book, pier};
 ghost use Rattle.rate_bound.specs.declared.version.Version.{Version};
 ghost use Rattle.rate_bound.specs.Rates.{predicted_slope_rate, predicted_level_rate};
-ghost use Rattle.rate_bound.specs.Meanings.{predicted_turn, predicted_mark};
+ghost use Rattle.rate_bound.specs.CurveSpecs.{predicted_turn, predicted_mark};
 
 /// Proves the rates of slopes, and of levels times a factor in millionths, over eight minutes in the
 /// middle of a year and over four minutes from an hour before a new year on. The steepest tide has no

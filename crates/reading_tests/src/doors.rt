@@ -17,20 +17,20 @@ use tide_edge::{Door, Failed, HostDoor, MemoryDoor};
 
 /// Accepts one connection, and sends back the first bytes that are read over it.
 fn echo<D: Door>(door: &mut D) -> Result<bool, Failed>
-    requires listens { IsTrue (D.state door.old).doorway.listens }
-    requires none_open { (D.state door.old).doorway.is_open ≡ false }
-    ensures listens { IsTrue (D.state door.new).doorway.listens }
-    ensures none_open { (D.state door.new).doorway.is_open ≡ false }
+    requires listens { IsTrue (D.state door.old).listener_state.listens }
+    requires none_open { (D.state door.old).listener_state.is_open ≡ false }
+    ensures listens { IsTrue (D.state door.new).listener_state.listens }
+    ensures none_open { (D.state door.new).listener_state.is_open ≡ false }
 {
     if !door.next()? {
         return Ok(false);
     }
-    let mut room = [0; 8];
-    let mut sent = door.read(&mut room);
+    let mut buffer = [0; 8];
+    let mut sent = door.read(&mut buffer);
     if let Ok(count) = sent
         && count > 0
     {
-        sent = door.write(&room[..count]);
+        sent = door.write(&buffer[..count]);
     }
     door.close();
     sent.map(|_| true)
@@ -51,8 +51,8 @@ fn requests(alloc: Global) -> Result<Vec<Vec<Bytes>>, AllocError>
 
 /// Returns the outcomes of three connections.
 fn echo_thrice<D: Door>(door: &mut D) -> [Result<bool, Failed>; 3]
-    requires listens { IsTrue (D.state door.old).doorway.listens }
-    requires none_open { (D.state door.old).doorway.is_open ≡ false }
+    requires listens { IsTrue (D.state door.old).listener_state.listens }
+    requires none_open { (D.state door.old).listener_state.is_open ≡ false }
 {
     [echo(door), echo(door), echo(door)]
 }
@@ -77,25 +77,25 @@ fn has_replies(door: &MemoryDoor, first: &str) -> bool {
     has_reply(door, 0, first) && has_reply(door, 1, "") && door.reply(2) == None
 }
 
-/// Returns a door, with room for `room` bytes of each reply, at which the call with the number `failing`
-/// fails.
-fn memory_door(alloc: Global, room: u64, failing: u64) -> Result<MemoryDoor, AllocError>
-    ensures { IfOk result (λ door. (held_by door).doorway ≡ not_listening) }
+/// Returns a door, with room for `capacity` bytes of each reply, at which the call with the number
+/// `failing` fails.
+fn memory_door(alloc: Global, capacity: u64, failing: u64) -> Result<MemoryDoor, AllocError>
+    ensures { IfOk result (λ door. (held_by door).listener_state ≡ not_listening) }
 {
     let fails = [failing].to_vec(alloc)?;
     let requests = requests(alloc)?;
-    MemoryDoor::new(alloc, requests, room, fails)
+    MemoryDoor::new(alloc, requests, capacity, fails)
 }
 
 /// Returns true if such a door has those outcomes and replies.
 fn is_served(
     alloc: Global,
-    room: u64,
+    capacity: u64,
     failing: u64,
     expected: &[Result<bool, Failed>; 3],
     first: &str,
 ) -> bool {
-    match memory_door(alloc, room, failing) {
+    match memory_door(alloc, capacity, failing) {
         Ok(mut door) => gives(&mut door, expected) && has_replies(&door, first),
         Err(_) => false,
     }
@@ -103,7 +103,7 @@ fn is_served(
 
 /// Returns true if `door`, listening, has those outcomes.
 fn gives(door: &mut MemoryDoor, expected: &[Result<bool, Failed>; 3]) -> bool
-    requires { (held_by door.old).doorway ≡ not_listening }
+    requires { (held_by door.old).listener_state ≡ not_listening }
 {
     if door.listen(80) != Ok(()) {
         return false;
@@ -113,15 +113,15 @@ fn gives(door: &mut MemoryDoor, expected: &[Result<bool, Failed>; 3]) -> bool
 
 #[test]
 fn a_door_in_memory_fails_as_required(rt: HostRuntime) {
-    for (place, (room, failing, expected, first)) in DOORS.iter().enumerate() {
-        let is_served = is_served(rt.alloc(), *room, *failing, expected, first);
+    for (place, (capacity, failing, expected, first)) in DOORS.iter().enumerate() {
+        let is_served = is_served(rt.alloc(), *capacity, *failing, expected, first);
         assert_holds(&rt, is_served, place);
     }
 }
 
 /// Returns a door without requests, at which the call with the number `failing` fails.
 fn shut_door(alloc: Global, failing: u64) -> Result<MemoryDoor, AllocError>
-    ensures { IfOk result (λ door. (held_by door).doorway ≡ not_listening) }
+    ensures { IfOk result (λ door. (held_by door).listener_state ≡ not_listening) }
 {
     MemoryDoor::new(alloc, Vec::new(alloc), 0, [failing].to_vec(alloc)?)
 }
@@ -146,8 +146,8 @@ fn check_echo<D: Door, P: Read + Write>(
     door: &mut D,
     peer: &mut P,
 ) -> Result<(), Fail>
-    requires listens { IsTrue (D.state door.old).doorway.listens }
-    requires none_open { (D.state door.old).doorway.is_open ≡ false }
+    requires listens { IsTrue (D.state door.old).listener_state.listens }
+    requires none_open { (D.state door.old).listener_state.is_open ≡ false }
 {
     peer.write_all(b"pier")?;
     assert!(rt; echo(door) == Ok(true));
@@ -167,7 +167,7 @@ fn takes_connection(
     door: &mut HostDoor<HostRuntime>,
     port: u16,
 ) -> Result<bool, Fail>
-    requires { (⟦<HostDoor<HostRuntime> as Door>⟧.state door.old).doorway ≡ not_listening }
+    requires { (⟦<HostDoor<HostRuntime> as Door>⟧.state door.old).listener_state ≡ not_listening }
 {
     if door.listen(port).is_err() {
         return Ok(false);

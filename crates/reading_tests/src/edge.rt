@@ -150,15 +150,15 @@ static SINKS: &[(u64, u64, Option<u64>)] = &[
     (0, 0, Some(0)),
 ];
 
-/// Returns a sink that accepts `most` bytes in a write and `room` in all, and at which the call with the
-/// number `failing` fails.
-fn sink(alloc: Global, most: u64, room: u64, failing: u64) -> Result<MemorySink, AllocError> {
-    MemorySink::new(alloc, most.max(1), room, [failing].to_vec(alloc)?)
+/// Returns a sink that accepts `most` bytes in a write and `capacity` in all, and at which the call
+/// with the number `failing` fails.
+fn sink(alloc: Global, most: u64, capacity: u64, failing: u64) -> Result<MemorySink, AllocError> {
+    MemorySink::new(alloc, most.max(1), capacity, [failing].to_vec(alloc)?)
 }
 
 /// Returns true if such a sink has taken `sent` bytes, or all.
-fn is_sent(alloc: Global, room: u64, failing: u64, sent: Option<u64>) -> bool {
-    match sink(alloc, 3, room, failing) {
+fn is_sent(alloc: Global, capacity: u64, failing: u64, sent: Option<u64>) -> bool {
+    match sink(alloc, 3, capacity, failing) {
         Ok(mut sink) => count_sent(&mut sink) == sent && has_taken(&sink, sent.unwrap_or(10)),
         Err(_) => false,
     }
@@ -166,8 +166,8 @@ fn is_sent(alloc: Global, room: u64, failing: u64, sent: Option<u64>) -> bool {
 
 #[test]
 fn a_failed_write_is_the_last(rt: HostRuntime) {
-    for (place, (room, failing, sent)) in SINKS.iter().enumerate() {
-        assert_holds(&rt, is_sent(rt.alloc(), *room, *failing, *sent), place);
+    for (place, (capacity, failing, sent)) in SINKS.iter().enumerate() {
+        assert_holds(&rt, is_sent(rt.alloc(), *capacity, *failing, *sent), place);
     }
 }
 

@@ -2,8 +2,8 @@
 
 use crate::asserts::assert_holds;
 use station_table::{
-    Basis, Offset, OffsetFault, OffsetTable, OffsetWhy, Offsets, Slack, read_offsets, worked_bases,
-    worked_fields, worked_rows, worked_tables,
+    Basis, Offset, OffsetFault, OffsetTable, OffsetWhy, Offsets, Slack, read_offsets, sample_rows,
+    worked_bases, worked_fields, worked_tables,
 };
 use std::process::Abort;
 
@@ -87,7 +87,7 @@ fn reasons_in_words(rt: HostRuntime) {
 #[test]
 fn worked_rows_stand(_rt: HostRuntime) {
     worked_fields();
-    worked_rows();
+    sample_rows();
     worked_tables();
     worked_bases();
 }

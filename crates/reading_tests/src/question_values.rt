@@ -117,10 +117,10 @@ fn is_name(name: &Option<Text>, text: &str) -> bool {
     }
 }
 
-fn is_zone(zone: &ZoneWord, ahead: Option<i32>, file: &str) -> bool {
+fn is_zone(zone: &ZoneWord, utc_offset: Option<i32>, file: &str) -> bool {
     match zone {
-        ZoneWord::Utc => ahead.is_none() & file.is_empty(),
-        ZoneWord::Fixed(minutes) => ahead == Some(*minutes),
+        ZoneWord::Utc => utc_offset.is_none() & file.is_empty(),
+        ZoneWord::Fixed(minutes) => utc_offset == Some(*minutes),
         ZoneWord::Named(name) => name.as_str() == file,
     }
 }

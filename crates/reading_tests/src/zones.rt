@@ -112,7 +112,7 @@ fn local_times_are_written(rt: HostRuntime) {
 fn is_written(local: &Local) -> bool {
     let has_label = match local.label {
         Label::Utc => true,
-        Label::Minutes(ahead) => (-1560..=1560).contains(&ahead),
+        Label::Minutes(utc_offset) => (-1560..=1560).contains(&utc_offset),
     };
     has_label && (-1036120320..=4223371679).contains(&local.minute)
 }
@@ -151,19 +151,19 @@ static NEW_YORK: &[(i64, i32)] = &[
     (16223400, -300),
 ];
 
-/// Returns true if `clock` shows `minute` with the offset `ahead`.
-fn shows(clock: &ZoneClock<'_>, minute: i64, ahead: i32) -> bool {
+/// Returns true if `clock` shows `minute` with the offset `utc_offset`.
+fn shows(clock: &ZoneClock<'_>, minute: i64, utc_offset: i32) -> bool {
     if minute < -1035069120 || minute > 3855733919 {
         return false;
     }
     let local = clock.local(minute);
-    local.label == Label::Minutes(ahead) && local.minute == minute + i64::from(ahead)
+    local.label == Label::Minutes(utc_offset) && local.minute == minute + i64::from(utc_offset)
 }
 
 /// Checks that `clock` shows each minute of `times` with its offset.
 fn check_times(rt: &impl Abort, clock: &ZoneClock<'_>, times: &[(i64, i32)]) {
-    for (minute, ahead) in times {
-        assert_holds(rt, shows(clock, *minute, *ahead), *minute);
+    for (minute, utc_offset) in times {
+        assert_holds(rt, shows(clock, *minute, *utc_offset), *minute);
     }
 }
 
@@ -225,22 +225,22 @@ static MANY_CHANGES: &[(i64, i32)] = &[
     (25688520, -300),
 ];
 
-/// Returns true if `zone` shows `minute` with the offset `ahead`.
-fn zone_shows(zone: &Zone, minute: i64, ahead: i32) -> bool
+/// Returns true if `zone` shows `minute` with the offset `utc_offset`.
+fn zone_shows(zone: &Zone, minute: i64, utc_offset: i32) -> bool
     requires { IsZone zone.now }
 {
     if minute < -1035069120 || minute > 3855733919 {
         return false;
     }
     let local = zone.local(minute);
-    local.label == Label::Minutes(ahead) && local.minute == minute + i64::from(ahead)
+    local.label == Label::Minutes(utc_offset) && local.minute == minute + i64::from(utc_offset)
 }
 
 fn check_many_changes(rt: &impl Abort, zone: &Zone)
     requires { IsZone zone.now }
 {
-    for (minute, ahead) in MANY_CHANGES {
-        assert_holds(rt, zone_shows(zone, *minute, *ahead), *minute);
+    for (minute, utc_offset) in MANY_CHANGES {
+        assert_holds(rt, zone_shows(zone, *minute, *utc_offset), *minute);
     }
 }
 

@@ -4,12 +4,12 @@ use Rattle.curve_law.specs.declared.event.Event.{Event}
 use Rattle.listing.specs.Listings.{plain_events_of}
 use Rattle.zone_time.specs.declared.zone.Zone.TheVariants.{Utc}
 use Rattle.report_sheets.specs.declared.head.Head.{Head}
-use Rattle.report_sheets.specs.Sheets.{SheetMeaning}
+use Rattle.report_sheets.specs.Sheets.{SheetSpec}
 
 -- the plain listing in universal time
 abbrev pub lines_of : Head → List Event → List ℕ
 lines_of head events = plain_events_of head.name head.units events Utc
 
 -- the definition of the sheet `first` that accepts at most `limit` events
-abbrev pub first_sheet : ℕ → SheetMeaning
+abbrev pub first_sheet : ℕ → SheetSpec
 first_sheet limit = record { word = codes "first"; limit = limit; layout = lines_of }

@@ -4,24 +4,24 @@ use Rattle.std.specs.List.{flat_map, list_any}
 use Rattle.std.specs.Str.{bytes_eq}
 use Rattle.curve_law.specs.declared.event.Event.{Event}
 use Rattle.report_sheets.specs.declared.head.Head.{Head}
-use Rattle.report_sheets.specs.Sheets.{SheetMeaning}
+use Rattle.report_sheets.specs.Sheets.{SheetSpec}
 
 -- the page of a sheet: its text for the head and the first events, up to its limit
-unfoldable pub page_of : Head → List Event → SheetMeaning → List ℕ
+unfoldable pub page_of : Head → List Event → SheetSpec → List ℕ
 page_of head events sheet = sheet.layout head (take sheet.limit events)
 
 -- the word of a sheet is one of the requested words
-abbrev pub is_wanted : List (List ℕ) → SheetMeaning → Bool
+abbrev pub is_wanted : List (List ℕ) → SheetSpec → Bool
 is_wanted wanted sheet = list_any (λ word. bytes_eq word sheet.word) wanted
 
 -- the pages of the requested sheets, one after the other, in the order of `sheets`, not of the request
-unfoldable pub pages_of : List SheetMeaning → List (List ℕ) → Head → List Event → List ℕ
+unfoldable pub pages_of : List SheetSpec → List (List ℕ) → Head → List Event → List ℕ
 pages_of sheets wanted head events = flat_map (page_of head events) (filter (is_wanted wanted) sheets)
 
 -- one of the sheets has the word
-abbrev pub has_sheet : List SheetMeaning → List ℕ → Bool
+abbrev pub has_sheet : List SheetSpec → List ℕ → Bool
 has_sheet sheets word = list_any (λ sheet. bytes_eq word sheet.word) sheets
 
 -- the index of the first requested word that no sheet has, or None
-unfoldable pub missing_of : List SheetMeaning → List (List ℕ) → Option ℕ
+unfoldable pub missing_of : List SheetSpec → List (List ℕ) → Option ℕ
 missing_of sheets wanted = position (λ word. not (has_sheet sheets word)) wanted

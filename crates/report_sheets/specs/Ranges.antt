@@ -10,7 +10,7 @@ use Rattle.zone_time.specs.Moments.{moment_text}
 use Rattle.report_sheets.specs.declared.extreme.Extreme.{Extreme}
 use Rattle.report_sheets.specs.declared.extreme.Extreme.TheVariants.{Highest, Lowest}
 use Rattle.report_sheets.specs.declared.head.Head.{Head}
-use Rattle.report_sheets.specs.Sheets.{SheetMeaning}
+use Rattle.report_sheets.specs.Sheets.{SheetSpec}
 
 -- a kind of event belongs to an end of the range: high waters to the highest water, low waters to the
 -- lowest
@@ -52,5 +52,5 @@ ranges_of head events =
     ++ range_line Lowest head.units (extreme_of Lowest events)
 
 -- the definition of the sheet `range` that accepts at most `limit` events
-abbrev pub range_sheet : ℕ → SheetMeaning
+abbrev pub range_sheet : ℕ → SheetSpec
 range_sheet limit = record { word = codes "range"; limit = limit; layout = ranges_of }

@@ -8,7 +8,7 @@ use Rattle.report_sheets.specs.declared.taken.Taken.TheVariants.{Kept, Full}
 
 -- the definition of a sheet: its word, the greatest number of events that it accepts, and its text for a
 -- head and a list of events
-pub record SheetMeaning : Type 0 where
+pub record SheetSpec : Type 0 where
   pub word : List ℕ
   pub limit : ℕ
   pub layout : Head → List Event → List ℕ

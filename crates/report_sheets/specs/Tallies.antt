@@ -18,28 +18,28 @@ use Rattle.event_text.specs.declared.event_word.EventWord.TheVariants.{
 }
 use Rattle.harmonics_book.specs.declared.book.Units.{Units}
 use Rattle.report_sheets.specs.declared.head.Head.{Head}
-use Rattle.report_sheets.specs.Sheets.{SheetMeaning}
+use Rattle.report_sheets.specs.Sheets.{SheetSpec}
 
 -- the names of events, in the order of the lines of a tally
 abbrev pub names : List EventWord
 names = HighTide ∷ LowTide ∷ MaxFlood ∷ MinFlood ∷ MaxEbb ∷ MinEbb ∷ SlackFloodBegins ∷ SlackEbbBegins ∷ MarkRising ∷ MarkFalling ∷ []
 
 -- the index of a name in `names`, the order of the lines
-abbrev pub place_of : EventWord → ℕ
-place_of HighTide = 0
-place_of LowTide = 1
-place_of MaxFlood = 2
-place_of MinFlood = 3
-place_of MaxEbb = 4
-place_of MinEbb = 5
-place_of SlackFloodBegins = 6
-place_of SlackEbbBegins = 7
-place_of MarkRising = 8
-place_of MarkFalling = 9
+abbrev pub word_index : EventWord → ℕ
+word_index HighTide = 0
+word_index LowTide = 1
+word_index MaxFlood = 2
+word_index MinFlood = 3
+word_index MaxEbb = 4
+word_index MinEbb = 5
+word_index SlackFloodBegins = 6
+word_index SlackEbbBegins = 7
+word_index MarkRising = 8
+word_index MarkFalling = 9
 
 -- the number of events whose name is the one at this index of `names`
 abbrev pub count_at : Units → List Event → ℕ → ℕ
-count_at units events place = count_by (λ event. place_of (word_of units event.kind event.level) == place) events
+count_at units events index = count_by (λ event. word_index (word_of units event.kind event.level) == index) events
 
 -- the line of a name with its count; no line if the count is 0
 abbrev pub count_line : ℕ → EventWord → List ℕ
@@ -48,8 +48,8 @@ count_line count word = if count == 0 then [] else decimal count ++ codes " " ++
 -- the station's name, and a line for each name that occurs
 unfoldable pub tally_of : Head → List Event → List ℕ
 tally_of head events =
-    head.name ++ codes "\n" ++ flat_map (λ word. count_line (count_at head.units events (place_of word)) word) names
+    head.name ++ codes "\n" ++ flat_map (λ word. count_line (count_at head.units events (word_index word)) word) names
 
 -- the definition of the sheet `tally` that accepts at most `limit` events
-abbrev pub tally_sheet : ℕ → SheetMeaning
+abbrev pub tally_sheet : ℕ → SheetSpec
 tally_sheet limit = record { word = codes "tally"; limit = limit; layout = tally_of }

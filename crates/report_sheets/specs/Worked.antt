@@ -5,7 +5,7 @@ use Rattle.curve_law.specs.declared.kind.Kind.TheVariants.{High, Low, MarkFallin
 use Rattle.event_text.specs.Worked.{high_tide, low_tide}
 use Rattle.harmonics_book.specs.declared.book.Units.TheVariants.{Feet, Knots}
 use Rattle.report_sheets.specs.declared.head.Head.{Head}
-use Rattle.report_sheets.specs.Sheets.{SheetMeaning}
+use Rattle.report_sheets.specs.Sheets.{SheetSpec}
 use Rattle.report_sheets.specs.Tallies.{tally_sheet}
 use Rattle.report_sheets.specs.Ranges.{range_sheet}
 use Rattle.report_sheets.specs.Listings.{first_sheet}
@@ -34,5 +34,5 @@ ebbs =
 
 -- the sheets `tally`, `range` and `first`; the first two accept 1,000,000 events, and the last one
 -- accepts `limit`
-abbrev pub sheets_with : ℕ → List SheetMeaning
+abbrev pub sheets_with : ℕ → List SheetSpec
 sheets_with limit = tally_sheet 1000000 ∷ range_sheet 1000000 ∷ first_sheet limit ∷ []

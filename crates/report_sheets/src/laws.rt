@@ -6,7 +6,7 @@ ghost use Rattle.report_sheets.specs.declared.head.Head.{Head};
 ghost use Rattle.report_sheets.specs.Listings.{first_sheet};
 ghost use Rattle.report_sheets.specs.Pages.{page_of};
 ghost use Rattle.report_sheets.specs.Ranges.{range_sheet};
-ghost use Rattle.report_sheets.specs.Sheets.{SheetMeaning};
+ghost use Rattle.report_sheets.specs.Sheets.{SheetSpec};
 ghost use Rattle.report_sheets.specs.Tallies.{tally_sheet};
 
 use crate::first_lines::FirstLinesPage;
@@ -18,9 +18,9 @@ use crate::tally::TallyPage;
 /// events up to the limit.
 #[tactic(auto, unfolding(crate::specs::Pages::page_of))]
 pub fn pages_show_the_first_events()
-    ensures all { (sheet : SheetMeaning) (head : Head) (events : List Event)
+    ensures all { (sheet : SheetSpec) (head : Head) (events : List Event)
         → length events ≤ sheet.limit → page_of head events sheet ≡ sheet.layout head events }
-    ensures first { (sheet : SheetMeaning) (head : Head) (events : List Event)
+    ensures first { (sheet : SheetSpec) (head : Head) (events : List Event)
         → sheet.limit ≤ length events → (page_of head events sheet ≡ sheet.layout head (take sheet.limit events))
         × (length (take sheet.limit events) ≡ sheet.limit) }
 {}

@@ -2,7 +2,7 @@
 
 ghost use Rattle.std.specs.Prelude.{◌≡◌, ℕ, All, IfOk};
 ghost use Rattle.event_text.specs.Lines.{IsListed};
-ghost use Rattle.report_sheets.specs.Sheets.{SheetMeaning};
+ghost use Rattle.report_sheets.specs.Sheets.{SheetSpec};
 
 use crate::head::Head;
 use curve_law::Event;
@@ -14,7 +14,7 @@ use std::alloc::{AllocError, Global};
 pub trait Layout {
     /// The definition of the sheet that accepts at most this number of events: its word, its limit and
     /// its text.
-    ghost sheet: { ℕ → SheetMeaning };
+    ghost sheet: { ℕ → SheetSpec };
 
     /// Returns the word that requests the sheet.
     fn word() -> &'static str

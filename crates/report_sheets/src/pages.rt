@@ -17,11 +17,11 @@ use std::alloc::{AllocError, Global};
 /// Returns the index of the first word in `wanted` that no sheet has, or `None` if each word has a
 /// sheet. It doesn't allocate.
 pub fn missing(sheets: &Vec<Box<dyn Sheet>>, wanted: &Words) -> Option<u64>
-    ensures { result ≡ missing_of (map meaning sheets.now.items) wanted.now }
+    ensures { result ≡ missing_of (map sheet_spec sheets.now.items) wanted.now }
 {
-    for (place, word) in wanted.as_slice().iter().enumerate() {
+    for (index, word) in wanted.as_slice().iter().enumerate() {
         if !is_sheet_name(sheets.as_slice(), word) {
-            return Some(place as u64);
+            return Some(index as u64);
         }
     }
     None
@@ -29,7 +29,7 @@ pub fn missing(sheets: &Vec<Box<dyn Sheet>>, wanted: &Words) -> Option<u64>
 
 /// Returns true if one of `sheets` has the word `word`.
 fn is_sheet_name(sheets: &[Box<dyn Sheet>], word: &Text) -> bool
-    ensures { result ≡ list_any (λ sheet. bytes_eq word.now (meaning sheet).word) sheets.now }
+    ensures { result ≡ list_any (λ sheet. bytes_eq word.now (sheet_spec sheet).word) sheets.now }
 {
     for sheet in sheets {
         if is_named(sheet, word) {
@@ -41,7 +41,7 @@ fn is_sheet_name(sheets: &[Box<dyn Sheet>], word: &Text) -> bool
 
 /// Returns true if the word of `sheet` is `word`.
 fn is_named(sheet: &Box<dyn Sheet>, word: &Text) -> bool
-    ensures { result ≡ bytes_eq word.now (meaning sheet.now).word }
+    ensures { result ≡ bytes_eq word.now (sheet_spec sheet.now).word }
 {
     sheet.named(word)
 }
@@ -62,7 +62,7 @@ pub fn fill(
 ) -> Result<Bytes, AllocError>
     requires head { IsHead head.now }
     requires listed { All (IsListed head.now.units) events.now }
-    ensures { IfOk result (λ text. text ≡ pages_of (map meaning sheets.items) wanted.now head.entry.now events.now) }
+    ensures { IfOk result (λ text. text ≡ pages_of (map sheet_spec sheets.items) wanted.now head.entry.now events.now) }
 {
     let mut text = Vec::new(alloc);
     for mut sheet in sheets {
@@ -75,7 +75,7 @@ pub fn fill(
 
 /// Returns true if the word of `sheet` is in `wanted`.
 fn is_wanted(sheet: &Box<dyn Sheet>, wanted: &[Text]) -> bool
-    ensures { result ≡ is_wanted wanted.now (meaning sheet.now) }
+    ensures { result ≡ is_wanted wanted.now (sheet_spec sheet.now) }
 {
     for word in wanted {
         if is_named(sheet, word) {
@@ -96,7 +96,7 @@ fn push_page(
 ) -> Result<(), AllocError>
     requires head { IsHead head.now }
     requires listed { All (IsListed head.now.units) events.now }
-    ensures { OnOk result (text.new.items ≡ text.old.items ++ page_of head.entry.now events.now (meaning sheet.old)) }
+    ensures { OnOk result (text.new.items ≡ text.old.items ++ page_of head.entry.now events.now (sheet_spec sheet.old)) }
 {
     sheet.open(head)?;
     for event in events {
@@ -111,17 +111,17 @@ fn push_page(
 /// Passes `event` to `sheet`, and returns whether the sheet took it or is full.
 fn offer(sheet: &mut Box<dyn Sheet>, event: &Event) -> Result<Taken, AllocError>
     requires { IsListed (heading sheet.old).units event.now }
-    ensures unchanged { meaning sheet.new ≡ meaning sheet.old }
+    ensures unchanged { sheet_spec sheet.new ≡ sheet_spec sheet.old }
     ensures heading { heading sheet.new ≡ heading sheet.old }
-    ensures answer { IfOk result (λ taken. taken ≡ taken_of (meaning sheet.old).limit (list sheet.old)) }
-    ensures list { OnOk result (list sheet.new ≡ list_after (meaning sheet.old).limit (list sheet.old) event.now) }
+    ensures answer { IfOk result (λ taken. taken ≡ taken_of (sheet_spec sheet.old).limit (list sheet.old)) }
+    ensures list { OnOk result (list sheet.new ≡ list_after (sheet_spec sheet.old).limit (list sheet.old) event.now) }
 {
     sheet.take(event)
 }
 
 /// Appends the text of `sheet`.
 fn push_text(text: &mut Vec<u8>, sheet: &Box<dyn Sheet>) -> Result<(), AllocError>
-    ensures { OnOk result (text.new.items ≡ text.old.items ++ (meaning sheet.now).layout (heading sheet.now) (list sheet.now)) }
+    ensures { OnOk result (text.new.items ≡ text.old.items ++ (sheet_spec sheet.now).layout (heading sheet.now) (list sheet.now)) }
 {
     let page = sheet.text()?;
     text.extend_from_slice(page.as_slice())

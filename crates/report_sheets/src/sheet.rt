@@ -5,7 +5,7 @@ ghost use Rattle.std.specs.Str.{bytes_eq};
 ghost use Rattle.curve_law.specs.declared.event.Event.{Event};
 ghost use Rattle.event_text.specs.Lines.{IsListed};
 ghost use Rattle.report_sheets.specs.declared.head.Head.{Head};
-ghost use Rattle.report_sheets.specs.Sheets.{SheetMeaning, IsLimit, IsHead, taken_of, list_after};
+ghost use Rattle.report_sheets.specs.Sheets.{SheetSpec, IsLimit, IsHead, taken_of, list_after};
 
 use crate::head::Head;
 use crate::taken::Taken;
@@ -19,7 +19,7 @@ use std::alloc::AllocError;
 /// Its word, its limit and its layout never change.
 pub trait Sheet: Drop {
     /// The word, the limit and the layout of the sheet.
-    ghost meaning: { Self → SheetMeaning };
+    ghost sheet_spec: { Self → SheetSpec };
 
     /// The head with which the sheet was last opened.
     ghost heading: { Self → Head };
@@ -30,7 +30,7 @@ pub trait Sheet: Drop {
 
     /// Returns true if `word` is the sheet's word. It doesn't allocate.
     fn named(&self, word: &Text) -> bool
-        ensures { result ≡ bytes_eq word.now (meaning self.now).word };
+        ensures { result ≡ bytes_eq word.now (sheet_spec self.now).word };
 
     /// Opens the sheet with `head` and an empty list.
     ///
@@ -40,7 +40,7 @@ pub trait Sheet: Drop {
     /// [`AllocError`] if memory runs out: then the list is empty too, and the head is unchanged.
     fn open(&mut self, head: &Head) -> Result<(), AllocError>
         requires { IsHead head.now }
-        ensures unchanged { meaning self.new ≡ meaning self.old }
+        ensures unchanged { sheet_spec self.new ≡ sheet_spec self.old }
         ensures empty { list self.new ≡ [] }
         ensures ok { OnOk result (heading self.new ≡ head.entry.now) }
         ensures err { OnErr result (heading self.new ≡ heading self.old) };
@@ -54,16 +54,16 @@ pub trait Sheet: Drop {
     /// [`AllocError`] if memory runs out: then nothing changes.
     fn take(&mut self, event: &Event) -> Result<Taken, AllocError>
         requires { IsListed (heading self.old).units event.now }
-        ensures unchanged { meaning self.new ≡ meaning self.old }
+        ensures unchanged { sheet_spec self.new ≡ sheet_spec self.old }
         ensures heading { heading self.new ≡ heading self.old }
-        ensures answer { IfOk result (λ taken. taken ≡ taken_of (meaning self.old).limit (list self.old)) }
-        ensures list { OnOk result (list self.new ≡ list_after (meaning self.old).limit (list self.old) event.now) }
+        ensures answer { IfOk result (λ taken. taken ≡ taken_of (sheet_spec self.old).limit (list self.old)) }
+        ensures list { OnOk result (list self.new ≡ list_after (sheet_spec self.old).limit (list self.old) event.now) }
         ensures err { OnErr result (list self.new ≡ list self.old) };
 
     /// Returns the text of the head and the list in the sheet's layout.
     fn text(&self) -> Result<Bytes, AllocError>
-        ensures { IfOk result (λ text. text ≡ (meaning self.now).layout (heading self.now) (list self.now)) };
+        ensures { IfOk result (λ text. text ≡ (sheet_spec self.now).layout (heading self.now) (list self.now)) };
 
     /// The limit of a sheet is 1 to 1,000,000 events.
-    ghost limited: { (sheet : Self) → IsLimit (meaning sheet).limit };
+    ghost limited: { (sheet : Self) → IsLimit (sheet_spec sheet).limit };
 }

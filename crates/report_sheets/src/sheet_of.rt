@@ -25,7 +25,7 @@ impl<L: Layout> SheetOf<L> {
     /// allocate.
     pub fn new(alloc: Global, limit: u32) -> SheetOf<L>
         requires { IsLimit limit }
-        ensures meaning { ⟦<SheetOf<L> as Sheet>⟧.meaning result ≡ L.sheet limit }
+        ensures sheet_spec { ⟦<SheetOf<L> as Sheet>⟧.sheet_spec result ≡ L.sheet limit }
         ensures heading { ⟦<SheetOf<L> as Sheet>⟧.heading result ≡ first_head }
         ensures list { ⟦<SheetOf<L> as Sheet>⟧.list result ≡ [] }
     {
@@ -37,7 +37,7 @@ impl<L: Layout> SheetOf<L> {
 }
 
 impl<L: Layout> Sheet for SheetOf<L> {
-    ghost meaning = { λ sheet. L.sheet sheet.collected.limit };
+    ghost sheet_spec = { λ sheet. L.sheet sheet.collected.limit };
 
     ghost heading = { λ sheet. sheet.collected.head };
 

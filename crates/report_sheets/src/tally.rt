@@ -4,7 +4,7 @@ ghost use Rattle.std.specs.Prelude.{◌≡◌, refl, ℕ, ◌<◌, [], ◌++◌,
 ghost use Rattle.std.specs.List.{flat_map};
 ghost use Rattle.event_text.specs.Lines.{IsListed};
 ghost use Rattle.event_text.specs.Words.{word_of};
-ghost use Rattle.report_sheets.specs.Tallies.{count_at, count_line, names, place_of, tally_sheet};
+ghost use Rattle.report_sheets.specs.Tallies.{count_at, count_line, names, word_index, tally_sheet};
 
 use crate::head::Head;
 use crate::layout::Layout;
@@ -58,7 +58,7 @@ impl Layout for TallyPage {
 /// Returns the number of events with each name, by the index of the name in [`NAMES`].
 fn counts(units: Units, events: &[Event]) -> [u64; 10]
     requires { All (IsListed units) events.now }
-    ensures { (place : ℕ) → place < 10 → slice_index result place ≡ count_at units events.now place }
+    ensures { (index : ℕ) → index < 10 → slice_index result index ≡ count_at units events.now index }
 {
     let mut counts = [0; 10];
     for event in events {
@@ -70,15 +70,15 @@ fn counts(units: Units, events: &[Event]) -> [u64; 10]
 /// Returns the index in [`NAMES`] of the name of `event`.
 fn place_of_event(units: Units, event: &Event) -> usize
     requires { IsListed units event.now }
-    ensures value { result ≡ place_of (word_of units event.now.kind event.now.level) }
+    ensures value { result ≡ word_index (word_of units event.now.kind event.now.level) }
     ensures small { result < 10 }
 {
-    place(word(units, event.kind, event.level))
+    index(word(units, event.kind, event.level))
 }
 
 /// Returns the index of `word` in [`NAMES`].
-fn place(word: EventWord) -> usize
-    ensures value { result ≡ place_of word }
+fn index(word: EventWord) -> usize
+    ensures value { result ≡ word_index word }
     ensures small { result < 10 }
 {
     word as usize
@@ -88,10 +88,10 @@ fn place(word: EventWord) -> usize
 fn push_counts(text: &mut Vec<u8>, counts: &[u64]) -> Result<(), AllocError>
     requires { length counts.now ≡ 10 }
     ensures { OnOk result (text.new.items
-        ≡ text.old.items ++ flat_map (λ word. count_line (slice_index counts.now (place_of word)) word) names) }
+        ≡ text.old.items ++ flat_map (λ word. count_line (slice_index counts.now (word_index word)) word) names) }
 {
     for word in NAMES {
-        push_count(text, counts[place(word)], word)?;
+        push_count(text, counts[index(word)], word)?;
     }
     Ok(())
 }

@@ -6,7 +6,7 @@ use Rattle.std.proofs.lemmas.Nat.{mod_below}
 use borrow.Author.Differences.{up, down}
 use Rattle.fixed_sine.specs.Circle.{circle}
 use Rattle.fixed_sine.specs.Sine.{isin_of, icos_of}
-use Rattle.station_curve.specs.Waves.{Harmonic, phase_at, height_at, fall_at, heights_of, falls_of, amount_of, steepness_of}
+use Rattle.station_curve.specs.Waves.{WaveSpec, phase_at, height_at, fall_at, heights_of, falls_of, amount_of, steepness_of}
 use Rattle.station_curve.specs.Sums.{fall_rate_of, far_of}
 use Rattle.station_curve.proofs.Gaps.{times_sum, times_product}
 use Rattle.station_curve.proofs.Products.{abs_times, abs_plus}
@@ -36,17 +36,17 @@ later : (p w t : ℕ) → (p + w * (t + 1)) % circle ≡ ((p + w * t) % circle +
 later p w t = omega arith
 
 -- the most that the change of one wave's height differs from its fall
-abbrev pub wave_gap : Harmonic → ℕ
+abbrev pub wave_gap : WaveSpec → ℕ
 wave_gap h = unsigned_abs h.amplitude * unit_gap_of h.speed
 
-height_gap : (t : ℕ) (h : Harmonic) → unsigned_abs ((pos 34377467708 *ℤ (height_at (t + 1) h -ℤ height_at t h)) +ℤ fall_at t h) ≤ wave_gap h
+height_gap : (t : ℕ) (h : WaveSpec) → unsigned_abs ((pos 34377467708 *ℤ (height_at (t + 1) h -ℤ height_at t h)) +ℤ fall_at t h) ≤ wave_gap h
 height_gap t h =
     let p = phase_at h t in
     let slope = slope_law h.speed p (mod_below (h.phase + h.speed * t) circle (lit< tt)) in
     rw (later h.phase h.speed t)
     (wave_slope h.amplitude (icos_of ((p + h.speed) % circle)) (icos_of p) (isin_of p) h.speed (unit_gap_of h.speed) slope)
 
-height_gap_before : (t : ℕ) (h : Harmonic)
+height_gap_before : (t : ℕ) (h : WaveSpec)
     → unsigned_abs ((pos 34377467708 *ℤ (height_at (t + 1) h -ℤ height_at t h)) +ℤ fall_at (t + 1) h) ≤ wave_gap h
 height_gap_before t h =
     let p = phase_at h t in
@@ -60,9 +60,9 @@ regrouped : (a x b y c z : ℤ) → (pos 34377467708 *ℤ ((a +ℤ x) -ℤ (b +�
     ≡ ((pos 34377467708 *ℤ (a -ℤ b)) +ℤ c) +ℤ ((pos 34377467708 *ℤ (x -ℤ y)) +ℤ z)
 regrouped a x b y c z = omega (arith, ints)
 
-sums_gap : (t u : ℕ) → ((h : Harmonic)
+sums_gap : (t u : ℕ) → ((h : WaveSpec)
     → unsigned_abs ((pos 34377467708 *ℤ (height_at (t + 1) h -ℤ height_at t h)) +ℤ fall_at u h) ≤ wave_gap h)
-    → (hs : List Harmonic) (a b c : ℤ) (d : ℕ) → unsigned_abs ((pos 34377467708 *ℤ (a -ℤ b)) +ℤ c) ≤ d
+    → (hs : List WaveSpec) (a b c : ℤ) (d : ℕ) → unsigned_abs ((pos 34377467708 *ℤ (a -ℤ b)) +ℤ c) ≤ d
     → unsigned_abs ((pos 34377467708 *ℤ (fold (λ sum h. sum +ℤ height_at (t + 1) h) a hs -ℤ fold (λ sum h. sum +ℤ height_at t h) b hs))
     +ℤ fold (λ sum h. sum +ℤ fall_at u h) c hs) ≤ fold (λ sum h. sum + wave_gap h) d hs
 sums_gap t u each [] a b c d near = near
@@ -74,12 +74,12 @@ sums_gap t u each (h ∷ hs) a b c d near =
     (abs_plus ((pos 34377467708 *ℤ (a -ℤ b)) +ℤ c) ((pos 34377467708 *ℤ (more -ℤ less)) +ℤ fall_at u h) d (wave_gap h) near (each h)))
 
 -- the gap in terms of the sums of the year
-gap_parts : (a b c : ℕ) (h : Harmonic) → (a + 100000 * b + 68754935416 * c) + wave_gap h ≡ (a + fall_rate_of h)
+gap_parts : (a b c : ℕ) (h : WaveSpec) → (a + 100000 * b + 68754935416 * c) + wave_gap h ≡ (a + fall_rate_of h)
     + 100000 * (b + unsigned_abs h.amplitude * h.speed) + 68754935416 * (c + unsigned_abs h.amplitude)
 unfolding unit_gap_of
 gap_parts a b c h = omega arith
 
-gaps_parts : (hs : List Harmonic) (a b c : ℕ) → fold (λ sum h. sum + wave_gap h) (a + 100000 * b + 68754935416 * c) hs
+gaps_parts : (hs : List WaveSpec) (a b c : ℕ) → fold (λ sum h. sum + wave_gap h) (a + 100000 * b + 68754935416 * c) hs
     ≡ fold (λ sum h. sum + fall_rate_of h) a hs + 100000 * fold (λ sum h. sum + unsigned_abs h.amplitude * h.speed) b hs
     + 68754935416 * fold (λ sum h. sum + unsigned_abs h.amplitude) c hs
 gaps_parts [] a b c = refl
@@ -87,13 +87,13 @@ gaps_parts (h ∷ hs) a b c =
     ap (λ d. fold (λ sum h. sum + wave_gap h) d hs) (gap_parts a b c h)
     ∙ gaps_parts hs (a + fall_rate_of h) (b + unsigned_abs h.amplitude * h.speed) (c + unsigned_abs h.amplitude)
 
-pub heights_gap : (t : ℕ) (hs : List Harmonic)
+pub heights_gap : (t : ℕ) (hs : List WaveSpec)
     → unsigned_abs ((pos 34377467708 *ℤ (heights_of (t + 1) hs -ℤ heights_of t hs)) +ℤ falls_of t hs)
     ≤ far_of hs + 100000 * steepness_of hs + 68754935416 * amount_of hs
 heights_gap t hs =
     rw (gaps_parts hs 0 0 0) at (sums_gap t t (height_gap t) hs (pos 0) (pos 0) (pos 0) 0 (omega arith))
 
-pub heights_gap_before : (t : ℕ) (hs : List Harmonic)
+pub heights_gap_before : (t : ℕ) (hs : List WaveSpec)
     → unsigned_abs ((pos 34377467708 *ℤ (heights_of (t + 1) hs -ℤ heights_of t hs)) +ℤ falls_of (t + 1) hs)
     ≤ far_of hs + 100000 * steepness_of hs + 68754935416 * amount_of hs
 heights_gap_before t hs =

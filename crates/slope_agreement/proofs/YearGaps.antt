@@ -11,7 +11,7 @@ use Rattle.year_blend.specs.declared.parts.Place.TheVariants.{Plain}
 use Rattle.year_blend.specs.Places.{start_of, place_of}
 use Rattle.year_blend.specs.Weights.{total_weight}
 use Rattle.year_blend.proofs.PlaceLemmas.{place_of-rule}
-use Rattle.station_curve.specs.Waves.{heights_of, falls_of, amount_of, steepness_of, Harmonic}
+use Rattle.station_curve.specs.Waves.{heights_of, falls_of, amount_of, steepness_of, WaveSpec}
 use Rattle.station_curve.specs.Sums.{far_of, sums_of}
 use Rattle.station_curve.specs.Levels.{minutes_into}
 use Rattle.station_curve.specs.Curves.{first_fault, AreTimes, IsPredicted, IsPrediction, Prediction, prediction_of, sums_for, waves_of}
@@ -165,7 +165,7 @@ greatest-same f g (suc n) same =
 pub agreement_same : (b : Book) (s : Station) → IsPrediction (prediction_of b s) → agreement_of (prediction_of b s) ≡ predicted_agreement b s
 agreement_same b s valid =
     greatest-same (λ year. year_agreement (sums_for (prediction_of b s) year)) (λ year. year_agreement (book_sums b s year)) b.years
-    (λ year below. ap (λ (hs : List Harmonic). year_agreement (sums_of hs)) (over-touched b s _ _ year (all_touched b year valid.limits.times below)))
+    (λ year below. ap (λ (hs : List WaveSpec). year_agreement (sums_of hs)) (over-touched b s _ _ year (all_touched b year valid.limits.times below)))
 
 -- all minutes of a station of a book
 IsWhole : Book → Station → ℤ → ℕ → Type 0

@@ -9,7 +9,7 @@ use Rattle.curve_law.specs.declared.tracks.Tracks.{Tracks}
 use Rattle.curve_law.specs.declared.verdict.Verdict.{Verdict}
 use Rattle.curve_law.specs.declared.verdict.Verdict.TheVariants.{Accepted, WrongLength, NotQuiet, WrongStep, WrongLevel}
 use Rattle.curve_law.specs.Cells.{all_minutes}
-use Rattle.curve_law.specs.Meaning.{Meaning, at_minutes}
+use Rattle.curve_law.specs.CurveSpec.{CurveSpec, at_minutes}
 use Rattle.curve_law.specs.Verdicts.{verdict}
 use Rattle.curve_law.proofs.AgreeLemmas.{verdict-same}
 use Rattle.event_list.specs.declared.span.Span.{Span}
@@ -37,7 +37,7 @@ slack_same true false h = absurd cc
 slack_same false true h = absurd cc
 slack_same false false h = refl
 
-if_accepted : (s : Span) (track : TrackName) (curve : Option Meaning) (cells : Option (List Cell))
+if_accepted : (s : Span) (track : TrackName) (curve : Option CurveSpec) (cells : Option (List Cell))
     → is_some curve ≡ is_some cells → track_fault s track curve cells ≡ None → IsAccepted s curve cells
 if_accepted s track None None same none = tt
 if_accepted s track None (Some cells) same none = absurd cc
@@ -58,11 +58,11 @@ all_accepted f s t marked none =
 
 -- ---- accepted tracks are short
 
-verdict_minutes : (c : Meaning) (a : ℤ) (n : ℕ) (cells : List Cell) → verdict c a n cells ≡ Accepted → all_minutes cells ≡ n
+verdict_minutes : (c : CurveSpec) (a : ℤ) (n : ℕ) (cells : List Cell) → verdict c a n cells ≡ Accepted → all_minutes cells ≡ n
 unfolding verdict
 verdict_minutes c a n cells ok = (Decides-eqb (all_minutes cells) n).0 (accepted_if (all_minutes cells == n) _ _ (λ e. cc) ok).0
 
-short_if : (s : Span) (curve : Option Meaning) (cells : Option (List Cell)) → span_minutes s ≤ 6000000
+short_if : (s : Span) (curve : Option CurveSpec) (cells : Option (List Cell)) → span_minutes s ≤ 6000000
     → IsAccepted s curve cells → ForSome cells (λ cells. all_minutes cells ≤ 6000000)
 short_if s None (Some cells) few ok x e = absurd ok
 short_if s (Some c) (Some cells) few ok x e =
@@ -83,11 +83,11 @@ tracks_short f s t few ok =
 
 -- ---- curves at other minutes
 
-some_same : (p : Meaning → Meaning) (o : Option Meaning) → is_some (option_map p o) ≡ is_some o
+some_same : (p : CurveSpec → CurveSpec) (o : Option CurveSpec) → is_some (option_map p o) ≡ is_some o
 some_same p None = refl
 some_same p (Some c) = refl
 
-fault_same : (first last : ℤ) (s : Span) (track : TrackName) (o : Option Meaning) (cells : Option (List Cell))
+fault_same : (first last : ℤ) (s : Span) (track : TrackName) (o : Option CurveSpec) (cells : Option (List Cell))
     → track_fault s track (option_map (at_minutes first last) o) cells ≡ track_fault s track o cells
 fault_same first last s track None cells = refl
 fault_same first last s track (Some c) None = refl

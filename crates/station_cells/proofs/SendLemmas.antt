@@ -90,10 +90,10 @@ buffer_length held line now is =
     omega (arith, all, length-append (gone_for held line) now, length-append held line)
 
 -- one more line of all that are left
-pub buffer_step : {T : Type 0} (all : List T → List ℕ) (left rest : List T) (x : T) (whole text held line now : List ℕ)
-    → left ≡ x ∷ rest → all (x ∷ rest) ≡ line ++ all rest → now ≡ held_after held line
-    → text ++ (held ++ all left) ≡ whole → (text ++ gone_for held line) ++ (now ++ all rest) ≡ whole
-buffer_step all left rest x whole text held line now is more put so_far =
+pub buffer_step : {T : Type 0} (all : List T → List ℕ) (remaining rest : List T) (x : T) (whole text held line now : List ℕ)
+    → remaining ≡ x ∷ rest → all (x ∷ rest) ≡ line ++ all rest → now ≡ held_after held line
+    → text ++ (held ++ all remaining) ≡ whole → (text ++ gone_for held line) ++ (now ++ all rest) ≡ whole
+buffer_step all remaining rest x whole text held line now is more put so_far =
     append_assoc text (gone_for held line) (now ++ all rest)
     ∙ ap (λ ys. text ++ ys) (sym (append_assoc (gone_for held line) now (all rest))
     ∙ ap (λ ys. ys ++ all rest) (buffer_kept held line now put) ∙ append_assoc held line (all rest))
@@ -101,9 +101,9 @@ buffer_step all left rest x whole text held line now is more put so_far =
     ∙ so_far
 
 -- the last line
-pub buffer_done : {T : Type 0} (all : List T → List ℕ) (left : List T) (whole text held : List ℕ) → left ≡ []
-    → all [] ≡ [] → text ++ (held ++ all left) ≡ whole → text ++ held ≡ whole
-buffer_done all left whole text held none empty so_far =
+pub buffer_done : {T : Type 0} (all : List T → List ℕ) (remaining : List T) (whole text held : List ℕ) → remaining ≡ []
+    → all [] ≡ [] → text ++ (held ++ all remaining) ≡ whole → text ++ held ≡ whole
+buffer_done all remaining whole text held none empty so_far =
     ap (λ ys. text ++ ys) (sym (append-nil held) ∙ ap (λ ys. held ++ ys) (sym empty ∙ ap all (sym none))) ∙ so_far
 
 -- ---- a text from its first byte on

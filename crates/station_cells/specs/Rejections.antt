@@ -9,7 +9,7 @@ use Rattle.curve_law.specs.declared.cell.Cell.{Cell}
 use Rattle.curve_law.specs.declared.tracks.Tracks.{Tracks}
 use Rattle.curve_law.specs.declared.verdict.Verdict.{Verdict}
 use Rattle.curve_law.specs.declared.verdict.Verdict.TheVariants.{Accepted, WrongLength, NotQuiet, WrongStep, WrongLevel}
-use Rattle.curve_law.specs.Meaning.{Meaning}
+use Rattle.curve_law.specs.CurveSpec.{CurveSpec}
 use Rattle.curve_law.specs.Verdicts.{verdict}
 use Rattle.event_list.specs.declared.span.Span.{Span}
 use Rattle.event_list.specs.Events.{Followed, span_minutes}
@@ -54,7 +54,7 @@ fault_from track finding = Some (Track track finding)
 
 -- the fault of a track's cells by its curve over the minutes of `span`, or None if they are right or
 -- there is no track
-abbrev pub track_fault : Span → TrackName → Option Meaning → Option (List Cell) → Option Rejection
+abbrev pub track_fault : Span → TrackName → Option CurveSpec → Option (List Cell) → Option Rejection
 track_fault span track (Some curve) (Some cells) = fault_from track (verdict curve span.begin (span_minutes span) cells)
 track_fault span track _ _ = None
 

@@ -50,4 +50,4 @@ held_after held line = if has_room held line then held ++ line else line
 -- the number of remaining cells of a search, 0 without a search
 abbrev pub left_count : {C : Type 0} → Option (Looking C) → ℕ
 left_count None = 0
-left_count (Some search) = length search.left
+left_count (Some search) = length search.remaining

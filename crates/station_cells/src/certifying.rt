@@ -27,7 +27,7 @@ pub fn send_if_followed<C: Curve + Drop, S: Sink>(
     track: TrackName,
     search: Option<Search<C>>,
 ) -> Result<Sent, WriteFailed>
-    requires cells { ForSome search (λ search. All IsCell search.left) }
+    requires cells { ForSome search (λ search. All IsCell search.remaining) }
     requires count_bound { sent.bytes + 24 + 24 * left_count search < 2 ^ 64 }
     requires count { sent.cells + left_count search < 2 ^ 64 }
     ensures sends { Sends (S.state out.old) (S.state out.new) sent (joined (lines_if_there track (cells_left search)))
@@ -51,11 +51,11 @@ pub fn send_track<C: Curve + Drop, S: Sink>(
     track: TrackName,
     search: Search<C>,
 ) -> Result<Sent, WriteFailed>
-    requires cells { All IsCell search.left }
-    requires count_bound { sent.bytes + 24 + 24 * length search.left < 2 ^ 64 }
-    requires count { sent.cells + length search.left < 2 ^ 64 }
-    ensures sends { Sends (S.state out.old) (S.state out.new) sent (joined (track_lines_of track search.left)) (length search.left) result }
-    ensures length_bound { IfOk result (λ done. done.bytes ≤ sent.bytes + 24 + 24 * length search.left) }
+    requires cells { All IsCell search.remaining }
+    requires count_bound { sent.bytes + 24 + 24 * length search.remaining < 2 ^ 64 }
+    requires count { sent.cells + length search.remaining < 2 ^ 64 }
+    ensures sends { Sends (S.state out.old) (S.state out.new) sent (joined (track_lines_of track search.remaining)) (length search.remaining) result }
+    ensures length_bound { IfOk result (λ done. done.bytes ≤ sent.bytes + 24 + 24 * length search.remaining) }
 {
     let mut line = ArrayString::new();
     heading_line(track, &mut line);
@@ -69,11 +69,11 @@ fn send_cells<C: Curve + Drop, S: Sink>(
     sent: Sent,
     search: Search<C>,
 ) -> Result<Sent, WriteFailed>
-    requires cells { All IsCell search.left }
-    requires count_bound { sent.bytes + 24 * length search.left < 2 ^ 64 }
-    requires count { sent.cells + length search.left < 2 ^ 64 }
-    ensures sends { Sends (S.state out.old) (S.state out.new) sent (joined (map cell_line_of search.left)) (length search.left) result }
-    ensures length_bound { IfOk result (λ done. done.bytes ≤ sent.bytes + 24 * length search.left) }
+    requires cells { All IsCell search.remaining }
+    requires count_bound { sent.bytes + 24 * length search.remaining < 2 ^ 64 }
+    requires count { sent.cells + length search.remaining < 2 ^ 64 }
+    ensures sends { Sends (S.state out.old) (S.state out.new) sent (joined (map cell_line_of search.remaining)) (length search.remaining) result }
+    ensures length_bound { IfOk result (λ done. done.bytes ≤ sent.bytes + 24 * length search.remaining) }
 {
     let mut search = search;
     let mut buffer = LineBuffer::new();

@@ -30,9 +30,9 @@ pub fn rejection_over<A: Curve + Drop, B: Curve + Drop>(
     requires mark { ForSome mark (λ c. IsFreshOver span.now (B.state c)) }
     requires count_bound { HasFewCells tracks.now }
     ensures { result ≡ rejection_of (record {
-      turn = (A.state turn).facts.meaning;
-      slack = option_map (λ c. (B.state c).facts.meaning) slack;
-      mark = option_map (λ c. (B.state c).facts.meaning) mark;
+      turn = (A.state turn).curve_model.curve_spec;
+      slack = option_map (λ c. (B.state c).curve_model.curve_spec) slack;
+      mark = option_map (λ c. (B.state c).curve_model.curve_spec) mark;
     }) span.now tracks.now }
 {
     if let Some(fault) = slack_fault(slack.is_some(), tracks.slack.is_some()) {
@@ -67,7 +67,7 @@ fn fault_if_followed<C: Curve + Drop>(
 ) -> Option<Rejection>
     requires fresh { ForSome curve (λ c. IsFreshOver span.now (C.state c)) }
     requires count_bound { ForSome cells.now (λ cells. length cells < 2 ^ 32) }
-    ensures { result ≡ track_fault span.now track (option_map (λ c. (C.state c).facts.meaning) curve) cells.now }
+    ensures { result ≡ track_fault span.now track (option_map (λ c. (C.state c).curve_model.curve_spec) curve) cells.now }
 {
     match (curve, cells) {
         (Some(curve), Some(cells)) => track_fault(track, curve, cells, span),
@@ -84,7 +84,7 @@ fn track_fault<C: Curve + Drop>(
 ) -> Option<Rejection>
     requires fresh { IsFreshOver span.now (C.state curve) }
     requires count_bound { length cells.now < 2 ^ 32 }
-    ensures { result ≡ fault_from track (verdict (C.state curve).facts.meaning span.now.begin (span_minutes span.now) cells.now) }
+    ensures { result ≡ fault_from track (verdict (C.state curve).curve_model.curve_spec span.now.begin (span_minutes span.now) cells.now) }
 {
     let mut curve = curve;
     fault_from(track, check_track(&mut curve, cells, span.begin, span.end))

@@ -24,9 +24,9 @@ pub fn tracks_over<A: Curve + Drop, B: Curve + Drop>(
     requires slack { ForSome slack (λ c. IsFreshOver span.now (B.state c)) }
     requires mark { ForSome mark (λ c. IsFreshOver span.now (B.state c)) }
     ensures { IfOk result (λ tracks. tracks ≡ covers_of (record {
-      turn = (A.state turn).facts.meaning;
-      slack = option_map (λ c. (B.state c).facts.meaning) slack;
-      mark = option_map (λ c. (B.state c).facts.meaning) mark;
+      turn = (A.state turn).curve_model.curve_spec;
+      slack = option_map (λ c. (B.state c).curve_model.curve_spec) slack;
+      mark = option_map (λ c. (B.state c).curve_model.curve_spec) mark;
     }) span.now) }
 {
     let turn = cells_over(alloc, turn, span)?;
@@ -38,7 +38,7 @@ pub fn tracks_over<A: Curve + Drop, B: Curve + Drop>(
 /// Returns the cells of `curve` over `span`.
 fn cells_over<C: Curve + Drop>(alloc: Global, curve: C, span: &Span) -> Result<Cells, AllocError>
     requires { IsFreshOver span.now (C.state curve) }
-    ensures { IfOk result (λ cells. cells ≡ cover_over span.now (C.state curve).facts.meaning) }
+    ensures { IfOk result (λ cells. cells ≡ cover_over span.now (C.state curve).curve_model.curve_spec) }
 {
     let mut curve = curve;
     search(alloc, &mut curve, span.begin, span.end)
@@ -51,7 +51,7 @@ fn cells_if_followed<C: Curve + Drop>(
     span: &Span,
 ) -> Result<Option<Cells>, AllocError>
     requires { ForSome curve (λ c. IsFreshOver span.now (C.state c)) }
-    ensures { IfOk result (λ cells. cells ≡ option_map (λ c. cover_over span.now (C.state c).facts.meaning) curve) }
+    ensures { IfOk result (λ cells. cells ≡ option_map (λ c. cover_over span.now (C.state c).curve_model.curve_spec) curve) }
 {
     match curve {
         Some(curve) => Ok(Some(cells_over(alloc, curve, span)?)),

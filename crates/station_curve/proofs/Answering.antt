@@ -6,7 +6,7 @@ use Rattle.harmonics_book.specs.declared.book.Station.{Station}
 use Rattle.harmonics_book.specs.declared.book.Book.{Book}
 use Rattle.station_curve.specs.declared.fault.CurveFault.{CurveFault}
 use Rattle.station_curve.specs.declared.fault.CurveFault.TheVariants.{Hydraulic, TooLarge, TooSteep, NoMemory}
-use Rattle.decimal_text.specs.Expected.{ReturnsUnless}
+use Rattle.decimal_text.specs.Expected.{EqualsUnlessNoMemory}
 use Rattle.station_curve.specs.Curves.{first_fault, prediction_over, is_hydraulic, curve_over, is_out_of_memory}
 
 pub hydraulic_answer : (b : Book) (s : Station) (first last : ℤ) → is_hydraulic s.units ≡ true → curve_over b s first last ≡ Err Hydraulic
@@ -25,7 +25,7 @@ fault_found b s first last fault h found = simp (h, found)
 
 pub fault_answer : (b : Book) (s : Station) (first last : ℤ) (fault : CurveFault) → is_hydraulic s.units ≡ false
     → (fault ≡ NoMemory) ⊎ (first_fault b s b.years ≡ Some fault)
-    → ReturnsUnless is_out_of_memory (curve_over b s first last) (Err fault)
+    → EqualsUnlessNoMemory is_out_of_memory (curve_over b s first last) (Err fault)
 fault_answer b s first last NoMemory h why = tt
 fault_answer b s first last Hydraulic h (inl e) = cc
 fault_answer b s first last Hydraulic h (inr found) = fault_found b s first last Hydraulic h found

@@ -16,7 +16,7 @@ use Rattle.year_blend.specs.declared.parts.Place.{Place}
 use Rattle.year_blend.specs.declared.parts.Place.TheVariants.{Plain, Blend}
 use Rattle.year_blend.specs.Places.{start_of, place_of}
 use Rattle.year_blend.specs.Weights.{total_weight}
-use Rattle.station_curve.specs.Waves.{Harmonic, phase_at, height_at, fall_at, heights_of, falls_of, amount_of, steepness_of}
+use Rattle.station_curve.specs.Waves.{WaveSpec, phase_at, height_at, fall_at, heights_of, falls_of, amount_of, steepness_of}
 use Rattle.station_curve.specs.Levels.{minutes_into}
 use Rattle.station_curve.specs.Approximate.{binary_angle_after, binary_angle_ahead, approximate_height_at, approximate_fall_at, approximate_heights_of, approximate_falls_of, approximate_year_level, approximate_year_slope, approximate_or_exact, approximate_level_of, approximate_slope_of}
 use Rattle.station_curve.specs.Errors.{speed_error, level_error_of, slope_error_of}
@@ -38,9 +38,9 @@ use Rattle.station_curve.proofs.Predicting.{year_level_is, year_slope_is}
 
 -- the error of approximate sums over waves, whose parts are in units of k: each part's error is `most` times one
 -- size and `more` times another
-sums_approximate : (k : ℤ) (most more : ℕ) (f g : Harmonic → ℤ) (size other : Harmonic → ℕ)
-    → ((h : Harmonic) → unsigned_abs ((k *ℤ f h) -ℤ g h) ≤ size h * most + other h * more)
-    → (hs : List Harmonic) (a b : ℤ) (c d : ℕ) → unsigned_abs ((k *ℤ a) -ℤ b) ≤ most * c + more * d
+sums_approximate : (k : ℤ) (most more : ℕ) (f g : WaveSpec → ℤ) (size other : WaveSpec → ℕ)
+    → ((h : WaveSpec) → unsigned_abs ((k *ℤ f h) -ℤ g h) ≤ size h * most + other h * more)
+    → (hs : List WaveSpec) (a b : ℤ) (c d : ℕ) → unsigned_abs ((k *ℤ a) -ℤ b) ≤ most * c + more * d
     → unsigned_abs ((k *ℤ fold (λ sum h. sum +ℤ f h) a hs) -ℤ fold (λ sum h. sum +ℤ g h) b hs)
     ≤ most * fold (λ sum h. sum + size h) c hs + more * fold (λ sum h. sum + other h) d hs
 sums_approximate k most more f g size other each [] a b c d approximate = approximate
@@ -60,7 +60,7 @@ sine_gap : (binary_angle : ℕ) (sine : ℤ) → binary_angle < 1844674407370955
     → unsigned_abs ((pos 32768 *ℤ approximate_sine_of binary_angle) -ℤ sine) ≤ approximate_error
 sine_gap binary_angle sine below_circle is = rw (← is) (sine-approximate binary_angle below_circle)
 
-approximate_height_gap : (t : ℕ) → t ≤ 600000 → (h : Harmonic)
+approximate_height_gap : (t : ℕ) → t ≤ 600000 → (h : WaveSpec)
     → unsigned_abs ((pos 32768 *ℤ approximate_height_at t h) -ℤ height_at t h) ≤ unsigned_abs h.amplitude * approximate_error + 0 * 0
 approximate_height_gap t few h =
     let angle = binary_angle_ahead h t in
@@ -96,7 +96,7 @@ coarse_parts a n s =
     both : (z : ℤ) → pos 32768 *ℤ (pos 512 *ℤ z) ≡ pos 16777216 *ℤ z
     both z = omega (arith, ints)
 
-approximate_fall_gap : (t : ℕ) → t ≤ 600000 → (h : Harmonic)
+approximate_fall_gap : (t : ℕ) → t ≤ 600000 → (h : WaveSpec)
     → unsigned_abs ((pos 16777216 *ℤ approximate_fall_at t h) -ℤ fall_at t h)
     ≤ unsigned_abs h.amplitude * h.speed * approximate_error + unsigned_abs h.amplitude * speed_error
 approximate_fall_gap t few h =

@@ -4,7 +4,7 @@ use Rattle.std.specs.Prelude.{unsigned_abs, fold}
 use Rattle.std.proofs.lemmas.Int.{ints}
 use Rattle.std.proofs.lemmas.Nat.{mul-le}
 use borrow.Author.Differences.{up, down}
-use Rattle.station_curve.specs.Waves.{Harmonic}
+use Rattle.station_curve.specs.Waves.{WaveSpec}
 use Rattle.station_curve.proofs.Products.{abs_plus}
 
 -- the difference of two products
@@ -65,8 +65,8 @@ times_product a w s =
 pub regrouped : (a x b y : ℤ) → (a +ℤ x) -ℤ (b +ℤ y) ≡ (a -ℤ b) +ℤ (x -ℤ y)
 regrouped a x b y = omega (arith, ints)
 
-pub sums_gap : (f g : Harmonic → ℤ) (rate : Harmonic → ℕ) → ((h : Harmonic) → unsigned_abs (f h -ℤ g h) ≤ rate h)
-    → (hs : List Harmonic) (a b : ℤ) (c : ℕ) → unsigned_abs (a -ℤ b) ≤ c
+pub sums_gap : (f g : WaveSpec → ℤ) (rate : WaveSpec → ℕ) → ((h : WaveSpec) → unsigned_abs (f h -ℤ g h) ≤ rate h)
+    → (hs : List WaveSpec) (a b : ℤ) (c : ℕ) → unsigned_abs (a -ℤ b) ≤ c
     → unsigned_abs (fold (λ sum h. sum +ℤ f h) a hs -ℤ fold (λ sum h. sum +ℤ g h) b hs)
     ≤ fold (λ sum h. sum + rate h) c hs
 sums_gap f g rate each [] a b c approximate = approximate

@@ -11,7 +11,7 @@ use Rattle.std.proofs.lemmas.List.FromFn.{get_or-range_with_len, length-range_wi
 use Rattle.std.proofs.lemmas.List.Sums.{sum_by_more, length-filter, count_by-le-length}
 use Rattle.harmonics_book.specs.declared.book.Station.{Station}
 use Rattle.harmonics_book.specs.declared.book.Book.{Book}
-use Rattle.station_curve.specs.Waves.{Harmonic, amount_of, steepness_of}
+use Rattle.station_curve.specs.Waves.{WaveSpec, amount_of, steepness_of}
 use Rattle.station_curve.specs.Schureman.{constituents_of, amplitude_of, speed_of}
 use Rattle.station_curve.specs.Curves.{wave_of, waves_of}
 use Rattle.station_curve.specs.Workings.Prepared.{has_amplitude, present_in, is_present}
@@ -19,7 +19,7 @@ use Rattle.station_curve.proofs.BookValues.{no_amplitude}
 use Rattle.station_curve.proofs.WithinLimits.{amount-present, steepness-present}
 
 -- the waves of the constituents with these indices
-abbrev pub waves_at : Book → Station → ℕ → List ℕ → List Harmonic
+abbrev pub waves_at : Book → Station → ℕ → List ℕ → List WaveSpec
 waves_at b s year places = map (wave_of b s year) places
 
 zero_size : (z : ℤ) → unsigned_abs z ≡ 0 → z ≡ pos 0
@@ -117,7 +117,7 @@ present-steepness b s year places is =
 length-waves_at : (b : Book) (s : Station) (year : ℕ) (places : List ℕ) → length (waves_at b s year places) ≡ length places
 length-waves_at b s year places = length-map places (wave_of b s year)
 
-wave-at : (b : Book) (s : Station) (year : ℕ) (places : List ℕ) (i : ℕ) (d : Harmonic) → i < length places
+wave-at : (b : Book) (s : Station) (year : ℕ) (places : List ℕ) (i : ℕ) (d : WaveSpec) → i < length places
     → get_or (waves_at b s year places) i d ≡ wave_of b s year (get_or places i 0)
 wave-at b s year places i d in_list = get_or-map (wave_of b s year) places i 0 d in_list
 
@@ -164,7 +164,7 @@ absent_more b s year places i in_list nothing =
     ap is_present (wave-at b s year places i d in_list) ∙ ap (λ z. not (nat_eq (unsigned_abs z) 0)) nothing in
     more ∙ ap (λ t. before ++ cond t (get_or (waves_at b s year places) i d ∷ []) []) absent ∙ append-nil before
 
-pub present_more : (b : Book) (s : Station) (year : ℕ) (places : List ℕ) (i : ℕ) (wave : Harmonic) → i < length places
+pub present_more : (b : Book) (s : Station) (year : ℕ) (places : List ℕ) (i : ℕ) (wave : WaveSpec) → i < length places
     → (amplitude_of b s year (get_or places i 0) ≡ pos 0 → ⊥) → wave ≡ wave_of b s year (get_or places i 0)
     → filter is_present (take (i + 1) (waves_at b s year places))
     ≡ filter is_present (take i (waves_at b s year places)) ++ wave ∷ []

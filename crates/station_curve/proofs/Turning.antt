@@ -5,7 +5,7 @@ use Rattle.fixed_sine.specs.Circle.{circle}
 use Rattle.fixed_sine.specs.Sine.{isin_of, icos_of}
 use Rattle.fixed_sine.specs.BinaryAngle.{units_of, binary_angle_of}
 use Rattle.fixed_sine.proofs.CircleLemmas.{icos_of-ahead}
-use Rattle.station_curve.specs.Waves.{Harmonic, phase_at}
+use Rattle.station_curve.specs.Waves.{WaveSpec, phase_at}
 use Rattle.station_curve.specs.Approximate.{binary_angle_after, binary_angle_ahead}
 
 -- a fraction within a unit, with any number of full circles
@@ -33,7 +33,7 @@ drifted phase speed t few =
 
 -- a phase is the unit that contains its fraction
 -- the sine and the cosine of a wave by its fractions of a turn
-pub sine_after : (h : Harmonic) (t : ℕ) → t ≤ 600000 → isin_of (units_of (binary_angle_after h t)) ≡ isin_of (phase_at h t)
+pub sine_after : (h : WaveSpec) (t : ℕ) → t ≤ 600000 → isin_of (units_of (binary_angle_after h t)) ≡ isin_of (phase_at h t)
 sine_after h t few = ap isin_of (drifted h.phase h.speed t few)
 
 a_quarter_on : (binary_angle : ℕ) → binary_angle < 18446744073709551616
@@ -41,11 +41,11 @@ a_quarter_on : (binary_angle : ℕ) → binary_angle < 18446744073709551616
 a_quarter_on binary_angle below_circle = sym (icos_of-ahead (units_of binary_angle)
     (units_of ((binary_angle + 4611686018427387904) % 18446744073709551616)) (omega (arith, below_circle)))
 
-pub binary_angle_after-below : (h : Harmonic) (t : ℕ) → binary_angle_after h t < 18446744073709551616
+pub binary_angle_after-below : (h : WaveSpec) (t : ℕ) → binary_angle_after h t < 18446744073709551616
 binary_angle_after-below h t = mod_below (binary_angle_of h.phase + binary_angle_of h.speed * t) 18446744073709551616 (lit< tt)
 
-pub binary_angle_ahead-below : (h : Harmonic) (t : ℕ) → binary_angle_ahead h t < 18446744073709551616
+pub binary_angle_ahead-below : (h : WaveSpec) (t : ℕ) → binary_angle_ahead h t < 18446744073709551616
 binary_angle_ahead-below h t = mod_below (binary_angle_after h t + 4611686018427387904) 18446744073709551616 (lit< tt)
 
-pub cosine_ahead : (h : Harmonic) (t : ℕ) → t ≤ 600000 → isin_of (units_of (binary_angle_ahead h t)) ≡ icos_of (phase_at h t)
+pub cosine_ahead : (h : WaveSpec) (t : ℕ) → t ≤ 600000 → isin_of (units_of (binary_angle_ahead h t)) ≡ icos_of (phase_at h t)
 cosine_ahead h t few = a_quarter_on (binary_angle_after h t) (binary_angle_after-below h t) ∙ ap icos_of (drifted h.phase h.speed t few)

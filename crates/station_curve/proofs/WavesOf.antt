@@ -8,7 +8,7 @@ use Rattle.harmonics_book.specs.declared.book.Station.{Station}
 use Rattle.harmonics_book.specs.declared.book.Book.{Book}
 use Rattle.station_curve.specs.declared.fault.CurveFault.{CurveFault}
 use Rattle.station_curve.specs.declared.fault.CurveFault.TheVariants.{TooLarge, TooSteep}
-use Rattle.station_curve.specs.Waves.{Harmonic, amount_of, steepness_of}
+use Rattle.station_curve.specs.Waves.{WaveSpec, amount_of, steepness_of}
 use Rattle.station_curve.specs.Limits.{most_amount, most_steepness}
 use Rattle.year_blend.specs.Places.{start_of}
 use Rattle.station_curve.specs.Schureman.{amplitude_of, speed_of, phase_of}
@@ -18,7 +18,7 @@ pub length-waves_of : (b : Book) (s : Station) (year : ℕ) → length (waves_of
 unfolding waves_of
 length-waves_of b s year = length-map-range_with_len (wave_of b s year) 0 (length b.constituents)
 
-pub get_or-waves_of : (b : Book) (s : Station) (year k : ℕ) (d : Harmonic) → k < length b.constituents
+pub get_or-waves_of : (b : Book) (s : Station) (year k : ℕ) (d : WaveSpec) → k < length b.constituents
     → get_or (waves_of b s year) k d ≡ wave_of b s year k
 unfolding waves_of
 get_or-waves_of b s year k d in_list = get_or-map-range_with_len (wave_of b s year) 0 (length b.constituents) k k d in_list (omega arith)
@@ -78,7 +78,7 @@ wave_steepness b s year k in_list none =
     omega (arith, one, is, (none_fault b s year none).1)
 
 -- a wave from its amplitude, speed and phase
-pub is_wave : (b : Book) (s : Station) (year k : ℕ) (wave : Harmonic) (amplitude : ℤ) (speed phase : ℕ) → wave
+pub is_wave : (b : Book) (s : Station) (year k : ℕ) (wave : WaveSpec) (amplitude : ℤ) (speed phase : ℕ) → wave
     ≡ record { amplitude = amplitude; speed = speed; phase = phase } → amplitude ≡ amplitude_of b s year k → pos speed
     ≡ speed_of b k → phase ≡ phase_of b s year (start_of b.first_year year -ℤ pos 60) k → wave ≡ wave_of b s year k
 is_wave b s year k wave amplitude speed phase is is_amplitude is_speed is_phase =

@@ -12,7 +12,7 @@ use Rattle.harmonics_book.specs.declared.book.Station.{Station}
 use Rattle.harmonics_book.specs.declared.book.Book.{Book}
 use Rattle.harmonics_book.specs.Books.{IsBook, IsStation}
 use Rattle.station_curve.specs.declared.fault.CurveFault.{CurveFault}
-use Rattle.station_curve.specs.Waves.{Harmonic, phase_at, height_at, fall_at, heights_of, falls_of, amount_of, steepness_of}
+use Rattle.station_curve.specs.Waves.{WaveSpec, phase_at, height_at, fall_at, heights_of, falls_of, amount_of, steepness_of}
 use Rattle.station_curve.specs.Sums.{height_rate_of, fall_rate_of, near_of, far_of, sums_of}
 use Rattle.station_curve.specs.Limits.{most_amount, most_steepness, AreWithinLimits}
 use Rattle.station_curve.specs.Curves.{Prediction, IsWithinLimits, sums_for, waves_for, waves_of, is_touched, waves_over, year_fault, first_fault, AreTimes}
@@ -26,8 +26,8 @@ use Rattle.station_curve.specs.Errors.{greatest_amount, greatest_steepness}
 use Rattle.station_curve.specs.Schureman.{speed_of}
 
 -- a sum over the present waves is that over all, if absent ones add nothing
-with_first : {B : Type 0} (add : B → Harmonic → B) → ((a : B) (h : Harmonic) → h.amplitude ≡ pos 0 → add a h ≡ a)
-    → (a : B) (h : Harmonic) (hs : List Harmonic) → ((x : B) → fold add x (filter is_present hs) ≡ fold add x hs)
+with_first : {B : Type 0} (add : B → WaveSpec → B) → ((a : B) (h : WaveSpec) → h.amplitude ≡ pos 0 → add a h ≡ a)
+    → (a : B) (h : WaveSpec) (hs : List WaveSpec) → ((x : B) → fold add x (filter is_present hs) ≡ fold add x hs)
     → (absent : Bool) → nat_eq (unsigned_abs h.amplitude) 0 ≡ absent
     → fold add a (filter is_present (h ∷ hs)) ≡ fold add a (h ∷ hs)
 with_first add none a h hs rest false e = rw e (rest (add a h))
@@ -36,26 +36,26 @@ with_first add none a h hs rest true e =
     let nothing : h.amplitude ≡ pos 0 = omega (arith, ints, zero_size) in
     rw e (rest a ∙ ap (λ x. fold add x hs) (sym (none a h nothing)))
 
-pub fold-present : {B : Type 0} (add : B → Harmonic → B) → ((a : B) (h : Harmonic) → h.amplitude ≡ pos 0 → add a h ≡ a)
-    → (a : B) (hs : List Harmonic) → fold add a (filter is_present hs) ≡ fold add a hs
+pub fold-present : {B : Type 0} (add : B → WaveSpec → B) → ((a : B) (h : WaveSpec) → h.amplitude ≡ pos 0 → add a h ≡ a)
+    → (a : B) (hs : List WaveSpec) → fold add a (filter is_present hs) ≡ fold add a hs
 fold-present add none a [] = refl
 fold-present add none a (h ∷ hs) = with_first add none a h hs (λ x. fold-present add none x hs) (nat_eq (unsigned_abs h.amplitude) 0) refl
 
-pub amount-present : (hs : List Harmonic) → amount_of (filter is_present hs) ≡ amount_of hs
+pub amount-present : (hs : List WaveSpec) → amount_of (filter is_present hs) ≡ amount_of hs
 amount-present hs = fold-present (λ a h. a + unsigned_abs h.amplitude) (λ a h e. ap (λ z. a + unsigned_abs z) e ∙ add-zero a) 0 hs
 
-pub steepness-present : (hs : List Harmonic) → steepness_of (filter is_present hs) ≡ steepness_of hs
+pub steepness-present : (hs : List WaveSpec) → steepness_of (filter is_present hs) ≡ steepness_of hs
 steepness-present hs = fold-present (λ a h. a + unsigned_abs h.amplitude * h.speed)
     (λ a h e. ap (λ z. a + unsigned_abs z * h.speed) e ∙ omega arith) 0 hs
 
-pub near-present : (hs : List Harmonic) → near_of (filter is_present hs) ≡ near_of hs
+pub near-present : (hs : List WaveSpec) → near_of (filter is_present hs) ≡ near_of hs
 near-present hs = fold-present (λ a h. a + height_rate_of h) (λ a h e. ap (λ z. a + unsigned_abs z * step_of h.speed) e ∙ omega arith) 0 hs
 
-pub far-present : (hs : List Harmonic) → far_of (filter is_present hs) ≡ far_of hs
+pub far-present : (hs : List WaveSpec) → far_of (filter is_present hs) ≡ far_of hs
 far-present hs = fold-present (λ a h. a + fall_rate_of h)
     (λ a h e. ap (λ z. a + unsigned_abs z * h.speed * step_of h.speed) e ∙ omega arith) 0 hs
 
-pub sums-present : (hs : List Harmonic) → sums_of (filter is_present hs) ≡ sums_of hs
+pub sums-present : (hs : List WaveSpec) → sums_of (filter is_present hs) ≡ sums_of hs
 sums-present hs = simp (amount-present hs, steepness-present hs, near-present hs, far-present hs)
 
 -- absent waves add nothing to level and slope
@@ -64,7 +64,7 @@ zero_times (pos n) = ap pos (omega arith)
 zero_times (negsuc n) = omega (arith, ints)
 
 -- a sum of parts that are 0 for an absent wave
-parts-present : (f : Harmonic → ℤ) → ((h : Harmonic) → h.amplitude ≡ pos 0 → f h ≡ pos 0) → (hs : List Harmonic)
+parts-present : (f : WaveSpec → ℤ) → ((h : WaveSpec) → h.amplitude ≡ pos 0 → f h ≡ pos 0) → (hs : List WaveSpec)
     → fold (λ sum h. sum +ℤ f h) (pos 0) (filter is_present hs) ≡ fold (λ sum h. sum +ℤ f h) (pos 0) hs
 parts-present f none hs = fold-present (λ sum h. sum +ℤ f h) (λ a h e. ap (λ z. a +ℤ z) (none h e) ∙ add_none a) (pos 0) hs
   where
@@ -78,18 +78,18 @@ none_times a z e = ap (λ a. a *ℤ z) e ∙ zero_times z
 none_twice : (a y z : ℤ) → a ≡ pos 0 → (a *ℤ y) *ℤ z ≡ pos 0
 none_twice a y z e = none_times (a *ℤ y) z (none_times a y e)
 
-pub heights-present : (t : ℕ) (hs : List Harmonic) → heights_of t (filter is_present hs) ≡ heights_of t hs
+pub heights-present : (t : ℕ) (hs : List WaveSpec) → heights_of t (filter is_present hs) ≡ heights_of t hs
 heights-present t hs = parts-present (height_at t) (λ h. none_times h.amplitude (icos_of (phase_at h t))) hs
 
-pub falls-present : (t : ℕ) (hs : List Harmonic) → falls_of t (filter is_present hs) ≡ falls_of t hs
+pub falls-present : (t : ℕ) (hs : List WaveSpec) → falls_of t (filter is_present hs) ≡ falls_of t hs
 falls-present t hs = parts-present (fall_at t) (λ h. none_twice h.amplitude (pos h.speed) (isin_of (phase_at h t))) hs
 
-pub approximate_heights-present : (t : ℕ) (hs : List Harmonic)
+pub approximate_heights-present : (t : ℕ) (hs : List WaveSpec)
     → approximate_heights_of t (filter is_present hs) ≡ approximate_heights_of t hs
 approximate_heights-present t hs =
     parts-present (approximate_height_at t) (λ h. none_times h.amplitude (approximate_sine_of (binary_angle_ahead h t))) hs
 
-pub approximate_falls-present : (t : ℕ) (hs : List Harmonic) → approximate_falls_of t (filter is_present hs) ≡ approximate_falls_of t hs
+pub approximate_falls-present : (t : ℕ) (hs : List WaveSpec) → approximate_falls_of t (filter is_present hs) ≡ approximate_falls_of t hs
 approximate_falls-present t hs =
     parts-present (approximate_fall_at t)
     (λ h. none_twice h.amplitude (pos (h.speed / 2 ^ 9)) (approximate_sine_of (binary_angle_after h t))) hs
@@ -112,11 +112,11 @@ no_fault b s (suc years) k h below =
     ]
 
 -- the waves of a year that is needed or isn't
-by_touch : (P : List Harmonic → Type 0) (touched : Bool) (hs : List Harmonic) → P [] → P hs → P (cond touched hs [])
+by_touch : (P : List WaveSpec → Type 0) (touched : Bool) (hs : List WaveSpec) → P [] → P hs → P (cond touched hs [])
 by_touch P true hs none all = all
 by_touch P false hs none all = none
 
-pub over-either : (P : List Harmonic → Type 0) (b : Book) (s : Station) (first last : ℤ) (year : ℕ) → P []
+pub over-either : (P : List WaveSpec → Type 0) (b : Book) (s : Station) (first last : ℤ) (year : ℕ) → P []
     → P (waves_of b s year) → P (waves_over b s first last year)
 unfolding waves_over
 over-either P b s first last year none all = by_touch P (is_touched b first last year) (waves_of b s year) none all

@@ -14,7 +14,7 @@ use Rattle.fixed_sine.specs.Rate.{step_of}
 use Rattle.fixed_sine.proofs.CircleLemmas.{isin_of_size, icos_of_size}
 use Rattle.fixed_sine.proofs.RateLemmas.{rate_law}
 use Rattle.year_blend.specs.Places.{start_of}
-use Rattle.station_curve.specs.Waves.{Harmonic, phase_at, height_at, fall_at, heights_of, falls_of, amount_of, steepness_of}
+use Rattle.station_curve.specs.Waves.{WaveSpec, phase_at, height_at, fall_at, heights_of, falls_of, amount_of, steepness_of}
 use Rattle.station_curve.specs.Sums.{height_rate_of, fall_rate_of, near_of, far_of}
 use Rattle.station_curve.specs.Levels.{minutes_into}
 use Rattle.station_curve.specs.Schureman.{constituents_of, amplitude_of, speed_of, angle_of, phase_of, predicted_year_level, predicted_year_slope}
@@ -28,13 +28,13 @@ use Rattle.station_curve.proofs.Products.{abs_times, abs_plus, abs_minus}
 onward : (n w : ℕ) → (n + w) % circle ≡ (n % circle + w) % circle
 onward n w = omega arith
 
-phase_onward : (h : Harmonic) (t : ℕ) → phase_at h (t + 1) ≡ (phase_at h t + h.speed) % circle
+phase_onward : (h : WaveSpec) (t : ℕ) → phase_at h (t + 1) ≡ (phase_at h t + h.speed) % circle
 phase_onward h t = ap (λ n. n % circle) (later h.phase h.speed t) ∙ onward (h.phase + h.speed * t) h.speed
   where
     later : (p w t : ℕ) → p + w * (t + 1) ≡ p + w * t + w
     later p w t = omega arith
 
-fall_gap : (t : ℕ) (h : Harmonic) → unsigned_abs (fall_at (t + 1) h -ℤ fall_at t h) ≤ fall_rate_of h
+fall_gap : (t : ℕ) (h : WaveSpec) → unsigned_abs (fall_at (t + 1) h -ℤ fall_at t h) ≤ fall_rate_of h
 fall_gap t h =
     let sine : unsigned_abs (isin_of (phase_at h (t + 1)) -ℤ isin_of (phase_at h t)) ≤ step_of h.speed =
     rw (phase_onward h t) (rate_law h.speed (phase_at h t) (mod_below (h.phase + h.speed * t) circle (lit< tt))) in
@@ -45,7 +45,7 @@ fall_gap t h =
 a_quarter_on : (n w : ℕ) → ((n % circle + w) % circle + circle / 4) % circle ≡ ((n % circle + circle / 4) % circle + w) % circle
 a_quarter_on n w = omega arith
 
-height_gap : (t : ℕ) (h : Harmonic) → unsigned_abs (height_at (t + 1) h -ℤ height_at t h) ≤ height_rate_of h
+height_gap : (t : ℕ) (h : WaveSpec) → unsigned_abs (height_at (t + 1) h -ℤ height_at t h) ≤ height_rate_of h
 unfolding icos_of
 height_gap t h =
     let n = h.phase + h.speed * t in
@@ -57,10 +57,10 @@ height_gap t h =
     scaled_gap h.amplitude (icos_of (phase_at h (t + 1))) (icos_of (phase_at h t)) (step_of h.speed) cosine
 
 -- the change of the sums over a year's waves in a minute
-falls_gap : (t : ℕ) (hs : List Harmonic) → unsigned_abs (falls_of (t + 1) hs -ℤ falls_of t hs) ≤ far_of hs
+falls_gap : (t : ℕ) (hs : List WaveSpec) → unsigned_abs (falls_of (t + 1) hs -ℤ falls_of t hs) ≤ far_of hs
 falls_gap t hs = sums_gap (fall_at (t + 1)) (fall_at t) fall_rate_of (fall_gap t) hs (pos 0) (pos 0) 0 (omega arith)
 
-heights_gap : (t : ℕ) (hs : List Harmonic) → unsigned_abs (heights_of (t + 1) hs -ℤ heights_of t hs) ≤ near_of hs
+heights_gap : (t : ℕ) (hs : List WaveSpec) → unsigned_abs (heights_of (t + 1) hs -ℤ heights_of t hs) ≤ near_of hs
 heights_gap t hs = sums_gap (height_at (t + 1)) (height_at t) height_rate_of (height_gap t) hs (pos 0) (pos 0) 0 (omega arith)
 
 minutes_onward : (start m : ℤ) → pos 0 ≤ℤ ((m -ℤ start) +ℤ pos 60)
@@ -173,7 +173,7 @@ near_part a w =
     let right : 17454000 * (a * w) ≡ a * (17454000 * w) = omega arith in
     rw (left, right) (omega (arith, most))
 
-near_parts : (hs : List Harmonic) (a b c : ℕ) → degree * a ≤ 17454000 * b + degree * c
+near_parts : (hs : List WaveSpec) (a b c : ℕ) → degree * a ≤ 17454000 * b + degree * c
     → degree * fold (λ sum h. sum + height_rate_of h) a hs
     ≤ 17454000 * fold (λ sum h. sum + unsigned_abs h.amplitude * h.speed) b hs
     + degree * fold (λ sum h. sum + unsigned_abs h.amplitude) c hs
@@ -183,7 +183,7 @@ near_parts (h ∷ hs) a b c small =
     near_parts hs (a + height_rate_of h) (b + unsigned_abs h.amplitude * h.speed) (c + unsigned_abs h.amplitude)
     (omega (arith, small, part))
 
-pub near_bound : (hs : List Harmonic) → degree * near_of hs ≤ 17454000 * steepness_of hs + degree * amount_of hs
+pub near_bound : (hs : List WaveSpec) → degree * near_of hs ≤ 17454000 * steepness_of hs + degree * amount_of hs
 near_bound hs = near_parts hs 0 0 0 (omega arith)
 
 pub most_step : (w : ℕ) → w ≤ 3600000000 → step_of w ≤ 104724001
@@ -194,7 +194,7 @@ pub height_rate_size : (a w : ℕ) → w ≤ 3600000000 → a * step_of w ≤ 10
 height_rate_size a w quick =
     let most = mul-le a (step_of w) a 104724001 (omega arith) (most_step w quick) in omega (arith, most)
 
-far_parts : (hs : List Harmonic) (a b : ℕ) → All (λ h. h.speed ≤ 3600000000) hs → a ≤ 104724001 * b
+far_parts : (hs : List WaveSpec) (a b : ℕ) → All (λ h. h.speed ≤ 3600000000) hs → a ≤ 104724001 * b
     → fold (λ sum h. sum + fall_rate_of h) a hs
     ≤ 104724001 * fold (λ sum h. sum + unsigned_abs h.amplitude * h.speed) b hs
 far_parts [] a b quick small = small
@@ -203,5 +203,5 @@ far_parts (h ∷ hs) a b quick small =
     far_parts hs (a + fall_rate_of h) (b + unsigned_abs h.amplitude * h.speed) (All-tail (λ h. h.speed ≤ 3600000000) h hs quick)
     (omega (arith, small, part))
 
-pub far_bound : (hs : List Harmonic) → All (λ h. h.speed ≤ 3600000000) hs → far_of hs ≤ 104724001 * steepness_of hs
+pub far_bound : (hs : List WaveSpec) → All (λ h. h.speed ≤ 3600000000) hs → far_of hs ≤ 104724001 * steepness_of hs
 far_bound hs quick = far_parts hs 0 0 quick (omega arith)

@@ -9,41 +9,41 @@ use Rattle.year_blend.specs.Weights.{total_weight}
 use Rattle.year_blend.specs.Places.{place_of}
 use Rattle.harmonics_book.specs.declared.book.Station.{Station}
 use Rattle.harmonics_book.specs.declared.book.Book.{Book}
-use Rattle.station_curve.specs.Waves.{Harmonic}
+use Rattle.station_curve.specs.Waves.{WaveSpec}
 use Rattle.station_curve.specs.Levels.{minutes_into}
 use Rattle.station_curve.specs.Schureman.{predicted_level, predicted_slope}
 use Rattle.station_curve.specs.Curves.{waves_of}
 
 -- the phase of a wave t minutes after the time an hour before the year's start, in 2^-64 of a turn
-abbrev pub binary_angle_after : Harmonic → ℕ → ℕ
+abbrev pub binary_angle_after : WaveSpec → ℕ → ℕ
 binary_angle_after h t = (binary_angle_of h.phase + binary_angle_of h.speed * t) % 2 ^ 64
 
 -- the phase of a wave t minutes after the time an hour before the year's start, plus a quarter of a
 -- turn, in 2^-64 of a turn: its sine is the cosine of the phase
-abbrev pub binary_angle_ahead : Harmonic → ℕ → ℕ
+abbrev pub binary_angle_ahead : WaveSpec → ℕ → ℕ
 binary_angle_ahead h t = (binary_angle_after h t + 2 ^ 62) % 2 ^ 64
 
 -- the wave's approximate height (its part of the level) t minutes after the time an hour before the
 -- year's start, in units of 2^15 * 10^-15 of the station's unit
-abbrev pub approximate_height_at : ℕ → Harmonic → ℤ
+abbrev pub approximate_height_at : ℕ → WaveSpec → ℤ
 approximate_height_at t h = h.amplitude *ℤ approximate_sine_of (binary_angle_ahead h t)
 
 -- the wave's approximate fall (minus its part of the slope) t minutes after the time an hour before the
 -- year's start, in 2^24 times the unit of a fall, which is 10^-15 of the station's unit a minute,
 -- divided by 34,377,467,708 (the units of angle in a radian); its speed is rounded down to a multiple
 -- of 2^9 units of 1/600,000,000 degree a minute, so that a year's sum fits 64 bits
-abbrev pub approximate_fall_at : ℕ → Harmonic → ℤ
+abbrev pub approximate_fall_at : ℕ → WaveSpec → ℤ
 approximate_fall_at t h = (h.amplitude *ℤ pos (h.speed / 2 ^ 9)) *ℤ approximate_sine_of (binary_angle_after h t)
 
 -- the sum of the waves' approximate heights t minutes after the time an hour before the year's start,
 -- in units of 2^15 * 10^-15 of the station's unit
-abbrev pub approximate_heights_of : ℕ → List Harmonic → ℤ
+abbrev pub approximate_heights_of : ℕ → List WaveSpec → ℤ
 approximate_heights_of t hs = fold (λ sum h. sum +ℤ approximate_height_at t h) (pos 0) hs
 
 -- the sum of the waves' approximate falls (minus the slope of each) t minutes after the time an hour
 -- before the year's start, in 2^24 times the unit of a fall, which is 10^-15 of the station's unit a
 -- minute, divided by 34,377,467,708 (the units of angle in a radian)
-abbrev pub approximate_falls_of : ℕ → List Harmonic → ℤ
+abbrev pub approximate_falls_of : ℕ → List WaveSpec → ℤ
 approximate_falls_of t hs = fold (λ sum h. sum +ℤ approximate_fall_at t h) (pos 0) hs
 
 -- the approximate level at minute m by the constants of one year, counted from 0, in billionths of a

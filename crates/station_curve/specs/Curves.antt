@@ -9,7 +9,7 @@ use Rattle.year_blend.specs.Places.{start_of, AreYears}
 use Rattle.year_blend.specs.Years.{year_start_of}
 use Rattle.station_curve.specs.declared.fault.CurveFault.{CurveFault}
 use Rattle.station_curve.specs.declared.fault.CurveFault.TheVariants.{Hydraulic, TooLarge, TooSteep, NoMemory}
-use Rattle.station_curve.specs.Waves.{Harmonic, amount_of, steepness_of}
+use Rattle.station_curve.specs.Waves.{WaveSpec, amount_of, steepness_of}
 use Rattle.station_curve.specs.declared.year_sums.Sums.{Sums}
 use Rattle.station_curve.specs.Sums.{sums_of}
 use Rattle.station_curve.specs.Limits.{most_amount, most_steepness}
@@ -17,7 +17,7 @@ use Rattle.station_curve.specs.Schureman.{constituents_of, speed_of, amplitude_o
 
 -- the wave of constituent k in a year, both counted from 0: its phase is that at an hour before the
 -- year's start
-abbrev pub wave_of : Book → Station → ℕ → ℕ → Harmonic
+abbrev pub wave_of : Book → Station → ℕ → ℕ → WaveSpec
 wave_of b s year k = record {
   amplitude = amplitude_of b s year k;
   speed = unsigned_abs (speed_of b k);
@@ -25,7 +25,7 @@ wave_of b s year k = record {
 }
 
 -- the waves of all constituents in a year, counted from 0, also of those with an amplitude of 0
-unfoldable pub waves_of : Book → Station → ℕ → List Harmonic
+unfoldable pub waves_of : Book → Station → ℕ → List WaveSpec
 waves_of b s year = map (wave_of b s year) (constituents_of b)
 
 -- year `year`, counted from 0, is at most an hour from the minutes from `first` to `last`, both
@@ -36,7 +36,7 @@ is_touched b first last year =
 
 -- the waves of a year, counted from 0, for the minutes from `first` to `last`: none if the year is more
 -- than an hour from them
-unfoldable pub waves_over : Book → Station → ℤ → ℤ → ℕ → List Harmonic
+unfoldable pub waves_over : Book → Station → ℤ → ℤ → ℕ → List WaveSpec
 waves_over b s first last year = if is_touched b first last year then waves_of b s year else []
 
 -- a prediction: a station of a book, and the minutes from `first` to `last`, both included, since
@@ -62,7 +62,7 @@ prediction_of b s = prediction_over b s (year_start_of b.first_year) (year_start
 
 -- the waves of a year, counted from 0, in a prediction: none if the year is more than an hour from its
 -- minutes
-abbrev pub waves_for : Prediction → ℕ → List Harmonic
+abbrev pub waves_for : Prediction → ℕ → List WaveSpec
 waves_for c year = waves_over c.book c.station c.first c.last year
 
 -- the four sums over the waves of a year, counted from 0, in a prediction: 0 if the year is more than

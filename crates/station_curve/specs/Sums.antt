@@ -3,32 +3,32 @@
 use Rattle.std.specs.Prelude.{ℕ, ◌*◌, List, pos, unsigned_abs, sum_by}
 use Rattle.fixed_sine.specs.Rate.{step_of}
 use Rattle.station_curve.specs.declared.year_sums.Sums.{Sums}
-use Rattle.station_curve.specs.Waves.{Harmonic, amount_of, steepness_of}
+use Rattle.station_curve.specs.Waves.{WaveSpec, amount_of, steepness_of}
 
 -- the most that a wave's height (its part of the level) changes in a minute, in billionths of a
 -- millionth of the station's unit
-abbrev pub height_rate_of : Harmonic → ℕ
+abbrev pub height_rate_of : WaveSpec → ℕ
 height_rate_of h = unsigned_abs h.amplitude * step_of h.speed
 
 -- the most that a wave's fall (minus its part of the slope) changes in a minute; a fall is in
 -- billionths of a millionth of the station's unit a minute, times 34,377,467,708 (the units of angle in
 -- a radian)
-abbrev pub fall_rate_of : Harmonic → ℕ
+abbrev pub fall_rate_of : WaveSpec → ℕ
 fall_rate_of h = unsigned_abs h.amplitude * h.speed * step_of h.speed
 
 -- the most that the sum of the waves' heights changes in a minute, in billionths of a millionth of the
 -- station's unit
-abbrev pub near_of : List Harmonic → ℕ
+abbrev pub near_of : List WaveSpec → ℕ
 near_of hs = sum_by height_rate_of hs
 
 -- the most that the sum of the waves' falls (minus the slope) changes in a minute; a fall is in
 -- billionths of a millionth of the station's unit a minute, times 34,377,467,708 (the units of angle in
 -- a radian)
-abbrev pub far_of : List Harmonic → ℕ
+abbrev pub far_of : List WaveSpec → ℕ
 far_of hs = sum_by fall_rate_of hs
 
 -- the four sums (`amount`, `steep`, `near`, `far`) of a year's waves
-abbrev pub sums_of : List Harmonic → Sums
+abbrev pub sums_of : List WaveSpec → Sums
 sums_of hs = record {
   amount = pos (amount_of hs);
   steep = pos (steepness_of hs);

@@ -4,7 +4,7 @@ use Rattle.harmonics_book.specs.declared.book.Units.{Units}
 use Rattle.harmonics_book.specs.declared.book.Units.TheVariants.{Feet}
 use Rattle.harmonics_book.specs.declared.book.Station.{Station}
 use Rattle.harmonics_book.specs.declared.book.Book.{Book}
-use Rattle.station_curve.specs.Waves.{Harmonic}
+use Rattle.station_curve.specs.Waves.{WaveSpec}
 
 -- a book for 1999 to 2001 with one constituent of this speed, in ten-millionths of a degree an hour;
 -- its equilibrium argument, in ten-millionths of a degree, is 0 in 1999, and then as given
@@ -33,7 +33,7 @@ small_station amplitude units = record {
 
 -- a wave with an amplitude of one unit that turns by half a degree a minute, with phase 0 an hour
 -- before the year begins
-abbrev pub small_wave : Harmonic
+abbrev pub small_wave : WaveSpec
 small_wave = record { amplitude = pos 1000000; speed = 300000000; phase = 0 }
 
 -- a book for 1999 to 2001: a tide of 12 hours, highest at noon and midnight, the same in all years

@@ -73,7 +73,7 @@ impl Model for StationCurve {
 }
 
 impl StationCurve {
-    ghost use Rattle.decimal_text.specs.Expected.{ReturnsUnless};
+    ghost use Rattle.decimal_text.specs.Expected.{EqualsUnlessNoMemory};
     ghost use Rattle.station_curve.specs.Curves.{curve_of, curve_over, is_out_of_memory, prediction_over, sums_for, IsPredicted, IsPrediction};
     ghost use Rattle.station_curve.specs.Schureman.{predicted_level, predicted_slope, predicted_millionths};
     ghost use Rattle.station_curve.specs.Workings.Prepared.{AreReady};
@@ -104,7 +104,7 @@ impl StationCurve {
     pub fn new(alloc: Global, book: &Book, station: u32) -> Result<StationCurve, CurveFault>
         requires book { IsBook book.now }
         requires station { station < length book.now.stations }
-        ensures { IfSome (slice_get book.now.stations station) (λ s. ReturnsUnless is_out_of_memory (curve_of book.now s) result) }
+        ensures { IfSome (slice_get book.now.stations station) (λ s. EqualsUnlessNoMemory is_out_of_memory (curve_of book.now s) result) }
     {
         let station = &book.stations.as_slice()[station as usize];
         let book = ValidBook::new(book);
@@ -135,7 +135,7 @@ impl StationCurve {
         requires last { InDomain book.now.first_year book.now.years last }
         requires forward { first ≤ℤ last }
         ensures { IfSome (slice_get book.now.stations station)
-            (λ s. ReturnsUnless is_out_of_memory (curve_over book.now s first last) result) }
+            (λ s. EqualsUnlessNoMemory is_out_of_memory (curve_over book.now s first last) result) }
     {
         let station = &book.stations.as_slice()[station as usize];
         StationCurve::of_station(
@@ -158,7 +158,7 @@ impl StationCurve {
         requires first { InDomain book.now.first_year book.now.years minute_range.first }
         requires last { InDomain book.now.first_year book.now.years minute_range.last }
         requires forward { minute_range.first ≤ℤ minute_range.last }
-        ensures { ReturnsUnless is_out_of_memory (curve_over book.now station.now minute_range.first minute_range.last) result }
+        ensures { EqualsUnlessNoMemory is_out_of_memory (curve_over book.now station.now minute_range.first minute_range.last) result }
     {
         if is_hydraulic(station.units) {
             return Err(CurveFault::Hydraulic);

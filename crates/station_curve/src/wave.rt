@@ -2,7 +2,7 @@
 
 ghost use Rattle.std.specs.Prelude.{◌≡◌, ℕ, ◌*◌, ◌/◌, ◌^◌, ◌<◌, ◌≤◌, pos, ◌*ℤ◌, unsigned_abs};
 ghost use Rattle.fixed_sine.specs.Circle.{circle};
-ghost use Rattle.station_curve.specs.Waves.{Harmonic, height_at, fall_at};
+ghost use Rattle.station_curve.specs.Waves.{WaveSpec, height_at, fall_at};
 ghost use Rattle.station_curve.specs.Approximate.{binary_angle_after, binary_angle_ahead, approximate_height_at, approximate_fall_at};
 ghost use Rattle.station_curve.specs.Sums.{height_rate_of, fall_rate_of};
 
@@ -36,10 +36,10 @@ pub struct Wave {
 
 impl Model for Wave {
     ghost use Rattle.fixed_sine.specs.BinaryAngle.{units_of};
-    ghost use Rattle.station_curve.specs.Waves.{Harmonic};
+    ghost use Rattle.station_curve.specs.Waves.{WaveSpec};
     ghost use Rattle.station_curve.specs.Workings.NumberRanges.{IsWave};
 
-    ghost Value = { Harmonic };
+    ghost Value = { WaveSpec };
 
     ghost view = { λ w. record { amplitude = w.amplitude; speed = w.speed; phase = units_of w.start } };
 

@@ -9,8 +9,8 @@ use Rattle.station_curve.specs.Curves.{first_fault, is_hydraulic, curve_of, curv
 use Rattle.station_table.specs.declared.basis.Basis.{Basis}
 use Rattle.station_table.specs.declared.offsets.Offsets.{Offsets}
 use Rattle.station_table.specs.Bases.{basis_of}
-use Rattle.station_span.specs.declared.asked.Asked.{Asked}
-use Rattle.station_span.specs.declared.reach.Reach.{Reach}
+use Rattle.station_span.specs.declared.span_request.SpanRequest.{SpanRequest}
+use Rattle.station_span.specs.declared.purpose.Purpose.{Purpose}
 use Rattle.tide_fault.specs.declared.refusal.Refusal.{Refusal}
 use Rattle.station_span.specs.Sites.{Site, basis_from, level_unit, span_in, curve_from, length_in, mark_in, site_at, site_in, station_in}
 
@@ -72,53 +72,53 @@ curve_excused false book station first last refusal excused = over_refused _ boo
 -- ---- the steps after the curve
 
 -- the steps of a station up to its curve
-pub record HasCurve (reach : Reach) (book : Book) (site : Site) (asked : Asked) (units : Units) (whole : Prediction) : Type 0 where
+pub record HasCurve (purpose : Purpose) (book : Book) (site : Site) (span_request : SpanRequest) (units : Units) (whole : Prediction) : Type 0 where
   pub unit : level_unit site.station.units ≡ Ok units
-  pub span : span_in reach book site.basis asked.begin asked.end ≡ Ok tt
+  pub span : span_in purpose book site.basis span_request.begin span_request.end ≡ Ok tt
   pub curve : curve_from (curve_of book site.station) ≡ Ok whole
 
 -- the span is refused
-pub refused_span : (memory : Bool) (reach : Reach) (book : Book) (site : Site) (asked : Asked) (units : Units)
+pub refused_span : (memory : Bool) (purpose : Purpose) (book : Book) (site : Site) (span_request : SpanRequest) (units : Units)
     (refusal : Refusal) → level_unit site.station.units ≡ Ok units
-    → Excused memory (span_in reach book site.basis asked.begin asked.end) refusal
-    → Excused memory (site_at reach book site asked) refusal
+    → Excused memory (span_in purpose book site.basis span_request.begin span_request.end) refusal
+    → Excused memory (site_at purpose book site span_request) refusal
 unfolding site_at
-refused_span memory reach book site asked units refusal unit excused =
-    rw unit (excused_then memory (span_in reach book site.basis asked.begin asked.end) _ refusal excused)
+refused_span memory purpose book site span_request units refusal unit excused =
+    rw unit (excused_then memory (span_in purpose book site.basis span_request.begin span_request.end) _ refusal excused)
 
 -- the curve is refused
 pub refused_curve :
-    (memory : Bool) (reach : Reach) (book : Book) (site : Site) (asked : Asked) (units : Units) (refusal : Refusal)
-    → level_unit site.station.units ≡ Ok units → span_in reach book site.basis asked.begin asked.end ≡ Ok tt
+    (memory : Bool) (purpose : Purpose) (book : Book) (site : Site) (span_request : SpanRequest) (units : Units) (refusal : Refusal)
+    → level_unit site.station.units ≡ Ok units → span_in purpose book site.basis span_request.begin span_request.end ≡ Ok tt
     → Excused memory (curve_from (curve_of book site.station)) refusal
-    → Excused memory (site_at reach book site asked) refusal
+    → Excused memory (site_at purpose book site span_request) refusal
 unfolding site_at
-refused_curve memory reach book site asked units refusal unit span excused =
+refused_curve memory purpose book site span_request units refusal unit span excused =
     rw (unit, span) (excused_then memory (curve_from (curve_of book site.station)) _ refusal excused)
 
 -- the span's length is refused
-pub refused_length : (memory : Bool) (reach : Reach) (book : Book) (site : Site) (asked : Asked) (units : Units)
-    (curve : Prediction) (refusal : Refusal) → HasCurve reach book site asked units curve
-    → Excused memory (length_in asked.begin asked.end) refusal → Excused memory (site_at reach book site asked) refusal
+pub refused_length : (memory : Bool) (purpose : Purpose) (book : Book) (site : Site) (span_request : SpanRequest) (units : Units)
+    (curve : Prediction) (refusal : Refusal) → HasCurve purpose book site span_request units curve
+    → Excused memory (length_in span_request.begin span_request.end) refusal → Excused memory (site_at purpose book site span_request) refusal
 unfolding site_at
-refused_length memory reach book site asked units curve refusal has excused =
-    rw (has.unit, has.span, has.curve) (excused_then memory (length_in asked.begin asked.end) _ refusal excused)
+refused_length memory purpose book site span_request units curve refusal has excused =
+    rw (has.unit, has.span, has.curve) (excused_then memory (length_in span_request.begin span_request.end) _ refusal excused)
 
 -- the mark is refused
-pub refused_mark : (memory : Bool) (reach : Reach) (book : Book) (site : Site) (asked : Asked) (units : Units)
-    (curve : Prediction) (refusal : Refusal) → HasCurve reach book site asked units curve
-    → length_in asked.begin asked.end ≡ Ok tt → Excused memory (mark_in site.basis asked.mark) refusal
-    → Excused memory (site_at reach book site asked) refusal
+pub refused_mark : (memory : Bool) (purpose : Purpose) (book : Book) (site : Site) (span_request : SpanRequest) (units : Units)
+    (curve : Prediction) (refusal : Refusal) → HasCurve purpose book site span_request units curve
+    → length_in span_request.begin span_request.end ≡ Ok tt → Excused memory (mark_in site.basis span_request.mark) refusal
+    → Excused memory (site_at purpose book site span_request) refusal
 unfolding site_at
-refused_mark memory reach book site asked units curve refusal has few excused =
-    rw (has.unit, has.span, has.curve, few) (excused_then memory (mark_in site.basis asked.mark) _ refusal excused)
+refused_mark memory purpose book site span_request units curve refusal has few excused =
+    rw (has.unit, has.span, has.curve, few) (excused_then memory (mark_in site.basis span_request.mark) _ refusal excused)
 
 -- nothing is refused
-pub found_whole : (reach : Reach) (book : Book) (site : Site) (asked : Asked) (units : Units) (curve : Prediction)
-    → HasCurve reach book site asked units curve → length_in asked.begin asked.end ≡ Ok tt
-    → mark_in site.basis asked.mark ≡ Ok tt → site_at reach book site asked ≡ Ok site
+pub found_whole : (purpose : Purpose) (book : Book) (site : Site) (span_request : SpanRequest) (units : Units) (curve : Prediction)
+    → HasCurve purpose book site span_request units curve → length_in span_request.begin span_request.end ≡ Ok tt
+    → mark_in site.basis span_request.mark ≡ Ok tt → site_at purpose book site span_request ≡ Ok site
 unfolding site_at
-found_whole reach book site asked units curve has few mark = rw (has.unit, has.span, has.curve, few, mark) refl
+found_whole purpose book site span_request units curve has few mark = rw (has.unit, has.span, has.curve, few, mark) refl
 
 -- ---- a station by its name
 
@@ -129,12 +129,12 @@ pub reference_whole : (book : Book) (table : List Offsets) (name : List ℕ) (si
 unfolding station_in
 reference_whole book table name site units curve from is unit whole = rw (from, is, unit, whole) refl
 
-pub found_by : (reach : Reach) (book : Book) (table : List Offsets) (name : List ℕ) (asked : Asked) (basis : Basis)
+pub found_by : (purpose : Purpose) (book : Book) (table : List Offsets) (name : List ℕ) (span_request : SpanRequest) (basis : Basis)
     (station : Station) → basis_from (basis_of book table name) ≡ Ok basis
     → slice_get book.stations basis.station ≡ Some station
-    → site_in reach book table name asked ≡ site_at reach book (record { basis = basis; station = station }) asked
+    → site_in purpose book table name span_request ≡ site_at purpose book (record { basis = basis; station = station }) span_request
 unfolding site_in
-found_by reach book table name asked basis station from is = rw (from, is) refl
+found_by purpose book table name span_request basis station from is = rw (from, is) refl
 
 pub excused_by : {A : Type 0} (memory : Bool) (expected : Result A Refusal) (refusal : Refusal) → expected ≡ Err refusal
     → Excused memory expected refusal

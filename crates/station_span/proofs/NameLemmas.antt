@@ -19,8 +19,8 @@ use Rattle.station_table.specs.declared.finding.FindFault.{FindFault}
 use Rattle.station_table.specs.declared.offsets.Offsets.{Offsets}
 use Rattle.station_table.specs.Bases.{basis_of, basis_in, station_at, row_at, reference_or}
 use Rattle.station_table.specs.Offsets.{IsTable, IsOffsets, IsTableName}
-use Rattle.station_span.specs.declared.asked.Asked.{Asked}
-use Rattle.station_span.specs.declared.reach.Reach.{Reach}
+use Rattle.station_span.specs.declared.span_request.SpanRequest.{SpanRequest}
+use Rattle.station_span.specs.declared.purpose.Purpose.{Purpose}
 use Rattle.tide_fault.specs.declared.refusal.Refusal.{Refusal}
 use Rattle.station_span.specs.Sites.{Site, basis_from, site_in}
 use Rattle.station_span.proofs.SiteLemmas.{position_within}
@@ -107,29 +107,29 @@ named_within T name_of name (x ∷ xs) all within = by_test (bytes_eq (name_of x
     let more = rw other at within in
     named_within T name_of name xs (All-tail (λ (y : T). IsStationName (name_of y)) x xs all) (omega (arith, more)))
 
-named_at : (T : Type 0) (name_of : T → List ℕ) (name : List ℕ) (xs : List T) (place : ℕ)
-    → All (λ x. IsStationName (name_of x)) xs → position (λ x. bytes_eq (name_of x) name) xs ≡ Some place
+named_at : (T : Type 0) (name_of : T → List ℕ) (name : List ℕ) (xs : List T) (index : ℕ)
+    → All (λ x. IsStationName (name_of x)) xs → position (λ x. bytes_eq (name_of x) name) xs ≡ Some index
     → IsStationName name
-named_at T name_of name xs place all is =
-    named_within T name_of name xs all (position_within (λ x. bytes_eq (name_of x) name) xs place is).0
+named_at T name_of name xs index all is =
+    named_within T name_of name xs all (position_within (λ x. bytes_eq (name_of x) name) xs index is).0
 
 -- ---- the name of a station that was found
 
-of_row : (book : Book) (table : List Offsets) (name : List ℕ) (basis : Basis) (place : Option ℕ) → IsTable table
-    → row_at table name ≡ place → basis_in book table name ≡ Ok basis → IsStationName name
+of_row : (book : Book) (table : List Offsets) (name : List ℕ) (basis : Basis) (index : Option ℕ) → IsTable table
+    → row_at table name ≡ index → basis_in book table name ≡ Ok basis → IsStationName name
 unfolding basis_in
-of_row book table name basis (Some place) is found ok =
-    named_at Offsets (λ (o : Offsets). o.name) name table place (All-weaker IsOffsets (λ (o : Offsets). IsStationName o.name)
-    (λ o row. row_name o.name row.name) table is.each) found
-of_row book table name basis None is found ok = absurd (let none = rw found at ok in cc)
+of_row book table name basis (Some index) is found_station ok =
+    named_at Offsets (λ (o : Offsets). o.name) name table index (All-weaker IsOffsets (λ (o : Offsets). IsStationName o.name)
+    (λ o row. row_name o.name row.name) table is.each) found_station
+of_row book table name basis None is found_station ok = absurd (let none = rw found_station at ok in cc)
 
-of_station : (book : Book) (table : List Offsets) (name : List ℕ) (basis : Basis) (place : Option ℕ) → IsBook book
-    → IsTable table → station_at book name ≡ place → reference_or (basis_in book table name) place ≡ Ok basis
+of_station : (book : Book) (table : List Offsets) (name : List ℕ) (basis : Basis) (index : Option ℕ) → IsBook book
+    → IsTable table → station_at book name ≡ index → reference_or (basis_in book table name) index ≡ Ok basis
     → IsStationName name
-of_station book table name basis (Some place) is rows found ok =
-    named_at Station (λ (s : Station). s.name) name book.stations place (All-weaker (IsStation (length book.constituents))
-    (λ (s : Station). IsStationName s.name) (λ s station. station_name s.name station.name) book.stations is.stations) found
-of_station book table name basis None is rows found ok = of_row book table name basis (row_at table name) rows refl ok
+of_station book table name basis (Some index) is rows found_station ok =
+    named_at Station (λ (s : Station). s.name) name book.stations index (All-weaker (IsStation (length book.constituents))
+    (λ (s : Station). IsStationName s.name) (λ s station. station_name s.name station.name) book.stations is.stations) found_station
+of_station book table name basis None is rows found_station ok = of_row book table name basis (row_at table name) rows refl ok
 
 pub of_basis : (book : Book) (table : List Offsets) (name : List ℕ) (basis : Basis) → IsBook book → IsTable table
     → basis_of book table name ≡ Ok basis → IsStationName name
@@ -137,12 +137,12 @@ unfolding basis_of
 of_basis book table name basis is rows ok = of_station book table name basis (station_at book name) is rows refl ok
 
 named_by : (book : Book) (table : List Offsets) (name : List ℕ) (next : Basis → Result Site Refusal) (site : Site)
-    (found : Result Basis FindFault) → IsBook book → IsTable table → basis_of book table name ≡ found
-    → (basis_from found >>= next) ≡ Ok site → IsStationName name
-named_by book table name next site (Ok basis) is rows found ok = of_basis book table name basis is rows found
-named_by book table name next site (Err fault) is rows found ok = absurd cc
+    (found_station : Result Basis FindFault) → IsBook book → IsTable table → basis_of book table name ≡ found_station
+    → (basis_from found_station >>= next) ≡ Ok site → IsStationName name
+named_by book table name next site (Ok basis) is rows found_station ok = of_basis book table name basis is rows found_station
+named_by book table name next site (Err fault) is rows found_station ok = absurd cc
 
-pub site_name : (reach : Reach) (book : Book) (table : List Offsets) (name : List ℕ) (asked : Asked) (site : Site)
-    → IsBook book → IsTable table → site_in reach book table name asked ≡ Ok site → IsStationName name
+pub site_name : (purpose : Purpose) (book : Book) (table : List Offsets) (name : List ℕ) (span_request : SpanRequest) (site : Site)
+    → IsBook book → IsTable table → site_in purpose book table name span_request ≡ Ok site → IsStationName name
 unfolding site_in
-site_name reach book table name asked site is rows ok = named_by book table name _ site (basis_of book table name) is rows refl ok
+site_name purpose book table name span_request site is rows ok = named_by book table name _ site (basis_of book table name) is rows refl ok

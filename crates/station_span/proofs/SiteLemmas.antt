@@ -24,9 +24,9 @@ use Rattle.station_table.specs.declared.offset.Slack.{Slack}
 use Rattle.station_table.specs.declared.offsets.Offsets.{Offsets}
 use Rattle.station_table.specs.Bases.{IsBasis, usual, is_equal, station_at, row_at, reference_or, basis_over, basis_in, basis_of}
 use Rattle.station_table.specs.Offsets.{IsTable, IsOffset, IsOffsets, IsSlack}
-use Rattle.station_span.specs.declared.asked.Asked.{Asked}
-use Rattle.station_span.specs.declared.reach.Reach.{Reach}
-use Rattle.station_span.specs.declared.reach.Reach.TheVariants.{Events, Levels, Highest}
+use Rattle.station_span.specs.declared.span_request.SpanRequest.{SpanRequest}
+use Rattle.station_span.specs.declared.purpose.Purpose.{Purpose}
+use Rattle.station_span.specs.declared.purpose.Purpose.TheVariants.{Events, Levels, Highest}
 use Rattle.tide_fault.specs.declared.refusal.Refusal.TheVariants.{NoStation}
 use Rattle.station_span.specs.Sites.{Site, basis_from, lacks_minute, level_unit, moved, reached, has_span, span_in, curve_from, length_in, mark_in, span_limit, site_at, site_in}
 use Rattle.station_span.specs.Workings.Spans.{HasLevels, IsBeside, IsFound, IsInRange, IsSpanInRange, IsReached}
@@ -36,22 +36,22 @@ use Rattle.station_curve.proofs.WithinLimits.{limits_of}
 
 -- ---- the results of a station's steps
 
-record WentThrough (reach : Reach) (book : Book) (site : Site) (asked : Asked) : Type 0 where
+record WentThrough (purpose : Purpose) (book : Book) (site : Site) (span_request : SpanRequest) : Type 0 where
   pub units : Units
   pub whole : Prediction
-  pub curve : HasCurve reach book site asked units whole
-  pub few : length_in asked.begin asked.end ≡ Ok tt
-  pub mark : mark_in site.basis asked.mark ≡ Ok tt
+  pub curve : HasCurve purpose book site span_request units whole
+  pub few : length_in span_request.begin span_request.end ≡ Ok tt
+  pub mark : mark_in site.basis span_request.mark ≡ Ok tt
 
-site_steps : (reach : Reach) (book : Book) (site result : Site) (asked : Asked)
-    → site_at reach book site asked ≡ Ok result → WentThrough reach book site asked × (site ≡ result)
+site_steps : (purpose : Purpose) (book : Book) (site result : Site) (span_request : SpanRequest)
+    → site_at purpose book site span_request ≡ Ok result → WentThrough purpose book site span_request × (site ≡ result)
 unfolding site_at
-site_steps reach book site result asked ok =
+site_steps purpose book site result span_request ok =
     let unit = then_ok (level_unit site.station.units) _ result ok in
-    let span = then_ok (span_in reach book site.basis asked.begin asked.end) _ result unit.2 in
+    let span = then_ok (span_in purpose book site.basis span_request.begin span_request.end) _ result unit.2 in
     let curve = then_ok (curve_from (curve_of book site.station)) _ result span.2 in
-    let few = then_ok (length_in asked.begin asked.end) _ result curve.2 in
-    let mark = then_ok (mark_in site.basis asked.mark) _ result few.2 in
+    let few = then_ok (length_in span_request.begin span_request.end) _ result curve.2 in
+    let mark = then_ok (mark_in site.basis span_request.mark) _ result few.2 in
     let same : site ≡ result = (let last = mark.2 in cc) in (
       record {
         units = unit.0;
@@ -63,23 +63,23 @@ site_steps reach book site result asked ok =
       same,
     )
 
-record WasFound (reach : Reach) (book : Book) (table : List Offsets) (name : List ℕ) (asked : Asked) (site : Site) : Type 0 where
+record WasFound (purpose : Purpose) (book : Book) (table : List Offsets) (name : List ℕ) (span_request : SpanRequest) (site : Site) : Type 0 where
   pub basis : basis_from (basis_of book table name) ≡ Ok site.basis
   pub station : slice_get book.stations site.basis.station ≡ Some site.station
-  pub steps : WentThrough reach book site asked
+  pub steps : WentThrough purpose book site span_request
 
 got_ok : {T E : Type 0} (o : Option T) (fault : E) (x : T) → ok_or o fault ≡ Ok x → o ≡ Some x
 got_ok (Some y) fault x ok = cc
 got_ok None fault x ok = absurd cc
 
-was_found : (reach : Reach) (book : Book) (table : List Offsets) (name : List ℕ) (asked : Asked) (site : Site)
-    → site_in reach book table name asked ≡ Ok site → WasFound reach book table name asked site
+was_found : (purpose : Purpose) (book : Book) (table : List Offsets) (name : List ℕ) (span_request : SpanRequest) (site : Site)
+    → site_in purpose book table name span_request ≡ Ok site → WasFound purpose book table name span_request site
 unfolding site_in
-was_found reach book table name asked site ok =
+was_found purpose book table name span_request site ok =
     let basis = then_ok (basis_from (basis_of book table name)) _ site ok in
     let station = then_ok (ok_or (slice_get book.stations basis.0.station) NoStation) _ site basis.2 in
-    let steps = site_steps reach book (record { basis = basis.0; station = station.0 }) site asked station.2 in
-    subst (WasFound reach book table name asked) steps.1
+    let steps = site_steps purpose book (record { basis = basis.0; station = station.0 }) site span_request station.2 in
+    subst (WasFound purpose book table name span_request) steps.1
     (record { basis = basis.1; station = got_ok _ NoStation station.0 station.1; steps = steps.0 })
 
 -- ---- each step
@@ -112,33 +112,33 @@ mark_here basis (Some mark) ok level is = by_test (is_equal basis)
     (λ equal. rw equal refl)
     (λ other. absurd (let none = rw other at ok in cc))
 
-span_tests : (reach : Reach) (book : Book) (basis : Basis) (begin end : ℤ) → span_in reach book basis begin end ≡ Ok tt
-    → (int_lt end begin ≡ false) × (lacks_minute reach begin end ≡ false)
-    × (has_span book (reached reach basis begin end) ≡ true)
+span_tests : (purpose : Purpose) (book : Book) (basis : Basis) (begin end : ℤ) → span_in purpose book basis begin end ≡ Ok tt
+    → (int_lt end begin ≡ false) × (lacks_minute purpose begin end ≡ false)
+    × (has_span book (reached purpose basis begin end) ≡ true)
 unfolding span_in
-span_tests reach book basis begin end ok = by_test (int_lt end begin)
+span_tests purpose book basis begin end ok = by_test (int_lt end begin)
     (λ backward. absurd (let none = rw backward at ok in cc))
-    (λ forward. by_test (lacks_minute reach begin end)
+    (λ forward. by_test (lacks_minute purpose begin end)
     (λ lacking. absurd (let none = rw (forward, lacking) at ok in cc))
-    (λ some. by_test (has_span book (reached reach basis begin end))
+    (λ some. by_test (has_span book (reached purpose basis begin end))
     (λ inside. (forward, some, inside))
     (λ outside. absurd (let none = rw (forward, some, outside) at ok in cc))))
 
 -- ---- the offsets
 
-pub position_within : {T : Type 0} (test : T → Bool) (xs : List T) (place : ℕ) → position test xs ≡ Some place
-    → (position_or_len test xs < length xs) × (position_or_len test xs ≡ place)
-position_within test xs place is = by_test (nat_lt (position_or_len test xs) (length xs))
+pub position_within : {T : Type 0} (test : T → Bool) (xs : List T) (index : ℕ) → position test xs ≡ Some index
+    → (position_or_len test xs < length xs) × (position_or_len test xs ≡ index)
+position_within test xs index is = by_test (nat_lt (position_or_len test xs) (length xs))
     (λ within. (grind (arith, nat_tests), (let some = rw within at is in cc)))
     (λ beyond. absurd (let none = rw beyond at is in cc))
 
-placed : {T : Type 0} (test : T → Bool) (xs : List T) (place : ℕ) → position test xs ≡ Some place → place < length xs
-placed test xs place is = let at = position_within test xs place is in rw (← at.1) at.0
+placed : {T : Type 0} (test : T → Bool) (xs : List T) (index : ℕ) → position test xs ≡ Some index → index < length xs
+placed test xs index is = let at = position_within test xs index is in rw (← at.1) at.0
 
-each_got : {T : Type 0} (P : T → Type 0) (xs : List T) (place : ℕ) (x : T) → All P xs → slice_get xs place ≡ Some x → P x
-each_got P [] place x all got = absurd cc
+each_got : {T : Type 0} (P : T → Type 0) (xs : List T) (index : ℕ) (x : T) → All P xs → slice_get xs index ≡ Some x → P x
+each_got P [] index x all got = absurd cc
 each_got P (y ∷ ys) zero x all got = let same : y ≡ x = cc in subst P same (All-head P y ys all)
-each_got P (y ∷ ys) (suc place) x all got = each_got P ys place x (All-tail P y ys all) got
+each_got P (y ∷ ys) (suc index) x all got = each_got P ys index x (All-tail P y ys all) got
 
 usual_offset : IsOffset usual
 usual_offset = record {
@@ -150,21 +150,21 @@ usual_offset = record {
 no_slack : ForSome None IsSlack
 no_slack slack is = absurd cc
 
-over_valid : (book : Book) (row : ℕ) (offsets : Offsets) (basis : Basis) (place : Option ℕ) → IsOffsets offsets
-    → station_at book offsets.reference ≡ place → basis_over book row offsets ≡ Ok basis
+over_valid : (book : Book) (row : ℕ) (offsets : Offsets) (basis : Basis) (index : Option ℕ) → IsOffsets offsets
+    → station_at book offsets.reference ≡ index → basis_over book row offsets ≡ Ok basis
     → IsBasis (length book.stations) basis
 unfolding basis_over
-over_valid book row offsets basis (Some station) valid found ok =
+over_valid book row offsets basis (Some station) valid found_station ok =
     let same :
     record { station = station; row = Some row; high = offsets.high; low = offsets.low; slack = offsets.slack }
-    ≡ basis = (let some = rw found at ok in cc) in
+    ≡ basis = (let some = rw found_station at ok in cc) in
     subst (IsBasis (length book.stations)) same (record {
-      station = placed (λ (s : Station). bytes_eq s.name offsets.reference) book.stations station found;
+      station = placed (λ (s : Station). bytes_eq s.name offsets.reference) book.stations station found_station;
       high = valid.high;
       low = valid.low;
       slack = valid.slack;
     })
-over_valid book row offsets basis None valid found ok = absurd (let none = rw found at ok in cc)
+over_valid book row offsets basis None valid found_station ok = absurd (let none = rw found_station at ok in cc)
 
 in_valid : (book : Book) (table : List Offsets) (name : List ℕ) (basis : Basis) → IsTable table
     → basis_in book table name ≡ Ok basis → IsBasis (length book.stations) basis
@@ -175,21 +175,21 @@ in_valid book table name basis is ok =
     over_valid book row.0 offsets.0 basis (station_at book offsets.0.reference)
     (each_got IsOffsets table row.0 offsets.0 is.each (got_ok _ find.NoStation offsets.0 offsets.1)) refl offsets.2
 
-of_valid : (book : Book) (table : List Offsets) (name : List ℕ) (basis : Basis) (place : Option ℕ) → IsTable table
-    → station_at book name ≡ place → reference_or (basis_in book table name) place ≡ Ok basis
+of_valid : (book : Book) (table : List Offsets) (name : List ℕ) (basis : Basis) (index : Option ℕ) → IsTable table
+    → station_at book name ≡ index → reference_or (basis_in book table name) index ≡ Ok basis
     → IsBasis (length book.stations) basis
-of_valid book table name basis (Some station) is found ok =
+of_valid book table name basis (Some station) is found_station ok =
     let same : record { station = station; row = None; high = usual; low = usual; slack = None } ≡ basis = cc in
     subst (IsBasis (length book.stations)) same (record {
-      station = placed (λ (s : Station). bytes_eq s.name name) book.stations station found;
+      station = placed (λ (s : Station). bytes_eq s.name name) book.stations station found_station;
       high = usual_offset;
       low = usual_offset;
       slack = no_slack;
     })
-of_valid book table name basis None is found ok = in_valid book table name basis is ok
+of_valid book table name basis None is found_station ok = in_valid book table name basis is ok
 
 basis_ok : (result : Result Basis FindFault) (basis : Basis) → basis_from result ≡ Ok basis → result ≡ Ok basis
-basis_ok (Ok found) basis ok = cc
+basis_ok (Ok found_station) basis ok = cc
 basis_ok (Err fault) basis ok = absurd cc
 
 basis_valid : (book : Book) (table : List Offsets) (name : List ℕ) (basis : Basis) → IsTable table
@@ -244,67 +244,67 @@ moved_in_range basis begin end forward b e has = by_test (is_equal basis)
     (λ equal. rw equal (span_in_range begin end basis.high.add basis.high.add forward b e (high_add basis has)))
     (λ other. rw other (span_in_range begin end (least_add basis) (greatest_add basis) forward b e (basis_adds basis has)))
 
-reached_in_range : (reach : Reach) (basis : Basis) (begin end : ℤ) → begin ≤ℤ end → unsigned_abs begin ≤ 20000000000
+reached_in_range : (purpose : Purpose) (basis : Basis) (begin end : ℤ) → begin ≤ℤ end → unsigned_abs begin ≤ 20000000000
     → unsigned_abs end ≤ 20000000000 → HasOffsets basis
-    → IsSpanInRange (reached reach basis begin end) × IsBeside begin end (reached reach basis begin end)
+    → IsSpanInRange (reached purpose basis begin end) × IsBeside begin end (reached purpose basis begin end)
 reached_in_range Events basis begin end forward b e has =
     span_in_range begin end (least_add basis) (greatest_add basis) forward b e (basis_adds basis has)
 reached_in_range Levels basis begin end forward b e has = moved_in_range basis begin end forward b e has
 reached_in_range Highest basis begin end forward b e has = moved_in_range basis begin end forward b e has
 
-pub span_reached : (reach : Reach) (book : Book) (basis : Basis) (asked : Asked) → HasOffsets basis → IsInRange asked
-    → span_in reach book basis asked.begin asked.end ≡ Ok tt → IsReached reach book basis asked.begin asked.end
-span_reached reach book basis asked has in_range ok =
-    let tests = span_tests reach book basis asked.begin asked.end ok in
-    let forward : asked.begin ≤ℤ asked.end = (let test = tests.0 in grind (arith, ints)) in
-    let both = reached_in_range reach basis asked.begin asked.end forward in_range.begin in_range.end has in
-    reached_span reach book basis asked.begin asked.end tests.0 tests.1 tests.2 both.0 both.1
+pub span_reached : (purpose : Purpose) (book : Book) (basis : Basis) (span_request : SpanRequest) → HasOffsets basis → IsInRange span_request
+    → span_in purpose book basis span_request.begin span_request.end ≡ Ok tt → IsReached purpose book basis span_request.begin span_request.end
+span_reached purpose book basis span_request has in_range ok =
+    let tests = span_tests purpose book basis span_request.begin span_request.end ok in
+    let forward : span_request.begin ≤ℤ span_request.end = (let test = tests.0 in grind (arith, ints)) in
+    let both = reached_in_range purpose basis span_request.begin span_request.end forward in_range.begin in_range.end has in
+    reached_span purpose book basis span_request.begin span_request.end tests.0 tests.1 tests.2 both.0 both.1
 
 -- ---- a station that was found has a curve
 
-pub found_of_site : (reach : Reach) (book : Book) (table : List Offsets) (name : List ℕ) (asked : Asked) (site : Site)
-    → IsBook book → IsTable table → IsInRange asked → site_in reach book table name asked ≡ Ok site
-    → IsFound reach book asked site
-found_of_site reach book table name asked site is rows in_range ok =
-    let was = was_found reach book table name asked site ok in
+pub found_of_site : (purpose : Purpose) (book : Book) (table : List Offsets) (name : List ℕ) (span_request : SpanRequest) (site : Site)
+    → IsBook book → IsTable table → IsInRange span_request → site_in purpose book table name span_request ≡ Ok site
+    → IsFound purpose book span_request site
+found_of_site purpose book table name span_request site is rows in_range ok =
+    let was = was_found purpose book table name span_request site ok in
     let steps = was.steps in
     let valid = basis_valid book table name site.basis rows was.basis in
     let station = each_got (IsStation (length book.constituents)) book.stations site.basis.station site.station is.stations was.station in
-    let span = span_reached reach book site.basis asked (has_offsets _ site.basis valid) in_range steps.curve.span in
+    let span = span_reached purpose book site.basis span_request (has_offsets _ site.basis valid) in_range steps.curve.span in
     record {
       valid = valid;
       levels = unit_levels site.station.units steps.units steps.curve.unit;
       limits = limits_of book site.station is station (curve_none book site.station _ steps.whole refl steps.curve.curve);
       span = span;
-      few = few_minutes asked.begin asked.end steps.few;
-      mark = mark_here site.basis asked.mark steps.mark;
+      few = few_minutes span_request.begin span_request.end steps.few;
+      mark = mark_here site.basis span_request.mark steps.mark;
       in_range = in_range;
     }
 
 -- ---- the facts of any station that was found
 
 -- the span of a station that was found has the minutes that are needed
-pub site_minutes : (reach : Reach) (book : Book) (table : List Offsets) (name : List ℕ) (asked : Asked) (site : Site)
-    → site_in reach book table name asked ≡ Ok site → lacks_minute reach asked.begin asked.end ≡ false
-site_minutes reach book table name asked site ok =
-    let was = was_found reach book table name asked site ok in
-    (span_tests reach book site.basis asked.begin asked.end was.steps.curve.span).1
+pub site_minutes : (purpose : Purpose) (book : Book) (table : List Offsets) (name : List ℕ) (span_request : SpanRequest) (site : Site)
+    → site_in purpose book table name span_request ≡ Ok site → lacks_minute purpose span_request.begin span_request.end ≡ false
+site_minutes purpose book table name span_request site ok =
+    let was = was_found purpose book table name span_request site ok in
+    (span_tests purpose book site.basis span_request.begin span_request.end was.steps.curve.span).1
 
 -- the offsets of a station that was found are in the ranges of a table
-pub site_basis : (reach : Reach) (book : Book) (table : List Offsets) (name : List ℕ) (asked : Asked) (site : Site)
-    → IsTable table → site_in reach book table name asked ≡ Ok site → IsBasis (length book.stations) site.basis
-site_basis reach book table name asked site rows ok =
-    basis_valid book table name site.basis rows (was_found reach book table name asked site ok).basis
+pub site_basis : (purpose : Purpose) (book : Book) (table : List Offsets) (name : List ℕ) (span_request : SpanRequest) (site : Site)
+    → IsTable table → site_in purpose book table name span_request ≡ Ok site → IsBasis (length book.stations) site.basis
+site_basis purpose book table name span_request site rows ok =
+    basis_valid book table name site.basis rows (was_found purpose book table name span_request site ok).basis
 
 -- a station that was found is found also without a mark
-pub site_unmarked : (reach : Reach) (book : Book) (table : List Offsets) (name : List ℕ) (asked : Asked) (site : Site)
-    → site_in reach book table name asked ≡ Ok site
-    → site_in reach book table name (record asked { mark = None }) ≡ Ok site
-site_unmarked reach book table name asked site ok =
-    let was = was_found reach book table name asked site ok in
+pub site_unmarked : (purpose : Purpose) (book : Book) (table : List Offsets) (name : List ℕ) (span_request : SpanRequest) (site : Site)
+    → site_in purpose book table name span_request ≡ Ok site
+    → site_in purpose book table name (record span_request { mark = None }) ≡ Ok site
+site_unmarked purpose book table name span_request site ok =
+    let was = was_found purpose book table name span_request site ok in
     let steps = was.steps in
-    let bare : Asked = record asked { mark = None } in
+    let bare : SpanRequest = record span_request { mark = None } in
     let curve = steps.curve in
-    found_by reach book table name bare site.basis site.station was.basis was.station
-    ∙ found_whole reach book site bare steps.units steps.whole
+    found_by purpose book table name bare site.basis site.station was.basis was.station
+    ∙ found_whole purpose book site bare steps.units steps.whole
     (record { unit = curve.unit; span = curve.span; curve = curve.curve }) steps.few refl

@@ -9,7 +9,7 @@ use Rattle.station_table.specs.Bases.{IsBasis}
 use Rattle.year_blend.specs.Places.{AreYears, InDomain}
 use Rattle.year_blend.proofs.YearLemmas.{year_start_of_low, year_start_of_high}
 use Rattle.zone_time.specs.Moments.{IsMoment}
-use Rattle.station_span.specs.declared.reach.Reach.{Reach}
+use Rattle.station_span.specs.declared.purpose.Purpose.{Purpose}
 use Rattle.station_span.specs.Sites.{lacks_minute, reached, has_minute, has_span}
 use Rattle.station_span.specs.Workings.Spans.{IsBeside, IsFileMinute, IsSpanInRange, IsReached}
 
@@ -31,11 +31,11 @@ both_true true true h = (refl, refl)
 both_true true false h = (refl, h)
 both_true false b h = (h, absurd (cc))
 
-pub reached_span : (reach : Reach) (book : Book) (basis : Basis) (begin end : ℤ) → int_lt end begin ≡ false
-    → lacks_minute reach begin end ≡ false → has_span book (reached reach basis begin end) ≡ true
-    → IsSpanInRange (reached reach basis begin end) → IsBeside begin end (reached reach basis begin end)
-    → IsReached reach book basis begin end
-reached_span reach book basis begin end forward some inside in_range beside =
+pub reached_span : (purpose : Purpose) (book : Book) (basis : Basis) (begin end : ℤ) → int_lt end begin ≡ false
+    → lacks_minute purpose begin end ≡ false → has_span book (reached purpose basis begin end) ≡ true
+    → IsSpanInRange (reached purpose basis begin end) → IsBeside begin end (reached purpose basis begin end)
+    → IsReached purpose book basis begin end
+reached_span purpose book basis begin end forward some inside in_range beside =
     let both = both_true _ _ inside in
     record {
       forward = grind (arith, ints);

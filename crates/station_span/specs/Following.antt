@@ -9,10 +9,10 @@ use Rattle.harmonics_book.specs.declared.book.Units.{Units}
 use Rattle.harmonics_book.specs.declared.book.Units.TheVariants.{Knots}
 use Rattle.rate_bound.specs.declared.version.Version.{Version}
 use Rattle.rate_bound.specs.declared.version.Version.TheVariants.{Second}
-use Rattle.rate_bound.specs.Meanings.{predicted_turn, predicted_mark}
+use Rattle.rate_bound.specs.CurveSpecs.{predicted_turn, predicted_mark}
 use Rattle.station_table.specs.declared.basis.Basis.{Basis}
 use Rattle.station_table.specs.Bases.{is_equal}
-use Rattle.station_span.specs.declared.asked.Asked.{Asked}
+use Rattle.station_span.specs.declared.span_request.SpanRequest.{SpanRequest}
 use Rattle.station_span.specs.Sites.{Site}
 
 -- a station's slack waters are listed: it is a current, and its slack waters have separate offsets, or
@@ -51,17 +51,17 @@ followed_by version book site mark = record {
 
 -- the curves of a station's tracks with the rates of version 2, which every answer uses except the check
 -- of a certificate of version 1
-abbrev pub followed : Book → Site → Asked → Followed
-followed book site asked = followed_by Second book site asked.mark
+abbrev pub followed : Book → Site → SpanRequest → Followed
+followed book site span_request = followed_by Second book site span_request.mark
 
 -- the station's events over the span of the request
-unfoldable pub events_of : Book → Site → Asked → List Event
-events_of book site asked = station_events (followed book site asked) site.basis asked.begin asked.end
+unfoldable pub events_of : Book → Site → SpanRequest → List Event
+events_of book site span_request = station_events (followed book site span_request) site.basis span_request.begin span_request.end
 
 -- the cells of each curve over the evaluated minutes of the reference
-unfoldable pub tracks_of : Book → Site → Asked → Tracks
-tracks_of book site asked = covers_of (followed book site asked) (widened_of site.basis asked.begin asked.end)
+unfoldable pub tracks_of : Book → Site → SpanRequest → Tracks
+tracks_of book site span_request = covers_of (followed book site span_request) (widened_of site.basis span_request.begin span_request.end)
 
 -- the number of cells of all curves over the evaluated minutes of the reference
-unfoldable pub cells_of : Book → Site → Asked → ℕ
-cells_of book site asked = cell_count (followed book site asked) (widened_of site.basis asked.begin asked.end)
+unfoldable pub cells_of : Book → Site → SpanRequest → ℕ
+cells_of book site span_request = cell_count (followed book site span_request) (widened_of site.basis span_request.begin span_request.end)

@@ -1,6 +1,6 @@
 -- The highest water of a station over a span (this project).
 use Rattle.std.specs.Prelude.{ℕ, ℤ, pos, ◌-ℤ◌, unsigned_abs, true, List, Result, Ok}
-use Rattle.curve_law.specs.Meaning.{Meaning}
+use Rattle.curve_law.specs.CurveSpec.{CurveSpec}
 use Rattle.decimal_text.specs.Expected.{◌>>=◌}
 use Rattle.harmonics_book.specs.declared.book.Book.{Book}
 use Rattle.highest_water.specs.declared.peak.Peak.{Peak}
@@ -8,42 +8,42 @@ use Rattle.highest_water.specs.declared.verdict.PeakVerdict.{PeakVerdict}
 use Rattle.highest_water.specs.Covers.{peak_of}
 use Rattle.highest_water.specs.Verdicts.{peak_verdict}
 use Rattle.rate_bound.specs.declared.version.Version.TheVariants.{Second}
-use Rattle.rate_bound.specs.Meanings.{predicted_mark}
+use Rattle.rate_bound.specs.CurveSpecs.{predicted_mark}
 use Rattle.station_table.specs.declared.offsets.Offsets.{Offsets}
 use Rattle.tide_fault.specs.declared.refusal.Refusal.{Refusal}
-use Rattle.station_span.specs.declared.asked.Asked.{Asked}
-use Rattle.station_span.specs.declared.reach.Reach.TheVariants.{Highest}
+use Rattle.station_span.specs.declared.span_request.SpanRequest.{SpanRequest}
+use Rattle.station_span.specs.declared.purpose.Purpose.TheVariants.{Highest}
 use Rattle.station_span.specs.Levels.{level_in}
 use Rattle.station_span.specs.Sites.{Site, site_in}
 
 -- the station of a name with a span for a highest water, if it has a level at each minute, or the first
 -- refusal
-unfoldable pub highest_site : Book → List Offsets → List ℕ → Asked → Result Site Refusal
-highest_site book table name asked = do
-  site ← site_in Highest book table name asked
+unfoldable pub highest_site : Book → List Offsets → List ℕ → SpanRequest → Result Site Refusal
+highest_site book table name span_request = do
+  site ← site_in Highest book table name span_request
   level ← level_in site.basis
   Ok site
 
 -- the curve of the reference's level, without offsets and with a mark of 0: its values are in 10^-21 of
 -- the reference's unit, times 4,147,200,000 (the total weight of a blend)
-abbrev pub level_curve : Book → Site → Meaning
+abbrev pub level_curve : Book → Site → CurveSpec
 level_curve book site = predicted_mark Second book site.station (pos 1000000) (pos 0) (pos 0) true
 
 -- the reference's minute that the high-water offset moves to the first minute of the span
-abbrev pub first_source : Site → Asked → ℤ
-first_source site asked = asked.begin -ℤ site.basis.high.add
+abbrev pub first_source : Site → SpanRequest → ℤ
+first_source site span_request = span_request.begin -ℤ site.basis.high.add
 
 -- the number of minutes of the span of the request, from its begin up to but not including its end
-abbrev pub minute_count : Asked → ℕ
-minute_count asked = unsigned_abs (asked.end -ℤ asked.begin)
+abbrev pub minute_count : SpanRequest → ℕ
+minute_count span_request = unsigned_abs (span_request.end -ℤ span_request.begin)
 
 -- the highest water of the reference among the minutes that the high-water offset moves into the span,
 -- with the cells that show it
-unfoldable pub highest_of : Book → Site → Asked → Peak
-highest_of book site asked = peak_of (level_curve book site) (first_source site asked) (minute_count asked)
+unfoldable pub highest_of : Book → Site → SpanRequest → Peak
+highest_of book site span_request = peak_of (level_curve book site) (first_source site span_request) (minute_count span_request)
 
 -- the verdict on a claimed highest water of the reference among the minutes that the high-water offset
 -- moves into the span, however it was made
-unfoldable pub highest_verdict : Book → Site → Asked → Peak → PeakVerdict
-highest_verdict book site asked peak =
-    peak_verdict (level_curve book site) (first_source site asked) (minute_count asked) peak
+unfoldable pub highest_verdict : Book → Site → SpanRequest → Peak → PeakVerdict
+highest_verdict book site span_request peak =
+    peak_verdict (level_curve book site) (first_source site span_request) (minute_count span_request) peak

@@ -15,9 +15,9 @@ use Rattle.station_table.specs.declared.finding.FindFault.{FindFault}
 use Rattle.station_table.specs.declared.offsets.Offsets.{Offsets}
 use Rattle.station_table.specs.Bases.{basis_of, is_equal}
 use Rattle.year_blend.specs.Years.{year_start_of}
-use Rattle.station_span.specs.declared.asked.Asked.{Asked}
-use Rattle.station_span.specs.declared.reach.Reach.{Reach}
-use Rattle.station_span.specs.declared.reach.Reach.TheVariants.{Events, Levels, Highest}
+use Rattle.station_span.specs.declared.span_request.SpanRequest.{SpanRequest}
+use Rattle.station_span.specs.declared.purpose.Purpose.{Purpose}
+use Rattle.station_span.specs.declared.purpose.Purpose.TheVariants.{Events, Levels, Highest}
 use Rattle.tide_fault.specs.declared.refusal.Refusal.{Refusal}
 use Rattle.tide_fault.specs.declared.refusal.Refusal.TheVariants.{NoStation, Hydraulic, BackwardSpan, EmptySpan, OutOfYears, SpanTooLong, MarkNotHere}
 use Rattle.tide_fault.specs.Faults.{refusal_of_curve, refusal_of_find}
@@ -36,7 +36,7 @@ pub record BookWithTable : Type 0 where
 -- a request about a station: its name, its span and its optional mark
 pub record NamedSpan : Type 0 where
   pub name : List ℕ
-  pub asked : Asked
+  pub span_request : SpanRequest
 
 -- the greatest number of minutes of a span of a request
 abbrev pub span_limit : ℤ
@@ -65,20 +65,20 @@ moved basis begin end =
 
 -- the minutes of the reference that a request needs: for events all minutes whose events the offsets can
 -- move into the span, else the minutes for levels
-abbrev pub reached : Reach → Basis → ℤ → ℤ → Span
+abbrev pub reached : Purpose → Basis → ℤ → ℤ → Span
 reached Events basis begin end = widened_of basis begin end
 reached Levels basis begin end = moved basis begin end
 reached Highest basis begin end = moved basis begin end
 
 -- a request for this purpose needs a span with a minute: an empty span has no highest water
-abbrev pub needs_minute : Reach → Bool
+abbrev pub needs_minute : Purpose → Bool
 needs_minute Events = false
 needs_minute Levels = false
 needs_minute Highest = true
 
 -- the span is empty, and the request needs a minute
-unfoldable pub lacks_minute : Reach → ℤ → ℤ → Bool
-lacks_minute reach begin end = needs_minute reach && int_le end begin
+unfoldable pub lacks_minute : Purpose → ℤ → ℤ → Bool
+lacks_minute purpose begin end = needs_minute purpose && int_le end begin
 
 -- a minute, since 1970-01-01T00:00Z, is in the file's years, or is the first one after them
 abbrev pub has_minute : Book → ℤ → Bool
@@ -93,11 +93,11 @@ has_span book span = has_minute book span.begin && has_minute book span.end
 
 -- the step of the span: its end isn't before its beginning, it has a minute if the request needs one,
 -- and the file has the minutes of the reference that are needed; otherwise it is refused
-unfoldable pub span_in : Reach → Book → Basis → ℤ → ℤ → Result (Unit {0}) Refusal
-span_in reach book basis begin end =
+unfoldable pub span_in : Purpose → Book → Basis → ℤ → ℤ → Result (Unit {0}) Refusal
+span_in purpose book basis begin end =
     if int_lt end begin then Err BackwardSpan
-    else if lacks_minute reach begin end then Err EmptySpan
-    else if has_span book (reached reach basis begin end) then Ok tt
+    else if lacks_minute purpose begin end then Err EmptySpan
+    else if has_span book (reached purpose basis begin end) then Ok tt
     else Err (OutOfYears (year_start_of book.first_year) (year_start_of (book.first_year +ℤ pos book.years)))
 
 -- the step of the limits on the constants: the station's curve, or the refusal
@@ -118,22 +118,22 @@ mark_in basis (Some mark) = if is_equal basis then Ok tt else Err MarkNotHere
 -- ---- all of them
 
 -- the steps from the unit on
-unfoldable pub site_at : Reach → Book → Site → Asked → Result Site Refusal
-site_at reach book site asked = do
+unfoldable pub site_at : Purpose → Book → Site → SpanRequest → Result Site Refusal
+site_at purpose book site span_request = do
   units ← level_unit site.station.units
-  span ← span_in reach book site.basis asked.begin asked.end
+  span ← span_in purpose book site.basis span_request.begin span_request.end
   curve ← curve_from (curve_of book site.station)
-  few ← length_in asked.begin asked.end
-  mark ← mark_in site.basis asked.mark
+  few ← length_in span_request.begin span_request.end
+  mark ← mark_in site.basis span_request.mark
   Ok site
 
 -- all steps: the station called `name` with its offsets, if a request for this purpose over this span
 -- has an answer, or the first refusal
-unfoldable pub site_in : Reach → Book → List Offsets → List ℕ → Asked → Result Site Refusal
-site_in reach book table name asked = do
+unfoldable pub site_in : Purpose → Book → List Offsets → List ℕ → SpanRequest → Result Site Refusal
+site_in purpose book table name span_request = do
   basis ← basis_from (basis_of book table name)
   station ← ok_or (slice_get book.stations basis.station) NoStation
-  site_at reach book (record { basis = basis; station = station }) asked
+  site_at purpose book (record { basis = basis; station = station }) span_request
 
 -- the station called `name` with its offsets, if its reference has a curve for all minutes of the file,
 -- or the first refusal

@@ -2,7 +2,7 @@
 
 ghost use Rattle.std.specs.Prelude.{◌≡◌, option_map};
 ghost use Rattle.std.specs.Option.{ForSome};
-ghost use Rattle.rate_bound.specs.Meanings.{turn_meaning};
+ghost use Rattle.rate_bound.specs.CurveSpecs.{turn_spec};
 ghost use Rattle.station_span.specs.Following.{asks_slack, slack_times, slack_plus};
 ghost use Rattle.station_span.specs.Workings.Curves.{mark_over, slack_over};
 
@@ -12,42 +12,50 @@ use harmonics_book::Units;
 use rate_bound::{MarkCurve, TurnCurve, Version};
 use station_table::Basis;
 
-/// Returns the curve whose sign changes are the high and low waters of the reference of `found`, or a
-/// current's greatest and least streams, with the rates of `version`. It is not yet evaluated.
-pub fn turn_curve<'a>(found: &'a FoundStation, version: Version) -> TurnCurve<'a>
-    ensures meaning { (⟦<TurnCurve<'a> as Curve>⟧.state result).facts.meaning ≡ turn_meaning version found.now.curve }
+/// Returns the curve whose sign changes are the high and low waters of the reference of
+/// `found_station`, or a current's greatest and least streams, with the rates of `version`. It is not
+/// yet evaluated.
+pub fn turn_curve<'a>(found_station: &'a FoundStation, version: Version) -> TurnCurve<'a>
+    ensures curve_spec { (⟦<TurnCurve<'a> as Curve>⟧.state result).curve_model.curve_spec ≡ turn_spec version found_station.now.curve }
     ensures fresh { (⟦<TurnCurve<'a> as Curve>⟧.state result).count ≡ 0 }
 {
-    TurnCurve::new(&found.curve, version)
+    TurnCurve::new(&found_station.curve, version)
 }
 
 /// Returns the curve whose sign changes are a current's slack waters, with the rates of `version`, not
-/// yet evaluated. Returns `None` if the slack waters of the station `found` aren't listed.
-pub fn slack_curve<'a>(found: &'a FoundStation, version: Version) -> Option<MarkCurve<'a>>
-    ensures meaning { option_map (λ curve. (⟦<MarkCurve<'a> as Curve>⟧.state curve).facts.meaning) result
-        ≡ slack_over version found.now.curve found.now.basis }
+/// yet evaluated. Returns `None` if the slack waters of the station `found_station` aren't listed.
+pub fn slack_curve<'a>(found_station: &'a FoundStation, version: Version) -> Option<MarkCurve<'a>>
+    ensures curve_spec { option_map (λ curve. (⟦<MarkCurve<'a> as Curve>⟧.state curve).curve_model.curve_spec) result
+        ≡ slack_over version found_station.now.curve found_station.now.basis }
     ensures fresh { ForSome result (λ curve. (⟦<MarkCurve<'a> as Curve>⟧.state curve).count ≡ 0) }
 {
-    let basis = &found.basis;
-    if !asks_slack(found.units, basis) {
+    let basis = &found_station.basis;
+    if !asks_slack(found_station.units, basis) {
         return None;
     }
     let times = slack_times(basis);
     let plus = slack_plus(basis);
-    Some(MarkCurve::new(&found.curve, version, times, plus, 0, true))
+    Some(MarkCurve::new(&found_station.curve, version, times, plus, 0, true))
 }
 
 /// Returns the curve whose sign changes are the crossings of the mark of the request, with the rates of
 /// `version`, not yet evaluated. Returns `None` if the request has no mark.
-pub fn mark_curve<'a>(found: &'a FoundStation, version: Version) -> Option<MarkCurve<'a>>
-    ensures meaning { option_map (λ curve. (⟦<MarkCurve<'a> as Curve>⟧.state curve).facts.meaning) result
-        ≡ mark_over version found.now.curve found.now.basis found.now.asked.mark }
+pub fn mark_curve<'a>(found_station: &'a FoundStation, version: Version) -> Option<MarkCurve<'a>>
+    ensures curve_spec { option_map (λ curve. (⟦<MarkCurve<'a> as Curve>⟧.state curve).curve_model.curve_spec) result
+        ≡ mark_over version found_station.now.curve found_station.now.basis found_station.now.span_request.mark }
     ensures fresh { ForSome result (λ curve. (⟦<MarkCurve<'a> as Curve>⟧.state curve).count ≡ 0) }
 {
-    match found.asked.mark {
+    match found_station.span_request.mark {
         Some(level) => {
-            let high = &found.basis.high;
-            Some(MarkCurve::new(&found.curve, version, high.times, high.plus, level, false))
+            let high = &found_station.basis.high;
+            Some(MarkCurve::new(
+                &found_station.curve,
+                version,
+                high.times,
+                high.plus,
+                level,
+                false,
+            ))
         }
         None => None,
     }

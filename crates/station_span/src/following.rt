@@ -13,7 +13,7 @@ ghost use Rattle.station_span.specs.Workings.Finds.{AreReferences, IsSiteList, L
 
 use crate::curves::{mark_curve, slack_curve, turn_curve};
 use crate::found_station::FoundStation;
-use crate::reach::Reach;
+use crate::purpose::Purpose;
 use crate::station::find_station;
 use crate::station_data::StationData;
 use crate::station_request::StationRequest;
@@ -45,34 +45,34 @@ pub fn list_station(
     stations: &StationData<'_>,
     request: &StationRequest<'_>,
 ) -> Result<FoundEvents, Refusal>
-    ensures exact { Lists stations.now.book request.now.asked
-        (site_in Reach.Events stations.now.book stations.now.table request.now.name request.now.asked) result }
+    ensures exact { Lists stations.now.book request.now.span_request
+        (site_in Purpose.Events stations.now.book stations.now.table request.now.name request.now.span_request) result }
     ensures named { OnOk result (IsStationName request.now.name) }
 {
-    let found = find_station(alloc, stations, Reach::Events, request)?;
-    Ok(find_events(alloc, &found)?)
+    let found_station = find_station(alloc, stations, Purpose::Events, request)?;
+    Ok(find_events(alloc, &found_station)?)
 }
 
-/// Returns the events of the station `found` over the span of its request. `found` is a result of
-/// [`find_station`](crate::find_station) for [`Reach::Events`].
+/// Returns the events of the station `found_station` over the span of its request. `found_station` is a
+/// result of [`find_station`](crate::find_station) for [`Purpose::Events`].
 ///
 /// # Examples
 /// ```
 /// let stations = StationData::new(&book, &table);
-/// let request = StationRequest::new(&name, asked);
-/// let found = find_station(alloc, &stations, Reach::Events, &request)?;
-/// let listed = find_events(alloc, &found)?;
+/// let request = StationRequest::new(&name, span_request);
+/// let found_station = find_station(alloc, &stations, Purpose::Events, &request)?;
+/// let listed = find_events(alloc, &found_station)?;
 /// assert_eq!(rt; listed.events.as_slice().len(), 4);
 /// ```
-pub fn find_events(alloc: Global, found: &FoundStation) -> Result<FoundEvents, AllocError>
-    requires { found.now.reach ≡ Reach.Events }
-    ensures { IfOk result (λ listed. IsSiteList found.now.curve.book found.now.asked (site_of found.now) listed) }
+pub fn find_events(alloc: Global, found_station: &FoundStation) -> Result<FoundEvents, AllocError>
+    requires { found_station.now.purpose ≡ Purpose.Events }
+    ensures { IfOk result (λ listed. IsSiteList found_station.now.curve.book found_station.now.span_request (site_of found_station.now) listed) }
 {
-    let mut merge = merge_of(found);
+    let mut merge = merge_of(found_station);
     let merged = merged_events(alloc, &mut merge)?;
-    let events = shifted_events(alloc, merged, found)?;
+    let events = shifted_events(alloc, merged, found_station)?;
     Ok(FoundEvents {
-        units: found.units,
+        units: found_station.units,
         events,
         cells: merge.cells(),
     })
@@ -83,7 +83,7 @@ fn merged_events<'a>(
     alloc: Global,
     merge: &mut Merge<TurnCurve<'a>, MarkCurve<'a>>,
 ) -> Result<Events, AllocError>
-    ensures events { IfOk result (λ events. events ≡ merge.old.left) }
+    ensures events { IfOk result (λ events. events ≡ merge.old.remaining) }
     ensures cells { OnOk result (merge.new.cells ≡ merge.old.all) }
 {
     let mut events = Vec::new(alloc);
@@ -94,84 +94,99 @@ fn merged_events<'a>(
 }
 
 /// Returns the station's events, made from the events `merged` of its reference.
-fn shifted_events(alloc: Global, merged: Events, found: &FoundStation) -> Result<Events, AllocError>
-    requires reach { found.now.reach ≡ Reach.Events }
-    requires merged { AreReferences found.now merged }
-    ensures { IfOk result (λ events. events ≡ events_of found.now.curve.book (site_of found.now) found.now.asked) }
+fn shifted_events(
+    alloc: Global,
+    merged: Events,
+    found_station: &FoundStation,
+) -> Result<Events, AllocError>
+    requires purpose { found_station.now.purpose ≡ Purpose.Events }
+    requires merged { AreReferences found_station.now merged }
+    ensures { IfOk result (λ events. events ≡ events_of found_station.now.curve.book (site_of found_station.now) found_station.now.span_request) }
 {
-    if found.basis.plain() {
+    if found_station.basis.plain() {
         Ok(merged)
     } else {
         shifted(
             alloc,
             &merged,
-            &found.basis,
-            found.asked.begin,
-            found.asked.end,
+            &found_station.basis,
+            found_station.span_request.begin,
+            found_station.span_request.end,
         )
     }
 }
 
-/// Returns a merge of the events of the reference of `found` over its evaluated minutes. The merge
-/// yields one event at a time and doesn't allocate. If the station has no offsets, these are the
-/// station's events. `found` is a result of [`find_station`](crate::find_station) for
-/// [`Reach::Events`].
-pub fn merge_of<'a>(found: &'a FoundStation) -> Merge<TurnCurve<'a>, MarkCurve<'a>>
-    requires { found.now.reach ≡ Reach.Events }
-    ensures left { AreReferences found.now result.left }
-    ensures plain { IsTrue (is_plain found.now.basis) → result.left ≡ events_of found.now.curve.book (site_of found.now) found.now.asked }
+/// Returns a merge of the events of the reference of `found_station` over its evaluated minutes. The
+/// merge yields one event at a time and doesn't allocate. If the station has no offsets, these are the
+/// station's events. `found_station` is a result of [`find_station`](crate::find_station) for
+/// [`Purpose::Events`].
+pub fn merge_of<'a>(found_station: &'a FoundStation) -> Merge<TurnCurve<'a>, MarkCurve<'a>>
+    requires { found_station.now.purpose ≡ Purpose.Events }
+    ensures remaining { AreReferences found_station.now result.remaining }
+    ensures plain { IsTrue (is_plain found_station.now.basis) → result.remaining ≡ events_of found_station.now.curve.book (site_of found_station.now) found_station.now.span_request }
     ensures cells { result.cells ≡ 0 }
-    ensures all { result.all ≡ cells_of found.now.curve.book (site_of found.now) found.now.asked }
+    ensures all { result.all ≡ cells_of found_station.now.curve.book (site_of found_station.now) found_station.now.span_request }
 {
-    Merge::new(turn_search(found), slack_search(found), mark_search(found))
-}
-
-/// Returns the search for the high and low waters of the reference of `found`, or a current's greatest
-/// and least streams. It evaluates the curve at most once per cell, plus once. `found` is for
-/// [`Reach::Events`].
-pub fn turn_search<'a>(found: &'a FoundStation) -> Search<TurnCurve<'a>>
-    requires { found.now.reach ≡ Reach.Events }
-    ensures at { result.at ≡ found.now.span.begin }
-    ensures left { result.left ≡ (tracks_of found.now.curve.book (site_of found.now) found.now.asked).turn }
-    ensures most { result.most ≡ length result.left + 1 }
-{
-    Search::new(
-        turn_curve(found, Version::Second),
-        found.span.begin,
-        found.span.end,
+    Merge::new(
+        turn_search(found_station),
+        slack_search(found_station),
+        mark_search(found_station),
     )
 }
 
-/// Returns the search for the slack waters of the reference station of `found`, or `None` if the station
-/// of `found` is no current, or has different offsets for highs and lows and none for slack waters. The
-/// search evaluates the curve at most once per cell, plus once. `found` is for [`Reach::Events`].
-pub fn slack_search<'a>(found: &'a FoundStation) -> Option<Search<MarkCurve<'a>>>
-    requires { found.now.reach ≡ Reach.Events }
-    ensures at { ForSome result (λ search. search.at ≡ found.now.span.begin) }
-    ensures left { cells_left result ≡ (tracks_of found.now.curve.book (site_of found.now) found.now.asked).slack }
-    ensures most { ForSome result (λ search. search.most ≡ length search.left + 1) }
+/// Returns the search for the high and low waters of the reference of `found_station`, or a current's
+/// greatest and least streams. It evaluates the curve at most once per cell, plus once. `found_station`
+/// is for [`Purpose::Events`].
+pub fn turn_search<'a>(found_station: &'a FoundStation) -> Search<TurnCurve<'a>>
+    requires { found_station.now.purpose ≡ Purpose.Events }
+    ensures at { result.at ≡ found_station.now.span.begin }
+    ensures remaining { result.remaining ≡ (tracks_of found_station.now.curve.book (site_of found_station.now) found_station.now.span_request).turn }
+    ensures most { result.most ≡ length result.remaining + 1 }
 {
-    search_if(slack_curve(found, Version::Second), &found.span)
+    Search::new(
+        turn_curve(found_station, Version::Second),
+        found_station.span.begin,
+        found_station.span.end,
+    )
+}
+
+/// Returns the search for the slack waters of the reference station of `found_station`, or `None` if
+/// the station of `found_station` is no current, or has different offsets for highs and lows and none
+/// for slack waters. The search evaluates the curve at most once per cell, plus once. `found_station`
+/// is for [`Purpose::Events`].
+pub fn slack_search<'a>(found_station: &'a FoundStation) -> Option<Search<MarkCurve<'a>>>
+    requires { found_station.now.purpose ≡ Purpose.Events }
+    ensures at { ForSome result (λ search. search.at ≡ found_station.now.span.begin) }
+    ensures remaining { cells_left result ≡ (tracks_of found_station.now.curve.book (site_of found_station.now) found_station.now.span_request).slack }
+    ensures most { ForSome result (λ search. search.most ≡ length search.remaining + 1) }
+{
+    search_if(
+        slack_curve(found_station, Version::Second),
+        &found_station.span,
+    )
 }
 
 /// Returns the search for the minutes of the reference at which the station's level crosses the mark,
-/// or `None` if the request of `found` has no mark. It evaluates the curve at most once per cell, plus
-/// once. `found` is for [`Reach::Events`].
-pub fn mark_search<'a>(found: &'a FoundStation) -> Option<Search<MarkCurve<'a>>>
-    requires { found.now.reach ≡ Reach.Events }
-    ensures at { ForSome result (λ search. search.at ≡ found.now.span.begin) }
-    ensures left { cells_left result ≡ (tracks_of found.now.curve.book (site_of found.now) found.now.asked).mark }
-    ensures most { ForSome result (λ search. search.most ≡ length search.left + 1) }
+/// or `None` if the request of `found_station` has no mark. It evaluates the curve at most once per
+/// cell, plus once. `found_station` is for [`Purpose::Events`].
+pub fn mark_search<'a>(found_station: &'a FoundStation) -> Option<Search<MarkCurve<'a>>>
+    requires { found_station.now.purpose ≡ Purpose.Events }
+    ensures at { ForSome result (λ search. search.at ≡ found_station.now.span.begin) }
+    ensures remaining { cells_left result ≡ (tracks_of found_station.now.curve.book (site_of found_station.now) found_station.now.span_request).mark }
+    ensures most { ForSome result (λ search. search.most ≡ length search.remaining + 1) }
 {
-    search_if(mark_curve(found, Version::Second), &found.span)
+    search_if(
+        mark_curve(found_station, Version::Second),
+        &found_station.span,
+    )
 }
 
 /// Returns the search for the cells of `curve`, or `None` if there is no curve.
 fn search_if<C: Curve>(curve: Option<C>, span: &Span) -> Option<Search<C>>
     requires { ForSome curve (λ c. IsFreshOver span.now (C.state c)) }
     ensures at { ForSome result (λ search. search.at ≡ span.now.begin) }
-    ensures left { cells_left result ≡ option_map (λ c. cover_over span.now (C.state c).facts.meaning) curve }
-    ensures most { ForSome result (λ search. search.most ≡ length search.left + 1) }
+    ensures remaining { cells_left result ≡ option_map (λ c. cover_over span.now (C.state c).curve_model.curve_spec) curve }
+    ensures most { ForSome result (λ search. search.most ≡ length search.remaining + 1) }
 {
     match curve {
         Some(curve) => Some(Search::new(curve, span.begin, span.end)),

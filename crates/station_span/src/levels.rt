@@ -4,9 +4,9 @@ ghost use Rattle.std.specs.Prelude.{◌≡◌, ◌-ℤ◌, pos, negsuc, IsTrue, 
 ghost use Rattle.event_list.specs.Shifts.{scaled};
 ghost use Rattle.event_list.specs.Worked.{dock};
 ghost use Rattle.station_table.specs.Bases.{is_equal};
-ghost use Rattle.station_span.specs.declared.reach.Reach.{Reach};
+ghost use Rattle.station_span.specs.declared.purpose.Purpose.{Purpose};
 ghost use Rattle.station_span.specs.Levels.{is_rising_at, level_at, level_in};
-ghost use Rattle.station_span.specs.Workings.Finds.{AreLooked, IsLooked, site_of};
+ghost use Rattle.station_span.specs.Workings.Finds.{AreEvaluable, IsEvaluable, site_of};
 ghost use Rattle.station_curve.specs.Curves.{IsPredicted};
 
 use crate::found_station::FoundStation;
@@ -14,53 +14,55 @@ use crate::station::earlier;
 use event_list::scaled;
 use tide_fault::Refusal;
 
-/// Returns `Ok` if the station `found` has a level at each minute, because its high and low waters have
-/// the same offsets.
+/// Returns `Ok` if the station `found_station` has a level at each minute, because its high and low
+/// waters have the same offsets.
 ///
 /// # Errors
 /// [`Refusal::LevelNotHere`] if its high and low waters have different offsets.
 #[tactic(auto, unfolding(crate::specs::Levels::level_in))]
-pub fn check_level(found: &FoundStation) -> Result<(), Refusal>
-    ensures exact { result ≡ level_in found.now.basis }
-    ensures equal { OnOk result (IsTrue (is_equal found.now.basis)) }
-    ensures first { found.now.reach ≡ Reach.Events → IsLooked found.now found.now.asked.begin }
-    ensures all { OnOk result (found.now.reach ≡ Reach.Levels → AreLooked found.now) }
+pub fn check_level(found_station: &FoundStation) -> Result<(), Refusal>
+    ensures exact { result ≡ level_in found_station.now.basis }
+    ensures equal { OnOk result (IsTrue (is_equal found_station.now.basis)) }
+    ensures first { found_station.now.purpose ≡ Purpose.Events → IsEvaluable found_station.now found_station.now.span_request.begin }
+    ensures all { OnOk result (found_station.now.purpose ≡ Purpose.Levels → AreEvaluable found_station.now) }
 {
-    if found.basis.equal() {
+    if found_station.basis.equal() {
         Ok(())
     } else {
         Err(Refusal::LevelNotHere)
     }
 }
 
-/// Returns the level of the station `found` at `minute`, since 1970-01-01T00:00Z, in millionths of its
-/// unit. This is the reference's level at `minute` less the minutes of the station's offset, times its
-/// factor, rounded to whole millionths, plus its height. It doesn't allocate.
-pub fn level_at(found: &FoundStation, minute: i64) -> i64
-    requires { IsLooked found.now minute }
-    ensures { result ≡ level_at found.now.curve.book (site_of found.now) minute }
+/// Returns the level of the station `found_station` at `minute`, since 1970-01-01T00:00Z, in millionths
+/// of its unit. This is the reference's level at `minute` less the minutes of the station's offset,
+/// times its factor, rounded to whole millionths, plus its height. It doesn't allocate.
+pub fn level_at(found_station: &FoundStation, minute: i64) -> i64
+    requires { IsEvaluable found_station.now minute }
+    ensures { result ≡ level_at found_station.now.curve.book (site_of found_station.now) minute }
 {
-    let level = found.curve.millionths(source(found, minute));
-    scaled(&found.basis.high, level)
+    let level = found_station
+        .curve
+        .millionths(source(found_station, minute));
+    scaled(&found_station.basis.high, level)
 }
 
-/// Returns true if the level of the station `found` rises at `minute`: the reference's slope at
+/// Returns true if the level of the station `found_station` rises at `minute`: the reference's slope at
 /// `minute` less the minutes of the station's offset is above 0. It doesn't allocate.
-pub fn is_rising(found: &FoundStation, minute: i64) -> bool
-    requires { IsLooked found.now minute }
-    ensures { result ≡ is_rising_at found.now.curve.book (site_of found.now) minute }
+pub fn is_rising(found_station: &FoundStation, minute: i64) -> bool
+    requires { IsEvaluable found_station.now minute }
+    ensures { result ≡ is_rising_at found_station.now.curve.book (site_of found_station.now) minute }
 {
-    found.curve.slope(source(found, minute)) > 0
+    found_station.curve.slope(source(found_station, minute)) > 0
 }
 
-/// Returns the reference's minute that the offset of the station `found` moves to `minute`: `minute`
-/// less the offset's minutes.
-pub fn source(found: &FoundStation, minute: i64) -> i64
-    requires { IsLooked found.now minute }
-    ensures exact { result ≡ minute -ℤ found.now.basis.high.add }
-    ensures inside { IsPredicted found.now.curve (minute -ℤ found.now.basis.high.add) }
+/// Returns the reference's minute that the offset of the station `found_station` moves to `minute`:
+/// `minute` less the offset's minutes.
+pub fn source(found_station: &FoundStation, minute: i64) -> i64
+    requires { IsEvaluable found_station.now minute }
+    ensures exact { result ≡ minute -ℤ found_station.now.basis.high.add }
+    ensures inside { IsPredicted found_station.now.curve (minute -ℤ found_station.now.basis.high.add) }
 {
-    earlier(minute, found.basis.high.add)
+    earlier(minute, found_station.basis.high.add)
 }
 
 /// Proves levels, in millionths, that two offsets give from a reference's, of which one doubles the

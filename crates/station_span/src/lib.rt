@@ -10,21 +10,20 @@
 //! curves of the requested tracks.
 #![tactic(auto)]
 
-mod asked;
 mod curves;
 mod following;
 mod found_station;
 mod levels;
 mod peaks;
-mod reach;
+mod purpose;
 mod reference_station;
+mod span_request;
 mod station;
 mod station_curves;
 mod station_data;
 mod station_request;
 mod worked;
 
-pub use asked::Asked;
 pub use curves::{mark_curve, slack_curve, turn_curve};
 pub use following::{
     FoundEvents, find_events, list_station, mark_search, merge_of, slack_search, turn_search,
@@ -32,8 +31,9 @@ pub use following::{
 pub use found_station::FoundStation;
 pub use levels::{check_level, is_rising, level_at, worked_levels};
 pub use peaks::{find_highest, find_level, highest_minute, judge_highest, moved_minute};
-pub use reach::Reach;
+pub use purpose::Purpose;
 pub use reference_station::{ReferenceStation, find_reference};
+pub use span_request::SpanRequest;
 pub use station::find_station;
 pub use station_data::StationData;
 pub use station_request::StationRequest;

@@ -5,13 +5,13 @@ ghost use Rattle.cert_text.specs.Certificates.{IsStationName};
 ghost use Rattle.highest_water.specs.declared.verdict.PeakVerdict.{PeakVerdict};
 ghost use Rattle.station_span.specs.Peaks.{highest_of, highest_site, highest_verdict};
 ghost use Rattle.rate_bound.specs.declared.version.Version.{Version};
-ghost use Rattle.rate_bound.specs.Meanings.{mark_meaning};
-ghost use Rattle.station_span.specs.Workings.Finds.{FindsIn, HasPeak, IsLooked, site_of};
+ghost use Rattle.rate_bound.specs.CurveSpecs.{mark_spec};
+ghost use Rattle.station_span.specs.Workings.Finds.{FindsIn, HasPeak, IsEvaluable, site_of};
 ghost use Rattle.station_span.specs.Workings.Peaks.{IsSourceIn};
 
 use crate::found_station::FoundStation;
 use crate::levels::check_level;
-use crate::reach::Reach;
+use crate::purpose::Purpose;
 use crate::station::find_station;
 use crate::station_data::StationData;
 use crate::station_request::StationRequest;
@@ -32,10 +32,10 @@ use tide_fault::Refusal;
 /// # Examples
 /// ```
 /// let stations = StationData::new(&book, &table);
-/// let request = StationRequest::new(&name, asked);
-/// let found = find_level(alloc, &stations, &request)?;
-/// let minute = moved_minute(&found, highest_minute(&found));
-/// let level = level_at(&found, minute);
+/// let request = StationRequest::new(&name, span_request);
+/// let found_station = find_level(alloc, &stations, &request)?;
+/// let minute = moved_minute(&found_station, highest_minute(&found_station));
+/// let level = level_at(&found_station, minute);
 /// assert_eq!(rt; (minute, level), (15_791_040, 1_000_000));
 /// ```
 #[tactic(auto, unfolding(crate::specs::Peaks::highest_site))]
@@ -44,69 +44,74 @@ pub fn find_level(
     stations: &StationData<'_>,
     request: &StationRequest<'_>,
 ) -> Result<FoundStation, Refusal>
-    ensures exact { FindsIn Reach.Highest stations.now.book request.now.asked
-        (highest_site stations.now.book stations.now.table request.now.name request.now.asked) result }
+    ensures exact { FindsIn Purpose.Highest stations.now.book request.now.span_request
+        (highest_site stations.now.book stations.now.table request.now.name request.now.span_request) result }
     ensures peak { IfOk result HasPeak }
     ensures named { OnOk result (IsStationName request.now.name) }
 {
-    let found = find_station(alloc, stations, Reach::Highest, request)?;
-    check_level(&found)?;
-    Ok(found)
+    let found_station = find_station(alloc, stations, Purpose::Highest, request)?;
+    check_level(&found_station)?;
+    Ok(found_station)
 }
 
-/// Returns the highest water of the reference among the minutes that the high-water offset of `found`
-/// moves into the span of its request, with the cells that show it.
-pub fn find_highest(alloc: Global, found: &FoundStation) -> Result<Peak, AllocError>
-    requires { HasPeak found.now }
-    ensures exact { IfOk result (λ peak. peak ≡ highest_of found.now.curve.book (site_of found.now) found.now.asked) }
-    ensures inside { IfOk result (λ peak. IsSourceIn (site_of found.now) found.now.asked peak.at) }
+/// Returns the highest water of the reference among the minutes that the high-water offset of
+/// `found_station` moves into the span of its request, with the cells that show it.
+pub fn find_highest(alloc: Global, found_station: &FoundStation) -> Result<Peak, AllocError>
+    requires { HasPeak found_station.now }
+    ensures exact { IfOk result (λ peak. peak ≡ highest_of found_station.now.curve.book (site_of found_station.now) found_station.now.span_request) }
+    ensures inside { IfOk result (λ peak. IsSourceIn (site_of found_station.now) found_station.now.span_request peak.at) }
 {
     let peak = find_peak(
         alloc,
-        &mut level_curve(found),
-        found.span.begin,
-        found.span.end,
+        &mut level_curve(found_station),
+        found_station.span.begin,
+        found_station.span.end,
     )?;
     Ok(peak)
 }
 
 /// Returns the minute of the highest water of the reference among the minutes that the high-water
-/// offset of `found` moves into the span of its request. It makes no cells.
-pub fn highest_minute(found: &FoundStation) -> i64
-    requires { HasPeak found.now }
-    ensures exact { result ≡ (highest_of found.now.curve.book (site_of found.now) found.now.asked).at }
-    ensures inside { IsSourceIn (site_of found.now) found.now.asked result }
+/// offset of `found_station` moves into the span of its request. It makes no cells.
+pub fn highest_minute(found_station: &FoundStation) -> i64
+    requires { HasPeak found_station.now }
+    ensures exact { result ≡ (highest_of found_station.now.curve.book (site_of found_station.now) found_station.now.span_request).at }
+    ensures inside { IsSourceIn (site_of found_station.now) found_station.now.span_request result }
 {
-    highest_point(&mut level_curve(found), found.span.begin, found.span.end).minute
+    highest_point(
+        &mut level_curve(found_station),
+        found_station.span.begin,
+        found_station.span.end,
+    )
+    .minute
 }
 
 /// Returns the verdict on `peak` as the highest water of the reference among the minutes that the
-/// high-water offset of `found` moves into the span of its request. `peak.value` is below 10^37 in
-/// size, and `peak` has fewer than 2^32 cells. The call doesn't allocate.
-pub fn judge_highest(found: &FoundStation, peak: &Peak) -> PeakVerdict
-    requires peak { HasPeak found.now }
+/// high-water offset of `found_station` moves into the span of its request. `peak.value` is below 10^37
+/// in size, and `peak` has fewer than 2^32 cells. The call doesn't allocate.
+pub fn judge_highest(found_station: &FoundStation, peak: &Peak) -> PeakVerdict
+    requires peak { HasPeak found_station.now }
     requires size { unsigned_abs peak.now.value < 10 ^ 37 }
     requires count_bound { length peak.now.cells < 2 ^ 32 }
-    ensures exact { result ≡ highest_verdict found.now.curve.book (site_of found.now) found.now.asked peak.now }
-    ensures inside { result ≡ PeakVerdict.Accepted → IsSourceIn (site_of found.now) found.now.asked peak.now.at }
+    ensures exact { result ≡ highest_verdict found_station.now.curve.book (site_of found_station.now) found_station.now.span_request peak.now }
+    ensures inside { result ≡ PeakVerdict.Accepted → IsSourceIn (site_of found_station.now) found_station.now.span_request peak.now.at }
 {
     check_peak(
-        &mut level_curve(found),
+        &mut level_curve(found_station),
         peak,
-        found.span.begin,
-        found.span.end,
+        found_station.span.begin,
+        found_station.span.end,
     )
 }
 
-/// Returns the station's minute to which the high-water offset of `found` moves the reference's minute
-/// `at`: `at` plus the offset's minutes.
-pub fn moved_minute(found: &FoundStation, at: i64) -> i64
-    requires peak { HasPeak found.now }
-    requires inside { IsSourceIn (site_of found.now) found.now.asked at }
-    ensures exact { result ≡ at +ℤ found.now.basis.high.add }
-    ensures level { IsLooked found.now result }
+/// Returns the station's minute to which the high-water offset of `found_station` moves the reference's
+/// minute `at`: `at` plus the offset's minutes.
+pub fn moved_minute(found_station: &FoundStation, at: i64) -> i64
+    requires peak { HasPeak found_station.now }
+    requires inside { IsSourceIn (site_of found_station.now) found_station.now.span_request at }
+    ensures exact { result ≡ at +ℤ found_station.now.basis.high.add }
+    ensures level { IsEvaluable found_station.now result }
 {
-    later(at, found.basis.high.add)
+    later(at, found_station.basis.high.add)
 }
 
 /// Returns `minute` plus `add` minutes.
@@ -119,10 +124,10 @@ fn later(minute: i64, add: i32) -> i64
 }
 
 /// Returns the curve of the reference's level; its greatest value is the highest water.
-fn level_curve<'a>(found: &'a FoundStation) -> MarkCurve<'a>
-    ensures meaning { (⟦<MarkCurve<'a> as Curve>⟧.state result).facts.meaning
-        ≡ mark_meaning Version.Second found.now.curve (pos 1000000) (pos 0) (pos 0) true }
+fn level_curve<'a>(found_station: &'a FoundStation) -> MarkCurve<'a>
+    ensures curve_spec { (⟦<MarkCurve<'a> as Curve>⟧.state result).curve_model.curve_spec
+        ≡ mark_spec Version.Second found_station.now.curve (pos 1000000) (pos 0) (pos 0) true }
     ensures fresh { (⟦<MarkCurve<'a> as Curve>⟧.state result).count ≡ 0 }
 {
-    MarkCurve::blended(&found.curve, 1_000_000, 0, 0, true)
+    MarkCurve::blended(&found_station.curve, 1_000_000, 0, 0, true)
 }

@@ -25,7 +25,7 @@ ghost use Rattle.station_span.specs.Workings.Spans.{HasLevels, site_with};
 ghost use Rattle.year_blend.specs.Years.{year_start_of};
 
 use crate::found_station::FoundStation;
-use crate::reach::Reach;
+use crate::purpose::Purpose;
 use crate::station_curves::curve_over;
 use crate::station_data::StationData;
 use crate::station_request::StationRequest;
@@ -41,7 +41,7 @@ use year_blend::year_start;
 const SPAN_LIMIT: i64 = 5_270_400;
 
 /// Returns the station of `stations` that `request` names, with its span, its mark, and the curve of its
-/// reference station over the minutes that `reach` needs: the ones for events, for levels, or for the
+/// reference station over the minutes that `purpose` needs: the ones for events, for levels, or for the
 /// highest water.
 ///
 /// # Errors
@@ -50,32 +50,32 @@ const SPAN_LIMIT: i64 = 5_270_400;
 ///
 /// # Examples
 /// ```
-/// let asked = Asked {
+/// let span_request = SpanRequest {
 ///     begin: 15_791_040,
 ///     end: 15_792_480,
 ///     mark: None,
 /// };
 /// let stations = StationData::new(&book, &table);
-/// let request = StationRequest::new(&name, asked);
-/// let found = find_station(alloc, &stations, Reach::Events, &request)?;
-/// let listed = find_events(alloc, &found)?;
+/// let request = StationRequest::new(&name, span_request);
+/// let found_station = find_station(alloc, &stations, Purpose::Events, &request)?;
+/// let listed = find_events(alloc, &found_station)?;
 /// assert_eq!(rt; listed.events.as_slice().len(), 4);
 /// ```
 #[tactic(auto, unfolding(crate::specs::Sites::site_in))]
 pub fn find_station(
     alloc: Global,
     stations: &StationData<'_>,
-    reach: Reach,
+    purpose: Purpose,
     request: &StationRequest<'_>,
 ) -> Result<FoundStation, Refusal>
-    ensures exact { FindsIn reach stations.now.book request.now.asked
-        (site_in reach stations.now.book stations.now.table request.now.name request.now.asked) result }
+    ensures exact { FindsIn purpose stations.now.book request.now.span_request
+        (site_in purpose stations.now.book stations.now.table request.now.name request.now.span_request) result }
     ensures named { OnOk result (IsStationName request.now.name) }
 {
     let basis = find_basis(stations, request.name())?;
     let book = stations.book();
     let station = station_at(book.get(), basis.station);
-    find_at(alloc, book, reach, basis, station, request)
+    find_at(alloc, book, purpose, basis, station, request)
 }
 
 /// Returns the basis of the station `name` of `stations`: its reference in the book and its offsets.
@@ -102,19 +102,19 @@ pub fn find_basis(stations: &StationData<'_>, name: &Text) -> Result<Basis, Refu
 fn find_at(
     alloc: Global,
     book: &ValidBook<'_>,
-    reach: Reach,
+    purpose: Purpose,
     basis: Basis,
     station: &Station,
     request: &StationRequest<'_>,
 ) -> Result<FoundStation, Refusal>
     requires basis { IsBasis (length book.now.stations) basis }
-    requires place { slice_get book.now.stations basis.station ≡ Some station.now }
-    ensures { FindsIn reach book.now request.now.asked
-        (site_at reach book.now (site_with basis station.now) request.now.asked) result }
+    requires index { slice_get book.now.stations basis.station ≡ Some station.now }
+    ensures { FindsIn purpose book.now request.now.span_request
+        (site_at purpose book.now (site_with basis station.now) request.now.span_request) result }
 {
-    let asked = request.asked();
+    let span_request = request.span_request();
     level_units(station.units)?;
-    let span = span_looked_at(book, reach, &basis, request)?;
+    let span = span_looked_at(book, purpose, &basis, request)?;
     let curve = curve_over(alloc, book, basis.station, station, &span)?;
     check_length(request)?;
     check_mark(&basis, request)?;
@@ -122,18 +122,18 @@ fn find_at(
         basis,
         units: station.units,
         curve,
-        reach,
-        asked: *asked,
+        purpose,
+        span_request: *span_request,
         span,
     })
 }
 
-/// Returns the station at index `place`, counted from 0, of the list of `book`.
-pub fn station_at(book: &Book, place: u32) -> &Station
-    requires { place < length book.now.stations }
-    ensures { slice_get book.now.stations place ≡ Some result.now }
+/// Returns the station at index `index`, counted from 0, of the list of `book`.
+pub fn station_at(book: &Book, index: u32) -> &Station
+    requires { index < length book.now.stations }
+    ensures { slice_get book.now.stations index ≡ Some result.now }
 {
-    &book.stations.as_slice()[place as usize]
+    &book.stations.as_slice()[index as usize]
 }
 
 /// Returns `units` if they are units of levels.
@@ -157,23 +157,23 @@ pub fn level_units(units: Units) -> Result<Units, Refusal>
 #[tactic(auto, unfolding(crate::specs::Sites::span_in))]
 fn span_looked_at(
     book: &ValidBook<'_>,
-    reach: Reach,
+    purpose: Purpose,
     basis: &Basis,
     request: &StationRequest<'_>,
 ) -> Result<Span, Refusal>
     requires offsets { HasOffsets basis.now }
-    ensures found { OnOk result (span_in reach book.now basis.now request.now.asked.begin request.now.asked.end ≡ Ok tt) }
+    ensures found_station { OnOk result (span_in purpose book.now basis.now request.now.span_request.begin request.now.span_request.end ≡ Ok tt) }
     ensures refused { IfErr result (λ refusal.
-        span_in reach book.now basis.now request.now.asked.begin request.now.asked.end ≡ Err refusal) }
-    ensures exact { IfOk result (λ span. span ≡ reached reach basis.now request.now.asked.begin request.now.asked.end) }
+        span_in purpose book.now basis.now request.now.span_request.begin request.now.span_request.end ≡ Err refusal) }
+    ensures exact { IfOk result (λ span. span ≡ reached purpose basis.now request.now.span_request.begin request.now.span_request.end) }
 {
     if is_backward(request) {
         return Err(Refusal::BackwardSpan);
     }
-    if lacks_minute(reach, request) {
+    if lacks_minute(purpose, request) {
         return Err(Refusal::EmptySpan);
     }
-    let span = reached(reach, basis, request);
+    let span = reached(purpose, basis, request);
     let first = first_minute(book);
     let last = last_minute(book);
     if has_span(book, &span) {
@@ -185,58 +185,58 @@ fn span_looked_at(
 
 /// Returns true if the span's end is before its beginning.
 fn is_backward(request: &StationRequest<'_>) -> bool
-    ensures { result ≡ int_lt request.now.asked.end request.now.asked.begin }
+    ensures { result ≡ int_lt request.now.span_request.end request.now.span_request.begin }
 {
-    let asked = request.asked();
-    asked.end < asked.begin
+    let span_request = request.span_request();
+    span_request.end < span_request.begin
 }
 
 /// Returns true if the span is empty and a highest water is requested.
 #[tactic(auto, unfolding(crate::specs::Sites::lacks_minute))]
-fn lacks_minute(reach: Reach, request: &StationRequest<'_>) -> bool
-    ensures { result ≡ lacks_minute reach request.now.asked.begin request.now.asked.end }
+fn lacks_minute(purpose: Purpose, request: &StationRequest<'_>) -> bool
+    ensures { result ≡ lacks_minute purpose request.now.span_request.begin request.now.span_request.end }
 {
-    let asked = request.asked();
-    matches!(reach, Reach::Highest) && asked.end <= asked.begin
+    let span_request = request.span_request();
+    matches!(purpose, Purpose::Highest) && span_request.end <= span_request.begin
 }
 
 /// Returns the minutes of the reference that are evaluated.
-fn reached(reach: Reach, basis: &Basis, request: &StationRequest<'_>) -> Span
+fn reached(purpose: Purpose, basis: &Basis, request: &StationRequest<'_>) -> Span
     requires offsets { HasOffsets basis.now }
-    requires forward { request.now.asked.begin ≤ℤ request.now.asked.end }
-    ensures { result ≡ reached reach basis.now request.now.asked.begin request.now.asked.end }
+    requires forward { request.now.span_request.begin ≤ℤ request.now.span_request.end }
+    ensures { result ≡ reached purpose basis.now request.now.span_request.begin request.now.span_request.end }
 {
-    let asked = request.asked();
-    match reach {
-        Reach::Events => widened(basis, asked.begin, asked.end),
-        Reach::Levels | Reach::Highest => moved(basis, request),
+    let span_request = request.span_request();
+    match purpose {
+        Purpose::Events => widened(basis, span_request.begin, span_request.end),
+        Purpose::Levels | Purpose::Highest => moved(basis, request),
     }
 }
 
 /// Returns the minutes of the reference whose events the offsets can move into the span.
 fn moved(basis: &Basis, request: &StationRequest<'_>) -> Span
     requires offsets { HasOffsets basis.now }
-    requires forward { request.now.asked.begin ≤ℤ request.now.asked.end }
-    ensures { result ≡ moved basis.now request.now.asked.begin request.now.asked.end }
+    requires forward { request.now.span_request.begin ≤ℤ request.now.span_request.end }
+    ensures { result ≡ moved basis.now request.now.span_request.begin request.now.span_request.end }
 {
     if basis.equal() {
         level_span(basis, request)
     } else {
-        let asked = request.asked();
-        widened(basis, asked.begin, asked.end)
+        let span_request = request.span_request();
+        widened(basis, span_request.begin, span_request.end)
     }
 }
 
 /// Returns the minutes of the reference that the offset of highs moves to minutes of the span.
 fn level_span(basis: &Basis, request: &StationRequest<'_>) -> Span
     requires offsets { HasOffsets basis.now }
-    requires forward { request.now.asked.begin ≤ℤ request.now.asked.end }
-    ensures { result ≡ record { begin = request.now.asked.begin -ℤ basis.now.high.add; end = request.now.asked.end -ℤ basis.now.high.add } }
+    requires forward { request.now.span_request.begin ≤ℤ request.now.span_request.end }
+    ensures { result ≡ record { begin = request.now.span_request.begin -ℤ basis.now.high.add; end = request.now.span_request.end -ℤ basis.now.high.add } }
 {
-    let asked = request.asked();
+    let span_request = request.span_request();
     Span {
-        begin: earlier(asked.begin, basis.high.add),
-        end: earlier(asked.end, basis.high.add),
+        begin: earlier(span_request.begin, basis.high.add),
+        end: earlier(span_request.end, basis.high.add),
     }
 }
 
@@ -283,8 +283,8 @@ fn last_minute(book: &ValidBook<'_>) -> i64
 /// Returns `Ok` if the span has at most 5,270,400 minutes.
 #[tactic(auto, unfolding(crate::specs::Sites::length_in))]
 fn check_length(request: &StationRequest<'_>) -> Result<(), Refusal>
-    ensures exact { result ≡ length_in request.now.asked.begin request.now.asked.end }
-    ensures count_bound { OnOk result ((request.now.asked.end -ℤ request.now.asked.begin) ≤ℤ span_limit) }
+    ensures exact { result ≡ length_in request.now.span_request.begin request.now.span_request.end }
+    ensures count_bound { OnOk result ((request.now.span_request.end -ℤ request.now.span_request.begin) ≤ℤ span_limit) }
 {
     let minutes = asked_minutes(request);
     if minutes > SPAN_LIMIT {
@@ -295,18 +295,18 @@ fn check_length(request: &StationRequest<'_>) -> Result<(), Refusal>
 
 /// Returns the number of minutes of the span.
 fn asked_minutes(request: &StationRequest<'_>) -> i64
-    ensures { result ≡ request.now.asked.end -ℤ request.now.asked.begin }
+    ensures { result ≡ request.now.span_request.end -ℤ request.now.span_request.begin }
 {
-    let asked = request.asked();
-    asked.end - asked.begin
+    let span_request = request.span_request();
+    span_request.end - span_request.begin
 }
 
 /// Returns `Ok` unless there is a mark and the station's highs and lows have different offsets.
 fn check_mark(basis: &Basis, request: &StationRequest<'_>) -> Result<(), Refusal>
-    ensures exact { result ≡ mark_in basis.now request.now.asked.mark }
-    ensures here { OnOk result (ForSome request.now.asked.mark (λ level. IsTrue (is_equal basis.now))) }
+    ensures exact { result ≡ mark_in basis.now request.now.span_request.mark }
+    ensures here { OnOk result (ForSome request.now.span_request.mark (λ level. IsTrue (is_equal basis.now))) }
 {
-    match request.asked().mark {
+    match request.span_request().mark {
         Some(_) if !basis.equal() => Err(Refusal::MarkNotHere),
         _ => Ok(()),
     }

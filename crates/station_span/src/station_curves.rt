@@ -1,7 +1,7 @@
 //! The curve of a station, for the minutes of a span or for all.
 
 ghost use Rattle.std.specs.Prelude.{◌≡◌, ◌≤ℤ◌, IfOk, Some, slice_get};
-ghost use Rattle.decimal_text.specs.Expected.{ReturnsUnless};
+ghost use Rattle.decimal_text.specs.Expected.{EqualsUnlessNoMemory};
 ghost use Rattle.station_curve.specs.Curves.{curve_of, curve_over, prediction_of, prediction_over, IsPrediction};
 ghost use Rattle.station_span.specs.Sites.{curve_from};
 ghost use Rattle.tide_fault.specs.Faults.{refusal_is_out_of_memory};
@@ -13,25 +13,25 @@ use station_curve::StationCurve;
 use std::alloc::Global;
 use tide_fault::Refusal;
 
-/// Returns the curve of `station`, which is at index `place` of `book`, for the minutes of `span` and
+/// Returns the curve of `station`, which is at index `index` of `book`, for the minutes of `span` and
 /// the one at its end.
 pub fn curve_over(
     alloc: Global,
     book: &ValidBook<'_>,
-    place: u32,
+    index: u32,
     station: &Station,
     span: &Span,
 ) -> Result<StationCurve, Refusal>
-    requires place { slice_get book.now.stations place ≡ Some station.now }
+    requires index { slice_get book.now.stations index ≡ Some station.now }
     requires begins { InDomain book.now.first_year book.now.years span.now.begin }
     requires ends { InDomain book.now.first_year book.now.years span.now.end }
     requires forward { span.now.begin ≤ℤ span.now.end }
-    ensures exact { ReturnsUnless refusal_is_out_of_memory
+    ensures exact { EqualsUnlessNoMemory refusal_is_out_of_memory
         (curve_from (curve_over book.now station.now span.now.begin span.now.end)) result }
     ensures predicts { IfOk result (λ curve. curve ≡ prediction_over book.now station.now span.now.begin span.now.end) }
     ensures valid { IfOk result IsPrediction }
 {
-    match StationCurve::over(alloc, book.get(), place, span.begin, span.end) {
+    match StationCurve::over(alloc, book.get(), index, span.begin, span.end) {
         Ok(curve) => {
             curve.limits_hold();
             Ok(curve)
@@ -40,7 +40,7 @@ pub fn curve_over(
     }
 }
 
-/// Returns the curve of `station`, which is at index `place` of `book`, for all minutes of the book's
+/// Returns the curve of `station`, which is at index `index` of `book`, for all minutes of the book's
 /// years and the first minute after them.
 ///
 /// # Errors
@@ -49,15 +49,15 @@ pub fn curve_over(
 pub fn whole_curve(
     alloc: Global,
     book: &ValidBook<'_>,
-    place: u32,
+    index: u32,
     station: &Station,
 ) -> Result<StationCurve, Refusal>
-    requires place { slice_get book.now.stations place ≡ Some station.now }
-    ensures exact { ReturnsUnless refusal_is_out_of_memory (curve_from (curve_of book.now station.now)) result }
+    requires index { slice_get book.now.stations index ≡ Some station.now }
+    ensures exact { EqualsUnlessNoMemory refusal_is_out_of_memory (curve_from (curve_of book.now station.now)) result }
     ensures predicts { IfOk result (λ curve. curve ≡ prediction_of book.now station.now) }
     ensures valid { IfOk result IsPrediction }
 {
-    match StationCurve::new(alloc, book.get(), place) {
+    match StationCurve::new(alloc, book.get(), index) {
         Ok(curve) => {
             curve.limits_hold();
             Ok(curve)

@@ -3,7 +3,7 @@
 ghost use Rattle.std.specs.Prelude.{◌≡◌};
 ghost use Rattle.station_span.specs.Workings.Spans.{IsInRange};
 
-use crate::asked::Asked;
+use crate::span_request::SpanRequest;
 use decimal_text::Text;
 use std::marker::Model;
 
@@ -13,7 +13,7 @@ use std::marker::Model;
 #[derive(Drop)]
 pub struct StationRequest<'a> {
     name: &'a Text,
-    asked: Asked,
+    span_request: SpanRequest,
 }
 
 impl<'a> Model for StationRequest<'a> {
@@ -22,20 +22,20 @@ impl<'a> Model for StationRequest<'a> {
 
     ghost Value = { NamedSpan };
 
-    ghost view = { λ r. record { name = r.name.now; asked = r.asked } };
+    ghost view = { λ r. record { name = r.name.now; span_request = r.span_request } };
 
-    ghost invariant = { λ r. IsInRange r.asked };
+    ghost invariant = { λ r. IsInRange r.span_request };
 }
 
 impl<'a> StationRequest<'a> {
-    /// Returns the request about the station `name` over the span of `asked`, with its mark. The
-    /// minutes of `asked` are at most 20,000,000,000 in size, and its mark at most 10,000,000,000
+    /// Returns the request about the station `name` over the span of `span_request`, with its mark. The
+    /// minutes of `span_request` are at most 20,000,000,000 in size, and its mark at most 10,000,000,000
     /// millionths.
-    pub fn new(name: &'a Text, asked: Asked) -> StationRequest<'a>
-        requires { IsInRange asked }
-        ensures { result ≡ record { name = name.now; asked = asked } }
+    pub fn new(name: &'a Text, span_request: SpanRequest) -> StationRequest<'a>
+        requires { IsInRange span_request }
+        ensures { result ≡ record { name = name.now; span_request = span_request } }
     {
-        StationRequest { name, asked }
+        StationRequest { name, span_request }
     }
 
     /// Borrows the name of the station that the request is about.
@@ -46,10 +46,10 @@ impl<'a> StationRequest<'a> {
     }
 
     /// Borrows the span and the mark of the request.
-    pub fn asked(&self) -> &Asked
-        ensures exact { result.now ≡ self.now.asked }
-        ensures in_range { IsInRange self.now.asked }
+    pub fn span_request(&self) -> &SpanRequest
+        ensures exact { result.now ≡ self.now.span_request }
+        ensures in_range { IsInRange self.now.span_request }
     {
-        &self.asked
+        &self.span_request
     }
 }

@@ -2,7 +2,7 @@
 
 ghost use Rattle.std.specs.Prelude.{◌≡◌, pos, Ok, Err};
 ghost use Rattle.tide_fault.specs.declared.refusal.Refusal.{Refusal};
-ghost use Rattle.station_span.specs.declared.reach.Reach.{Reach};
+ghost use Rattle.station_span.specs.declared.purpose.Purpose.{Purpose};
 ghost use Rattle.station_span.specs.Sites.{span_in, length_in};
 ghost use Rattle.station_table.specs.Bases.{reference_basis};
 ghost use Rattle.station_curve.specs.Worked.{pier_book};
@@ -12,14 +12,14 @@ ghost use Rattle.station_curve.specs.Worked.{pier_book};
 /// minutes, or empty though a minute is needed.
 #[tactic(auto, unfolding(crate::specs::Sites::span_in, crate::specs::Sites::lacks_minute, crate::specs::Sites::length_in, year_blend::specs::Years::year_start_of, jiff_core::specs::Calendar::days_from_civil, jiff_core::specs::Calendar::day_count, jiff_core::specs::Calendar::days_of_years, jiff_core::specs::Calendar::days_of_months))]
 pub fn worked_spans()
-    ensures whole { span_in Reach.Events pier_book (reference_basis 0) (pos 15252480) (pos 16830720) ≡ Ok tt }
-    ensures late { span_in Reach.Events pier_book (reference_basis 0) (pos 15252480) (pos 16830721)
+    ensures whole { span_in Purpose.Events pier_book (reference_basis 0) (pos 15252480) (pos 16830720) ≡ Ok tt }
+    ensures late { span_in Purpose.Events pier_book (reference_basis 0) (pos 15252480) (pos 16830721)
         ≡ Err (Refusal.OutOfYears (pos 15252480) (pos 16830720)) }
-    ensures early { span_in Reach.Events pier_book (reference_basis 0) (pos 15252479) (pos 15252480)
+    ensures early { span_in Purpose.Events pier_book (reference_basis 0) (pos 15252479) (pos 15252480)
         ≡ Err (Refusal.OutOfYears (pos 15252480) (pos 16830720)) }
-    ensures backward { span_in Reach.Events pier_book (reference_basis 0) (pos 15252481) (pos 15252480) ≡ Err Refusal.BackwardSpan }
-    ensures empty { span_in Reach.Events pier_book (reference_basis 0) (pos 15252480) (pos 15252480) ≡ Ok tt }
-    ensures no_minute { span_in Reach.Highest pier_book (reference_basis 0) (pos 15252480) (pos 15252480) ≡ Err Refusal.EmptySpan }
+    ensures backward { span_in Purpose.Events pier_book (reference_basis 0) (pos 15252481) (pos 15252480) ≡ Err Refusal.BackwardSpan }
+    ensures empty { span_in Purpose.Events pier_book (reference_basis 0) (pos 15252480) (pos 15252480) ≡ Ok tt }
+    ensures no_minute { span_in Purpose.Highest pier_book (reference_basis 0) (pos 15252480) (pos 15252480) ≡ Err Refusal.EmptySpan }
     ensures longest { length_in (pos 0) (pos 5270400) ≡ Ok tt }
     ensures too_long { length_in (pos 0) (pos 5270401) ≡ Err (Refusal.SpanTooLong (pos 5270401)) }
 {}

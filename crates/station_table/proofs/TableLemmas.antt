@@ -55,8 +55,8 @@ rows_fault header row [] more table fields why e is =
     let here : row + 0 ≡ row = omega arith in rw (is, here) refl
 rows_fault header row (f ∷ seen) more table fields why e is =
     let (first, rest, here, later, both) = first_and_rest header row f seen table e in
-    let place : row + suc (length seen) ≡ row + 1 + length seen = omega arith in
-    rw (here, rows_fault header (row + 1) seen more rest fields why later is, place) refl
+    let index : row + suc (length seen) ≡ row + 1 + length seen = omega arith in
+    rw (here, rows_fault header (row + 1) seen more rest fields why later is, index) refl
 
 pub rows_count : (header : Header) (row : ℕ) (seen : List (List (List ℕ))) (table : List Offsets)
     → rows_from header row seen ≡ Ok table → length table ≡ length seen

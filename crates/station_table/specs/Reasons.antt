@@ -15,15 +15,15 @@ use Rattle.station_table.specs.declared.fault.OffsetFault.{OffsetFault}
 use Rattle.station_table.specs.declared.fault.OffsetFault.TheVariants.{NoMemory, At}
 
 -- the number of each reason in the file format
-abbrev pub number_of : OffsetWhy → ℕ
-number_of BadHeader = 1
-number_of FieldCount = 2
-number_of BadNumber = 3
-number_of TooFine = 4
-number_of OutOfRange = 5
-number_of NotUtf8 = 6
-number_of BadName = 7
-number_of HalfSlack = 8
+abbrev pub fault_number : OffsetWhy → ℕ
+fault_number BadHeader = 1
+fault_number FieldCount = 2
+fault_number BadNumber = 3
+fault_number TooFine = 4
+fault_number OutOfRange = 5
+fault_number NotUtf8 = 6
+fault_number BadName = 7
+fault_number HalfSlack = 8
 
 -- the text that is printed for each reason
 abbrev pub text_of : OffsetWhy → List ℕ

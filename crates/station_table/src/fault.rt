@@ -26,11 +26,11 @@ pub enum OffsetWhy {
 
 impl OffsetWhy {
     ghost use Rattle.std.specs.Prelude.{◌≡◌};
-    ghost use Rattle.station_table.specs.Reasons.{number_of, text_of};
+    ghost use Rattle.station_table.specs.Reasons.{fault_number, text_of};
 
     /// Returns the number of the reason in the file format, from 1 to 8.
     pub fn number(self) -> u32
-        ensures { result ≡ number_of self }
+        ensures { result ≡ fault_number self }
     {
         match self {
             OffsetWhy::BadHeader => 1,

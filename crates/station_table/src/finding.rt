@@ -99,7 +99,7 @@ fn basis_over(book: &ValidBook<'_>, row: u32, offsets: &Offsets) -> Result<Basis
 /// Returns the index of the first station called `name`, or `None` if there isn't one.
 fn station_place(book: &Book, name: &Text) -> Option<usize>
     ensures exact { result ≡ station_at book.now name.now }
-    ensures place { IfSome result (λ place. place < length book.now.stations) }
+    ensures index { IfSome result (λ index. index < length book.now.stations) }
 {
     book.stations
         .as_slice()
@@ -110,7 +110,7 @@ fn station_place(book: &Book, name: &Text) -> Option<usize>
 /// Returns the index of the first row called `name`, or `None` if there isn't one.
 fn row_place(rows: &[Offsets], name: &Text) -> Option<usize>
     ensures exact { result ≡ row_at rows.now name.now }
-    ensures place { IfSome result (λ place. place < length rows.now) }
+    ensures index { IfSome result (λ index. index < length rows.now) }
 {
     rows.iter()
         .position(|row| row.name.as_str() == name.as_str())

@@ -25,4 +25,4 @@ pub use offset::{Offset, Slack};
 pub use offsets::Offsets;
 pub use reading::read_offsets;
 pub use table::OffsetTable;
-pub use worked::{worked_bases, worked_fields, worked_rows, worked_tables};
+pub use worked::{sample_rows, worked_bases, worked_fields, worked_tables};

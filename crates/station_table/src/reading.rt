@@ -1,7 +1,7 @@
 //! Reading a table of offsets.
 
 ghost use Rattle.std.specs.Prelude.{◌≡◌, ◌≤◌, ℕ, List, [], length, IfOk};
-ghost use Rattle.decimal_text.specs.Expected.{ReturnsUnless};
+ghost use Rattle.decimal_text.specs.Expected.{EqualsUnlessNoMemory};
 ghost use Rattle.csv.specs.Records.{fields_of};
 ghost use Rattle.station_table.specs.Offsets.{IsOffsets};
 ghost use Rattle.station_table.specs.Reasons.{is_out_of_memory};
@@ -41,7 +41,7 @@ use std::alloc::Global;
 /// ```
 pub fn read_offsets(alloc: Global, bytes: &[u8]) -> Result<OffsetTable, OffsetFault>
     requires { length bytes.now ≤ MOST_BYTES }
-    ensures { ReturnsUnless is_out_of_memory (table_of bytes.now) result }
+    ensures { EqualsUnlessNoMemory is_out_of_memory (table_of bytes.now) result }
 {
     let mut records = records_of(alloc, bytes);
     let table = read_table(alloc, &mut records);
@@ -55,7 +55,7 @@ fn read_table(
     records: &mut ByteRecordsIntoIter<&[u8]>,
 ) -> Result<OffsetTable, OffsetFault>
     requires { (text : List ℕ) × HasGiven text [] records.old × (length text ≤ MOST_BYTES) }
-    ensures { (text : List ℕ) → HasGiven text [] records.old → ReturnsUnless is_out_of_memory (table_of text) result }
+    ensures { (text : List ℕ) → HasGiven text [] records.old → EqualsUnlessNoMemory is_out_of_memory (table_of text) result }
 {
     let header = read_header(records)?;
     read_rows(alloc, records, header)
@@ -91,7 +91,7 @@ fn read_rows(
     header: Header,
 ) -> Result<OffsetTable, OffsetFault>
     requires { (text : List ℕ) × HasHeader text header records.old × (length text ≤ MOST_BYTES) }
-    ensures { (text : List ℕ) → HasHeader text header records.old → ReturnsUnless is_out_of_memory (table_of text) result }
+    ensures { (text : List ℕ) → HasHeader text header records.old → EqualsUnlessNoMemory is_out_of_memory (table_of text) result }
 {
     let mut table = OffsetTable::new(alloc);
     let mut row = 2;
@@ -112,7 +112,7 @@ fn offsets_at(
     fields: &ByteRecord,
     header: Header,
 ) -> Result<Offsets, OffsetFault>
-    ensures exact { ReturnsUnless is_out_of_memory (at_row row (offsets_of header (fields_of fields.now))) result }
+    ensures exact { EqualsUnlessNoMemory is_out_of_memory (at_row row (offsets_of header (fields_of fields.now))) result }
     ensures valid { IfOk result IsOffsets }
 {
     match row_of(fields, header) {

@@ -42,7 +42,7 @@ pub fn worked_fields()
 
 /// Proves which station a row gives, and for changed rows the first reason why each is bad.
 #[tactic(auto, unfolding(crate::proofs::OnLiterals::table_on_literals))]
-pub fn worked_rows()
+pub fn sample_rows()
     ensures gate { offsets_of Header.WithSlack gate_fields ≡ Ok gate_row }
     ensures changed { map (λ c. offsets_of Header.WithSlack (gate_with c)) changes ≡ map (λ c. Err c.why) changes }
     ensures long { offsets_of Header.Plain gate_fields ≡ Err OffsetWhy.FieldCount }

@@ -163,7 +163,7 @@ day_of-after a b forward =
 pub ascend-utc : (events : List Event) → AllPairs (λ (event later : Event). event.minute ≤ℤ later.minute) events → DatesAscend Utc events
 ascend-utc events ascend = λ i j d before within. day_of-after _ _ (ascend i j d before within)
 
-pub ascend-fixed : (ahead : ℤ) (events : List Event)
-    → AllPairs (λ (event later : Event). event.minute ≤ℤ later.minute) events → DatesAscend (Fixed ahead) events
-ascend-fixed ahead events ascend = λ i j d before within. let forward = ascend i j d before within in
+pub ascend-fixed : (utc_offset : ℤ) (events : List Event)
+    → AllPairs (λ (event later : Event). event.minute ≤ℤ later.minute) events → DatesAscend (Fixed utc_offset) events
+ascend-fixed utc_offset events ascend = λ i j d before within. let forward = ascend i j d before within in
     day_of-after _ _ (omega (arith, ints, forward))

@@ -21,7 +21,7 @@ use Rattle.zone_time.specs.Zones.{local_in}
 
 pub minute_of-local_in : (zone : Zone) (minute : ℤ) → minute_of (local_in zone minute) ≡ minute
 minute_of-local_in Utc minute = omega (arith, ints)
-minute_of-local_in (Fixed ahead) minute = omega (arith, ints)
+minute_of-local_in (Fixed utc_offset) minute = omega (arith, ints)
 minute_of-local_in (File file) minute = omega (arith, ints)
 
 -- the rest of a line after the local time

@@ -10,7 +10,7 @@ use Rattle.zone_time.specs.Zones.{local_in}
 -- the minutes by which a clock with this label is ahead of universal time
 abbrev pub ahead_of : Label → ℤ
 ahead_of Utc = pos 0
-ahead_of (Minutes ahead) = ahead
+ahead_of (Minutes utc_offset) = utc_offset
 
 -- the minute of universal time that a local time and its label mean
 abbrev pub minute_of : Local → ℤ

@@ -48,7 +48,7 @@ pub fn minute_of_local(local: Local) -> i64
 {
     match local.label {
         Label::Utc => local.minute,
-        Label::Minutes(ahead) => local.minute - i64::from(ahead),
+        Label::Minutes(utc_offset) => local.minute - i64::from(utc_offset),
     }
 }
 

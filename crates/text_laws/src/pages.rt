@@ -37,8 +37,8 @@ pub fn dates_that_go_back_change_the_order()
 pub fn fixed_clocks_keep_the_order()
     ensures universal { (events : List Event) → AllPairs (λ event later. event.minute ≤ℤ later.minute) events
         → DatesAscend Zone.Utc events }
-    ensures fixed { (ahead : ℤ) (events : List Event) → AllPairs (λ event later. event.minute ≤ℤ later.minute) events
-        → DatesAscend (Zone.Fixed ahead) events }
+    ensures fixed { (utc_offset : ℤ) (events : List Event) → AllPairs (λ event later. event.minute ≤ℤ later.minute) events
+        → DatesAscend (Zone.Fixed utc_offset) events }
 {}
 
 /// Proves an example of two events that have one date in universal time, and two dates by a clock 14 hours

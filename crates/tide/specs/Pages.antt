@@ -4,7 +4,7 @@ use Rattle.std.specs.List.{list_any}
 use Rattle.std.specs.Str.{bytes_eq}
 use Rattle.question.specs.Words.{asks_to_serve}
 use Rattle.tide_answer.specs.declared.text.Answer.{Answer}
-use Rattle.named_files.specs.declared.no_answer.NoAnswer.{NoAnswer}
+use Rattle.named_files.specs.declared.run_fault.RunFault.{RunFault}
 use Rattle.tide.specs.declared.help.InfoPage.{InfoPage}
 use Rattle.tide.specs.declared.help.InfoPage.TheVariants.{Help, Version}
 use Rattle.tide.specs.PageTexts.{help_text, version_text}
@@ -41,7 +41,7 @@ page_of words =
 -- ---- The three kinds of arguments
 
 -- a page about the program as the answer of a run
-abbrev pub page_answer : InfoPage → Result Answer NoAnswer
+abbrev pub page_answer : InfoPage → Result Answer RunFault
 page_answer page = Ok (record { text = page_text page; rejected = false; cells = 0 })
 
 -- the arguments request neither a page nor `serve`

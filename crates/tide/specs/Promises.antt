@@ -3,7 +3,7 @@ use Rattle.std.specs.Prelude.{◌≡◌, ◌⊎◌, ℕ, Bool, List, [], ◌∷�
 use Rattle.ical_sheet.specs.Calendars.{ical_sheet}
 use Rattle.report_sheets.specs.Listings.{first_sheet}
 use Rattle.report_sheets.specs.Ranges.{range_sheet}
-use Rattle.report_sheets.specs.Sheets.{SheetMeaning}
+use Rattle.report_sheets.specs.Sheets.{SheetSpec}
 use Rattle.report_sheets.specs.Tallies.{tally_sheet}
 use Rattle.tide_desk.specs.Outcomes.{EndsAs, outputs}
 use Rattle.tide_desk.specs.Promises.{AnswersAs, objects, states}
@@ -20,7 +20,7 @@ use Rattle.tide.specs.declared.arguments.ArgumentError.{ArgumentError}
 
 -- the sheets of a report in the order of their pages, each with the greatest number of events that it
 -- accepts
-abbrev pub program_sheets : List SheetMeaning
+abbrev pub program_sheets : List SheetSpec
 program_sheets = tally_sheet 1000000 ∷ range_sheet 1000000 ∷ first_sheet 10 ∷ ical_sheet 100000 ∷ []
 
 -- the objects of the program: files, a port, standard output, standard error and a clock
@@ -50,7 +50,7 @@ world_states files door out err clock = record { files = files; door = door; out
 
 -- The arguments request a page or an answer, or serve. A page is written without allocating and uses
 -- nothing else, an answer doesn't use the port, and serving doesn't use `out`.
-pub record RespondsAs {F D O E K : Type 0} (s : WorldStates F D O E K) (sheets : List SheetMeaning)
+pub record RespondsAs {F D O E K : Type 0} (s : WorldStates F D O E K) (sheets : List SheetSpec)
     (words : List (List ℕ)) (status : Status)
     (before after : World F D O E K) : Type 0 where
   pub page : IfSome (page_of words) (λ page. EndsAs (page_answer page) status
@@ -90,16 +90,16 @@ AnswersArguments s arguments status before after =
 
 -- nothing was done yet: no file opened, no byte accepted, the clock not read, and the port not listened to
 pub record IsFresh {F D O E K : Type 0} (s : WorldStates F D O E K) (w : World F D O E K) : Type 0 where
-  pub openings : (s.files w.files).openings ≡ no_openings
+  pub open_log : (s.files w.files).open_log ≡ no_openings
   pub files_faults : (s.files w.files).faults ≡ 0
-  pub doorway : (s.door w.door).doorway ≡ not_listening
+  pub listener_state : (s.door w.door).listener_state ≡ not_listening
   pub connections : (s.door w.door).connections ≡ no_connections
   pub door_faults : (s.door w.door).faults ≡ 0
   pub line_faults : (s.door w.door).line_faults ≡ 0
-  pub out : s.out w.out ≡ record { taken = []; faults = 0 }
-  pub err : s.err w.err ≡ record { taken = []; faults = 0 }
-  pub given : (s.clock w.clock).given ≡ []
-  pub clock_read : (s.clock w.clock).asked ≡ 0
+  pub out : s.out w.out ≡ record { accepted = []; faults = 0 }
+  pub err : s.err w.err ≡ record { accepted = []; faults = 0 }
+  pub returned_minutes : (s.clock w.clock).returned_minutes ≡ []
+  pub clock_read : (s.clock w.clock).readings ≡ 0
   pub clock_faults : (s.clock w.clock).faults ≡ 0
 
 -- There are objects of these types, fresh before the run and in these states after it, over which the

@@ -23,7 +23,7 @@ pub fn respond_to<F: Files, D: Door, O: Sink, E: Sink, K: Clock>(
     err: &mut E,
     clock: &mut K,
 ) -> Status
-    requires { (D.state door.old).doorway.port ≡ None }
+    requires { (D.state door.old).listener_state.port ≡ None }
     ensures { AnswersArguments (world_states F.state D.state O.state E.state K.state) arguments result
         (world files.old door.old out.old err.old clock.old) (world files.new door.new out.new err.new clock.new) }
 {

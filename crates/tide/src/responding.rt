@@ -31,8 +31,8 @@ pub fn respond<F: Files, D: Door, O: Sink, E: Sink, K: Clock>(
     clock: &mut K,
     sheets: Vec<Box<dyn Sheet>>,
 ) -> Status
-    requires { (D.state door.old).doorway.port ≡ None }
-    ensures { RespondsAs (world_states F.state D.state O.state E.state K.state) (map meaning sheets.items) words.now result
+    requires { (D.state door.old).listener_state.port ≡ None }
+    ensures { RespondsAs (world_states F.state D.state O.state E.state K.state) (map sheet_spec sheets.items) words.now result
         (world files.old door.old out.old err.old clock.old) (world files.new door.new out.new err.new clock.new) }
 {
     match page_asked(words) {

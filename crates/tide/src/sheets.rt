@@ -34,7 +34,7 @@ pub fn respond_with_sheets<F: Files, D: Door, O: Sink, E: Sink, K: Clock>(
     err: &mut E,
     clock: &mut K,
 ) -> Result<Status, AllocError>
-    requires { (D.state door.old).doorway.port ≡ None }
+    requires { (D.state door.old).listener_state.port ≡ None }
     ensures responds { IfOk result
         (λ status. RespondsAs (world_states F.state D.state O.state E.state K.state) program_sheets words.now status
         (world files.old door.old out.old err.old clock.old) (world files.new door.new out.new err.new clock.new)) }

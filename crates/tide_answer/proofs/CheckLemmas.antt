@@ -14,7 +14,7 @@ use Rattle.cert_text.specs.Lines.{cell_line_of, last_line, head_lines_of, track_
 use Rattle.cert_text.specs.Readings.{certificate_of, is_out_of_memory}
 use Rattle.curve_law.specs.declared.cell.Cell.{Cell}
 use Rattle.curve_law.specs.declared.event.Event.{Event}
-use Rattle.curve_law.specs.Meaning.{Meaning}
+use Rattle.curve_law.specs.CurveSpec.{CurveSpec}
 use Rattle.curve_law.specs.Track.{plain_list}
 use Rattle.decimal_text.specs.Expected.{Excused}
 use Rattle.event_list.specs.declared.span.Span.{Span}
@@ -25,14 +25,14 @@ use Rattle.event_list.proofs.EventLemmas.{events_of as events_in, events-parts, 
 use Rattle.harmonics_book.specs.declared.book.Book.{Book}
 use Rattle.rate_bound.specs.declared.version.Version.{Version}
 use Rattle.rate_bound.specs.declared.version.Version.TheVariants.{Second}
-use Rattle.rate_bound.specs.Meanings.{predicted_mark}
+use Rattle.rate_bound.specs.CurveSpecs.{predicted_mark}
 use Rattle.station_table.specs.declared.offsets.Offsets.{Offsets}
 use Rattle.zone_time.specs.declared.zone.Zone.{Zone}
-use Rattle.station_span.specs.declared.asked.Asked.{Asked}
-use Rattle.station_span.specs.declared.reach.Reach.TheVariants.{Events}
+use Rattle.station_span.specs.declared.span_request.SpanRequest.{SpanRequest}
+use Rattle.station_span.specs.declared.purpose.Purpose.TheVariants.{Events}
 use Rattle.tide_fault.specs.declared.refusal.Refusal.{Refusal}
 use Rattle.tide_answer.specs.Answers.{checked, judged, version_of}
-use Rattle.tide_answer.specs.Asking.{asked_by_certificate}
+use Rattle.tide_answer.specs.Asking.{request_by_certificate}
 use Rattle.tide_fault.specs.Faults.{refusal_of_cert, refusal_is_out_of_memory}
 use Rattle.station_span.specs.Following.{asks_slack, slack_times, slack_plus, if_asked, followed_by, events_of}
 use Rattle.station_span.specs.Sites.{Site, site_in}
@@ -119,13 +119,13 @@ ok_has A E (Err fault) x P has is = tt
 
 -- ---- the events are those of either version
 
-slack_events : (s : Span) (asks : Bool) (c d : Meaning) → c.track ≡ d.track
+slack_events : (s : Span) (asks : Bool) (c d : CurveSpec) → c.track ≡ d.track
     → flat_map (events_over s) (option_to_list (if_asked asks c))
     ≡ flat_map (events_over s) (option_to_list (if_asked asks d))
 slack_events s true c d same = ap (λ t. plain_list t s.begin (span_minutes s) ++ []) same
 slack_events s false c d same = refl
 
-mark_events : (s : Span) (mark : Option ℤ) (f g : ℤ → Meaning) → ((level : ℤ) → (f level).track ≡ (g level).track)
+mark_events : (s : Span) (mark : Option ℤ) (f g : ℤ → CurveSpec) → ((level : ℤ) → (f level).track ≡ (g level).track)
     → flat_map (events_over s) (option_to_list (option_map f mark))
     ≡ flat_map (events_over s) (option_to_list (option_map g mark))
 mark_events s (Some level) f g same = ap (λ t. plain_list t s.begin (span_minutes s) ++ []) (same level)
@@ -153,14 +153,14 @@ one_list v book site mark begin end =
     ∙ ap (λ es. ordered (moved_within site.basis begin end es)) (version_events v book site mark (widened_of site.basis begin end))
     ∙ sym (events-parts (followed_by Second book site mark) site.basis begin end)
 
-accepted_events : (book : Book) (site : Site) (cert : Certificate) → IsFound Events book (asked_by_certificate cert) site
+accepted_events : (book : Book) (site : Site) (cert : Certificate) → IsFound Events book (request_by_certificate cert) site
     → IsCertificate cert → rejection_in book site cert ≡ None → shifted_of site.basis cert.begin cert.end
     (merged_of (widened_of site.basis cert.begin cert.end).begin cert.tracks)
-    ≡ events_of book site (asked_by_certificate cert)
+    ≡ events_of book site (request_by_certificate cert)
 unfolding events_of
 accepted_events book site cert is valid none =
     shifted-events (followed_by (version_of cert) book site cert.mark) site.basis cert.begin cert.end cert.tracks
-    (found_valid_over (version_of cert) book (asked_by_certificate cert) site is) (site_accepted book site cert valid none)
+    (found_valid_over (version_of cert) book (request_by_certificate cert) site is) (site_accepted book site cert valid none)
     ∙ one_list (version_of cert) book site cert.mark cert.begin cert.end
 
 -- ---- the station, the span and the mark
@@ -169,7 +169,7 @@ marks_in_range : (mark : Option ℤ) → IfSome mark IsMark → ForSome mark (λ
 marks_in_range (Some level) is x e = let same : level ≡ x = cc in rw (← same) is
 marks_in_range None is x e = absurd cc
 
-pub read_in_range : (cert : Certificate) → IsCertificate cert → IsInRange (asked_by_certificate cert)
+pub read_in_range : (cert : Certificate) → IsCertificate cert → IsInRange (request_by_certificate cert)
 read_in_range cert valid =
     let begin = valid.begin in
     let end = valid.end in
@@ -178,13 +178,13 @@ read_in_range cert valid =
 -- ---- the answer
 
 pub judged_by : (book : Book) (table : List Offsets) (cert : Certificate) (zone : Zone) (site : Site)
-    → site_in Events book table cert.station (asked_by_certificate cert) ≡ Ok site
+    → site_in Events book table cert.station (request_by_certificate cert) ≡ Ok site
     → judged_in book table cert zone ≡ Ok (judged book site cert zone (rejection_in book site cert))
 unfolding judged_in
 judged_by book table cert zone site expected = rw expected refl
 
 pub judged_refused : (memory : Bool) (book : Book) (table : List Offsets) (cert : Certificate) (zone : Zone)
-    (refusal : Refusal) → Excused memory (site_in Events book table cert.station (asked_by_certificate cert)) refusal
+    (refusal : Refusal) → Excused memory (site_in Events book table cert.station (request_by_certificate cert)) refusal
     → Excused memory (judged_in book table cert zone) refusal
 unfolding judged_in
 judged_refused memory book table cert zone refusal excused = excused_then memory _ _ refusal excused
@@ -204,45 +204,45 @@ checked_by book table bytes zone cert is = rw is refl
 
 -- ---- a station that was found
 
-found_in : (found : FoundStation) (cert : Certificate) → found.reach ≡ Events → found.asked ≡ asked_by_certificate cert
-    → IsFound Events found.curve.book (asked_by_certificate cert) (site_of found)
-found_in found cert reach same =
-    subst (λ a. IsFound Events found.curve.book a (site_of found)) same (found_for found Events reach)
+found_in : (found_station : FoundStation) (cert : Certificate) → found_station.purpose ≡ Events → found_station.span_request ≡ request_by_certificate cert
+    → IsFound Events found_station.curve.book (request_by_certificate cert) (site_of found_station)
+found_in found_station cert purpose same =
+    subst (λ a. IsFound Events found_station.curve.book a (site_of found_station)) same (found_for found_station Events purpose)
 
-pub span_in : (found : FoundStation) (cert : Certificate) → found.reach ≡ Events
-    → found.asked ≡ asked_by_certificate cert → found.span ≡ widened_of found.basis cert.begin cert.end
-span_in found cert reach same = span_for found Events reach ∙ ap (λ (a : Asked). widened_of found.basis a.begin a.end) same
+pub span_in : (found_station : FoundStation) (cert : Certificate) → found_station.purpose ≡ Events
+    → found_station.span_request ≡ request_by_certificate cert → found_station.span ≡ widened_of found_station.basis cert.begin cert.end
+span_in found_station cert purpose same = span_for found_station Events purpose ∙ ap (λ (a : SpanRequest). widened_of found_station.basis a.begin a.end) same
 
 -- accepted tracks are short
-pub found_short : (found : FoundStation) (cert : Certificate) → found.reach ≡ Events
-    → found.asked ≡ asked_by_certificate cert → IsCertificate cert
-    → rejection_in found.curve.book (site_of found) cert ≡ None → AreShort cert.tracks
-found_short found cert reach same valid none =
-    let book = found.curve.book in
-    let site = site_of found in
-    let few = looked_few book (asked_by_certificate cert) site (found_in found cert reach same) in
+pub found_short : (found_station : FoundStation) (cert : Certificate) → found_station.purpose ≡ Events
+    → found_station.span_request ≡ request_by_certificate cert → IsCertificate cert
+    → rejection_in found_station.curve.book (site_of found_station) cert ≡ None → AreShort cert.tracks
+found_short found_station cert purpose same valid none =
+    let book = found_station.curve.book in
+    let site = site_of found_station in
+    let few = looked_few book (request_by_certificate cert) site (found_in found_station cert purpose same) in
     tracks_short (followed_by (version_of cert) book site cert.mark) (widened_of site.basis cert.begin cert.end) cert.tracks
     (omega (arith, few)) (site_accepted book site cert valid none)
 
-pub found_movable : (found : FoundStation) (cert : Certificate) (events : List Event) → found.reach ≡ Events
-    → found.asked ≡ asked_by_certificate cert → events ≡ merged_of found.span.begin cert.tracks → IsCertificate cert
-    → rejection_in found.curve.book (site_of found) cert ≡ None → All IsMovable events
-found_movable found cert events reach same is valid none =
-    rw (is, span_in found cert reach same)
-    (site_movable (version_of cert) found.curve.book (asked_by_certificate cert) (site_of found) cert.tracks
-    (found_in found cert reach same) (site_accepted found.curve.book (site_of found) cert valid none))
+pub found_movable : (found_station : FoundStation) (cert : Certificate) (events : List Event) → found_station.purpose ≡ Events
+    → found_station.span_request ≡ request_by_certificate cert → events ≡ merged_of found_station.span.begin cert.tracks → IsCertificate cert
+    → rejection_in found_station.curve.book (site_of found_station) cert ≡ None → All IsMovable events
+found_movable found_station cert events purpose same is valid none =
+    rw (is, span_in found_station cert purpose same)
+    (site_movable (version_of cert) found_station.curve.book (request_by_certificate cert) (site_of found_station) cert.tracks
+    (found_in found_station cert purpose same) (site_accepted found_station.curve.book (site_of found_station) cert valid none))
 
-pub found_list : (found : FoundStation) (cert : Certificate) (events : List Event) → found.reach ≡ Events
-    → found.asked ≡ asked_by_certificate cert → events ≡ merged_of found.span.begin cert.tracks → IsCertificate cert
-    → rejection_in found.curve.book (site_of found) cert ≡ None
-    → shifted_of found.basis found.asked.begin found.asked.end events
-    ≡ events_of found.curve.book (site_of found) (asked_by_certificate cert)
-found_list found cert events reach same is valid none =
-    rw (is, span_in found cert reach same, same)
-    (accepted_events found.curve.book (site_of found) cert (found_in found cert reach same) valid none)
+pub found_list : (found_station : FoundStation) (cert : Certificate) (events : List Event) → found_station.purpose ≡ Events
+    → found_station.span_request ≡ request_by_certificate cert → events ≡ merged_of found_station.span.begin cert.tracks → IsCertificate cert
+    → rejection_in found_station.curve.book (site_of found_station) cert ≡ None
+    → shifted_of found_station.basis found_station.span_request.begin found_station.span_request.end events
+    ≡ events_of found_station.curve.book (site_of found_station) (request_by_certificate cert)
+found_list found_station cert events purpose same is valid none =
+    rw (is, span_in found_station cert purpose same, same)
+    (accepted_events found_station.curve.book (site_of found_station) cert (found_in found_station cert purpose same) valid none)
 
-pub found_lines : (found : FoundStation) (cert : Certificate) → found.reach ≡ Events
-    → found.asked ≡ asked_by_certificate cert → All (IsListed found.curve.station.units)
-    (events_of found.curve.book (site_of found) (asked_by_certificate cert))
-found_lines found cert reach same =
-    site_lines found.curve.book (asked_by_certificate cert) (site_of found) (found_in found cert reach same)
+pub found_lines : (found_station : FoundStation) (cert : Certificate) → found_station.purpose ≡ Events
+    → found_station.span_request ≡ request_by_certificate cert → All (IsListed found_station.curve.station.units)
+    (events_of found_station.curve.book (site_of found_station) (request_by_certificate cert))
+found_lines found_station cert purpose same =
+    site_lines found_station.curve.book (request_by_certificate cert) (site_of found_station) (found_in found_station cert purpose same)

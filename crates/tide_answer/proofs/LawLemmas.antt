@@ -11,7 +11,7 @@ use Rattle.cert_text.specs.Lines.{certificate_text}
 use Rattle.cert_text.specs.Readings.{certificate_of}
 use Rattle.cert_text.specs.Spelling.{IsTextOf, Reads}
 use Rattle.curve_law.specs.declared.cell.Cell.{Cell}
-use Rattle.curve_law.specs.Meaning.{Meaning}
+use Rattle.curve_law.specs.CurveSpec.{CurveSpec}
 use Rattle.curve_law.proofs.VerdictLemmas.{verdict-exact}
 use Rattle.event_list.specs.declared.span.Span.{Span}
 use Rattle.event_list.specs.Events.{Followed, IsValidOver, IsAccepted, span_minutes, covers_of}
@@ -22,19 +22,19 @@ use Rattle.harmonics_book.specs.Books.{IsBook}
 use Rattle.question.specs.declared.layout.Layout.TheVariants.{Plain}
 use Rattle.rate_bound.specs.declared.version.Version.{Version}
 use Rattle.rate_bound.specs.declared.version.Version.TheVariants.{Second}
-use Rattle.rate_bound.specs.Meanings.{predicted_mark}
+use Rattle.rate_bound.specs.CurveSpecs.{predicted_mark}
 use Rattle.station_table.specs.declared.offsets.Offsets.{Offsets}
 use Rattle.station_table.specs.Offsets.{IsTable}
 use Rattle.zone_time.specs.declared.zone.Zone.{Zone}
-use Rattle.station_span.specs.declared.asked.Asked.{Asked}
-use Rattle.station_span.specs.declared.reach.Reach.TheVariants.{Events}
+use Rattle.station_span.specs.declared.span_request.SpanRequest.{SpanRequest}
+use Rattle.station_span.specs.declared.purpose.Purpose.TheVariants.{Events}
 use Rattle.station_cells.specs.declared.rejection.Rejection.{Rejection}
 use Rattle.tide_answer.specs.declared.text.Answer.{Answer}
 use Rattle.listing.specs.ByLayout.{events_text}
 use Rattle.tide_answer.specs.Answers.{predicted, certified, checked, certificate_by, certificate_from, version_of, judged, text_of_events}
-use Rattle.tide_answer.specs.Asking.{asked_by_certificate}
+use Rattle.tide_answer.specs.Asking.{request_by_certificate}
 use Rattle.station_span.specs.Following.{asks_slack, slack_times, slack_plus, if_asked, followed, followed_by, events_of, tracks_of}
-use Rattle.tide_answer.specs.Laws.{IsAskable, AcceptsListing, ListsTrack, ListsEvents, AcceptsWhatIsCertified, AcceptsOnlyInShort, AcceptsOnlyWhatIsTrue, CertifiesInShort}
+use Rattle.tide_answer.specs.Laws.{IsRequestable, AcceptsListing, ListsTrack, ListsEvents, AcceptsWhatIsCertified, AcceptsOnlyInShort, AcceptsOnlyWhatIsTrue, CertifiesInShort}
 use Rattle.station_cells.specs.Rejections.{slack_fault, fault_from, track_fault, rejection_of}
 use Rattle.station_span.specs.Sites.{Site, site_in}
 use Rattle.tide_answer.specs.Workings.Certifying.{rejection_in}
@@ -49,7 +49,7 @@ use Rattle.station_span.proofs.SiteLemmas.{found_of_site}
 
 -- ---- accepted tracks have exactly the events
 
-valid_lists : (s : Span) (curve : Option Meaning) (cells : Option (List Cell)) → ForSome curve (IsValidOver s)
+valid_lists : (s : Span) (curve : Option CurveSpec) (cells : Option (List Cell)) → ForSome curve (IsValidOver s)
     → IsAccepted s curve cells → ListsTrack s curve cells
 valid_lists s None None valid_over ok = tt
 valid_lists s None (Some cells) valid_over ok = absurd ok
@@ -57,14 +57,14 @@ valid_lists s (Some c) None valid_over ok = absurd ok
 valid_lists s (Some c) (Some cells) valid_over ok =
     let is = valid_over c refl in verdict-exact c s.begin (span_minutes s) cells is.lawful is.span ok
 
-if_asked_lists : (s : Span) (asks : Bool) (c d : Meaning) (cells : Option (List Cell)) → c.track ≡ d.track
+if_asked_lists : (s : Span) (asks : Bool) (c d : CurveSpec) (cells : Option (List Cell)) → c.track ≡ d.track
     → ListsTrack s (if_asked asks c) cells → ListsTrack s (if_asked asks d) cells
 if_asked_lists s true c d None same listed = listed
 if_asked_lists s true c d (Some cells) same listed = rw (← same) listed
 if_asked_lists s false c d None same listed = listed
 if_asked_lists s false c d (Some cells) same listed = listed
 
-if_marked_lists : (s : Span) (mark : Option ℤ) (f g : ℤ → Meaning) (cells : Option (List Cell))
+if_marked_lists : (s : Span) (mark : Option ℤ) (f g : ℤ → CurveSpec) (cells : Option (List Cell))
     → ((level : ℤ) → (f level).track ≡ (g level).track) → ListsTrack s (option_map f mark) cells
     → ListsTrack s (option_map g mark) cells
 if_marked_lists s (Some level) f g None same listed = listed
@@ -91,12 +91,12 @@ version_lists v book site cert s listed =
           cert.tracks.mark (λ level. refl) listed.mark;
     }
 
-accepted_lists : (book : Book) (cert : Certificate) (site : Site) → IsFound Events book (asked_by_certificate cert) site
+accepted_lists : (book : Book) (cert : Certificate) (site : Site) → IsFound Events book (request_by_certificate cert) site
     → IsCertificate cert → rejection_in book site cert ≡ None → ListsEvents (widened_of site.basis cert.begin cert.end)
-    (followed book site (asked_by_certificate cert)) cert.tracks
+    (followed book site (request_by_certificate cert)) cert.tracks
 accepted_lists book cert site is valid none =
     let s = widened_of site.basis cert.begin cert.end in
-    let valid_over = found_valid_over (version_of cert) book (asked_by_certificate cert) site is in
+    let valid_over = found_valid_over (version_of cert) book (request_by_certificate cert) site is in
     let accepted = site_accepted book site cert valid none in
     let f = followed_by (version_of cert) book site cert.mark in
     version_lists (version_of cert) book site cert s (record {
@@ -108,18 +108,18 @@ accepted_lists book cert site is valid none =
 -- ---- what is accepted is true
 
 lists : (book : Book) (table : List Offsets) (cert : Certificate) (zone : Zone) (site : Site)
-    → site_in Events book table cert.station (asked_by_certificate cert) ≡ Ok site
-    → AcceptsListing (predicted book table cert.station (asked_by_certificate cert) Plain zone) (judged book site cert zone None)
+    → site_in Events book table cert.station (request_by_certificate cert) ≡ Ok site
+    → AcceptsListing (predicted book table cert.station (request_by_certificate cert) Plain zone) (judged book site cert zone None)
 unfolding predicted
 lists book table cert zone site is = (
-  text_of_events book site (asked_by_certificate cert)
-      (events_text Plain cert.station site.station.units (events_of book site (asked_by_certificate cert)) zone),
+  text_of_events book site (request_by_certificate cert)
+      (events_text Plain cert.station site.station.units (events_of book site (request_by_certificate cert)) zone),
   rw is refl,
   refl,
 )
 
 read_ok : (result : Result Certificate CertFault) (cert : Certificate) → certificate_from result ≡ Ok cert → result ≡ Ok cert
-read_ok (Ok found) cert ok = cc
+read_ok (Ok found_station) cert ok = cc
 read_ok (Err fault) cert ok = absurd cc
 
 unrejected : (book : Book) (site : Site) (cert : Certificate) (zone : Zone) (rejection : Option Rejection)
@@ -131,7 +131,7 @@ record WasJudged (book : Book) (table : List Offsets) (bytes : List ℕ) (zone :
   pub certificate : Certificate
   pub site : Site
   pub read : certificate_of bytes ≡ Ok certificate
-  pub found : site_in Events book table certificate.station (asked_by_certificate certificate) ≡ Ok site
+  pub found : site_in Events book table certificate.station (request_by_certificate certificate) ≡ Ok site
   pub judged : judged book site certificate zone (rejection_in book site certificate) ≡ answer
 
 was_judged : (book : Book) (table : List Offsets) (bytes : List ℕ) (zone : Zone) (answer : Answer)
@@ -139,7 +139,7 @@ was_judged : (book : Book) (table : List Offsets) (bytes : List ℕ) (zone : Zon
 unfolding checked
 was_judged book table bytes zone answer ok =
     let cert = then_ok (certificate_from (certificate_of bytes)) _ answer ok in
-    let site = then_ok (site_in Events book table cert.0.station (asked_by_certificate cert.0)) _ answer cert.2 in
+    let site = then_ok (site_in Events book table cert.0.station (request_by_certificate cert.0)) _ answer cert.2 in
     record {
       certificate = cert.0;
       site = site.0;
@@ -156,7 +156,7 @@ accepted_true reads only book table bytes zone answer is rows ok accepted =
     let site = was.site in
     let written : IsTextOf cert bytes = rw was.read at (reads bytes) in
     let valid = only cert bytes written in
-    let found = found_of_site Events book table cert.station (asked_by_certificate cert) site is rows
+    let found_station = found_of_site Events book table cert.station (request_by_certificate cert) site is rows
     (read_in_range cert valid) was.found in
     let none = unrejected book site cert zone _ answer was.judged accepted in
     let answered : judged book site cert zone None ≡ answer = ap (judged book site cert zone) (sym none) ∙ was.judged in
@@ -164,22 +164,22 @@ accepted_true reads only book table bytes zone answer is rows ok accepted =
       certificate = cert;
       site = site;
       written = written;
-      asked = was.found;
-      tracks = accepted_lists book cert site found valid none;
-      listing = subst (AcceptsListing (predicted book table cert.station (asked_by_certificate cert) Plain zone))
+      found_station = was.found;
+      tracks = accepted_lists book cert site found_station valid none;
+      listing = subst (AcceptsListing (predicted book table cert.station (request_by_certificate cert) Plain zone))
           answered (lists book table cert zone site was.found);
     }
 
 -- ---- what is certified is accepted
 
-slack_none : (s : Span) (curve : Option Meaning) (cells : Option (List Cell)) → IsAccepted s curve cells
+slack_none : (s : Span) (curve : Option CurveSpec) (cells : Option (List Cell)) → IsAccepted s curve cells
     → slack_fault (is_some curve) (is_some cells) ≡ None
 slack_none s None None ok = refl
 slack_none s None (Some cells) ok = absurd ok
 slack_none s (Some c) None ok = absurd ok
 slack_none s (Some c) (Some cells) ok = refl
 
-track_none : (s : Span) (track : TrackName) (curve : Option Meaning) (cells : Option (List Cell))
+track_none : (s : Span) (track : TrackName) (curve : Option CurveSpec) (cells : Option (List Cell))
     → IsAccepted s curve cells → track_fault s track curve cells ≡ None
 track_none s track None cells ok = refl
 track_none s track (Some c) None ok = absurd ok
@@ -197,55 +197,55 @@ all_none f s =
       track_none s names.Mark f.mark t.mark ok.mark,
     ) refl
 
-pub askable_in_range : (asked : Asked) → IsAskable asked → IsInRange asked
-askable_in_range asked is = record { begin = moment_in_range asked.begin is.begin; end = moment_in_range asked.end is.end; mark = is.mark }
+pub askable_in_range : (span_request : SpanRequest) → IsRequestable span_request → IsInRange span_request
+askable_in_range span_request is = record { begin = moment_in_range span_request.begin is.begin; end = moment_in_range span_request.end is.end; mark = is.mark }
 
 -- what was certified is the text of a certificate
-record WasCertified (book : Book) (table : List Offsets) (name : List ℕ) (asked : Asked) (certificate : Answer) : Type 0 where
+record WasCertified (book : Book) (table : List Offsets) (name : List ℕ) (span_request : SpanRequest) (certificate : Answer) : Type 0 where
   pub site : Site
-  pub expected : site_in Events book table name asked ≡ Ok site
-  pub text : certificate.text ≡ certificate_text (certificate_by book site name asked)
-  pub found : IsFound Events book asked site
-  pub valid : IsCertificate (certificate_by book site name asked)
+  pub expected : site_in Events book table name span_request ≡ Ok site
+  pub text : certificate.text ≡ certificate_text (certificate_by book site name span_request)
+  pub found : IsFound Events book span_request site
+  pub valid : IsCertificate (certificate_by book site name span_request)
 
-site_certified : (book : Book) (table : List Offsets) (name : List ℕ) (asked : Asked) (certificate : Answer)
-    → certified book table name asked ≡ Ok certificate
-    → (site : Site) × (site_in Events book table name asked ≡ Ok site)
-    × (certificate.text ≡ certificate_text (certificate_by book site name asked))
+site_certified : (book : Book) (table : List Offsets) (name : List ℕ) (span_request : SpanRequest) (certificate : Answer)
+    → certified book table name span_request ≡ Ok certificate
+    → (site : Site) × (site_in Events book table name span_request ≡ Ok site)
+    × (certificate.text ≡ certificate_text (certificate_by book site name span_request))
 unfolding certified
-site_certified book table name asked certificate ok =
-    let site = then_ok (site_in Events book table name asked) _ certificate ok in
+site_certified book table name span_request certificate ok =
+    let site = then_ok (site_in Events book table name span_request) _ certificate ok in
     (site.0, site.1, (let last = site.2 in cc))
 
-was_certified : (book : Book) (table : List Offsets) (name : List ℕ) (asked : Asked) (certificate : Answer)
-    → IsBook book → IsTable table → IsAskable asked → certified book table name asked ≡ Ok certificate
-    → WasCertified book table name asked certificate
-was_certified book table name asked certificate is rows askable ok =
-    let was = site_certified book table name asked certificate ok in
+was_certified : (book : Book) (table : List Offsets) (name : List ℕ) (span_request : SpanRequest) (certificate : Answer)
+    → IsBook book → IsTable table → IsRequestable span_request → certified book table name span_request ≡ Ok certificate
+    → WasCertified book table name span_request certificate
+was_certified book table name span_request certificate is rows is_requestable ok =
+    let was = site_certified book table name span_request certificate ok in
     let site = was.0 in
-    let in_range = askable_in_range asked askable in
-    let found = found_of_site Events book table name asked site is rows in_range was.1 in
+    let in_range = askable_in_range span_request is_requestable in
+    let found_station = found_of_site Events book table name span_request site is rows in_range was.1 in
     record {
       site = site;
       expected = was.1;
       text = was.2;
-      found = found;
-      valid = certificate_valid name book asked site (tracks_of book site asked)
-          (site_name Events book table name asked site is rows was.1) askable.begin askable.end found refl;
+      found = found_station;
+      valid = certificate_valid name book span_request site (tracks_of book site span_request)
+          (site_name Events book table name span_request site is rows was.1) is_requestable.begin is_requestable.end found_station refl;
     }
 
-certified_none : (book : Book) (site : Site) (name : List ℕ) (asked : Asked)
-    → rejection_in book site (certificate_by book site name asked) ≡ None
+certified_none : (book : Book) (site : Site) (name : List ℕ) (span_request : SpanRequest)
+    → rejection_in book site (certificate_by book site name span_request) ≡ None
 unfolding tracks_of
-certified_none book site name asked = all_none (followed book site asked) (widened_of site.basis asked.begin asked.end)
+certified_none book site name span_request = all_none (followed book site span_request) (widened_of site.basis span_request.begin span_request.end)
 
 pub certified_accepted : ((c : Certificate) → IsCertificate c → certificate_of (certificate_text c) ≡ Ok c) → AcceptsWhatIsCertified
-certified_accepted again book table name asked zone certificate is rows askable ok =
-    let was = was_certified book table name asked certificate is rows askable ok in
+certified_accepted again book table name span_request zone certificate is rows is_requestable ok =
+    let was = was_certified book table name span_request certificate is rows is_requestable ok in
     let site = was.site in
-    let cert = certificate_by book site name asked in
+    let cert = certificate_by book site name span_request in
     let judges = judged_by book table cert zone site was.expected
-    ∙ ap (λ r. Ok (judged book site cert zone r)) (certified_none book site name asked) in (
+    ∙ ap (λ r. Ok (judged book site cert zone r)) (certified_none book site name span_request) in (
       judged book site cert zone None,
       ap (λ text. checked book table text zone) was.text
           ∙ checked_by book table (certificate_text cert) zone cert (again cert was.valid) ∙ judges,
@@ -256,11 +256,11 @@ certified_accepted again book table name asked zone certificate is rows askable 
 
 pub certified_short : ((c : Certificate) → IsCertificate c → HasUsualLevels c → cell_count c ≤ 15819840
     → length (certificate_text c) < 333000000) → CertifiesInShort
-certified_short fits book table name asked certificate is rows askable ok =
-    let was = was_certified book table name asked certificate is rows askable ok in
+certified_short fits book table name span_request certificate is rows is_requestable ok =
+    let was = was_certified book table name span_request certificate is rows is_requestable ok in
     rw was.text
-    (fits (certificate_by book was.site name asked) was.valid
-    (certificate_usual name book asked was.site was.found) (certificate_few name book asked was.site was.found))
+    (fits (certificate_by book was.site name span_request) was.valid
+    (certificate_usual name book span_request was.site was.found) (certificate_few name book span_request was.site was.found))
 
 -- ---- what is accepted is short
 
@@ -274,11 +274,11 @@ accepted_short reads only fits book table bytes zone answer is rows ok accepted 
     let site = was.site in
     let written : IsTextOf cert bytes = rw was.read at (reads bytes) in
     let one = only cert bytes written in
-    let found = found_of_site Events book table cert.station (asked_by_certificate cert) site is rows
+    let found_station = found_of_site Events book table cert.station (request_by_certificate cert) site is rows
     (read_in_range cert one.0) was.found in
     let none = unrejected book site cert zone _ answer was.judged accepted in
     let right = site_accepted book site cert one.0 none in
     subst (λ text. length text < 333000000) one.1
     (fits cert one.0
-    (accepted_usual (version_of cert) book (asked_by_certificate cert) site cert found right)
-    (accepted_few (version_of cert) book (asked_by_certificate cert) site cert found right))
+    (accepted_usual (version_of cert) book (request_by_certificate cert) site cert found_station right)
+    (accepted_few (version_of cert) book (request_by_certificate cert) site cert found_station right))

@@ -14,12 +14,12 @@ use Rattle.station_span.specs.declared.found_station.FoundStation.{FoundStation}
 use Rattle.station_span.specs.Peaks.{highest_of, highest_site, highest_verdict}
 use Rattle.station_span.specs.Sites.{Site}
 use Rattle.station_span.specs.Workings.Finds.{HasPeak, site_of}
-use Rattle.station_span.specs.declared.reach.Reach.TheVariants.{Highest}
+use Rattle.station_span.specs.declared.purpose.Purpose.TheVariants.{Highest}
 use Rattle.station_span.specs.Workings.Spans.{AreMoments, IsInRange}
 use Rattle.station_span.proofs.HeldLemmas.{found_for}
 use Rattle.station_span.proofs.PeakLemmas.{accepted_certificate, highest_of_accepted, some_minute}
 use Rattle.tide_answer.specs.Answers.{peak_judged}
-use Rattle.tide_answer.specs.Asking.{asked_by_peak_certificate}
+use Rattle.tide_answer.specs.Asking.{request_by_peak_certificate}
 use Rattle.tide_answer.specs.Workings.Peaks.{peak_certificate_in, peak_judged_in}
 use Rattle.tide_answer.proofs.AnswerLemmas.{moment_in_range}
 use Rattle.tide_answer.proofs.CheckLemmas.{lines_long}
@@ -27,18 +27,18 @@ use Rattle.tide_answer.proofs.CheckLemmas.{lines_long}
 -- ---- the certificate
 
 -- the parts of a highest water that is found are within their ranges
-pub certificate_valid : (name : List ℕ) (found : FoundStation) (peak : Peak) → IsStationName name
-    → AreMoments found.asked → HasPeak found → peak ≡ highest_of found.curve.book (site_of found) found.asked
-    → IsPeakCertificate (peak_certificate_in name found.asked peak)
-certificate_valid name found peak named moments has same =
-    let is = found_for found Highest has.reach in
-    let some = some_minute found.asked.begin found.asked.end is.span.some in
-    accepted_certificate name found.curve.book found.asked (site_of found) peak named moments is has.equal
-    (rw same (highest_of_accepted found.curve.book (site_of found) found.asked some))
+pub certificate_valid : (name : List ℕ) (found_station : FoundStation) (peak : Peak) → IsStationName name
+    → AreMoments found_station.span_request → HasPeak found_station → peak ≡ highest_of found_station.curve.book (site_of found_station) found_station.span_request
+    → IsPeakCertificate (peak_certificate_in name found_station.span_request peak)
+certificate_valid name found_station peak named moments has same =
+    let is = found_for found_station Highest has.purpose in
+    let some = some_minute found_station.span_request.begin found_station.span_request.end is.span.some in
+    accepted_certificate name found_station.curve.book found_station.span_request (site_of found_station) peak named moments is has.equal
+    (rw same (highest_of_accepted found_station.curve.book (site_of found_station) found_station.span_request some))
 
 -- ---- a certificate that was read
 
-pub peak_in_range : (cert : PeakCertificate) → IsPeakCertificate cert → IsInRange (asked_by_peak_certificate cert)
+pub peak_in_range : (cert : PeakCertificate) → IsPeakCertificate cert → IsInRange (request_by_peak_certificate cert)
 peak_in_range cert valid = record {
   begin = moment_in_range cert.begin valid.begin;
   end = moment_in_range cert.end valid.end;
@@ -61,7 +61,7 @@ few_cells cert bytes text few =
     omega arith
 
 pub judged_by : (book : Book) (table : List Offsets) (cert : PeakCertificate) (site : Site)
-    → highest_site book table cert.station (asked_by_peak_certificate cert) ≡ Ok site → peak_judged_in book table cert
-    ≡ Ok (peak_judged book site cert (highest_verdict book site (asked_by_peak_certificate cert) cert.peak))
+    → highest_site book table cert.station (request_by_peak_certificate cert) ≡ Ok site → peak_judged_in book table cert
+    ≡ Ok (peak_judged book site cert (highest_verdict book site (request_by_peak_certificate cert) cert.peak))
 unfolding peak_judged_in
 judged_by book table cert site expected = rw expected refl

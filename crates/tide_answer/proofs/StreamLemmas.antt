@@ -23,9 +23,9 @@ use Rattle.event_list.specs.Shifts.{widened_of}
 use Rattle.event_list.proofs.EventLemmas.{cells-parts, count-few, merged-parts}
 use Rattle.event_list.proofs.OrderLemmas.{sum-ordered}
 use Rattle.interval_search.specs.Looking.{Looking}
-use Rattle.station_span.specs.declared.asked.Asked.{Asked}
+use Rattle.station_span.specs.declared.span_request.SpanRequest.{SpanRequest}
 use Rattle.station_span.specs.declared.found_station.FoundStation.{FoundStation}
-use Rattle.station_span.specs.declared.reach.Reach.TheVariants.{Events}
+use Rattle.station_span.specs.declared.purpose.Purpose.TheVariants.{Events}
 use Rattle.station_span.specs.Following.{followed, tracks_of}
 use Rattle.station_span.specs.Workings.Finds.{AreReferences, site_of}
 use Rattle.station_span.proofs.HeldLemmas.{found_for}
@@ -37,13 +37,13 @@ use Rattle.tide_answer.proofs.CertificateLemmas.{certificate_valid}
 
 -- ---- cells
 
-pub cells_small : (found : FoundStation) → found.reach ≡ Events
-    → cells_in (tracks_of found.curve.book (site_of found) found.asked) ≤ 600000000000
+pub cells_small : (found_station : FoundStation) → found_station.purpose ≡ Events
+    → cells_in (tracks_of found_station.curve.book (site_of found_station) found_station.span_request) ≤ 600000000000
 unfolding cell_count tracks_of
-cells_small found is =
-    let few = count-few (followed found.curve.book (site_of found) found.asked)
-    (widened_of found.basis found.asked.begin found.asked.end) in
-    let in_range = (found_for found Events is).span.in_range in
+cells_small found_station is =
+    let few = count-few (followed found_station.curve.book (site_of found_station) found_station.span_request)
+    (widened_of found_station.basis found_station.span_request.begin found_station.span_request.end) in
+    let in_range = (found_for found_station Events is).span.in_range in
     let forward = in_range.forward in
     let begin = in_range.begin in
     let end = in_range.end in
@@ -51,7 +51,7 @@ cells_small found is =
 
 pub left_counted : {C : Type 0} (search : Option (Looking C)) → left_count search ≡ sum_by length (option_to_list (cells_left search))
 left_counted None = refl
-left_counted (Some search) = omega (arith, sum_by-cons length search.left [])
+left_counted (Some search) = omega (arith, sum_by-cons length search.remaining [])
 
 pub all_counted : {C : Type 0} (turn : List Cell) (slack mark : Option (Looking C)) → length turn + left_count slack
     + left_count mark ≡ cells_in (record { turn = turn; slack = cells_left slack; mark = cells_left mark })
@@ -112,36 +112,36 @@ merged_few a t =
       track_few a t.mark,
     ))
 
-pub events_small : (found : FoundStation) (events : List Event) → found.reach ≡ Events → AreReferences found events
+pub events_small : (found_station : FoundStation) (events : List Event) → found_station.purpose ≡ Events → AreReferences found_station events
     → 96 * length events < 2 ^ 63
-events_small found events is references =
-    let few = merged_few found.span.begin (tracks_of found.curve.book (site_of found) found.asked) in
-    let small = cells_small found is in
+events_small found_station events is references =
+    let few = merged_few found_station.span.begin (tracks_of found_station.curve.book (site_of found_station) found_station.span_request) in
+    let small = cells_small found_station is in
     rw references (omega (arith, few, small))
 
 -- ---- the parts of a certificate
 
-pub turn_small : (found : FoundStation) → found.reach ≡ Events
-    → length (tracks_of found.curve.book (site_of found) found.asked).turn ≤ 600000000000
-turn_small found is = omega (arith, cells-parts (tracks_of found.curve.book (site_of found) found.asked), cells_small found is)
+pub turn_small : (found_station : FoundStation) → found_station.purpose ≡ Events
+    → length (tracks_of found_station.curve.book (site_of found_station) found_station.span_request).turn ≤ 600000000000
+turn_small found_station is = omega (arith, cells-parts (tracks_of found_station.curve.book (site_of found_station) found_station.span_request), cells_small found_station is)
 
-pub slack_small : {C : Type 0} (found : FoundStation) (search : Option (Looking C)) → found.reach ≡ Events
-    → cells_left search ≡ (tracks_of found.curve.book (site_of found) found.asked).slack
+pub slack_small : {C : Type 0} (found_station : FoundStation) (search : Option (Looking C)) → found_station.purpose ≡ Events
+    → cells_left search ≡ (tracks_of found_station.curve.book (site_of found_station) found_station.span_request).slack
     → left_count search ≤ 600000000000
-slack_small found search is left =
-    let tracks = tracks_of found.curve.book (site_of found) found.asked in
+slack_small found_station search is remaining =
+    let tracks = tracks_of found_station.curve.book (site_of found_station) found_station.span_request in
     let count : left_count search ≡ sum_by length (option_to_list tracks.slack) =
-    left_counted search ∙ ap (λ (o : Option (List Cell)). sum_by length (option_to_list o)) left in
-    omega (arith, count, cells-parts tracks, cells_small found is)
+    left_counted search ∙ ap (λ (o : Option (List Cell)). sum_by length (option_to_list o)) remaining in
+    omega (arith, count, cells-parts tracks, cells_small found_station is)
 
-pub mark_small : {C : Type 0} (found : FoundStation) (search : Option (Looking C)) → found.reach ≡ Events
-    → cells_left search ≡ (tracks_of found.curve.book (site_of found) found.asked).mark
+pub mark_small : {C : Type 0} (found_station : FoundStation) (search : Option (Looking C)) → found_station.purpose ≡ Events
+    → cells_left search ≡ (tracks_of found_station.curve.book (site_of found_station) found_station.span_request).mark
     → left_count search ≤ 600000000000
-mark_small found search is left =
-    let tracks = tracks_of found.curve.book (site_of found) found.asked in
+mark_small found_station search is remaining =
+    let tracks = tracks_of found_station.curve.book (site_of found_station) found_station.span_request in
     let count : left_count search ≡ sum_by length (option_to_list tracks.mark) =
-    left_counted search ∙ ap (λ (o : Option (List Cell)). sum_by length (option_to_list o)) left in
-    omega (arith, count, cells-parts tracks, cells_small found is)
+    left_counted search ∙ ap (λ (o : Option (List Cell)). sum_by length (option_to_list o)) remaining in
+    omega (arith, count, cells-parts tracks, cells_small found_station is)
 
 pub mark_in_range : (mark : Option ℤ) → ForSome mark (λ level. unsigned_abs level ≤ 10000000000) → IfSome mark IsMark
 mark_in_range (Some level) small = small level refl
@@ -156,12 +156,12 @@ if_cells : (track : TrackName) (cells : Option (List Cell)) → IfSome cells (Al
 if_cells track (Some cells) all = All-weaker (IsCellOf track) IsCell (cell_of track) cells all
 if_cells track None all = tt
 
-pub has_cells : (name : List ℕ) (found : FoundStation) → found.reach ≡ Events → IsStationName name
-    → AreMoments found.asked → HasCells (tracks_of found.curve.book (site_of found) found.asked)
-has_cells name found reach named moments =
-    let tracks = tracks_of found.curve.book (site_of found) found.asked in
-    let is = certificate_valid name found.curve.book found.asked (site_of found) tracks named moments.begin moments.end
-    (found_for found Events reach) refl in
+pub has_cells : (name : List ℕ) (found_station : FoundStation) → found_station.purpose ≡ Events → IsStationName name
+    → AreMoments found_station.span_request → HasCells (tracks_of found_station.curve.book (site_of found_station) found_station.span_request)
+has_cells name found_station purpose named moments =
+    let tracks = tracks_of found_station.curve.book (site_of found_station) found_station.span_request in
+    let is = certificate_valid name found_station.curve.book found_station.span_request (site_of found_station) tracks named moments.begin moments.end
+    (found_for found_station Events purpose) refl in
     record {
       turn = All-weaker (IsCellOf names.Turn) IsCell (cell_of names.Turn) tracks.turn is.turn;
       slack = if_cells names.Slack tracks.slack is.slack;
@@ -169,7 +169,7 @@ has_cells name found reach named moments =
     }
 
 pub searched : {C : Type 0} (search : Option (Looking C)) (cells : Option (List Cell)) → cells_left search ≡ cells
-    → IfSome cells (All IsCell) → ForSome search (λ s. All IsCell s.left)
+    → IfSome cells (All IsCell) → ForSome search (λ s. All IsCell s.remaining)
 searched (Some s) cells is all x e = let same : s ≡ x = cc in rw (← same) (rw (← is) at all)
 searched None cells is all x e = absurd cc
 
@@ -190,21 +190,21 @@ text_parts c =
     ∙ sym (append_assoc (joined (head_lines_of c) ++ joined turn) (joined slack) (joined crossings ++ ended last_line))
     ∙ sym (append_assoc (joined (head_lines_of c) ++ joined turn ++ joined slack) (joined crossings) (ended last_line))
 
-pub certificate_parts : (name : List ℕ) (asked : Asked) (tracks : Tracks)
-    → certificate_text (certificate_in name asked tracks) ≡ head_text name asked ++ tracks_text tracks ++ codes "done\n"
+pub certificate_parts : (name : List ℕ) (span_request : SpanRequest) (tracks : Tracks)
+    → certificate_text (certificate_in name span_request tracks) ≡ head_text name span_request ++ tracks_text tracks ++ codes "done\n"
 unfolding title_of station_line_of last_line
-certificate_parts name asked tracks =
-    let b = ended (begin_line_of asked.begin) in
-    let e = ended (end_line_of asked.end) in
-    let m = ended (mark_line_of asked.mark) in
+certificate_parts name span_request tracks =
+    let b = ended (begin_line_of span_request.begin) in
+    let e = ended (end_line_of span_request.end) in
+    let m = ended (mark_line_of span_request.mark) in
     let front = codes "tide certificate 2\nstation " ++ name ++ codes "\n" in
     let span : b ++ (e ++ (m ++ [])) ≡ b ++ e ++ m = ap (λ ys. b ++ (e ++ ys)) (append-nil m) ∙ sym (append_assoc b e m) in
-    let head : joined (head_lines_of (certificate_in name asked tracks)) ≡ head_text name asked = ap (λ ys. front ++ ys) span in
+    let head : joined (head_lines_of (certificate_in name span_request tracks)) ≡ head_text name span_request = ap (λ ys. front ++ ys) span in
     let t = joined (track_lines_of names.Turn tracks.turn) in
     let s = joined (lines_if_there names.Slack tracks.slack) in
     let k = joined (lines_if_there names.Mark tracks.mark) in
-    let h = head_text name asked in
+    let h = head_text name span_request in
     let nested : h ++ t ++ s ++ k ≡ h ++ (t ++ s ++ k) = ap (λ ys. ys ++ k) (append_assoc h t s) ∙ append_assoc h (t ++ s) k in
-    text_parts (certificate_in name asked tracks)
+    text_parts (certificate_in name span_request tracks)
     ∙ ap (λ ys. ys ++ t ++ s ++ k ++ codes "done\n") head
     ∙ ap (λ ys. ys ++ codes "done\n") nested

@@ -12,7 +12,7 @@ use Rattle.event_list.proofs.EventLemmas.{count-few}
 use Rattle.harmonics_book.specs.declared.book.Book.{Book}
 use Rattle.harmonics_book.specs.declared.book.Station.{Station}
 use Rattle.event_list.specs.declared.span.Span.{Span}
-use Rattle.station_span.specs.declared.reach.Reach.TheVariants.{Events}
+use Rattle.station_span.specs.declared.purpose.Purpose.TheVariants.{Events}
 use Rattle.tide_fault.specs.declared.refusal.Refusal.{Refusal}
 use Rattle.station_cells.specs.declared.rejection.Rejection.{Rejection}
 use Rattle.station_span.specs.declared.found_station.FoundStation.{FoundStation}
@@ -64,22 +64,22 @@ parts_few turn (Some slack) (Some mark) few = record {
   mark = λ x e. let same : mark ≡ x = cc in rw (← same) (omega (arith, few));
 }
 
-covers_few : (found : FoundStation) → found.reach ≡ Events → cells_in (tracks_of found.curve.book (site_of found) found.asked) < 2 ^ 32
+covers_few : (found_station : FoundStation) → found_station.purpose ≡ Events → cells_in (tracks_of found_station.curve.book (site_of found_station) found_station.span_request) < 2 ^ 32
 unfolding cell_count tracks_of
-covers_few found is =
-    let few = count-few (followed found.curve.book (site_of found) found.asked)
-    (widened_of found.basis found.asked.begin found.asked.end) in
-    let span = (found_for found Events is).span in
+covers_few found_station is =
+    let few = count-few (followed found_station.curve.book (site_of found_station) found_station.span_request)
+    (widened_of found_station.basis found_station.span_request.begin found_station.span_request.end) in
+    let span = (found_for found_station Events is).span in
     let forward = span.in_range.forward in
     let begins = span.beside.begins in
     let ends = span.beside.ends in
-    let long = found.valid.few in
+    let long = found_station.valid.few in
     omega (arith, ints, few)
 
-pub tracks_few : (found : FoundStation) (tracks : Tracks) → found.reach ≡ Events
-    → tracks ≡ tracks_of found.curve.book (site_of found) found.asked → HasFewCells tracks
-tracks_few found tracks is same =
-    parts_few tracks.turn tracks.slack tracks.mark (rw same (covers_few found is))
+pub tracks_few : (found_station : FoundStation) (tracks : Tracks) → found_station.purpose ≡ Events
+    → tracks ≡ tracks_of found_station.curve.book (site_of found_station) found_station.span_request → HasFewCells tracks
+tracks_few found_station tracks is same =
+    parts_few tracks.turn tracks.slack tracks.mark (rw same (covers_few found_station is))
 
 -- ---- from one station to the next
 

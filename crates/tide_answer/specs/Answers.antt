@@ -79,15 +79,15 @@ use Rattle.slope_agreement.specs.Agreements.{predicted_agreement}
 use Rattle.station_table.specs.declared.offsets.Offsets.{Offsets}
 use Rattle.zone_time.specs.declared.zone.Zone.{Zone}
 use Rattle.zone_time.specs.declared.zone.Zone.TheVariants.{Utc}
-use Rattle.station_span.specs.declared.asked.Asked.{Asked}
-use Rattle.tide_answer.specs.declared.given.Given.{Given}
-use Rattle.station_span.specs.declared.reach.Reach.TheVariants.{Events, Levels}
+use Rattle.station_span.specs.declared.span_request.SpanRequest.{SpanRequest}
+use Rattle.tide_answer.specs.declared.inputs.Given.{Given}
+use Rattle.station_span.specs.declared.purpose.Purpose.TheVariants.{Events, Levels}
 use Rattle.tide_fault.specs.declared.refusal.Refusal.{Refusal}
 use Rattle.tide_fault.specs.declared.refusal.Refusal.TheVariants.{NoMemory, NotACertificate, NoStation, TooManyRows}
 use Rattle.station_cells.specs.declared.rejection.Rejection.{Rejection}
 use Rattle.tide_answer.specs.declared.listed.Listed.{Listed}
 use Rattle.tide_answer.specs.declared.text.Answer.{Answer}
-use Rattle.tide_answer.specs.Asking.{asked_by_question, asked_from_minute, asked_by_certificate, asked_by_peak_certificate}
+use Rattle.tide_answer.specs.Asking.{request_by_question, request_from_minute, request_by_certificate, request_by_peak_certificate}
 use Rattle.tide_fault.specs.Faults.{refusal_of_cert}
 use Rattle.station_span.specs.Following.{followed_by, events_of, tracks_of, cells_of}
 use Rattle.station_cells.specs.Rejections.{rejection_of, rejection_line}
@@ -102,8 +102,8 @@ text_alone text = record { text = text; rejected = false; cells = 0 }
 
 -- an answer that lists events, with the number of cells of the requested tracks over the minutes that
 -- were searched
-abbrev pub text_of_events : Book → Site → Asked → List ℕ → Answer
-text_of_events book site asked text = record { text = text; rejected = false; cells = cells_of book site asked }
+abbrev pub text_of_events : Book → Site → SpanRequest → List ℕ → Answer
+text_of_events book site span_request text = record { text = text; rejected = false; cells = cells_of book site span_request }
 
 -- the answer that accepts a certificate: the line `Accepted`, and the text after it
 abbrev pub text_accepted : List ℕ → Answer
@@ -116,36 +116,36 @@ text_rejected line = record { text = line; rejected = true; cells = 0 }
 -- ---- events
 
 -- the answer of the command `predict`: the events of a station over a span, or the first refusal
-unfoldable pub predicted : Book → List Offsets → List ℕ → Asked → Layout → Zone → Result Answer Refusal
-predicted book table name asked layout zone = do
-  site ← site_in Events book table name asked
-  Ok (text_of_events book site asked (events_text layout name site.station.units (events_of book site asked) zone))
+unfoldable pub predicted : Book → List Offsets → List ℕ → SpanRequest → Layout → Zone → Result Answer Refusal
+predicted book table name span_request layout zone = do
+  site ← site_in Events book table name span_request
+  Ok (text_of_events book site span_request (events_text layout name site.station.units (events_of book site span_request) zone))
 
 -- the answer of the command `calendar`: the events of a station by local date, or the first refusal
-unfoldable pub on_calendar : Book → List Offsets → List ℕ → Asked → Zone → Result Answer Refusal
-on_calendar book table name asked zone = do
-  site ← site_in Events book table name asked
-  Ok (text_of_events book site asked
-      (calendar_text_of name site.station.units (events_of book site asked) zone asked.begin asked.end))
+unfoldable pub on_calendar : Book → List Offsets → List ℕ → SpanRequest → Zone → Result Answer Refusal
+on_calendar book table name span_request zone = do
+  site ← site_in Events book table name span_request
+  Ok (text_of_events book site span_request
+      (calendar_text_of name site.station.units (events_of book site span_request) zone span_request.begin span_request.end))
 
 -- ---- certificates
 
 -- the certificate of a station's events, with the cells of version 2
-abbrev pub certificate_by : Book → Site → List ℕ → Asked → Certificate
-certificate_by book site name asked = record {
+abbrev pub certificate_by : Book → Site → List ℕ → SpanRequest → Certificate
+certificate_by book site name span_request = record {
   version = 2;
   station = name;
-  begin = asked.begin;
-  end = asked.end;
-  mark = asked.mark;
-  tracks = tracks_of book site asked;
+  begin = span_request.begin;
+  end = span_request.end;
+  mark = span_request.mark;
+  tracks = tracks_of book site span_request;
 }
 
 -- the answer of the command `certify`: the certificate of a station's events, or the first refusal
-unfoldable pub certified : Book → List Offsets → List ℕ → Asked → Result Answer Refusal
-certified book table name asked = do
-  site ← site_in Events book table name asked
-  Ok (text_of_events book site asked (certificate_text (certificate_by book site name asked)))
+unfoldable pub certified : Book → List Offsets → List ℕ → SpanRequest → Result Answer Refusal
+certified book table name span_request = do
+  site ← site_in Events book table name span_request
+  Ok (text_of_events book site span_request (certificate_text (certificate_by book site name span_request)))
 
 -- the certificate of a text, or the refusal
 abbrev pub certificate_from : Result Certificate CertFault → Result Certificate Refusal
@@ -161,14 +161,14 @@ version_of cert = if cert.version == 1 then First else Second
 -- certificate's station, span and mark, else the rejection
 abbrev pub judged : Book → Site → Certificate → Zone → Option Rejection → Answer
 judged book site cert zone None =
-    text_accepted (plain_events_of cert.station site.station.units (events_of book site (asked_by_certificate cert)) zone)
+    text_accepted (plain_events_of cert.station site.station.units (events_of book site (request_by_certificate cert)) zone)
 judged book site cert zone (Some rejection) = text_rejected (rejection_line rejection)
 
 -- the answer of the command `check`: whether a certificate is valid, or the first refusal
 unfoldable pub checked : Book → List Offsets → List ℕ → Zone → Result Answer Refusal
 checked book table bytes zone = do
   cert ← certificate_from (certificate_of bytes)
-  site ← site_in Events book table cert.station (asked_by_certificate cert)
+  site ← site_in Events book table cert.station (request_by_certificate cert)
   Ok (judged book site cert zone (rejection_of (followed_by (version_of cert) book site cert.mark)
       (widened_of site.basis cert.begin cert.end) cert.tracks))
 
@@ -188,10 +188,10 @@ unfoldable pub rows_in : ℤ → ℤ → ℤ → Result (Unit {0}) Refusal
 rows_in begin end step =
     if nat_lt row_limit (row_count begin end step) then Err (TooManyRows (pos (row_count begin end step))) else Ok tt
 
--- the row of heights at an index: `place` steps of `step` minutes after `begin`
+-- the row of heights at an index: `index` steps of `step` minutes after `begin`
 abbrev pub row_at : Book → Site → ℤ → ℤ → ℕ → Row
-row_at book site begin step place =
-    let minute = begin +ℤ (step *ℤ pos place) in record { minute = minute; level = level_at book site minute }
+row_at book site begin step index =
+    let minute = begin +ℤ (step *ℤ pos index) in record { minute = minute; level = level_at book site minute }
 
 -- the rows of heights of a span, one every `step` minutes from `begin` on; `end` has a row if a step
 -- leads to it
@@ -200,22 +200,22 @@ rows_of book site begin end step = map (row_at book site begin step) (range_with
 
 -- the answer of the command `heights`: the levels of a station at even steps of time, or the first
 -- refusal
-unfoldable pub heights : Book → List Offsets → List ℕ → Asked → ℤ → Layout → Zone → Result Answer Refusal
-heights book table name asked step layout zone = do
-  site ← site_in Levels book table name asked
+unfoldable pub heights : Book → List Offsets → List ℕ → SpanRequest → ℤ → Layout → Zone → Result Answer Refusal
+heights book table name span_request step layout zone = do
+  site ← site_in Levels book table name span_request
   level ← level_in site.basis
-  few ← rows_in asked.begin asked.end step
-  Ok (text_alone (heights_text layout name site.station.units (rows_of book site asked.begin asked.end step) zone))
+  few ← rows_in span_request.begin span_request.end step
+  Ok (text_alone (heights_text layout name site.station.units (rows_of book site span_request.begin span_request.end step) zone))
 
 -- the answer of the command `clock`: the level at a minute and whether it rises, and the events of the
 -- 1,440 minutes from there on
 unfoldable pub on_clock : Book → List Offsets → List ℕ → ℤ → Zone → Result Answer Refusal
 on_clock book table name now zone = do
-  site ← site_in Events book table name (asked_from_minute now)
+  site ← site_in Events book table name (request_from_minute now)
   level ← level_in site.basis
-  Ok (text_of_events book site (asked_from_minute now)
+  Ok (text_of_events book site (request_from_minute now)
       (clock_text_of name site.station.units now (level_at book site now) (is_rising_at book site now)
-      (events_of book site (asked_from_minute now)) zone))
+      (events_of book site (request_from_minute now)) zone))
 
 -- ---- the highest water
 
@@ -226,21 +226,21 @@ highest_text_at book site name at zone =
     let minute = at +ℤ site.basis.high.add in highest_text_of name site.station.units minute (level_at book site minute) zone
 
 -- the answer of the command `highest`: the highest water of a station over a span, or the first refusal
-unfoldable pub highest : Book → List Offsets → List ℕ → Asked → Zone → Result Answer Refusal
-highest book table name asked zone = do
-  site ← highest_site book table name asked
-  Ok (text_alone (highest_text_at book site name (highest_of book site asked).at zone))
+unfoldable pub highest : Book → List Offsets → List ℕ → SpanRequest → Zone → Result Answer Refusal
+highest book table name span_request zone = do
+  site ← highest_site book table name span_request
+  Ok (text_alone (highest_text_at book site name (highest_of book site span_request).at zone))
 
 -- the certificate of the highest water of a station over a span
-abbrev pub peak_certificate_by : Book → Site → List ℕ → Asked → PeakCertificate
-peak_certificate_by book site name asked =
-    record { station = name; begin = asked.begin; end = asked.end; peak = highest_of book site asked }
+abbrev pub peak_certificate_by : Book → Site → List ℕ → SpanRequest → PeakCertificate
+peak_certificate_by book site name span_request =
+    record { station = name; begin = span_request.begin; end = span_request.end; peak = highest_of book site span_request }
 
 -- the answer of the command `peak`: the certificate of the highest water of a span, or the first refusal
-unfoldable pub peak_certified : Book → List Offsets → List ℕ → Asked → Result Answer Refusal
-peak_certified book table name asked = do
-  site ← highest_site book table name asked
-  Ok (text_alone (peak_text (peak_certificate_by book site name asked)))
+unfoldable pub peak_certified : Book → List Offsets → List ℕ → SpanRequest → Result Answer Refusal
+peak_certified book table name span_request = do
+  site ← highest_site book table name span_request
+  Ok (text_alone (peak_text (peak_certificate_by book site name span_request)))
 
 -- the refusal of bytes that aren't the text of a certificate of a highest water
 abbrev pub refusal_of_peak : PeakFault → Refusal
@@ -263,8 +263,8 @@ peak_judged book site cert verdict = text_rejected (verdict_line verdict)
 unfoldable pub peak_checked : Book → List Offsets → List ℕ → Result Answer Refusal
 peak_checked book table bytes = do
   cert ← peak_from (peak_of bytes)
-  site ← highest_site book table cert.station (asked_by_peak_certificate cert)
-  Ok (peak_judged book site cert (highest_verdict book site (asked_by_peak_certificate cert) cert.peak))
+  site ← highest_site book table cert.station (request_by_peak_certificate cert)
+  Ok (peak_judged book site cert (highest_verdict book site (request_by_peak_certificate cert) cert.peak))
 
 -- ---- the facts of a station
 
@@ -289,14 +289,14 @@ refusal_of_incomplete = NoStation
 
 -- a value that a command needs, or the refusal if it is missing
 abbrev pub named_by : {A : Type 0} → Option A → Result A Refusal
-named_by said = ok_or said refusal_of_incomplete
+named_by value = ok_or value refusal_of_incomplete
 
 -- the answer of a command that needs a station and a span
-unfoldable pub asks_span : Question → (List ℕ → Asked → Result Answer Refusal) → Result Answer Refusal
+unfoldable pub asks_span : Question → (List ℕ → SpanRequest → Result Answer Refusal) → Result Answer Refusal
 asks_span question next = do
   name ← named_by question.station
-  asked ← named_by (asked_by_question question)
-  next name asked
+  span_request ← named_by (request_by_question question)
+  next name span_request
 
 -- the answer of a command that needs a station
 unfoldable pub asks_name : Question → (List ℕ → Result Answer Refusal) → Result Answer Refusal
@@ -308,9 +308,9 @@ asks_name question next = do
 unfoldable pub listed : Book → List Offsets → Question → Result Listed Refusal
 listed book table question = do
   name ← named_by question.station
-  asked ← named_by (asked_by_question question)
-  site ← site_in Events book table name asked
-  Ok (record { name = name; units = site.station.units; events = events_of book site asked })
+  span_request ← named_by (request_by_question question)
+  site ← site_in Events book table name span_request
+  Ok (record { name = name; units = site.station.units; events = events_of book site span_request })
 
 -- the answer of a command that reads no file, from its seed; all other commands need a station
 abbrev pub text_from : Command → Option ℕ → Result Answer Refusal
@@ -323,30 +323,30 @@ unfoldable pub answered_without_files : Question → Result Answer Refusal
 answered_without_files question = text_from question.command question.seed
 
 -- the answer of a command that needs a span; other commands have no answer here
-abbrev pub text_over : Command → Book → List Offsets → Question → Zone → List ℕ → Asked → Result Answer Refusal
-text_over Predict book table question zone name asked = predicted book table name asked question.layout zone
-text_over Certify book table question zone name asked = certified book table name asked
-text_over Heights book table question zone name asked = heights book table name asked question.step question.layout zone
-text_over Calendar book table question zone name asked = on_calendar book table name asked zone
-text_over Highest book table question zone name asked = highest book table name asked zone
-text_over Peak book table question zone name asked = peak_certified book table name asked
-text_over _ book table question zone name asked = Err refusal_of_incomplete
+abbrev pub text_over : Command → Book → List Offsets → Question → Zone → List ℕ → SpanRequest → Result Answer Refusal
+text_over Predict book table question zone name span_request = predicted book table name span_request question.layout zone
+text_over Certify book table question zone name span_request = certified book table name span_request
+text_over Heights book table question zone name span_request = heights book table name span_request question.step question.layout zone
+text_over Calendar book table question zone name span_request = on_calendar book table name span_request zone
+text_over Highest book table question zone name span_request = highest book table name span_request zone
+text_over Peak book table question zone name span_request = peak_certified book table name span_request
+text_over _ book table question zone name span_request = Err refusal_of_incomplete
 
 -- the answer of a command to a question
 abbrev pub text_by : Command → Book → List Offsets → Question → Given → Result Answer Refusal
-text_by Check book table question given = checked book table given.certificate given.zone
-text_by PeakCheck book table question given = peak_checked book table given.certificate
-text_by Clock book table question given =
-    asks_name question (λ name. on_clock book table name given.now given.zone)
-text_by About book table question given = asks_name question (λ name. station_about book table name)
-text_by Stations book table question given = Ok (text_alone (stations_text_of book table))
-text_by Sample book table question given = answered_without_files question
-text_by Trial book table question given = answered_without_files question
-text_by Report book table question given = Err refusal_of_incomplete
-text_by Serve book table question given = Err refusal_of_incomplete
-text_by command book table question given =
-    asks_span question (text_over command book table question given.zone)
+text_by Check book table question inputs = checked book table inputs.certificate inputs.zone
+text_by PeakCheck book table question inputs = peak_checked book table inputs.certificate
+text_by Clock book table question inputs =
+    asks_name question (λ name. on_clock book table name inputs.now inputs.zone)
+text_by About book table question inputs = asks_name question (λ name. station_about book table name)
+text_by Stations book table question inputs = Ok (text_alone (stations_text_of book table))
+text_by Sample book table question inputs = answered_without_files question
+text_by Trial book table question inputs = answered_without_files question
+text_by Report book table question inputs = Err refusal_of_incomplete
+text_by Serve book table question inputs = Err refusal_of_incomplete
+text_by command book table question inputs =
+    asks_span question (text_over command book table question inputs.zone)
 
 -- the answer to a request over harmonic constants and a table that were read, or the first refusal
 unfoldable pub answered : Book → List Offsets → Question → Given → Result Answer Refusal
-answered book table question given = text_by question.command book table question given
+answered book table question inputs = text_by question.command book table question inputs

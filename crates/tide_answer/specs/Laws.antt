@@ -8,7 +8,7 @@ use Rattle.cert_text.specs.Spelling.{IsTextOf}
 use Rattle.curve_law.specs.declared.cell.Cell.{Cell}
 use Rattle.curve_law.specs.declared.tracks.Tracks.{Tracks}
 use Rattle.curve_law.specs.Cells.{cell_events}
-use Rattle.curve_law.specs.Meaning.{Meaning}
+use Rattle.curve_law.specs.CurveSpec.{CurveSpec}
 use Rattle.event_list.specs.declared.span.Span.{Span}
 use Rattle.event_list.specs.Events.{Followed, events_over}
 use Rattle.event_list.specs.Shifts.{widened_of}
@@ -19,21 +19,21 @@ use Rattle.station_table.specs.declared.offsets.Offsets.{Offsets}
 use Rattle.station_table.specs.Offsets.{IsTable}
 use Rattle.zone_time.specs.declared.zone.Zone.{Zone}
 use Rattle.zone_time.specs.Moments.{IsMoment}
-use Rattle.station_span.specs.declared.asked.Asked.{Asked}
-use Rattle.station_span.specs.declared.reach.Reach.TheVariants.{Events}
+use Rattle.station_span.specs.declared.span_request.SpanRequest.{SpanRequest}
+use Rattle.station_span.specs.declared.purpose.Purpose.TheVariants.{Events}
 use Rattle.tide_fault.specs.declared.refusal.Refusal.{Refusal}
 use Rattle.tide_answer.specs.declared.text.Answer.{Answer}
 use Rattle.tide_answer.specs.Answers.{text_alone, predicted, certified, checked}
-use Rattle.tide_answer.specs.Asking.{asked_by_certificate}
+use Rattle.tide_answer.specs.Asking.{request_by_certificate}
 use Rattle.station_span.specs.Following.{followed}
 use Rattle.station_span.specs.Sites.{Site, site_in}
 
 -- a request that a command line can make: its moments are in the years 1 to 9999, and its mark is at
 -- most 10,000 of the station's units in size
-pub record IsAskable (asked : Asked) : Type 0 where
-  pub begin : IsMoment asked.begin
-  pub end : IsMoment asked.end
-  pub mark : ForSome asked.mark IsMark
+pub record IsRequestable (span_request : SpanRequest) : Type 0 where
+  pub begin : IsMoment span_request.begin
+  pub end : IsMoment span_request.end
+  pub mark : ForSome span_request.mark IsMark
 
 -- the answer is the line `Accepted`, and then the listing of this other answer
 abbrev pub AcceptsListing : Result Answer Refusal → Answer → Type 0
@@ -43,19 +43,19 @@ AcceptsListing prediction answer =
 -- `check` accepts each certificate that `certify` returns: it prints `Accepted`, and then what `predict`
 -- prints as lines, in the same zone, for the same station, span and mark
 abbrev pub AcceptsWhatIsCertified : Type 0
-AcceptsWhatIsCertified = (book : Book) (table : List Offsets) (name : List ℕ) (asked : Asked) (zone : Zone) (certificate : Answer) →
-    IsBook book → IsTable table → IsAskable asked → certified book table name asked ≡ Ok certificate →
+AcceptsWhatIsCertified = (book : Book) (table : List Offsets) (name : List ℕ) (span_request : SpanRequest) (zone : Zone) (certificate : Answer) →
+    IsBook book → IsTable table → IsRequestable span_request → certified book table name span_request ≡ Ok certificate →
     (answer : Answer) × (checked book table certificate.text zone ≡ Ok answer)
-    × AcceptsListing (predicted book table name asked Plain zone) answer
+    × AcceptsListing (predicted book table name span_request Plain zone) answer
 
 -- a certificate that `certify` returns has fewer than 333,000,000 bytes
 abbrev pub CertifiesInShort : Type 0
-CertifiesInShort = (book : Book) (table : List Offsets) (name : List ℕ) (asked : Asked) (certificate : Answer) →
-    IsBook book → IsTable table → IsAskable asked → certified book table name asked ≡ Ok certificate → length certificate.text < 333000000
+CertifiesInShort = (book : Book) (table : List Offsets) (name : List ℕ) (span_request : SpanRequest) (certificate : Answer) →
+    IsBook book → IsTable table → IsRequestable span_request → certified book table name span_request ≡ Ok certificate → length certificate.text < 333000000
 
 -- the events in a track's cells are the events found by looking at every minute of the span; a track is
 -- present exactly if its curve is
-abbrev pub ListsTrack : Span → Option Meaning → Option (List Cell) → Type 0
+abbrev pub ListsTrack : Span → Option CurveSpec → Option (List Cell) → Type 0
 ListsTrack span (Some curve) (Some cells) = cell_events span.begin cells ≡ events_over span curve
 ListsTrack span None None = Unit {0}
 ListsTrack span (Some curve) None = ⊥
@@ -73,10 +73,10 @@ pub record IsTrueCertificate (book : Book) (table : List Offsets) (bytes : List 
   pub certificate : Certificate
   pub site : Site
   pub written : IsTextOf certificate bytes
-  pub asked : site_in Events book table certificate.station (asked_by_certificate certificate) ≡ Ok site
+  pub found_station : site_in Events book table certificate.station (request_by_certificate certificate) ≡ Ok site
   pub tracks : ListsEvents (widened_of site.basis certificate.begin certificate.end)
-      (followed book site (asked_by_certificate certificate)) certificate.tracks
-  pub listing : AcceptsListing (predicted book table certificate.station (asked_by_certificate certificate) Plain zone) answer
+      (followed book site (request_by_certificate certificate)) certificate.tracks
+  pub listing : AcceptsListing (predicted book table certificate.station (request_by_certificate certificate) Plain zone) answer
 
 -- every certificate that `check` accepts has exactly the events of its station, span and mark, however
 -- it was made

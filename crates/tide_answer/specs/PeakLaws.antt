@@ -10,60 +10,60 @@ use Rattle.station_table.specs.declared.offsets.Offsets.{Offsets}
 use Rattle.station_table.specs.Offsets.{IsTable}
 use Rattle.zone_time.specs.declared.zone.Zone.{Zone}
 use Rattle.zone_time.specs.declared.zone.Zone.TheVariants.{Utc}
-use Rattle.station_span.specs.declared.asked.Asked.{Asked}
+use Rattle.station_span.specs.declared.span_request.SpanRequest.{SpanRequest}
 use Rattle.station_span.specs.Levels.{level_at}
 use Rattle.station_span.specs.Peaks.{highest_site}
 use Rattle.station_span.specs.Sites.{Site}
 use Rattle.tide_answer.specs.declared.text.Answer.{Answer}
 use Rattle.tide_answer.specs.Answers.{text_alone, highest, highest_text_at, peak_certified, peak_checked}
-use Rattle.tide_answer.specs.Asking.{asked_by_peak_certificate}
-use Rattle.tide_answer.specs.Laws.{IsAskable, AcceptsListing}
+use Rattle.tide_answer.specs.Asking.{request_by_peak_certificate}
+use Rattle.tide_answer.specs.Laws.{IsRequestable, AcceptsListing}
 
 -- ---- the highest water
 
 -- a minute of the reference that the high-water offset moves into the span, from its first minute up to
 -- but not including its end
-pub record IsMovedInto (site : Site) (asked : Asked) (m : ℤ) : Type 0 where
-  pub from : asked.begin ≤ℤ (m +ℤ site.basis.high.add)
-  pub before : (m +ℤ site.basis.high.add) <ℤ asked.end
+pub record IsMovedInto (site : Site) (span_request : SpanRequest) (m : ℤ) : Type 0 where
+  pub from : span_request.begin ≤ℤ (m +ℤ site.basis.high.add)
+  pub before : (m +ℤ site.basis.high.add) <ℤ span_request.end
 
 -- `at` is the first of the minutes with the greatest level of the reference, among those that the
 -- high-water offset moves into the span; and no level of the station in the span is higher than the one
 -- at the minute to which `at` is moved
-pub record IsHighestWater (book : Book) (site : Site) (asked : Asked) (at : ℤ) : Type 0 where
-  pub inside : IsMovedInto site asked at
-  pub greatest : (m : ℤ) → IsMovedInto site asked m → predicted_level book site.station m ≤ℤ predicted_level book site.station at
-  pub first : (m : ℤ) → IsMovedInto site asked m → m <ℤ at → predicted_level book site.station m <ℤ predicted_level book site.station at
-  pub level : (minute : ℤ) → asked.begin ≤ℤ minute → minute <ℤ asked.end
+pub record IsHighestWater (book : Book) (site : Site) (span_request : SpanRequest) (at : ℤ) : Type 0 where
+  pub inside : IsMovedInto site span_request at
+  pub greatest : (m : ℤ) → IsMovedInto site span_request m → predicted_level book site.station m ≤ℤ predicted_level book site.station at
+  pub first : (m : ℤ) → IsMovedInto site span_request m → m <ℤ at → predicted_level book site.station m <ℤ predicted_level book site.station at
+  pub level : (minute : ℤ) → span_request.begin ≤ℤ minute → minute <ℤ span_request.end
       → level_at book site minute ≤ℤ level_at book site (at +ℤ site.basis.high.add)
 
 -- the answer prints the highest water of the station's span in the local time of a zone
-pub record IsReportedHighest (book : Book) (table : List Offsets) (name : List ℕ) (asked : Asked) (zone : Zone)
+pub record IsReportedHighest (book : Book) (table : List Offsets) (name : List ℕ) (span_request : SpanRequest) (zone : Zone)
     (answer : Answer) : Type 0 where
   pub site : Site
   pub at : ℤ
-  pub found : highest_site book table name asked ≡ Ok site
-  pub water : IsHighestWater book site asked at
+  pub found : highest_site book table name span_request ≡ Ok site
+  pub water : IsHighestWater book site span_request at
   pub reported : answer ≡ text_alone (highest_text_at book site name at zone)
 
 -- every answer of `highest` prints the highest water
 abbrev pub ReportsTheHighest : Type 0
-ReportsTheHighest = (book : Book) (table : List Offsets) (name : List ℕ) (asked : Asked) (zone : Zone) (answer : Answer) →
-    IsTable table → highest book table name asked zone ≡ Ok answer → IsReportedHighest book table name asked zone answer
+ReportsTheHighest = (book : Book) (table : List Offsets) (name : List ℕ) (span_request : SpanRequest) (zone : Zone) (answer : Answer) →
+    IsTable table → highest book table name span_request zone ≡ Ok answer → IsReportedHighest book table name span_request zone answer
 
 -- ---- its certificates
 
 -- `peakcheck` accepts the certificate that `peak` returns: it prints `Accepted`, and then what `highest`
 -- prints in universal time for the same station and span
 abbrev pub AcceptsWhatPeakCertifies : Type 0
-AcceptsWhatPeakCertifies = (book : Book) (table : List Offsets) (name : List ℕ) (asked : Asked) (certificate : Answer) →
-    IsBook book → IsTable table → IsAskable asked → peak_certified book table name asked ≡ Ok certificate →
-    (answer : Answer) × (peak_checked book table certificate.text ≡ Ok answer) × AcceptsListing (highest book table name asked Utc) answer
+AcceptsWhatPeakCertifies = (book : Book) (table : List Offsets) (name : List ℕ) (span_request : SpanRequest) (certificate : Answer) →
+    IsBook book → IsTable table → IsRequestable span_request → peak_certified book table name span_request ≡ Ok certificate →
+    (answer : Answer) × (peak_checked book table certificate.text ≡ Ok answer) × AcceptsListing (highest book table name span_request Utc) answer
 
 -- a certificate that `peak` returns has fewer than 10,542,000 bytes
 abbrev pub PeakCertifiesInShort : Type 0
-PeakCertifiesInShort = (book : Book) (table : List Offsets) (name : List ℕ) (asked : Asked) (certificate : Answer) →
-    IsBook book → IsTable table → IsAskable asked → peak_certified book table name asked ≡ Ok certificate
+PeakCertifiesInShort = (book : Book) (table : List Offsets) (name : List ℕ) (span_request : SpanRequest) (certificate : Answer) →
+    IsBook book → IsTable table → IsRequestable span_request → peak_certified book table name span_request ≡ Ok certificate
     → length certificate.text < 10542000
 
 -- the bytes are the text of a certificate; its minute has the highest water of its station and span, its
@@ -73,10 +73,10 @@ pub record IsTruePeak (book : Book) (table : List Offsets) (bytes : List ℕ) (a
   pub certificate : PeakCertificate
   pub site : Site
   pub written : IsPeakTextOf certificate bytes
-  pub asked : highest_site book table certificate.station (asked_by_peak_certificate certificate) ≡ Ok site
-  pub water : IsHighestWater book site (asked_by_peak_certificate certificate) certificate.peak.at
+  pub found_station : highest_site book table certificate.station (request_by_peak_certificate certificate) ≡ Ok site
+  pub water : IsHighestWater book site (request_by_peak_certificate certificate) certificate.peak.at
   pub value : certificate.peak.value ≡ pos 1000000 *ℤ predicted_level book site.station certificate.peak.at
-  pub listing : AcceptsListing (highest book table certificate.station (asked_by_peak_certificate certificate) Utc) answer
+  pub listing : AcceptsListing (highest book table certificate.station (request_by_peak_certificate certificate) Utc) answer
 
 -- every certificate that `peakcheck` accepts has the highest water of its station and span, however it
 -- was made

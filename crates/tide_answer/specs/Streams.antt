@@ -14,13 +14,13 @@ use Rattle.tide_edge.specs.declared.writing.WriteFailed.{WriteFailed}
 use Rattle.tide_edge.specs.SinkStates.{SinkState, put, sink_failed}
 use Rattle.zone_time.specs.declared.zone.Zone.{Zone}
 use Rattle.zone_time.specs.declared.zone.Zone.TheVariants as zones
-use Rattle.tide_answer.specs.declared.given.Given.{Given}
-use Rattle.station_span.specs.declared.reach.Reach.TheVariants.{Events}
+use Rattle.tide_answer.specs.declared.inputs.Given.{Given}
+use Rattle.station_span.specs.declared.purpose.Purpose.TheVariants.{Events}
 use Rattle.tide_answer.specs.declared.ready.Ready.{Ready}
 use Rattle.tide_fault.specs.declared.refusal.Refusal.{Refusal}
 use Rattle.tide_answer.specs.declared.text.Answer.{Answer}
 use Rattle.tide_answer.specs.Answers.{answered, named_by}
-use Rattle.tide_answer.specs.Asking.{asked_by_question}
+use Rattle.tide_answer.specs.Asking.{request_by_question}
 use Rattle.station_span.specs.Sites.{site_in}
 
 -- the commands whose answers can be streamed
@@ -48,12 +48,12 @@ streams_by basis layout zone =
 -- the prepared answer, which has a text if it is streamed (written while it is computed), or the first
 -- refusal
 unfoldable pub prepared : Book → List Offsets → Question → Given → Result Ready Refusal
-prepared book table question given = do
-  answer ← answered book table question given
+prepared book table question inputs = do
+  answer ← answered book table question inputs
   name ← named_by question.station
-  asked ← named_by (asked_by_question question)
-  site ← site_in Events book table name asked
-  Ok (record { stream = if streams_by site.basis question.layout given.zone then Some answer else None })
+  span_request ← named_by (request_by_question question)
+  site ← site_in Events book table name span_request
+  Ok (record { stream = if streams_by site.basis question.layout inputs.zone then Some answer else None })
 
 -- the whole text of an answer is written, or its first bytes, and nothing after a failed write
 abbrev pub Streams : SinkState → SinkState → Answer → Result ℕ WriteFailed → Type 0

@@ -32,8 +32,8 @@ use Rattle.harmonics_book.specs.declared.book.Book.{Book}
 use Rattle.harmonics_book.specs.declared.book.Station.{Station}
 use Rattle.harmonics_text.specs.Reading.{At, book_of}
 use Rattle.sample_tides.specs.File.{sample_of}
-use Rattle.station_span.specs.declared.asked.Asked.{Asked}
-use Rattle.station_span.specs.declared.reach.Reach.TheVariants.{Events}
+use Rattle.station_span.specs.declared.span_request.SpanRequest.{SpanRequest}
+use Rattle.station_span.specs.declared.purpose.Purpose.TheVariants.{Events}
 use Rattle.tide_fault.specs.declared.refusal.Refusal.{Refusal}
 use Rattle.tide_fault.specs.declared.refusal.Refusal.TheVariants.{BadSample}
 use Rattle.station_cells.specs.declared.rejection.Rejection.{Rejection}
@@ -43,7 +43,7 @@ use Rattle.station_cells.specs.Rejections.{rejection_of}
 use Rattle.station_span.specs.Sites.{Site, site_in}
 
 -- the span of the trial: from 2000-12-01T00:00Z up to 2001-02-01T00:00Z, not included, without a mark
-abbrev pub trial_span : Asked
+abbrev pub trial_span : SpanRequest
 trial_span = record { begin = pos 16260480; end = pos 16349760; mark = None }
 
 -- ---- the counts of a station
@@ -75,11 +75,11 @@ tally_by span tracks events rejection = record {
 }
 
 -- the counts of a trial at a station over a span
-unfoldable pub tally_at : Book → Site → Asked → Tally
-tally_at book site asked =
-    let span = widened_of site.basis asked.begin asked.end in
-    let tracks = tracks_of book site asked in
-    tally_by span tracks (events_of book site asked) (rejection_of (followed book site asked) span tracks)
+unfoldable pub tally_at : Book → Site → SpanRequest → Tally
+tally_at book site span_request =
+    let span = widened_of site.basis span_request.begin span_request.end in
+    let tracks = tracks_of book site span_request in
+    tally_by span tracks (events_of book site span_request) (rejection_of (followed book site span_request) span tracks)
 
 -- the counts of a trial at a station, which is predicted, certified and checked over the trial's span;
 -- or the first refusal

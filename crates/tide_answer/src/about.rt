@@ -1,7 +1,7 @@
 //! The answer of the command `about`: the facts about a station.
 
 ghost use Rattle.std.specs.Prelude.{◌≡◌};
-ghost use Rattle.decimal_text.specs.Expected.{ReturnsUnless};
+ghost use Rattle.decimal_text.specs.Expected.{EqualsUnlessNoMemory};
 ghost use Rattle.tide_answer.specs.Answers.{constituent_count, station_about};
 ghost use Rattle.tide_fault.specs.Faults.{refusal_is_out_of_memory};
 
@@ -27,13 +27,13 @@ pub fn about_answer(
     stations: &StationData<'_>,
     name: &Text,
 ) -> Result<Answer, Refusal>
-    ensures { ReturnsUnless refusal_is_out_of_memory (station_about stations.now.book stations.now.table name.now) result }
+    ensures { EqualsUnlessNoMemory refusal_is_out_of_memory (station_about stations.now.book stations.now.table name.now) result }
 {
-    let found = find_reference(alloc, stations, name)?;
-    let station = found.station;
+    let found_station = find_reference(alloc, stations, name)?;
+    let station = found_station.station;
     let count = constituent_count(station);
     predicted_agreements();
-    let agreement = agreement(&found.curve);
+    let agreement = agreement(&found_station.curve);
     let text = about_text(alloc, name, &station.name, station.units, count, agreement)?;
     Ok(text_alone(text))
 }

@@ -1,7 +1,7 @@
 //! The answer to a request that names no file.
 
 ghost use Rattle.std.specs.Prelude.{Some};
-ghost use Rattle.decimal_text.specs.Expected.{ReturnsUnless};
+ghost use Rattle.decimal_text.specs.Expected.{EqualsUnlessNoMemory};
 ghost use Rattle.question.specs.declared.command.Command.{Command};
 ghost use Rattle.tide_answer.specs.Answers.{answered_without_files, text_from};
 ghost use Rattle.tide_fault.specs.Faults.{refusal_is_out_of_memory};
@@ -21,7 +21,7 @@ use tide_fault::Refusal;
 /// is returned in place of any other result.
 #[tactic(auto, unfolding(crate::specs::Answers::answered_without_files))]
 pub fn answer_alone(alloc: Global, question: &ValidQuestion<'_>) -> Result<Answer, Refusal>
-    ensures { ReturnsUnless refusal_is_out_of_memory (answered_without_files question.now) result }
+    ensures { EqualsUnlessNoMemory refusal_is_out_of_memory (answered_without_files question.now) result }
 {
     let question = question.get();
     match (question.command, question.seed) {
@@ -33,7 +33,7 @@ pub fn answer_alone(alloc: Global, question: &ValidQuestion<'_>) -> Result<Answe
 
 /// Returns the lines of the trial of `seed`.
 fn trial_answer(alloc: Global, seed: u64) -> Result<Answer, Refusal>
-    ensures { ReturnsUnless refusal_is_out_of_memory (text_from Command.Trial (Some seed)) result }
+    ensures { EqualsUnlessNoMemory refusal_is_out_of_memory (text_from Command.Trial (Some seed)) result }
 {
     Ok(text_alone(try_sample(alloc, seed)?))
 }

@@ -1,6 +1,6 @@
 //! The answer of the command `calendar`: the events of a station, date by date.
 
-ghost use Rattle.decimal_text.specs.Expected.{ReturnsUnless};
+ghost use Rattle.decimal_text.specs.Expected.{EqualsUnlessNoMemory};
 ghost use Rattle.tide_answer.specs.Answers.{on_calendar};
 ghost use Rattle.tide_fault.specs.Faults.{refusal_is_out_of_memory};
 
@@ -25,19 +25,19 @@ pub fn list_days(
     request: &StationRequest<'_>,
     zone: &ZoneClock<'_>,
 ) -> Result<Answer, Refusal>
-    ensures { ReturnsUnless refusal_is_out_of_memory
-        (on_calendar stations.now.book stations.now.table request.now.name request.now.asked zone.now) result }
+    ensures { EqualsUnlessNoMemory refusal_is_out_of_memory
+        (on_calendar stations.now.book stations.now.table request.now.name request.now.span_request zone.now) result }
 {
     let listed = list_station(alloc, stations, request)?;
-    let asked = request.asked();
+    let span_request = request.span_request();
     let text = calendar_text(
         alloc,
         request.name(),
         listed.units,
         &listed.events,
         zone.zone(),
-        asked.begin,
-        asked.end,
+        span_request.begin,
+        span_request.end,
     )?;
     Ok(Answer {
         text,

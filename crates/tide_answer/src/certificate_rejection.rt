@@ -2,10 +2,10 @@
 
 ghost use Rattle.std.specs.Prelude.{◌≡◌};
 ghost use Rattle.station_cells.specs.Rejections.{HasFewCells};
-ghost use Rattle.station_span.specs.declared.reach.Reach.{Reach};
+ghost use Rattle.station_span.specs.declared.purpose.Purpose.{Purpose};
 ghost use Rattle.station_span.specs.Workings.Finds.{site_of};
 ghost use Rattle.tide_answer.specs.Answers.{version_of};
-ghost use Rattle.tide_answer.specs.Asking.{asked_by_certificate};
+ghost use Rattle.tide_answer.specs.Asking.{request_by_certificate};
 ghost use Rattle.tide_answer.specs.Workings.Certifying.{rejection_in};
 
 use cert_text::Certificate;
@@ -16,17 +16,17 @@ use station_span::{FoundStation, mark_curve, slack_curve, turn_curve};
 /// Returns the first fault of the tracks of `cert`, by the rates of its version, or `None` if they are
 /// right. It checks first whether the slack track is present exactly if it is required, and then the
 /// cells of each track. It doesn't allocate.
-pub fn find_rejection(found: &FoundStation, cert: &Certificate) -> Option<Rejection>
-    requires reach { found.now.reach ≡ Reach.Events }
-    requires same { found.now.asked ≡ asked_by_certificate cert.now }
+pub fn find_rejection(found_station: &FoundStation, cert: &Certificate) -> Option<Rejection>
+    requires purpose { found_station.now.purpose ≡ Purpose.Events }
+    requires same { found_station.now.span_request ≡ request_by_certificate cert.now }
     requires count_bound { HasFewCells cert.now.tracks }
-    ensures { result ≡ rejection_in found.now.curve.book (site_of found.now) cert.now }
+    ensures { result ≡ rejection_in found_station.now.curve.book (site_of found_station.now) cert.now }
 {
     let version = version_of(cert);
-    let turn = turn_curve(found, version);
-    let slack = slack_curve(found, version);
-    let mark = mark_curve(found, version);
-    rejection_over(turn, slack, mark, &found.span, &cert.tracks)
+    let turn = turn_curve(found_station, version);
+    let slack = slack_curve(found_station, version);
+    let mark = mark_curve(found_station, version);
+    rejection_over(turn, slack, mark, &found_station.span, &cert.tracks)
 }
 
 /// Returns the version of the rates (bounds on how much a curve changes in a minute) by which `cert` is

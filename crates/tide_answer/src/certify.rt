@@ -1,7 +1,7 @@
 //! The answer of the command `certify`: the certificate of a station's events.
 
 ghost use Rattle.std.specs.Prelude.{◌≡◌, IfOk};
-ghost use Rattle.decimal_text.specs.Expected.{ReturnsUnless};
+ghost use Rattle.decimal_text.specs.Expected.{EqualsUnlessNoMemory};
 ghost use Rattle.tide_answer.specs.Answers.{certified};
 ghost use Rattle.tide_fault.specs.Faults.{refusal_is_out_of_memory};
 ghost use Rattle.tide_answer.specs.Workings.Certifying.{certificate_in};
@@ -12,7 +12,7 @@ use crate::tracks::find_tracks;
 use cert_text::{Certificate, write_certificate};
 use curve_law::Tracks;
 use station_cells::cell_count;
-use station_span::{Reach, StationData, StationRequest, find_station};
+use station_span::{Purpose, StationData, StationRequest, find_station};
 use std::alloc::{AllocError, Global};
 use tide_fault::Refusal;
 
@@ -29,12 +29,12 @@ pub fn certify(
     stations: &StationData<'_>,
     request: &StationRequest<'_>,
 ) -> Result<Answer, Refusal>
-    requires { AreMoments request.now.asked }
-    ensures { ReturnsUnless refusal_is_out_of_memory
-        (certified stations.now.book stations.now.table request.now.name request.now.asked) result }
+    requires { AreMoments request.now.span_request }
+    ensures { EqualsUnlessNoMemory refusal_is_out_of_memory
+        (certified stations.now.book stations.now.table request.now.name request.now.span_request) result }
 {
-    let found = find_station(alloc, stations, Reach::Events, request)?;
-    let tracks = find_tracks(alloc, &found)?;
+    let found_station = find_station(alloc, stations, Purpose::Events, request)?;
+    let tracks = find_tracks(alloc, &found_station)?;
     let cells = cell_count(&tracks);
     let cert = certificate_of(request, tracks)?;
     let text = write_certificate(alloc, &cert)?;
@@ -50,15 +50,15 @@ pub fn certificate_of(
     request: &StationRequest<'_>,
     tracks: Tracks,
 ) -> Result<Certificate, AllocError>
-    ensures { IfOk result (λ cert. cert ≡ certificate_in request.now.name request.now.asked tracks) }
+    ensures { IfOk result (λ cert. cert ≡ certificate_in request.now.name request.now.span_request tracks) }
 {
-    let asked = request.asked();
+    let span_request = request.span_request();
     Ok(Certificate {
         version: 2,
         station: request.name().copy()?,
-        begin: asked.begin,
-        end: asked.end,
-        mark: asked.mark,
+        begin: span_request.begin,
+        end: span_request.end,
+        mark: span_request.mark,
         tracks,
     })
 }

@@ -3,14 +3,14 @@
 ghost use Rattle.std.specs.Prelude.{◌≡◌, ◌≤◌, length, All, None, IfOk};
 ghost use Rattle.cert_text.specs.Certificates.{IsCertificate};
 ghost use Rattle.decimal_text.specs.declared.limits.TheConstants.{MOST_BYTES};
-ghost use Rattle.decimal_text.specs.Expected.{ReturnsUnless};
+ghost use Rattle.decimal_text.specs.Expected.{EqualsUnlessNoMemory};
 ghost use Rattle.event_text.specs.Lines.{IsListed};
 ghost use Rattle.station_cells.specs.Rejections.{HasFewCells};
-ghost use Rattle.station_span.specs.declared.reach.Reach.{Reach};
+ghost use Rattle.station_span.specs.declared.purpose.Purpose.{Purpose};
 ghost use Rattle.station_span.specs.Following.{events_of};
 ghost use Rattle.station_span.specs.Workings.Finds.{site_of};
 ghost use Rattle.tide_answer.specs.Answers.{checked, judged};
-ghost use Rattle.tide_answer.specs.Asking.{asked_by_certificate};
+ghost use Rattle.tide_answer.specs.Asking.{request_by_certificate};
 ghost use Rattle.tide_answer.specs.Workings.Certifying.{judged_in, rejection_in};
 ghost use Rattle.tide_fault.specs.Faults.{refusal_is_out_of_memory};
 
@@ -23,7 +23,7 @@ use decimal_text::Bytes;
 use event_list::{merged, shifted};
 use listing::push_plain_events;
 use station_cells::rejection_line;
-use station_span::{Asked, FoundStation, Reach, StationData, find_station};
+use station_span::{FoundStation, Purpose, SpanRequest, StationData, find_station};
 use std::alloc::{AllocError, Global};
 use tide_fault::Refusal;
 use zone_time::ZoneClock;
@@ -46,7 +46,7 @@ pub fn check(
     zone: &ZoneClock<'_>,
 ) -> Result<Answer, Refusal>
     requires count_bound { length bytes.now ≤ MOST_BYTES }
-    ensures { ReturnsUnless refusal_is_out_of_memory (checked stations.now.book stations.now.table bytes.now zone.now) result }
+    ensures { EqualsUnlessNoMemory refusal_is_out_of_memory (checked stations.now.book stations.now.table bytes.now zone.now) result }
 {
     let cert = read_certificate(alloc, bytes)?;
     certificates_have_one_text();
@@ -62,12 +62,12 @@ fn judge(
 ) -> Result<Answer, Refusal>
     requires cert { IsCertificate cert.now }
     requires count_bound { HasFewCells cert.now.tracks }
-    ensures { ReturnsUnless refusal_is_out_of_memory (judged_in stations.now.book stations.now.table cert.now zone.now) result }
+    ensures { EqualsUnlessNoMemory refusal_is_out_of_memory (judged_in stations.now.book stations.now.table cert.now zone.now) result }
 {
     let request = request_of_certificate(cert);
-    let found = find_station(alloc, stations, Reach::Events, &request)?;
-    match find_rejection(&found, cert) {
-        None => Ok(accept(alloc, &found, cert, zone)?),
+    let found_station = find_station(alloc, stations, Purpose::Events, &request)?;
+    match find_rejection(&found_station, cert) {
+        None => Ok(accept(alloc, &found_station, cert, zone)?),
         Some(rejection) => Ok(rejected(rejection_line(alloc, rejection)?)),
     }
 }
@@ -75,32 +75,42 @@ fn judge(
 /// Returns the events of the cells of a valid certificate, which are all events of its span.
 fn accept(
     alloc: Global,
-    found: &FoundStation,
+    found_station: &FoundStation,
     cert: &Certificate,
     zone: &ZoneClock<'_>,
 ) -> Result<Answer, AllocError>
-    requires reach { found.now.reach ≡ Reach.Events }
-    requires same { found.now.asked ≡ asked_by_certificate cert.now }
+    requires purpose { found_station.now.purpose ≡ Purpose.Events }
+    requires same { found_station.now.span_request ≡ request_by_certificate cert.now }
     requires cert { IsCertificate cert.now }
-    requires valid { rejection_in found.now.curve.book (site_of found.now) cert.now ≡ None }
-    ensures { IfOk result (λ answer. answer ≡ judged found.now.curve.book (site_of found.now) cert.now zone.now None) }
+    requires valid { rejection_in found_station.now.curve.book (site_of found_station.now) cert.now ≡ None }
+    ensures { IfOk result (λ answer. answer ≡ judged found_station.now.curve.book (site_of found_station.now) cert.now zone.now None) }
 {
-    let events = events_of(alloc, found, cert)?;
+    let events = events_of(alloc, found_station, cert)?;
     let mut text = accepted_line(alloc)?;
-    push_plain_events(&mut text, &cert.station, found.units, &events, zone.zone())?;
+    push_plain_events(
+        &mut text,
+        &cert.station,
+        found_station.units,
+        &events,
+        zone.zone(),
+    )?;
     Ok(text_alone(Bytes::from_vec(text)))
 }
 
 /// Returns the events of a valid certificate's cells.
-fn events_of(alloc: Global, found: &FoundStation, cert: &Certificate) -> Result<Events, AllocError>
-    requires reach { found.now.reach ≡ Reach.Events }
-    requires same { found.now.asked ≡ asked_by_certificate cert.now }
+fn events_of(
+    alloc: Global,
+    found_station: &FoundStation,
+    cert: &Certificate,
+) -> Result<Events, AllocError>
+    requires purpose { found_station.now.purpose ≡ Purpose.Events }
+    requires same { found_station.now.span_request ≡ request_by_certificate cert.now }
     requires cert { IsCertificate cert.now }
-    requires valid { rejection_in found.now.curve.book (site_of found.now) cert.now ≡ None }
-    ensures exact { IfOk result (λ events. events ≡ events_of found.now.curve.book (site_of found.now) (asked_by_certificate cert.now)) }
-    ensures listed { IfOk result (All (IsListed found.now.curve.station.units)) }
+    requires valid { rejection_in found_station.now.curve.book (site_of found_station.now) cert.now ≡ None }
+    ensures exact { IfOk result (λ events. events ≡ events_of found_station.now.curve.book (site_of found_station.now) (request_by_certificate cert.now)) }
+    ensures listed { IfOk result (All (IsListed found_station.now.curve.station.units)) }
 {
-    let events = merged(alloc, &cert.tracks, found.span.begin)?;
-    let Asked { begin, end, .. } = found.asked;
-    shifted(alloc, &events, &found.basis, begin, end)
+    let events = merged(alloc, &cert.tracks, found_station.span.begin)?;
+    let SpanRequest { begin, end, .. } = found_station.span_request;
+    shifted(alloc, &events, &found_station.basis, begin, end)
 }

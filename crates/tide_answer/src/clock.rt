@@ -1,17 +1,17 @@
 //! The answer of the command `clock`: the present level, and the events of the next 24 hours.
 
 ghost use Rattle.std.specs.Prelude.{◌≡◌, pos, negsuc, ◌≤ℤ◌};
-ghost use Rattle.decimal_text.specs.Expected.{ReturnsUnless};
+ghost use Rattle.decimal_text.specs.Expected.{EqualsUnlessNoMemory};
 ghost use Rattle.tide_answer.specs.Answers.{on_clock};
-ghost use Rattle.tide_answer.specs.Asking.{asked_from_minute};
+ghost use Rattle.tide_answer.specs.Asking.{request_from_minute};
 ghost use Rattle.tide_fault.specs.Faults.{refusal_is_out_of_memory};
 
 use crate::text::Answer;
 use decimal_text::Text;
 use listing::clock_text;
 use station_span::{
-    Asked, Reach, StationData, StationRequest, check_level, find_events, find_station, is_rising,
-    level_at,
+    Purpose, SpanRequest, StationData, StationRequest, check_level, find_events, find_station,
+    is_rising, level_at,
 };
 use std::alloc::Global;
 use tide_fault::Refusal;
@@ -36,18 +36,18 @@ pub fn clock_answer(
 ) -> Result<Answer, Refusal>
     requires earliest { negsuc 9999999999 ≤ℤ now }
     requires latest { now ≤ℤ pos 10000000000 }
-    ensures { ReturnsUnless refusal_is_out_of_memory (on_clock stations.now.book stations.now.table name.now now zone.now) result }
+    ensures { EqualsUnlessNoMemory refusal_is_out_of_memory (on_clock stations.now.book stations.now.table name.now now zone.now) result }
 {
     let request = day_from(name, now);
-    let found = find_station(alloc, stations, Reach::Events, &request)?;
-    check_level(&found)?;
-    let level = level_at(&found, now);
-    let rising = is_rising(&found, now);
-    let listed = find_events(alloc, &found)?;
+    let found_station = find_station(alloc, stations, Purpose::Events, &request)?;
+    check_level(&found_station)?;
+    let level = level_at(&found_station, now);
+    let rising = is_rising(&found_station, now);
+    let listed = find_events(alloc, &found_station)?;
     let text = clock_text(
         alloc,
         name,
-        found.units,
+        found_station.units,
         now,
         level,
         rising,
@@ -65,12 +65,12 @@ pub fn clock_answer(
 fn day_from<'a>(name: &'a Text, now: i64) -> StationRequest<'a>
     requires earliest { negsuc 9999999999 ≤ℤ now }
     requires latest { now ≤ℤ pos 10000000000 }
-    ensures { result ≡ record { name = name.now; asked = asked_from_minute now } }
+    ensures { result ≡ record { name = name.now; span_request = request_from_minute now } }
 {
-    let asked = Asked {
+    let span_request = SpanRequest {
         begin: now,
         end: now + MINUTES_OF_DAY,
         mark: None,
     };
-    StationRequest::new(name, asked)
+    StationRequest::new(name, span_request)
 }

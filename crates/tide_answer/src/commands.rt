@@ -1,7 +1,7 @@
 //! The answer to a request.
 
 ghost use Rattle.std.specs.Prelude.{◌≡◌, IfErr, IfOk};
-ghost use Rattle.decimal_text.specs.Expected.{ReturnsUnless};
+ghost use Rattle.decimal_text.specs.Expected.{EqualsUnlessNoMemory};
 ghost use Rattle.harmonics_book.specs.Books.{IsBook};
 ghost use Rattle.listing.specs.StationLists.{stations_text_of};
 ghost use Rattle.question.specs.Asked.{AreInRange};
@@ -16,9 +16,9 @@ use crate::calendar::list_days;
 use crate::certify::certify;
 use crate::check::check;
 use crate::clock::clock_answer;
-use crate::given::{Given, GivenView};
 use crate::heights::list_heights;
 use crate::highest::{certify_peak, highest_answer};
+use crate::inputs::{Given, GivenView};
 use crate::peak_check::check_peak_text;
 use crate::predict::predict;
 use crate::requests::{refusal_of_incomplete, station_named, station_request};
@@ -33,7 +33,7 @@ use tide_fault::Refusal;
 use zone_time::ZoneClock;
 
 /// Returns the answer to `question` with the harmonic constants `book` and the offsets `table`, and with
-/// the zone, the certificate and the present minute of `given`. The commands `report` (see
+/// the zone, the certificate and the present minute of `inputs`. The commands `report` (see
 /// [`station_events`](crate::station_events)) and `serve` are refused like a request without a station.
 ///
 /// # Errors
@@ -46,23 +46,23 @@ use zone_time::ZoneClock;
 ///
 /// # Examples
 /// ```
-/// let given = Given {
+/// let inputs = Given {
 ///     zone: Zone::Utc,
 ///     certificate: Bytes::from_vec(Vec::new(alloc)),
 ///     now: 0,
 /// };
-/// let answered = answer(alloc, &book, &table, &question, &given)?;
+/// let answered = answer(alloc, &book, &table, &question, &inputs)?;
 /// assert_eq!(rt; answered.text.as_slice(), DAY.as_bytes());
 /// ```
 ///
 /// ```
 /// let question = request(alloc, "check|file=f|certificate=c")?;
-/// let given = Given {
+/// let inputs = Given {
 ///     zone: Zone::Utc,
 ///     certificate: Bytes::from_vec(CERTIFICATE.as_bytes().to_vec(alloc)?),
 ///     now: 0,
 /// };
-/// let checked = answer(alloc, &book, &table, &question, &given)?;
+/// let checked = answer(alloc, &book, &table, &question, &inputs)?;
 /// assert!(rt; !checked.rejected);
 /// ```
 pub fn answer(
@@ -70,16 +70,16 @@ pub fn answer(
     book: &Book,
     table: &OffsetTable,
     question: &Question,
-    given: &Given,
+    inputs: &Given,
 ) -> Result<Answer, Refusal>
     requires book { IsBook book.now }
     requires ranges { AreInRange question.now }
-    requires given { IsGiven given.now }
-    ensures { ReturnsUnless refusal_is_out_of_memory (answered book.now table.now question.now given.entry.now) result }
+    requires inputs { IsGiven inputs.now }
+    ensures { EqualsUnlessNoMemory refusal_is_out_of_memory (answered book.now table.now question.now inputs.entry.now) result }
 {
     let stations = StationData::new(book, table);
     let question = ValidQuestion::new(question);
-    answer_valid(alloc, &stations, &question, given.view())
+    answer_valid(alloc, &stations, &question, inputs.view())
 }
 
 /// Returns the answer to the valid `question` about `stations`, like [`answer`], from borrowed inputs.
@@ -92,14 +92,14 @@ pub fn answer_valid(
     alloc: Global,
     stations: &StationData<'_>,
     question: &ValidQuestion<'_>,
-    given: GivenView<'_>,
+    inputs: GivenView<'_>,
 ) -> Result<Answer, Refusal>
-    requires given { IsGiven (given_seen given) }
-    ensures { ReturnsUnless refusal_is_out_of_memory
-        (answered stations.now.book stations.now.table question.now (given_seen given.entry)) result }
+    requires inputs { IsGiven (given_seen inputs) }
+    ensures { EqualsUnlessNoMemory refusal_is_out_of_memory
+        (answered stations.now.book stations.now.table question.now (given_seen inputs.entry)) result }
 {
     let name = station_named(question);
-    let zone = &given.zone.clock();
+    let zone = &inputs.zone.clock();
     match question.get().command {
         Command::Predict
         | Command::Certify
@@ -107,10 +107,10 @@ pub fn answer_valid(
         | Command::Calendar
         | Command::Highest
         | Command::Peak => answer_over_span(alloc, stations, question, zone),
-        Command::Clock => clock_answer(alloc, stations, name?, given.now, zone),
+        Command::Clock => clock_answer(alloc, stations, name?, inputs.now, zone),
         Command::About => about_answer(alloc, stations, name?),
-        Command::Check => check(alloc, stations, given.certificate, zone),
-        Command::PeakCheck => check_peak_text(alloc, stations, given.certificate),
+        Command::Check => check(alloc, stations, inputs.certificate, zone),
+        Command::PeakCheck => check_peak_text(alloc, stations, inputs.certificate),
         Command::Stations => answer_stations(alloc, stations),
         Command::Sample | Command::Trial => answer_alone(alloc, question),
         Command::Report | Command::Serve => Err(refusal_of_incomplete()),
@@ -124,7 +124,7 @@ fn answer_over_span(
     question: &ValidQuestion<'_>,
     zone: &ZoneClock<'_>,
 ) -> Result<Answer, Refusal>
-    ensures { ReturnsUnless refusal_is_out_of_memory (asks_span question.now
+    ensures { EqualsUnlessNoMemory refusal_is_out_of_memory (asks_span question.now
         (text_over question.now.command stations.now.book stations.now.table question.now zone.now)) result }
 {
     let request = station_request(question)?;
@@ -139,9 +139,9 @@ fn answer_request(
     question: &ValidQuestion<'_>,
     zone: &ZoneClock<'_>,
 ) -> Result<Answer, Refusal>
-    requires { AreMoments request.now.asked }
-    ensures { ReturnsUnless refusal_is_out_of_memory
-        (text_over question.now.command stations.now.book stations.now.table question.now zone.now request.now.name request.now.asked)
+    requires { AreMoments request.now.span_request }
+    ensures { EqualsUnlessNoMemory refusal_is_out_of_memory
+        (text_over question.now.command stations.now.book stations.now.table question.now zone.now request.now.name request.now.span_request)
         result }
 {
     let Question { layout, step, .. } = question.get();

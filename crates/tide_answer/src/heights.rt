@@ -1,18 +1,18 @@
 //! The answer of the command `heights`: the levels of a station in a span at even steps of time.
 
 ghost use Rattle.std.specs.Prelude.{◌≡◌, ◌≤◌, ◌+ℤ◌, ◌*ℤ◌, ◌-ℤ◌, pos, negsuc, All, unsigned_abs, Ok, Err, IfOk, OnOk};
-ghost use Rattle.decimal_text.specs.Expected.{ReturnsUnless};
+ghost use Rattle.decimal_text.specs.Expected.{EqualsUnlessNoMemory};
 ghost use Rattle.tide_answer.specs.Answers.{heights, row_at, row_count, row_limit, rows_in, rows_of};
 ghost use Rattle.tide_fault.specs.Faults.{refusal_is_out_of_memory};
 ghost use Rattle.tide_answer.specs.Workings.Rows.{IsStep};
-ghost use Rattle.station_span.specs.Workings.Finds.{AreLooked, IsLooked, site_of};
+ghost use Rattle.station_span.specs.Workings.Finds.{AreEvaluable, IsEvaluable, site_of};
 ghost use Rattle.zone_time.specs.Zones.{InZoneYears};
 
 use crate::text::{Answer, text_alone};
 use listing::{Row, Rows, heights_text};
 use question::Layout;
 use station_span::{
-    FoundStation, Reach, StationData, StationRequest, check_level, find_station, level_at,
+    FoundStation, Purpose, StationData, StationRequest, check_level, find_station, level_at,
 };
 use std::alloc::{AllocError, Global};
 use tide_fault::Refusal;
@@ -40,18 +40,18 @@ pub fn list_heights(
     zone: &ZoneClock<'_>,
 ) -> Result<Answer, Refusal>
     requires step { IsStep step }
-    ensures { ReturnsUnless refusal_is_out_of_memory
-        (heights stations.now.book stations.now.table request.now.name request.now.asked step layout zone.now) result }
+    ensures { EqualsUnlessNoMemory refusal_is_out_of_memory
+        (heights stations.now.book stations.now.table request.now.name request.now.span_request step layout zone.now) result }
 {
-    let found = find_station(alloc, stations, Reach::Levels, request)?;
-    check_level(&found)?;
-    check_rows(&found, step)?;
-    let rows = rows_of(alloc, &found, step)?;
+    let found_station = find_station(alloc, stations, Purpose::Levels, request)?;
+    check_level(&found_station)?;
+    check_rows(&found_station, step)?;
+    let rows = rows_of(alloc, &found_station, step)?;
     let text = heights_text(
         alloc,
         layout,
         request.name(),
-        found.units,
+        found_station.units,
         &rows,
         zone.zone(),
     )?;
@@ -60,12 +60,12 @@ pub fn list_heights(
 
 /// Returns `Ok` if the list has at most 100,000 rows.
 #[tactic(auto, unfolding(crate::specs::Answers::rows_in))]
-fn check_rows(found: &FoundStation, step: i64) -> Result<(), Refusal>
+fn check_rows(found_station: &FoundStation, step: i64) -> Result<(), Refusal>
     requires step { IsStep step }
-    ensures exact { result ≡ rows_in found.now.asked.begin found.now.asked.end step }
-    ensures count_bound { OnOk result (row_count found.now.asked.begin found.now.asked.end step ≤ row_limit) }
+    ensures exact { result ≡ rows_in found_station.now.span_request.begin found_station.now.span_request.end step }
+    ensures count_bound { OnOk result (row_count found_station.now.span_request.begin found_station.now.span_request.end step ≤ row_limit) }
 {
-    let rows = row_count(found, step);
+    let rows = row_count(found_station, step);
     if rows > ROW_LIMIT {
         return Err(Refusal::TooManyRows { rows: rows as i64 });
     }
@@ -74,78 +74,78 @@ fn check_rows(found: &FoundStation, step: i64) -> Result<(), Refusal>
 
 /// Returns the number of rows of the requested span, one every `step` minutes; the span's end has a row
 /// if a step leads to it.
-fn row_count(found: &FoundStation, step: i64) -> u64
+fn row_count(found_station: &FoundStation, step: i64) -> u64
     requires step { IsStep step }
-    ensures exact { result ≡ row_count found.now.asked.begin found.now.asked.end step }
+    ensures exact { result ≡ row_count found_station.now.span_request.begin found_station.now.span_request.end step }
     ensures count_bound { result ≤ 40000000001 }
 {
-    asked_minutes(found) / step.unsigned_abs() + 1
+    asked_minutes(found_station) / step.unsigned_abs() + 1
 }
 
 /// Returns the number of minutes from the first minute of the requested span to its end.
-fn asked_minutes(found: &FoundStation) -> u64
-    ensures exact { result ≡ unsigned_abs (found.now.asked.end -ℤ found.now.asked.begin) }
+fn asked_minutes(found_station: &FoundStation) -> u64
+    ensures exact { result ≡ unsigned_abs (found_station.now.span_request.end -ℤ found_station.now.span_request.begin) }
     ensures count_bound { result ≤ 40000000000 }
 {
-    (found.asked.end - found.asked.begin).unsigned_abs()
+    (found_station.span_request.end - found_station.span_request.begin).unsigned_abs()
 }
 
 /// Returns the rows of the requested span, one every `step` minutes.
-fn rows_of(alloc: Global, found: &FoundStation, step: i64) -> Result<Rows, AllocError>
+fn rows_of(alloc: Global, found_station: &FoundStation, step: i64) -> Result<Rows, AllocError>
     requires step { IsStep step }
-    requires levels { AreLooked found.now }
-    requires count_bound { row_count found.now.asked.begin found.now.asked.end step ≤ row_limit }
+    requires levels { AreEvaluable found_station.now }
+    requires count_bound { row_count found_station.now.span_request.begin found_station.now.span_request.end step ≤ row_limit }
     ensures exact { IfOk result (λ rows. rows
-        ≡ rows_of found.now.curve.book (site_of found.now) found.now.asked.begin found.now.asked.end step) }
+        ≡ rows_of found_station.now.curve.book (site_of found_station.now) found_station.now.span_request.begin found_station.now.span_request.end step) }
     ensures listed { IfOk result (λ rows. All (λ row. InZoneYears row.minute) rows) }
 {
     let mut rows = Vec::new(alloc);
-    for place in 0..row_count(found, step) {
-        rows.push(row_at(found, step, place))?;
+    for index in 0..row_count(found_station, step) {
+        rows.push(row_at(found_station, step, index))?;
     }
     Ok(Rows::from_vec(rows))
 }
 
-/// Returns the row at index `place`, which is `place` steps of `step` minutes after the beginning of the
+/// Returns the row at index `index`, which is `index` steps of `step` minutes after the beginning of the
 /// span.
-fn row_at(found: &FoundStation, step: i64, place: u64) -> Row
+fn row_at(found_station: &FoundStation, step: i64, index: u64) -> Row
     requires step { IsStep step }
-    requires place { place ≤ row_limit }
-    requires level { IsLooked found.now (found.now.asked.begin +ℤ (step *ℤ pos place)) }
-    ensures { result ≡ row_at found.now.curve.book (site_of found.now) found.now.asked.begin step place }
+    requires index { index ≤ row_limit }
+    requires level { IsEvaluable found_station.now (found_station.now.span_request.begin +ℤ (step *ℤ pos index)) }
+    ensures { result ≡ row_at found_station.now.curve.book (site_of found_station.now) found_station.now.span_request.begin step index }
 {
-    let minute = minute_at(found.asked.begin, step, place);
+    let minute = minute_at(found_station.span_request.begin, step, index);
     Row {
         minute,
-        level: level_at(found, minute),
+        level: level_at(found_station, minute),
     }
 }
 
-/// Returns the minute of the row at index `place`, which is `place` steps of `step` minutes after
+/// Returns the minute of the row at index `index`, which is `index` steps of `step` minutes after
 /// `begin`.
-fn minute_at(begin: i64, step: i64, place: u64) -> i64
+fn minute_at(begin: i64, step: i64, index: u64) -> i64
     requires begin { unsigned_abs begin ≤ 20000000000 }
     requires step { IsStep step }
-    requires place { place ≤ row_limit }
-    ensures { result ≡ begin +ℤ (step *ℤ pos place) }
+    requires index { index ≤ row_limit }
+    ensures { result ≡ begin +ℤ (step *ℤ pos index) }
 {
-    begin + minutes_to(step, place)
+    begin + minutes_to(step, index)
 }
 
-/// Returns the minutes from the beginning of the span to the row at index `place`.
-fn minutes_to(step: i64, place: u64) -> i64
+/// Returns the minutes from the beginning of the span to the row at index `index`.
+fn minutes_to(step: i64, index: u64) -> i64
     requires step { IsStep step }
-    requires place { place ≤ row_limit }
-    ensures exact { result ≡ step *ℤ pos place }
+    requires index { index ≤ row_limit }
+    ensures exact { result ≡ step *ℤ pos index }
     ensures count_bound { unsigned_abs result ≤ 4464000000 }
 {
-    step * place as i64
+    step * index as i64
 }
 
 /// Proves examples of the number of rows that a span has for a step: the end has a row if a step leads
 /// to it.
 #[tactic(auto, unfolding(crate::specs::Answers::rows_in))]
-pub fn worked_rows()
+pub fn sample_row_counts()
     ensures empty_span { row_count (pos 0) (pos 0) (pos 60) ≡ 1 }
     ensures before_step { row_count (pos 0) (pos 59) (pos 60) ≡ 1 }
     ensures with_end { row_count (pos 0) (pos 60) (pos 60) ≡ 2 }

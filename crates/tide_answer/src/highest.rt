@@ -2,7 +2,7 @@
 //! certificate.
 
 ghost use Rattle.std.specs.Prelude.{◌≡◌, IfOk};
-ghost use Rattle.decimal_text.specs.Expected.{ReturnsUnless};
+ghost use Rattle.decimal_text.specs.Expected.{EqualsUnlessNoMemory};
 ghost use Rattle.tide_answer.specs.Answers.{highest, highest_text_at, peak_certified};
 ghost use Rattle.tide_answer.specs.Workings.Peaks.{peak_certificate_in};
 ghost use Rattle.tide_fault.specs.Faults.{refusal_is_out_of_memory};
@@ -38,12 +38,12 @@ pub fn highest_answer(
     request: &StationRequest<'_>,
     zone: &ZoneClock<'_>,
 ) -> Result<Answer, Refusal>
-    ensures { ReturnsUnless refusal_is_out_of_memory
-        (highest stations.now.book stations.now.table request.now.name request.now.asked zone.now) result }
+    ensures { EqualsUnlessNoMemory refusal_is_out_of_memory
+        (highest stations.now.book stations.now.table request.now.name request.now.span_request zone.now) result }
 {
-    let found = find_level(alloc, stations, request)?;
-    let at = highest_minute(&found);
-    let text = highest_text_at(alloc, &found, request.name(), at, zone)?;
+    let found_station = find_level(alloc, stations, request)?;
+    let at = highest_minute(&found_station);
+    let text = highest_text_at(alloc, &found_station, request.name(), at, zone)?;
     Ok(text_alone(text))
 }
 
@@ -51,18 +51,18 @@ pub fn highest_answer(
 /// the offset of high waters is applied to the minute `at` of the reference station and its level then.
 pub fn highest_text_at(
     alloc: Global,
-    found: &FoundStation,
+    found_station: &FoundStation,
     name: &Text,
     at: i64,
     zone: &ZoneClock<'_>,
 ) -> Result<Bytes, AllocError>
-    requires peak { HasPeak found.now }
-    requires inside { IsSourceIn (site_of found.now) found.now.asked at }
-    ensures { IfOk result (λ text. text ≡ highest_text_at found.now.curve.book (site_of found.now) name.now at zone.now) }
+    requires peak { HasPeak found_station.now }
+    requires inside { IsSourceIn (site_of found_station.now) found_station.now.span_request at }
+    ensures { IfOk result (λ text. text ≡ highest_text_at found_station.now.curve.book (site_of found_station.now) name.now at zone.now) }
 {
-    let minute = moved_minute(found, at);
-    let level = level_at(found, minute);
-    highest_text(alloc, name, found.units, minute, level, zone.zone())
+    let minute = moved_minute(found_station, at);
+    let level = level_at(found_station, minute);
+    highest_text(alloc, name, found_station.units, minute, level, zone.zone())
 }
 
 /// Returns the certificate of the highest water of the requested station over its span.
@@ -78,12 +78,12 @@ pub fn certify_peak(
     stations: &StationData<'_>,
     request: &StationRequest<'_>,
 ) -> Result<Answer, Refusal>
-    requires { AreMoments request.now.asked }
-    ensures { ReturnsUnless refusal_is_out_of_memory
-        (peak_certified stations.now.book stations.now.table request.now.name request.now.asked) result }
+    requires { AreMoments request.now.span_request }
+    ensures { EqualsUnlessNoMemory refusal_is_out_of_memory
+        (peak_certified stations.now.book stations.now.table request.now.name request.now.span_request) result }
 {
-    let found = find_level(alloc, stations, request)?;
-    let peak = find_highest(alloc, &found)?;
+    let found_station = find_level(alloc, stations, request)?;
+    let peak = find_highest(alloc, &found_station)?;
     let cert = certificate_of(request, peak)?;
     let text = write_peak(alloc, &cert)?;
     Ok(text_alone(text))
@@ -91,13 +91,13 @@ pub fn certify_peak(
 
 /// Returns the certificate that answers `request` with the highest water `peak`.
 fn certificate_of(request: &StationRequest<'_>, peak: Peak) -> Result<PeakCertificate, AllocError>
-    ensures { IfOk result (λ cert. cert ≡ peak_certificate_in request.now.name request.now.asked peak) }
+    ensures { IfOk result (λ cert. cert ≡ peak_certificate_in request.now.name request.now.span_request peak) }
 {
-    let asked = request.asked();
+    let span_request = request.span_request();
     Ok(PeakCertificate {
         station: request.name().copy()?,
-        begin: asked.begin,
-        end: asked.end,
+        begin: span_request.begin,
+        end: span_request.end,
         peak,
     })
 }

@@ -1,7 +1,7 @@
 //! The events of a station, for a report.
 
 ghost use Rattle.std.specs.Prelude.{◌≢◌, ◌≤◌, All, IfOk};
-ghost use Rattle.decimal_text.specs.Expected.{ReturnsUnless};
+ghost use Rattle.decimal_text.specs.Expected.{EqualsUnlessNoMemory};
 ghost use Rattle.event_text.specs.Lines.{IsListed};
 ghost use Rattle.harmonics_book.specs.declared.book.Units.{Units};
 ghost use Rattle.harmonics_book.specs.Books.{IsBook};
@@ -10,7 +10,7 @@ ghost use Rattle.tide_answer.specs.Answers.{listed};
 ghost use Rattle.tide_answer.specs.Givens.{IsGiven};
 ghost use Rattle.tide_fault.specs.Faults.{refusal_is_out_of_memory};
 
-use crate::given::Given;
+use crate::inputs::Given;
 use crate::requests::station_request;
 use curve_law::Events;
 use decimal_text::Text;
@@ -44,7 +44,7 @@ pub struct Listed {
 ///
 /// # Examples
 /// ```
-/// let listed = station_events(alloc, &book, &table, &question, &given)?;
+/// let listed = station_events(alloc, &book, &table, &question, &inputs)?;
 /// let (name, units, events) = (&listed.name, listed.units, &listed.events);
 /// let lines = plain_events(alloc, name, units, events, &Zone::Utc)?;
 /// ```
@@ -54,23 +54,23 @@ pub fn station_events(
     book: &Book,
     table: &OffsetTable,
     question: &Question,
-    given: &Given,
+    inputs: &Given,
 ) -> Result<Listed, Refusal>
     requires book { IsBook book.now }
     requires ranges { AreInRange question.now }
-    requires given { IsGiven given.now }
-    ensures exact { ReturnsUnless refusal_is_out_of_memory (listed book.now table.now question.now) result }
-    ensures lines { IfOk result (λ found. All (IsListed found.units) found.events) }
-    ensures levels { IfOk result (λ found. found.units ≢ Units.KnotsSquared) }
-    ensures printed { IfOk result (λ found. All (λ b. (32 ≤ b) × (b ≢ 127)) found.name) }
+    requires inputs { IsGiven inputs.now }
+    ensures exact { EqualsUnlessNoMemory refusal_is_out_of_memory (listed book.now table.now question.now) result }
+    ensures lines { IfOk result (λ found_station. All (IsListed found_station.units) found_station.events) }
+    ensures levels { IfOk result (λ found_station. found_station.units ≢ Units.KnotsSquared) }
+    ensures printed { IfOk result (λ found_station. All (λ b. (32 ≤ b) × (b ≢ 127)) found_station.name) }
 {
     let stations = StationData::new(book, table);
     let question = ValidQuestion::new(question);
     let request = station_request(&question)?;
-    let found = list_station(alloc, &stations, &request)?;
+    let found_station = list_station(alloc, &stations, &request)?;
     Ok(Listed {
         name: request.name().copy()?,
-        units: found.units,
-        events: found.events,
+        units: found_station.units,
+        events: found_station.events,
     })
 }

@@ -29,9 +29,9 @@ pub fn send_events<'a, S: Sink>(
     zone: &ZoneClock<'_>,
     merge: &mut Merge<TurnCurve<'a>, MarkCurve<'a>>,
 ) -> Result<Sent, WriteFailed>
-    requires listed { All (IsListed units) merge.old.left }
-    requires count_bound { sent.bytes + 96 * length merge.old.left < 2 ^ 64 }
-    ensures sends { Sends (S.state out.old) (S.state out.new) sent (flat_map (event_line_in zone.now units) merge.old.left) 0 result }
+    requires listed { All (IsListed units) merge.old.remaining }
+    requires count_bound { sent.bytes + 96 * length merge.old.remaining < 2 ^ 64 }
+    ensures sends { Sends (S.state out.old) (S.state out.new) sent (flat_map (event_line_in zone.now units) merge.old.remaining) 0 result }
     ensures cells { OnOk result (merge.new.cells ≡ merge.old.all) }
 {
     let mut buffer = LineBuffer::new();
@@ -67,10 +67,10 @@ pub fn send_listing<'a, S: Sink>(
     merge: &mut Merge<TurnCurve<'a>, MarkCurve<'a>>,
 ) -> Result<Sent, WriteFailed>
     requires name { length name.now ≤ 400 }
-    requires listed { All (IsListed units) merge.old.left }
-    requires count_bound { 96 * length merge.old.left < 2 ^ 63 }
+    requires listed { All (IsListed units) merge.old.remaining }
+    requires count_bound { 96 * length merge.old.remaining < 2 ^ 63 }
     ensures sends { Sends (S.state out.old) (S.state out.new) (record { bytes = 0; cells = 0 })
-        (plain_events_of name.now units merge.old.left zone.now) 0 result }
+        (plain_events_of name.now units merge.old.remaining zone.now) 0 result }
     ensures cells { OnOk result (merge.new.cells ≡ merge.old.all) }
 {
     let start = Sent { bytes: 0, cells: 0 };

@@ -1,7 +1,7 @@
 //! The answer of the command `peakcheck`: the check of a certificate of a highest water.
 
 ghost use Rattle.std.specs.Prelude.{◌≡◌, ◌<◌, ◌≤◌, ◌^◌, length, IfOk};
-ghost use Rattle.decimal_text.specs.Expected.{ReturnsUnless};
+ghost use Rattle.decimal_text.specs.Expected.{EqualsUnlessNoMemory};
 ghost use Rattle.decimal_text.specs.declared.limits.TheConstants.{MOST_BYTES};
 ghost use Rattle.peak_text.specs.PeakReadings.{peak_of};
 ghost use Rattle.peak_text.specs.PeakTexts.{IsPeakCertificate};
@@ -42,7 +42,7 @@ pub fn check_peak_text(
     bytes: &[u8],
 ) -> Result<Answer, Refusal>
     requires count_bound { length bytes.now ≤ MOST_BYTES }
-    ensures { ReturnsUnless refusal_is_out_of_memory (peak_checked stations.now.book stations.now.table bytes.now) result }
+    ensures { EqualsUnlessNoMemory refusal_is_out_of_memory (peak_checked stations.now.book stations.now.table bytes.now) result }
 {
     let cert = peak_in(alloc, bytes)?;
     judge_peak(alloc, stations, &cert)
@@ -51,7 +51,7 @@ pub fn check_peak_text(
 /// Returns the certificate with the text `bytes`.
 fn peak_in(alloc: Global, bytes: &[u8]) -> Result<PeakCertificate, Refusal>
     requires { length bytes.now ≤ MOST_BYTES }
-    ensures exact { ReturnsUnless refusal_is_out_of_memory (peak_from (peak_of bytes.now)) result }
+    ensures exact { EqualsUnlessNoMemory refusal_is_out_of_memory (peak_from (peak_of bytes.now)) result }
     ensures valid { IfOk result IsPeakCertificate }
     ensures count_bound { IfOk result (λ cert. length cert.peak.cells < 2 ^ 32) }
 {
@@ -72,11 +72,11 @@ fn judge_peak(
 ) -> Result<Answer, Refusal>
     requires cert { IsPeakCertificate cert.now }
     requires count_bound { length cert.now.peak.cells < 2 ^ 32 }
-    ensures { ReturnsUnless refusal_is_out_of_memory (peak_judged_in stations.now.book stations.now.table cert.now) result }
+    ensures { EqualsUnlessNoMemory refusal_is_out_of_memory (peak_judged_in stations.now.book stations.now.table cert.now) result }
 {
-    let found = find_level(alloc, stations, &request_of_peak_certificate(cert))?;
-    match judge_highest(&found, &cert.peak) {
-        PeakVerdict::Accepted => Ok(accept_peak(alloc, &found, cert)?),
+    let found_station = find_level(alloc, stations, &request_of_peak_certificate(cert))?;
+    match judge_highest(&found_station, &cert.peak) {
+        PeakVerdict::Accepted => Ok(accept_peak(alloc, &found_station, cert)?),
         verdict => Ok(rejected(verdict_line(alloc, verdict)?)),
     }
 }
@@ -84,15 +84,21 @@ fn judge_peak(
 /// Returns the answer that accepts `cert`.
 fn accept_peak(
     alloc: Global,
-    found: &FoundStation,
+    found_station: &FoundStation,
     cert: &PeakCertificate,
 ) -> Result<Answer, AllocError>
-    requires peak { HasPeak found.now }
-    requires inside { IsSourceIn (site_of found.now) found.now.asked cert.now.peak.at }
-    ensures { IfOk result (λ answer. answer ≡ peak_judged found.now.curve.book (site_of found.now) cert.now PeakVerdict.Accepted) }
+    requires peak { HasPeak found_station.now }
+    requires inside { IsSourceIn (site_of found_station.now) found_station.now.span_request cert.now.peak.at }
+    ensures { IfOk result (λ answer. answer ≡ peak_judged found_station.now.curve.book (site_of found_station.now) cert.now PeakVerdict.Accepted) }
 {
     let zone = Zone::Utc;
-    let shown = highest_text_at(alloc, found, &cert.station, cert.peak.at, &zone.clock())?;
+    let shown = highest_text_at(
+        alloc,
+        found_station,
+        &cert.station,
+        cert.peak.at,
+        &zone.clock(),
+    )?;
     let mut text = accepted_line(alloc)?;
     text.extend_from_slice(shown.as_slice())?;
     Ok(text_alone(Bytes::from_vec(text)))

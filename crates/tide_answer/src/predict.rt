@@ -1,6 +1,6 @@
 //! The answer of the command `predict`: the events of a station over a span.
 
-ghost use Rattle.decimal_text.specs.Expected.{ReturnsUnless};
+ghost use Rattle.decimal_text.specs.Expected.{EqualsUnlessNoMemory};
 ghost use Rattle.tide_answer.specs.Answers.{predicted};
 ghost use Rattle.tide_fault.specs.Faults.{refusal_is_out_of_memory};
 
@@ -27,8 +27,8 @@ pub fn predict(
     layout: Layout,
     zone: &ZoneClock<'_>,
 ) -> Result<Answer, Refusal>
-    ensures { ReturnsUnless refusal_is_out_of_memory
-        (predicted stations.now.book stations.now.table request.now.name request.now.asked layout zone.now) result }
+    ensures { EqualsUnlessNoMemory refusal_is_out_of_memory
+        (predicted stations.now.book stations.now.table request.now.name request.now.span_request layout zone.now) result }
 {
     let listed = list_station(alloc, stations, request)?;
     let text = events_text(

@@ -2,7 +2,7 @@
 
 ghost use Rattle.std.specs.Prelude.{◌≡◌, if◌then◌else◌, Some, None, IsSome, IsTrue, is_some};
 ghost use Rattle.std.specs.Option.{ForSome};
-ghost use Rattle.decimal_text.specs.Expected.{ReturnsUnless};
+ghost use Rattle.decimal_text.specs.Expected.{EqualsUnlessNoMemory};
 ghost use Rattle.harmonics_book.specs.Books.{IsBook};
 ghost use Rattle.question.specs.Asked.{AreInRange};
 ghost use Rattle.tide_fault.specs.Faults.{refusal_is_out_of_memory};
@@ -11,12 +11,12 @@ ghost use Rattle.tide_answer.specs.Streams.{can_stream, prepared, streams_by, St
 ghost use Rattle.tide_answer.specs.Workings.Streaming.{form_of};
 
 use crate::form::Form;
-use crate::given::{Given, GivenView};
+use crate::inputs::{Given, GivenView};
 use crate::requests::station_request;
 use crate::streaming::Stream;
 use harmonics_book::Book;
 use question::{Command, Layout, Question, ValidQuestion};
-use station_span::{Reach, StationData, find_station};
+use station_span::{Purpose, StationData, find_station};
 use station_table::{Basis, OffsetTable};
 use std::alloc::Global;
 use tide_edge::{Sink, WriteFailed};
@@ -53,17 +53,17 @@ pub fn prepare(
     book: &Book,
     table: &OffsetTable,
     question: &Question,
-    given: &Given,
+    inputs: &Given,
 ) -> Result<Ready, Refusal>
     requires book { IsBook book.now }
     requires ranges { AreInRange question.now }
-    requires given { IsGiven given.now }
+    requires inputs { IsGiven inputs.now }
     requires command { IsTrue (can_stream question.now.command) }
-    ensures { ReturnsUnless refusal_is_out_of_memory (prepared book.now table.now question.now given.entry.now) result }
+    ensures { EqualsUnlessNoMemory refusal_is_out_of_memory (prepared book.now table.now question.now inputs.entry.now) result }
 {
     let stations = StationData::new(book, table);
     let question = ValidQuestion::new(question);
-    prepare_valid(alloc, &stations, &question, given.view())
+    prepare_valid(alloc, &stations, &question, inputs.view())
 }
 
 /// Returns the prepared source of the answer to the valid `question` about `stations`, like [`prepare`],
@@ -77,20 +77,20 @@ pub fn prepare_valid(
     alloc: Global,
     stations: &StationData<'_>,
     question: &ValidQuestion<'_>,
-    given: GivenView<'_>,
+    inputs: GivenView<'_>,
 ) -> Result<Ready, Refusal>
-    requires given { IsGiven (given_seen given) }
+    requires inputs { IsGiven (given_seen inputs) }
     requires command { IsTrue (can_stream question.now.command) }
-    ensures { ReturnsUnless refusal_is_out_of_memory
-        (prepared stations.now.book stations.now.table question.now (given_seen given.entry)) result }
+    ensures { EqualsUnlessNoMemory refusal_is_out_of_memory
+        (prepared stations.now.book stations.now.table question.now (given_seen inputs.entry)) result }
 {
     let request = station_request(question)?;
-    let found = find_station(alloc, stations, Reach::Events, &request)?;
+    let found_station = find_station(alloc, stations, Purpose::Events, &request)?;
     let question = question.get();
-    match streamed_zone(&found.basis, question.layout, given.zone) {
+    match streamed_zone(&found_station.basis, question.layout, inputs.zone) {
         Some(zone) => {
             let form = form_of(question.command);
-            let stream = Stream::new(form, found, request.name().copy()?, zone);
+            let stream = Stream::new(form, found_station, request.name().copy()?, zone);
             Ok(Ready {
                 stream: Some(stream),
             })

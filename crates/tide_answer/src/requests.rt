@@ -4,7 +4,7 @@ ghost use Rattle.std.specs.Prelude.{◌≡◌, Ok, Err, IfErr, IfOk};
 ghost use Rattle.cert_text.specs.Certificates.{IsCertificate};
 ghost use Rattle.peak_text.specs.PeakTexts.{IsPeakCertificate};
 ghost use Rattle.tide_answer.specs.Answers.{named_by, refusal_of_incomplete};
-ghost use Rattle.tide_answer.specs.Asking.{asked_by_question, asked_by_certificate, asked_by_peak_certificate};
+ghost use Rattle.tide_answer.specs.Asking.{request_by_question, request_by_certificate, request_by_peak_certificate};
 ghost use Rattle.tide_answer.specs.Workings.Requests.{named_span};
 ghost use Rattle.station_span.specs.Workings.Spans.{AreMoments, IsInRange};
 
@@ -12,7 +12,7 @@ use cert_text::Certificate;
 use decimal_text::Text;
 use peak_text::PeakCertificate;
 use question::ValidQuestion;
-use station_span::{Asked, StationRequest};
+use station_span::{SpanRequest, StationRequest};
 use tide_fault::Refusal;
 
 /// Returns the refusal of a question that doesn't have a value that its command needs.
@@ -30,11 +30,11 @@ pub fn refusal_of_incomplete() -> Refusal
 #[tactic(auto, unfolding(crate::specs::Workings::Requests::named_span))]
 pub fn station_request<'a>(question: &ValidQuestion<'a>) -> Result<StationRequest<'a>, Refusal>
     ensures exact { result ≡ named_span question.now }
-    ensures moments { IfOk result (λ request. AreMoments request.asked) }
+    ensures moments { IfOk result (λ request. AreMoments request.span_request) }
 {
     let name = station_named(question)?;
-    let asked = span_named(question)?;
-    Ok(StationRequest::new(name, asked))
+    let span_request = span_named(question)?;
+    Ok(StationRequest::new(name, span_request))
 }
 
 /// Returns the station's name in `question`. A question whose command needs it has it.
@@ -42,7 +42,7 @@ pub fn station_request<'a>(question: &ValidQuestion<'a>) -> Result<StationReques
 /// # Errors
 /// [`refusal_of_incomplete`] if the name is missing.
 pub fn station_named<'a>(question: &ValidQuestion<'a>) -> Result<&'a Text, Refusal>
-    ensures found { IfOk result (λ name. named_by question.now.station ≡ Ok name.now) }
+    ensures found_station { IfOk result (λ name. named_by question.now.station ≡ Ok name.now) }
     ensures missing { IfErr result (λ refusal. named_by question.now.station ≡ Err refusal) }
 {
     match &question.get().station {
@@ -52,15 +52,15 @@ pub fn station_named<'a>(question: &ValidQuestion<'a>) -> Result<&'a Text, Refus
 }
 
 /// Returns the span and the mark of `question`.
-#[tactic(auto, unfolding(crate::specs::Asking::asked_by_question))]
-fn span_named(question: &ValidQuestion<'_>) -> Result<Asked, Refusal>
-    ensures exact { result ≡ named_by (asked_by_question question.now) }
+#[tactic(auto, unfolding(crate::specs::Asking::request_by_question))]
+fn span_named(question: &ValidQuestion<'_>) -> Result<SpanRequest, Refusal>
+    ensures exact { result ≡ named_by (request_by_question question.now) }
     ensures in_range { IfOk result IsInRange }
     ensures moments { IfOk result AreMoments }
 {
     let question = question.get();
     match (question.begin, question.end) {
-        (Some(begin), Some(end)) => Ok(Asked {
+        (Some(begin), Some(end)) => Ok(SpanRequest {
             begin,
             end,
             mark: question.mark,
@@ -72,25 +72,25 @@ fn span_named(question: &ValidQuestion<'_>) -> Result<Asked, Refusal>
 /// Returns the request of the certificate `cert`: its station's name, its span and its mark.
 pub fn request_of_certificate<'a>(cert: &'a Certificate) -> StationRequest<'a>
     requires { IsCertificate cert.now }
-    ensures { result ≡ record { name = cert.now.station; asked = asked_by_certificate cert.now } }
+    ensures { result ≡ record { name = cert.now.station; span_request = request_by_certificate cert.now } }
 {
-    let asked = Asked {
+    let span_request = SpanRequest {
         begin: cert.begin,
         end: cert.end,
         mark: cert.mark,
     };
-    StationRequest::new(&cert.station, asked)
+    StationRequest::new(&cert.station, span_request)
 }
 
 /// Returns the request of `cert`, a certificate of a highest water: its station's name and its span.
 pub fn request_of_peak_certificate<'a>(cert: &'a PeakCertificate) -> StationRequest<'a>
     requires { IsPeakCertificate cert.now }
-    ensures { result ≡ record { name = cert.now.station; asked = asked_by_peak_certificate cert.now } }
+    ensures { result ≡ record { name = cert.now.station; span_request = request_by_peak_certificate cert.now } }
 {
-    let asked = Asked {
+    let span_request = SpanRequest {
         begin: cert.begin,
         end: cert.end,
         mark: None,
     };
-    StationRequest::new(&cert.station, asked)
+    StationRequest::new(&cert.station, span_request)
 }

@@ -18,7 +18,7 @@ use zone_time::Zone;
 #[derive(Drop)]
 pub struct Stream {
     form: Form,
-    found: FoundStation,
+    found_station: FoundStation,
     name: Text,
     zone: Zone,
 }
@@ -29,20 +29,20 @@ impl Model for Stream {
 
     ghost Value = { Answer };
 
-    ghost view = { λ s. stream_of s.form s.found s.name s.zone };
+    ghost view = { λ s. stream_of s.form s.found_station s.name s.zone };
 
-    ghost invariant = { λ s. IsStream s.found s.name s.zone };
+    ghost invariant = { λ s. IsStream s.found_station s.name s.zone };
 }
 
 impl Stream {
-    /// Returns the answer of the form `form` for the station `found`.
-    pub fn new(form: Form, found: FoundStation, name: Text, zone: Zone) -> Stream
-        requires { IsStream found name zone }
-        ensures { result ≡ stream_of form found name zone }
+    /// Returns the answer of the form `form` for the station `found_station`.
+    pub fn new(form: Form, found_station: FoundStation, name: Text, zone: Zone) -> Stream
+        requires { IsStream found_station name zone }
+        ensures { result ≡ stream_of form found_station name zone }
     {
         Stream {
             form,
-            found,
+            found_station,
             name,
             zone,
         }
@@ -57,8 +57,13 @@ impl Stream {
         ensures { Streams (S.state out.old) (S.state out.new) self.now result }
     {
         match self.form {
-            Form::Listing => write_listing(out, &self.found, &self.name, &self.zone),
-            Form::Certificate => write_certificate(out, &self.found, &self.name, &self.zone),
+            Form::Listing => write_listing(out, &self.found_station, &self.name, &self.zone),
+            Form::Certificate => write_certificate(
+                out,
+                &self.found_station,
+                &self.name,
+                &self.zone,
+            ),
         }
     }
 }
@@ -66,28 +71,28 @@ impl Stream {
 /// Writes a listing while it is computed.
 fn write_listing<S: Sink>(
     out: &mut S,
-    found: &FoundStation,
+    found_station: &FoundStation,
     name: &Text,
     zone: &Zone,
 ) -> Result<u64, WriteFailed>
-    requires { IsStream found.now name.now zone.now }
-    ensures { Streams (S.state out.old) (S.state out.new) (stream_of Form.Listing found.now name.now zone.now) result }
+    requires { IsStream found_station.now name.now zone.now }
+    ensures { Streams (S.state out.old) (S.state out.new) (stream_of Form.Listing found_station.now name.now zone.now) result }
 {
-    let mut merge = merge_of(found);
-    send_listing(out, name, found.units, &zone.clock(), &mut merge)?;
+    let mut merge = merge_of(found_station);
+    send_listing(out, name, found_station.units, &zone.clock(), &mut merge)?;
     Ok(merge.cells())
 }
 
 /// Writes a certificate while it is computed.
 fn write_certificate<S: Sink>(
     out: &mut S,
-    found: &FoundStation,
+    found_station: &FoundStation,
     name: &Text,
     zone: &Zone,
 ) -> Result<u64, WriteFailed>
-    requires { IsStream found.now name.now zone.now }
-    ensures { Streams (S.state out.old) (S.state out.new) (stream_of Form.Certificate found.now name.now zone.now) result }
+    requires { IsStream found_station.now name.now zone.now }
+    ensures { Streams (S.state out.old) (S.state out.new) (stream_of Form.Certificate found_station.now name.now zone.now) result }
 {
-    let sent = send_certificate(out, found, name)?;
+    let sent = send_certificate(out, found_station, name)?;
     Ok(sent.cells)
 }

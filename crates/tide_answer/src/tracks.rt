@@ -1,7 +1,7 @@
 //! The cells of a station's curves.
 
 ghost use Rattle.std.specs.Prelude.{◌≡◌, IfOk};
-ghost use Rattle.station_span.specs.declared.reach.Reach.{Reach};
+ghost use Rattle.station_span.specs.declared.purpose.Purpose.{Purpose};
 ghost use Rattle.station_span.specs.Following.{tracks_of};
 ghost use Rattle.station_span.specs.Workings.Finds.{site_of};
 
@@ -13,12 +13,12 @@ use std::alloc::{AllocError, Global};
 
 /// Returns the cells of each of the station's requested tracks, over the minutes of the reference whose
 /// events the offsets can move into the span.
-pub fn find_tracks(alloc: Global, found: &FoundStation) -> Result<Tracks, AllocError>
-    requires { found.now.reach ≡ Reach.Events }
-    ensures { IfOk result (λ tracks. tracks ≡ tracks_of found.now.curve.book (site_of found.now) found.now.asked) }
+pub fn find_tracks(alloc: Global, found_station: &FoundStation) -> Result<Tracks, AllocError>
+    requires { found_station.now.purpose ≡ Purpose.Events }
+    ensures { IfOk result (λ tracks. tracks ≡ tracks_of found_station.now.curve.book (site_of found_station.now) found_station.now.span_request) }
 {
-    let turn = turn_curve(found, Version::Second);
-    let slack = slack_curve(found, Version::Second);
-    let mark = mark_curve(found, Version::Second);
-    tracks_over(alloc, turn, slack, mark, &found.span)
+    let turn = turn_curve(found_station, Version::Second);
+    let slack = slack_curve(found_station, Version::Second);
+    let mark = mark_curve(found_station, Version::Second);
+    tracks_over(alloc, turn, slack, mark, &found_station.span)
 }

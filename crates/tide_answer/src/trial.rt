@@ -1,7 +1,7 @@
 //! The answer of the command `trial`: a trial of the predictor with a file made from a seed.
 
 ghost use Rattle.std.specs.Prelude.{◌≡◌, ◌<◌, ◌≤◌, ◌^◌, [], length, take, IfOk};
-ghost use Rattle.decimal_text.specs.Expected.{ReturnsUnless};
+ghost use Rattle.decimal_text.specs.Expected.{EqualsUnlessNoMemory};
 ghost use Rattle.harmonics_book.specs.Books.{IsBook};
 ghost use Rattle.harmonics_text.specs.Reading.{book_of};
 ghost use Rattle.tide_fault.specs.Faults.{refusal_is_out_of_memory};
@@ -17,7 +17,7 @@ use decimal_text::{Bytes, Text};
 use harmonics_book::{Book, Station};
 use harmonics_text::{BookFault, read_book};
 use sample_tides::sample;
-use station_span::{Asked, Reach, StationData, StationRequest, find_events, find_station};
+use station_span::{Purpose, SpanRequest, StationData, StationRequest, find_events, find_station};
 use station_table::OffsetTable;
 use std::alloc::Global;
 use tide_fault::Refusal;
@@ -26,7 +26,7 @@ use tide_fault::Refusal;
 const STATIONS: usize = 40;
 
 /// The span of the trial: from 2000-12-01T00:00Z up to 2001-02-01T00:00Z, not included.
-const SPAN: Asked = Asked {
+const SPAN: SpanRequest = SpanRequest {
     begin: 16_260_480,
     end: 16_349_760,
     mark: None,
@@ -39,7 +39,7 @@ const SPAN: Asked = Asked {
 /// [`Refusal::BadSample`] if the file can't be read as a book, and the first [`Refusal`] of a station.
 #[tactic(auto, unfolding(crate::specs::Trials::trial_of))]
 pub fn try_sample(alloc: Global, seed: u64) -> Result<Bytes, Refusal>
-    ensures { ReturnsUnless refusal_is_out_of_memory (trial_of seed) result }
+    ensures { EqualsUnlessNoMemory refusal_is_out_of_memory (trial_of seed) result }
 {
     let text = sample(alloc, seed)?;
     let book = book_in(alloc, text.as_slice())?;
@@ -52,7 +52,7 @@ pub fn try_sample(alloc: Global, seed: u64) -> Result<Bytes, Refusal>
 /// Reads the harmonics file `text`.
 fn book_in(alloc: Global, text: &[u8]) -> Result<Book, Refusal>
     requires { length text.now ≤ MOST_BYTES }
-    ensures exact { ReturnsUnless refusal_is_out_of_memory (book_from (book_of text.now)) result }
+    ensures exact { EqualsUnlessNoMemory refusal_is_out_of_memory (book_from (book_of text.now)) result }
     ensures valid { IfOk result IsBook }
 {
     match read_book(alloc, text) {
@@ -84,7 +84,7 @@ fn tally_stations(
 ) -> Result<Tally, Refusal>
     requires table { stations.now.table ≡ [] }
     requires count_bound { length tried.now ≤ 40 }
-    ensures exact { ReturnsUnless refusal_is_out_of_memory (tally_on stations.now.book nothing tried.now) result }
+    ensures exact { EqualsUnlessNoMemory refusal_is_out_of_memory (tally_on stations.now.book nothing tried.now) result }
     ensures count_bound { IfOk result (IsUpTo (2 ^ 100)) }
 {
     let mut sum = Tally::nothing();
@@ -99,14 +99,14 @@ fn tally_stations(
 #[tactic(auto, unfolding(crate::specs::Trials::station_tally))]
 fn tally_station(alloc: Global, stations: &StationData<'_>, name: &Text) -> Result<Tally, Refusal>
     requires { stations.now.table ≡ [] }
-    ensures exact { ReturnsUnless refusal_is_out_of_memory (station_tally stations.now.book name.now) result }
+    ensures exact { EqualsUnlessNoMemory refusal_is_out_of_memory (station_tally stations.now.book name.now) result }
     ensures count_bound { IfOk result (IsUpTo (2 ^ 66)) }
 {
     let request = StationRequest::new(name, SPAN);
-    let found = find_station(alloc, stations, Reach::Events, &request)?;
-    let listed = find_events(alloc, &found)?;
-    let tracks = find_tracks(alloc, &found)?;
+    let found_station = find_station(alloc, stations, Purpose::Events, &request)?;
+    let listed = find_events(alloc, &found_station)?;
+    let tracks = find_tracks(alloc, &found_station)?;
     let cert = certificate_of(&request, tracks)?;
-    let rejection = find_rejection(&found, &cert);
-    Ok(Tally::of(&found.span, &cert.tracks, &listed.events, rejection))
+    let rejection = find_rejection(&found_station, &cert);
+    Ok(Tally::of(&found_station.span, &cert.tracks, &listed.events, rejection))
 }

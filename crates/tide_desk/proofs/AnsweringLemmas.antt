@@ -5,24 +5,24 @@ use Rattle.std.specs.Prelude.{IsOk, IsSome, IfSome, IfErr, count_by, pos, length
 use Rattle.std.proofs.lemmas.Option.{slice_get_past}
 use Rattle.std.specs.Option.{IsSomeAnd, option_map_or}
 use Rattle.std.specs.Result.{IsErrAnd}
-use Rattle.decimal_text.specs.Expected.{◌>>=◌, Excused, Excuses, ReturnsUnless, Meets}
+use Rattle.decimal_text.specs.Expected.{◌>>=◌, Excused, Excuses, EqualsUnlessNoMemory, Meets}
 use Rattle.question.specs.declared.question.Question.{Question}
-use Rattle.report_sheets.specs.Sheets.{SheetMeaning}
+use Rattle.report_sheets.specs.Sheets.{SheetSpec}
 use Rattle.tide_answer.specs.declared.text.Answer.{Answer}
 use Rattle.tide_answer.specs.Answers.{answered_without_files}
 use Rattle.tide_edge.specs.Clocks.{ClockState, clock_after, next_minute}
 use Rattle.tide_edge.specs.Faults.{Rose, counted}
-use Rattle.tide_edge.specs.Calls.{answer}
+use Rattle.tide_edge.specs.FaultSchedule.{answer}
 use Rattle.tide_edge.specs.declared.failed.Failed.{Failed}
 use Rattle.tide_edge.specs.FileStates.{FilesState, Opening, Openings, openings_of}
 use Rattle.tide_edge.specs.Whole.{Allowance, ReadWithin, no_file}
 use Rattle.tide_edge.proofs.ReadingLemmas.{read_none}
 use Rattle.tide_fault.specs.declared.fault.Fault.{Fault}
 use Rattle.tide_fault.specs.Faults.{is_out_of_memory as fault_is_out_of_memory}
-use Rattle.named_files.specs.declared.no_answer.NoAnswer.{NoAnswer}
-use Rattle.named_files.specs.declared.no_answer.NoAnswer.TheVariants.{Unread, Faulty, Refused}
+use Rattle.named_files.specs.declared.run_fault.RunFault.{RunFault}
+use Rattle.named_files.specs.declared.run_fault.RunFault.TheVariants.{Unread, Faulty, Refused}
 use Rattle.named_files.specs.declared.materials.Materials.{Materials}
-use Rattle.named_files.specs.NoAnswers.{file_of, is_unread, reading_failed, refused_over, source_of, faulty, is_out_of_memory}
+use Rattle.named_files.specs.RunFaults.{file_of, is_unread, reading_failed, refused_over, source_of, faulty, is_out_of_memory}
 use Rattle.named_files.specs.Opened.{AreOpened, AreShown, AreShownFor, IsResultOf, failing_file, names_to}
 use Rattle.tide_fault.specs.declared.slot.Slot.{Slot}
 use Rattle.named_files.specs.Readings.{Folders, files_allowed, files_in}
@@ -101,18 +101,18 @@ went_by_words failed asked question name before after is named went =
 
 -- ---- By the openings
 
-pub failing_at : {A : Type 0} (result : Result A NoAnswer) (none : NoAnswer) → IsErrAnd result (λ e. e ≡ none)
+pub failing_at : {A : Type 0} (result : Result A RunFault) (none : RunFault) → IsErrAnd result (λ e. e ≡ none)
     → failing_file result ≡ file_of none
 failing_at (Ok value) none is = absurd is
 failing_at (Err e) none is = ap file_of is
 
 -- nothing was opened
 pub shown_unopened : {A : Type 0} (names : Option Slot → List (List ℕ)) (shows : Bool → List Opening → Folders → Type 0)
-    (expected : Folders → Result A NoAnswer) (before after : Openings) (result : Result A NoAnswer) → after ≡ before
+    (expected : Folders → Result A RunFault) (before after : Openings) (result : Result A RunFault) → after ≡ before
     → ((firm : Bool) (folders : Folders) → Meets source_of (IsTrue firm) (expected folders) result)
     → IsResultOf names shows expected before after result
 shown_unopened names shows expected before after result same meets = record {
-  openings = [];
+  open_log = [];
   unopened = names (failing_file result);
   all = ap openings_of same ∙ sym (append-nil (openings_of before));
   names = refl;
@@ -120,14 +120,14 @@ shown_unopened names shows expected before after result same meets = record {
 }
 
 -- the files couldn't be read
-pub shown_unread : (sheets : List SheetMeaning) (given : Option ℤ) (question : Question) (name : List ℕ)
-    (before after : Openings) (none : NoAnswer)
-    (result : Result Answer NoAnswer) → IsErrAnd result (λ e. e ≡ none)
+pub shown_unread : (sheets : List SheetSpec) (given : Option ℤ) (question : Question) (name : List ℕ)
+    (before after : Openings) (none : RunFault)
+    (result : Result Answer RunFault) → IsErrAnd result (λ e. e ≡ none)
     → AreOpened question name before after (Err none)
     → IsResultOf (names_to name question) (AreShown question) (λ folders. shown_over sheets folders given question name) before after result
 unfolding shown_over
 shown_unread sheets given question name before after none result is read = record {
-  openings = read.openings;
+  open_log = read.open_log;
   unopened = read.unopened;
   all = read.all;
   names = rw (failing_at result none is) read.names;
@@ -136,9 +136,9 @@ shown_unread sheets given question name before after none result is read = recor
 }
 
 -- the files were read, and the result is that of the other steps
-pub shown_read : (sheets : List SheetMeaning) (given : Option ℤ) (question : Question) (name : List ℕ)
+pub shown_read : (sheets : List SheetSpec) (given : Option ℤ) (question : Question) (name : List ℕ)
     (before after : Openings) (read : Materials)
-    (result : Result Answer NoAnswer) → failing_file result ≡ None
+    (result : Result Answer RunFault) → failing_file result ≡ None
     → ((firm : Bool) → Meets source_of (IsTrue firm) (minute_read question.command given >>= λ now.
     refused_over read.table
     (answered_over_book (is_report question.command) sheets read.book read.table question (given_with read now))) result)
@@ -146,7 +146,7 @@ pub shown_read : (sheets : List SheetMeaning) (given : Option ℤ) (question : Q
     → IsResultOf (names_to name question) (AreShown question) (λ folders. shown_over sheets folders given question name) before after result
 unfolding shown_over
 shown_read sheets given question name before after read result of_none meets opened = record {
-  openings = opened.openings;
+  open_log = opened.open_log;
   unopened = opened.unopened;
   all = opened.all;
   names = rw of_none opened.names;
@@ -154,20 +154,20 @@ shown_read sheets given question name before after read result of_none meets ope
 }
 
 -- a command line has the answer of its request
-pub shown_named : (sheets : List SheetMeaning) (given : Option ℤ) (words : List (List ℕ)) (question : Question)
+pub shown_named : (sheets : List SheetSpec) (given : Option ℤ) (words : List (List ℕ)) (question : Question)
     (name : List ℕ) (before after : Openings)
-    (result : Result Answer NoAnswer) → question_of_words sheets words ≡ Ok question → question.file ≡ Some name
+    (result : Result Answer RunFault) → question_of_words sheets words ≡ Ok question → question.file ≡ Some name
     → IsResultOf (names_to name question) (AreShown question) (λ folders. shown_over sheets folders given question name) before after result
     → IsResultOf (names_wanted (question_of_words sheets words)) (AreShownFor (question_of_words sheets words))
     (λ folders. answer_shown sheets folders given words) before after result
 unfolding answer_shown
 shown_named sheets given words question name before after result is named shown =
     let N : Option (List ℕ) → Type 0 =
-    λ file. names_by question file (failing_file result) ≡ map (λ o. o.name) shown.openings ++ shown.unopened in
+    λ file. names_by question file (failing_file result) ≡ map (λ o. o.name) shown.open_log ++ shown.unopened in
     let M : Bool → Folders → Option (List ℕ) → Type 0 = λ firm folders file. Meets source_of (IsTrue firm)
     (shown_by sheets folders given question file) result in
     record {
-      openings = shown.openings;
+      open_log = shown.open_log;
       unopened = shown.unopened;
       all = shown.all;
       names = rw is (subst N (sym named) shown.names);
@@ -175,8 +175,8 @@ shown_named sheets given words question name before after result is named shown 
     }
 
 -- a command line that is no request
-pub shown_unasked : (sheets : List SheetMeaning) (given : Option ℤ) (words : List (List ℕ)) (fault : Fault)
-    (result : Result Answer NoAnswer) (firm : Bool) (folders : Folders) → IsErrAnd result (λ none. none ≡ Faulty fault)
+pub shown_unasked : (sheets : List SheetSpec) (given : Option ℤ) (words : List (List ℕ)) (fault : Fault)
+    (result : Result Answer RunFault) (firm : Bool) (folders : Folders) → IsErrAnd result (λ none. none ≡ Faulty fault)
     → Excused (fault_is_out_of_memory fault) (question_of_words sheets words) fault
     → Meets source_of (IsTrue firm) (answer_shown sheets folders given words) result
 unfolding answer_shown
@@ -185,9 +185,9 @@ shown_unasked sheets given words fault result firm folders is excused =
     (faulty_excuses (IsTrue firm) (question_of_words sheets words) fault excused)
 
 -- a command line that names no file
-pub shown_alone : (sheets : List SheetMeaning) (given : Option ℤ) (words : List (List ℕ)) (question : Question)
-    (result : Result Answer NoAnswer) (firm : Bool) (folders : Folders) → question_of_words sheets words ≡ Ok question → question.file ≡ None
-    → ReturnsUnless is_out_of_memory (faulty (refused_from (answered_without_files question))) result
+pub shown_alone : (sheets : List SheetSpec) (given : Option ℤ) (words : List (List ℕ)) (question : Question)
+    (result : Result Answer RunFault) (firm : Bool) (folders : Folders) → question_of_words sheets words ≡ Ok question → question.file ≡ None
+    → EqualsUnlessNoMemory is_out_of_memory (faulty (refused_from (answered_without_files question))) result
     → Meets source_of (IsTrue firm) (answer_shown sheets folders given words) result
 unfolding answer_shown
 shown_alone sheets given words question result firm folders is none returned =
@@ -217,18 +217,18 @@ names_file asked question name is named =
 
 -- a clock that wasn't read has returned no minute
 none_given : (clock : ClockState) → given_between clock clock ≡ None
-none_given clock = slice_get_past clock.given (length clock.given) (le_refl (length clock.given))
+none_given clock = slice_get_past clock.returned_minutes (length clock.returned_minutes) (le_refl (length clock.returned_minutes))
 
 no_minute : (clock : ClockState) (P : ℤ → Type 0) → IfSome (given_between clock clock) P
 no_minute clock P = rw (none_given clock) tt
 
-settled_at : {A : Type 0} (result : Result A NoAnswer) (none : NoAnswer) → IsErrAnd result (λ e. e ≡ none) → IfErr result IsSettled
+settled_at : {A : Type 0} (result : Result A RunFault) (none : RunFault) → IsErrAnd result (λ e. e ≡ none) → IfErr result IsSettled
     → IsSettled none
 settled_at (Ok value) none is settled = absurd is
 settled_at (Err e) none is settled = subst IsSettled is settled
 
 -- a file that can be read hasn't failed
-unread_failed : {A : Type 0} (expected : Result A NoAnswer) (none : NoAnswer) → is_unread none ≡ true
+unread_failed : {A : Type 0} (expected : Result A RunFault) (none : RunFault) → is_unread none ≡ true
     → Excuses (source_of none) (IsTrue true) expected none → IsOk expected → ⊥
 unread_failed expected Unread is excuses ok = no_value expected Unread (excuses refl) ok
 unread_failed expected (Faulty fault) is excuses ok = never is
@@ -236,12 +236,12 @@ unread_failed expected (Refused refusal rows) is excuses ok = never is
 
 -- the files couldn't be read
 pub last_unread : (question : Question) (name : List ℕ) (asks unread : Type 0) (before after : FilesState) (clock : ClockState)
-    (none : NoAnswer) (result : Result Answer NoAnswer) → unread → IsErrAnd result (λ e. e ≡ none)
-    → AreOpened question name before.openings after.openings (Err none)
+    (none : RunFault) (result : Result Answer RunFault) → unread → IsErrAnd result (λ e. e ≡ none)
+    → AreOpened question name before.open_log after.open_log (Err none)
     → IsReadLast asks unread (AreShown question) (λ folders. IsOk (files_in folders question name))
     (sources before clock) (sources after clock) result
 last_unread question name asks unread before after clock none result same is read = record {
-  openings = read.openings;
+  open_log = read.open_log;
   all = read.all;
   last = λ folders shows no. same;
   once = λ folders shows ok asked settled.
@@ -255,14 +255,14 @@ last_unread question name asks unread before after clock none result same is rea
 
 -- the files were read
 pub last_read : (question : Question) (name : List ℕ) (asks unread : Type 0) (before after : Sources) (read : Materials)
-    (result : Result Answer NoAnswer) → AreOpened question name before.files.openings after.files.openings (Ok read)
+    (result : Result Answer RunFault) → AreOpened question name before.files.open_log after.files.open_log (Ok read)
     → (asks → IfErr result IsSettled → (minute : ℤ) × (after.clock ≡ clock_after (Ok minute) before.clock))
     → (reading_failed result ≡ true → Rose before.clock.faults after.clock.faults)
     → (IsTrue before.clock.is_observable
     → IfSome (given_between before.clock after.clock) (λ minute. minute ≡ next_minute before.clock))
     → IsReadLast asks unread (AreShown question) (λ folders. IsOk (files_in folders question name)) before after result
 last_read question name asks unread before after read result opened once failed minute = record {
-  openings = opened.openings;
+  open_log = opened.open_log;
   all = opened.all;
   last = λ folders shows no. absurd (no (rw (opened.answer false folders shows) refl));
   once = λ folders shows ok asked settled. once asked settled;
@@ -272,12 +272,12 @@ last_read question name asks unread before after read result opened once failed 
 
 -- no file was named
 pub last_unopened : (asks unread : Type 0) (shows : Bool → List Opening → Folders → Type 0) (has : Folders → Type 0)
-    (files : FilesState) (clock : ClockState) (result : Result Answer NoAnswer) → unread → reading_failed result ≡ false
+    (files : FilesState) (clock : ClockState) (result : Result Answer RunFault) → unread → reading_failed result ≡ false
     → ((folders : Folders) → has folders → asks → IfErr result IsSettled → ⊥)
     → IsReadLast asks unread shows has (sources files clock) (sources files clock) result
 last_unopened asks unread shows has files clock result same unfailed none = record {
-  openings = [];
-  all = sym (append-nil (openings_of files.openings));
+  open_log = [];
+  all = sym (append-nil (openings_of files.open_log));
   last = λ folders shows no. same;
   once = λ folders shows has asked settled. absurd (none folders has asked settled);
   failed = λ folders shows has failed. never (sym unfailed ∙ failed);
@@ -286,12 +286,12 @@ last_unopened asks unread shows has files clock result same unfailed none = reco
 
 -- a command line reads the clock as its request does
 pub last_named : (asked : Result Question Fault) (question : Question) (name : List ℕ) (unread : Type 0) (before after : Sources)
-    (result : Result Answer NoAnswer) → asked ≡ Ok question → question.file ≡ Some name
+    (result : Result Answer RunFault) → asked ≡ Ok question → question.file ≡ Some name
     → IsReadLast (IsTrue (reads_clock question.command)) unread (AreShown question) (λ folders. IsOk (files_in folders question name))
     before after result
     → IsReadLast (ReadsClock asked) unread (AreShownFor asked) (λ folders. HasFiles folders asked) before after result
 last_named asked question name unread before after result is named read = record {
-  openings = read.openings;
+  open_log = read.open_log;
   all = read.all;
   last = λ folders shows no. read.last folders (rw is at shows) (λ ok. no (has_files folders asked question name is named ok));
   once = λ folders shows has asks settled.

@@ -7,12 +7,12 @@ use Rattle.decimal_text.specs.declared.limits.TheConstants.{MOST_BYTES}
 use Rattle.harmonics_book.specs.declared.book.Book.{Book}
 use Rattle.question.specs.declared.command.Command.{Command}
 use Rattle.question.specs.declared.question.Question.{Question}
-use Rattle.report_sheets.specs.Sheets.{SheetMeaning}
+use Rattle.report_sheets.specs.Sheets.{SheetSpec}
 use Rattle.station_table.specs.declared.offsets.Offsets.{Offsets}
 use Rattle.zone_time.specs.declared.zone.Zone.{Zone}
-use Rattle.station_span.specs.declared.asked.Asked.{Asked}
+use Rattle.station_span.specs.declared.span_request.SpanRequest.{SpanRequest}
 use Rattle.tide_fault.specs.declared.refusal.Refusal.{Refusal}
-use Rattle.tide_answer.specs.declared.given.Given.{Given}
+use Rattle.tide_answer.specs.declared.inputs.Given.{Given}
 use Rattle.tide_answer.specs.declared.text.Answer.{Answer}
 use Rattle.tide_answer.specs.Answers.{asks_span, text_alone, text_by}
 use Rattle.named_files.specs.declared.materials.Materials.{Materials}
@@ -25,38 +25,38 @@ use Rattle.tide_desk.proofs.FileLemmas.{ReadsFiles, WasRead, certificate_there, 
 
 -- ---- the text of a command
 
-pub text_at : (command other : Command) (read : Materials) (question : Question) (given : Given) (answer : Answer)
-    → command ≡ other → text_by command read.book read.table question given ≡ Ok answer
-    → text_by other read.book read.table question given ≡ Ok answer
-text_at command other read question given answer same ok =
-    subst (λ (c : Command). text_by c read.book read.table question given ≡ Ok answer) same ok
+pub text_at : (command other : Command) (read : Materials) (question : Question) (inputs : Given) (answer : Answer)
+    → command ≡ other → text_by command read.book read.table question inputs ≡ Ok answer
+    → text_by other read.book read.table question inputs ≡ Ok answer
+text_at command other read question inputs answer same ok =
+    subst (λ (c : Command). text_by c read.book read.table question inputs ≡ Ok answer) same ok
 
 -- ---- a subject
 
 -- a subject is the station, the span and the mark
-pub record IsSubject (subject : Subject) (name : List ℕ) (asked : Asked) : Type 0 where
+pub record IsSubject (subject : Subject) (name : List ℕ) (span_request : SpanRequest) : Type 0 where
   pub station : subject.station ≡ Some name
-  pub begin : subject.begin ≡ Some asked.begin
-  pub end : subject.end ≡ Some asked.end
-  pub mark : subject.mark ≡ asked.mark
+  pub begin : subject.begin ≡ Some span_request.begin
+  pub end : subject.end ≡ Some span_request.end
+  pub mark : subject.mark ≡ span_request.mark
 
-pub names_subject : (question : Question) (subject : Subject) (name : List ℕ) (asked : Asked)
-    → subject_of question ≡ subject → IsSubject subject name asked → NamesSpan question name asked
-names_subject question subject name asked same is = record {
+pub names_subject : (question : Question) (subject : Subject) (name : List ℕ) (span_request : SpanRequest)
+    → subject_of question ≡ subject → IsSubject subject name span_request → NamesSpan question name span_request
+names_subject question subject name span_request same is = record {
   station = ap (λ (s : Subject). s.station) same ∙ is.station;
   begin = ap (λ (s : Subject). s.begin) same ∙ is.begin;
   end = ap (λ (s : Subject). s.end) same ∙ is.end;
   mark = ap (λ (s : Subject). s.mark) same ∙ is.mark;
 }
 
-pub subject_named : (question : Question) (name : List ℕ) (asked : Asked) → NamesSpan question name asked
-    → IsSubject (subject_of question) name asked
-subject_named question name asked names = record { station = names.station; begin = names.begin; end = names.end; mark = names.mark }
+pub subject_named : (question : Question) (name : List ℕ) (span_request : SpanRequest) → NamesSpan question name span_request
+    → IsSubject (subject_of question) name span_request
+subject_named question name span_request names = record { station = names.station; begin = names.begin; end = names.end; mark = names.mark }
 
 -- ---- a request over the files of a check
 
 -- such a request without a certificate, in a zone that was read
-pub shown_over : (sheets : List SheetMeaning) (folder : Folder) (check question : Question) (file : List ℕ)
+pub shown_over : (sheets : List SheetSpec) (folder : Folder) (check question : Question) (file : List ℕ)
     (read : Materials) (zone : Zone) (shown : Answer) (minute : ℤ) → check.file ≡ Some file
     → WasRead folder check file read → is_report question.command ≡ false → NameSameFiles question check
     → zone_named folder question.zone ≡ Ok zone → question.certificate ≡ None
@@ -81,12 +81,12 @@ shown_over sheets folder check question file read zone shown minute named was pl
 -- ---- a certificate that is made
 
 abbrev pub Makes : Type 0
-Makes = Book → List Offsets → List ℕ → Asked → Result Answer Refusal
+Makes = Book → List Offsets → List ℕ → SpanRequest → Result Answer Refusal
 
 -- the command makes a certificate of a station's span
 abbrev pub GoesOver : Command → Makes → Type 0
-GoesOver command made = (book : Book) (table : List Offsets) (question : Question) (given : Given)
-    → text_by command book table question given ≡ asks_span question (λ name asked. made book table name asked)
+GoesOver command made = (book : Book) (table : List Offsets) (question : Question) (inputs : Given)
+    → text_by command book table question inputs ≡ asks_span question (λ name span_request. made book table name span_request)
 
 -- the station and the span of an answer of the command
 pub record IsMade (made : Makes) (folder : Folder) (question : Question) (certificate : Answer) : Type 0 where
@@ -95,27 +95,27 @@ pub record IsMade (made : Makes) (folder : Folder) (question : Question) (certif
   pub read : Materials
   pub files : WasRead folder question file read
   pub name : List ℕ
-  pub asked : Asked
-  pub names : NamesSpan question name asked
-  pub text : made read.book read.table name asked ≡ Ok certificate
+  pub span_request : SpanRequest
+  pub names : NamesSpan question name span_request
+  pub text : made read.book read.table name span_request ≡ Ok certificate
 
-pub was_made : (made : Makes) (sheets : List SheetMeaning) (folder : Folder) (minute : ℤ) (words : List (List ℕ))
+pub was_made : (made : Makes) (sheets : List SheetSpec) (folder : Folder) (minute : ℤ) (words : List (List ℕ))
     (command : Command) (question : Question) (certificate : Answer) → ReadsFiles question → GoesOver command made
     → Asks sheets words command question → answer_of sheets folder minute words ≡ Ok certificate
     → IsMade made folder question certificate
 was_made made sheets folder minute words command question certificate reads goes asks ok =
     let was = was_answered sheets folder minute words question certificate asks.asked reads ok in
-    let given = given_with was.read (minute_for question.command minute) in
-    let text = text_at question.command command was.read question given certificate asks.is was.text in
-    let over = went_over_span question (λ name asked. made was.read.book was.read.table name asked) certificate
-    (sym (goes was.read.book was.read.table question given) ∙ text) in
+    let inputs = given_with was.read (minute_for question.command minute) in
+    let text = text_at question.command command was.read question inputs certificate asks.is was.text in
+    let over = went_over_span question (λ name span_request. made was.read.book was.read.table name span_request) certificate
+    (sym (goes was.read.book was.read.table question inputs) ∙ text) in
     record {
       file = was.name;
       named = was.file;
       read = was.read;
       files = was.files;
       name = over.0;
-      asked = over.1;
+      span_request = over.1;
       names = over.2;
       text = over.3;
     }
@@ -160,7 +160,7 @@ checked_files made before after question check certificate zone was has few hold
 
 -- ---- the answer of a check
 
-pub checks : (sheets : List SheetMeaning) (folder : Folder) (minute : ℤ) (words : List (List ℕ)) (command : Command)
+pub checks : (sheets : List SheetSpec) (folder : Folder) (minute : ℤ) (words : List (List ℕ)) (command : Command)
     (check : Question) (file : List ℕ) (read : Materials) (answer : Answer) → is_report command ≡ false
     → Asks sheets words command check → check.file ≡ Some file → WasRead folder check file read
     → text_by command read.book read.table check (given_with read (minute_for check.command minute)) ≡ Ok answer
@@ -177,7 +177,7 @@ checks sheets folder minute words command check file read answer plain asks name
     })
 
 -- a request for what is shown names no certificate
-pub accepts_with : (sheets : List SheetMeaning) (folder : Folder) (asks : Question → Type 0) (shown answer : Answer)
+pub accepts_with : (sheets : List SheetSpec) (folder : Folder) (asks : Question → Type 0) (shown answer : Answer)
     → ((words : List (List ℕ)) (question : Question) → question_of_words sheets words ≡ Ok question → asks question
     → question.certificate ≡ None) → ((minute : ℤ) (question : Question) → asks question → question.certificate ≡ None
     → answered_over_optional_file sheets (λ slot. folder) minute question question.file ≡ Ok shown)
@@ -185,8 +185,8 @@ pub accepts_with : (sheets : List SheetMeaning) (folder : Folder) (asks : Questi
 accepts_with sheets folder asks shown answer none shows text = record {
   shown = shown;
   text = text;
-  to_words = λ minute words question is asked.
-      words_answer sheets folder minute words question is ∙ shows minute question asked (none words question is asked);
+  to_words = λ minute words question is span_request.
+      words_answer sheets folder minute words question is ∙ shows minute question span_request (none words question is span_request);
   to_question = shows;
 }
 

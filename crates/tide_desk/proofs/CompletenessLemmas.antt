@@ -18,22 +18,22 @@ use Rattle.harmonics_book.specs.Worked.{pier_book}
 use Rattle.harmonics_text.specs.Worked.{file_of, pier_lines}
 use Rattle.listing.specs.StationLists.{stations_text_of}
 use Rattle.named_files.specs.declared.materials.Materials.{Materials}
-use Rattle.named_files.specs.declared.no_answer.NoAnswer.{NoAnswer}
+use Rattle.named_files.specs.declared.run_fault.RunFault.{RunFault}
 use Rattle.named_files.specs.Readings.{book_named, certificate_named, limit_of, table_named, zone_named}
 use Rattle.question.specs.Worked.{bare}
 use Rattle.question.specs.declared.command.Command.TheVariants.{Check, PeakCheck, Stations}
 use Rattle.question.specs.declared.question.Question.{Question}
-use Rattle.report_sheets.specs.Sheets.{SheetMeaning}
+use Rattle.report_sheets.specs.Sheets.{SheetSpec}
 use Rattle.station_cells.specs.declared.rejection.Rejection.{Rejection}
 use Rattle.station_cells.specs.Rejections.{rejection_line}
-use Rattle.station_span.specs.declared.reach.Reach.TheVariants.{Events}
+use Rattle.station_span.specs.declared.purpose.Purpose.TheVariants.{Events}
 use Rattle.station_span.specs.Peaks.{highest_site}
 use Rattle.station_span.specs.Sites.{Site, site_in}
 use Rattle.decimal_text.proofs.ExpectedLemmas.{then_ok}
 use Rattle.station_table.specs.declared.offsets.Offsets.{Offsets}
 use Rattle.tide_answer.specs.declared.text.Answer.{Answer}
 use Rattle.tide_answer.specs.Answers.{answered, certificate_from, checked, judged as judged_as, peak_checked, peak_from, peak_judged, text_alone, text_rejected}
-use Rattle.tide_answer.specs.Asking.{asked_by_certificate, asked_by_peak_certificate}
+use Rattle.tide_answer.specs.Asking.{request_by_certificate, request_by_peak_certificate}
 use Rattle.tide_edge.specs.Clocks.{next_minute}
 use Rattle.tide_edge.specs.Faults.{Rose, counted}
 use Rattle.tide_edge.specs.FileStates.{Folder}
@@ -65,7 +65,7 @@ wrote_risen : (before after : SinkState) (text : List ℕ) → Wrote before afte
 wrote_risen before after text wrote = rw wrote.2 (le_refl (counted before.faults))
 
 -- the texts and the status are those of the answer
-record IsWhole (expected : Result Answer NoAnswer) (status : Status) (before after : Outputs) : Type 0 where
+record IsWhole (expected : Result Answer RunFault) (status : Status) (before after : Outputs) : Type 0 where
   ends : status ≡ status_with expected
   text : after.out ≡ put (text_with expected) before.out
   line : (failed : Bool) × Wrote before.err after.err failed (refusal_line expected)
@@ -74,7 +74,7 @@ judged : (rejected is_rejected : Bool) → rejected ≡ is_rejected
     → (if is_rejected then Rejected else Done) ≡ (if rejected then Rejected else Done)
 judged rejected is_rejected is = rw is refl
 
-whole_by : (expected : Result Answer NoAnswer) (status : Status) (before after : Outputs) → EndsAs expected status before after
+whole_by : (expected : Result Answer RunFault) (status : Status) (before after : Outputs) → EndsAs expected status before after
     → ¬ (Rose before.out.faults after.out.faults) → IsWhole expected status before after ⊎ (status ≡ NoMemory)
 whole_by (Ok answer) Done before after ends unrisen =
     inl (record { ends = judged answer.rejected false ends.says; text = ends.output; line = (ends.failed, ends.line) })
@@ -106,8 +106,8 @@ ran_out : {F O E K : Type 0} (status : Status) (before after : Objects F O E K)
 ran_out status before after untouched is = record { ends = is; unwritten = rw is at untouched }
 
 -- the end of a run by its whole objects
-ends_by : {F O E K : Type 0} (s : States F O E K) (sheets : List SheetMeaning) (words : List (List ℕ)) (status : Status)
-    (before after : Objects F O E K) (expected : Result Answer NoAnswer)
+ends_by : {F O E K : Type 0} (s : States F O E K) (sheets : List SheetSpec) (words : List (List ℕ)) (status : Status)
+    (before after : Objects F O E K) (expected : Result Answer RunFault)
     → AnswersAs s sheets words status before after → EndsAs expected status (outputs_of s before) (outputs_of s after)
     → ¬ (Rose (s.out before.out).faults (s.out after.out).faults) → EndsWhole s expected status before after ⊎ RanOut status before after
 ends_by s sheets words status before after expected answers ends unrisen =
@@ -123,18 +123,18 @@ ends_by_answer s sheets words status before after answers nothing =
 
 pub ends_by_what_came : {F O E K : Type 0} (s : States F O E K) → EndsByWhatCame s
 ends_by_what_came s sheets words status before after answers unrisen =
-    ends_by s sheets words status before after (answer_by sheets words answers.shown.openings (s.clock before.clock)
+    ends_by s sheets words status before after (answer_by sheets words answers.shown.open_log (s.clock before.clock)
     (s.clock after.clock)) answers answers.shown.ends unrisen
 
 -- ---- A request that nothing refuses
 
-over_files : (sheets : List SheetMeaning) (folder : Folder) (minute : ℤ) (words : List (List ℕ)) (answer : Answer)
+over_files : (sheets : List SheetSpec) (folder : Folder) (minute : ℤ) (words : List (List ℕ)) (answer : Answer)
     (has : HasAnswer sheets folder minute words answer)
     → answered_over_file sheets (λ slot. folder) minute has.question has.name ≡ Ok answer
 unfolding answered_over_file
 over_files sheets folder minute words answer has = rw (has.files, has.unrefused) refl
 
-pub has_answer : (sheets : List SheetMeaning) (folder : Folder) (minute : ℤ) (words : List (List ℕ)) (answer : Answer)
+pub has_answer : (sheets : List SheetSpec) (folder : Folder) (minute : ℤ) (words : List (List ℕ)) (answer : Answer)
     → HasAnswer sheets folder minute words answer
     → answer_of sheets folder minute words ≡ Ok answer
 has_answer sheets folder minute words answer has =
@@ -149,7 +149,7 @@ silent true status before after is quiet = rw is at quiet
 silent false status before after is quiet = rw is at quiet
 
 -- the end of a run that has an answer
-answered_whole : {F O E K : Type 0} (s : States F O E K) (expected : Result Answer NoAnswer) (answer : Answer)
+answered_whole : {F O E K : Type 0} (s : States F O E K) (expected : Result Answer RunFault) (answer : Answer)
     (status : Status) (before after : Objects F O E K)
     → expected ≡ Ok answer → IsSilent status before.err after.err → EndsWhole s expected status before after
     → WroteAll s answer status before after
@@ -158,7 +158,7 @@ answered_whole s expected answer status before after is quiet whole =
     let text : s.out after.out ≡ put answer.text (s.out before.out) = whole.text ∙ ap (λ e. put (text_with e) (s.out before.out)) is in
     record { ends = ends; text = text; silent = silent answer.rejected status before.err after.err ends quiet }
 
-pub is_answered : {F O E K : Type 0} (s : States F O E K) (sheets : List SheetMeaning) (words : List (List ℕ))
+pub is_answered : {F O E K : Type 0} (s : States F O E K) (sheets : List SheetSpec) (words : List (List ℕ))
     (status : Status) (before after : Objects F O E K) (answer : Answer)
     → AnswersAs s sheets words status before after → NothingFailed s sheets words before after
     → answer_held s sheets words before ≡ Ok answer
@@ -177,8 +177,8 @@ is_complete s sheets words status before after answer answers nothing has =
 -- ---- Certificates
 
 -- the end of a run whose answer rejects nothing
-pub accepting_by : {F O E K : Type 0} (s : States F O E K) (accepts : Answer → Type 0) (sheets : List SheetMeaning)
-    (words : List (List ℕ)) (status : Status) (before after : Objects F O E K) (expected : Result Answer NoAnswer)
+pub accepting_by : {F O E K : Type 0} (s : States F O E K) (accepts : Answer → Type 0) (sheets : List SheetSpec)
+    (words : List (List ℕ)) (status : Status) (before after : Objects F O E K) (expected : Result Answer RunFault)
     (answer : Answer)
     → AnswersAs s sheets words status before after → expected ≡ Ok answer → answer.rejected ≡ false → accepts answer
     → EndsWhole s expected status before after ⊎ RanOut status before after → EndsAccepting s accepts status before after
@@ -190,7 +190,7 @@ accepting_by s accepts sheets words status before after expected answer answers 
       | inr out ↦ inr out
     ]
 
-pub accepting : {F O E K : Type 0} (s : States F O E K) (accepts : Answer → Type 0) (sheets : List SheetMeaning)
+pub accepting : {F O E K : Type 0} (s : States F O E K) (accepts : Answer → Type 0) (sheets : List SheetSpec)
     (words : List (List ℕ)) (status : Status) (before after : Objects F O E K) (answer : Answer)
     → AnswersAs s sheets words status before after → NothingFailed s sheets words before after
     → answer_held s sheets words before ≡ Ok answer → answer.rejected ≡ false → accepts answer → EndsAccepting s accepts status before after
@@ -239,7 +239,7 @@ pub valid_if_accepted : IsValidIfAccepted
 unfolding checked
 valid_if_accepted book table text zone answer ok accepted =
     let certificate = then_ok (certificate_from (certificate_of text)) _ answer ok in
-    let site = then_ok (site_in Events book table certificate.0.station (asked_by_certificate certificate.0)) _ answer certificate.2 in
+    let site = then_ok (site_in Events book table certificate.0.station (request_by_certificate certificate.0)) _ answer certificate.2 in
     record {
       certificate = certificate.0;
       site = site.0;
@@ -272,7 +272,7 @@ pub valid_peak_if_accepted : IsValidPeakIfAccepted
 unfolding peak_checked
 valid_peak_if_accepted book table text answer ok accepted =
     let certificate = then_ok (peak_from (peak_of text)) _ answer ok in
-    let site = then_ok (highest_site book table certificate.0.station (asked_by_peak_certificate certificate.0)) _ answer certificate.2 in
+    let site = then_ok (highest_site book table certificate.0.station (request_by_peak_certificate certificate.0)) _ answer certificate.2 in
     record {
       certificate = certificate.0;
       site = site.0;

@@ -7,7 +7,7 @@ use Rattle.harmonics_book.specs.Books.{IsBook}
 use Rattle.harmonics_text.specs.Reading.{At, book_of}
 use Rattle.harmonics_text.proofs.Readers.{book_valid}
 use Rattle.question.specs.declared.question.Question.{Question}
-use Rattle.report_sheets.specs.Sheets.{SheetMeaning}
+use Rattle.report_sheets.specs.Sheets.{SheetSpec}
 use Rattle.station_table.specs.declared.fault.OffsetFault.{OffsetFault}
 use Rattle.station_table.specs.declared.offsets.Offsets.{Offsets as TableRow}
 use Rattle.station_table.specs.Offsets.{IsOffsets, IsTable}
@@ -22,7 +22,7 @@ use Rattle.decimal_text.proofs.ExpectedLemmas.{then_ok}
 use Rattle.tide_edge.specs.declared.read_all_fault.ReadAllFault.TheVariants as reading
 use Rattle.named_files.specs.declared.materials.Materials.{Materials}
 use Rattle.tide_desk.specs.Answers.{answer_from, answer_of, answered_over_optional_file, answered_over_file, answered_over_book, question_of_words, given_with, is_report, minute_for}
-use Rattle.named_files.specs.NoAnswers.{refused_over}
+use Rattle.named_files.specs.RunFaults.{refused_over}
 use Rattle.tide_desk.specs.Laws.{Holds}
 use Rattle.named_files.specs.Readings.{limit_of, bytes_from, bytes_of, book_from, book_named, table_from, table_named, zone_named, certificate_named, files_in}
 use Rattle.tide_edge.specs.FileStates.{Folder}
@@ -135,25 +135,25 @@ pub record ReadsFiles (question : Question) : Type 0 where
   pub plain : is_report question.command ≡ false
 
 over_file :
-    (sheets : List SheetMeaning) (folder : Folder) (minute : ℤ) (question : Question) (name : List ℕ) (answer : Answer)
+    (sheets : List SheetSpec) (folder : Folder) (minute : ℤ) (question : Question) (name : List ℕ) (answer : Answer)
     → question.file ≡ Some name → ReadsFiles question → answered_over_file sheets (λ slot. folder) minute question name
     ≡ Ok answer → WasAnswered folder minute question answer
 unfolding answered_over_file answered
 over_file sheets folder minute question name answer file reads ok =
     let read = then_ok (files_in (λ slot. folder) question name) _ answer ok in
-    let given = given_with read.0 (minute_for question.command minute) in
+    let inputs = given_with read.0 (minute_for question.command minute) in
     let P : Bool → Type 0 =
-    λ report. refused_over read.0.table (answered_over_book report sheets read.0.book read.0.table question given)
+    λ report. refused_over read.0.table (answered_over_book report sheets read.0.book read.0.table question inputs)
     ≡ Ok answer in
     record {
       name = name;
       file = file;
       read = read.0;
       files = files_read folder question name read.0 read.1;
-      text = unrefused read.0.table (answered read.0.book read.0.table question given) answer (subst P reads.plain read.2);
+      text = unrefused read.0.table (answered read.0.book read.0.table question inputs) answer (subst P reads.plain read.2);
     }
 
-by_file : (sheets : List SheetMeaning) (folder : Folder) (minute : ℤ) (question : Question) (file : Option (List ℕ))
+by_file : (sheets : List SheetSpec) (folder : Folder) (minute : ℤ) (question : Question) (file : Option (List ℕ))
     (answer : Answer) → question.file ≡ file → ReadsFiles question
     → answered_over_optional_file sheets (λ slot. folder) minute question file ≡ Ok answer
     → WasAnswered folder minute question answer
@@ -162,13 +162,13 @@ by_file sheets folder minute question (Some name) answer file reads ok = over_fi
 by_file sheets folder minute question None answer file reads ok = absurd (let none = rw (reads.alone question.seed) at ok in cc)
 
 -- a command line has the answer of its request
-pub words_answer : (sheets : List SheetMeaning) (folder : Folder) (minute : ℤ) (words : List (List ℕ))
+pub words_answer : (sheets : List SheetSpec) (folder : Folder) (minute : ℤ) (words : List (List ℕ))
     (question : Question) → question_of_words sheets words ≡ Ok question → answer_of sheets folder minute words
     ≡ answered_over_optional_file sheets (λ slot. folder) minute question question.file
 unfolding answer_from
 words_answer sheets folder minute words question asked = rw asked refl
 
-pub was_answered : (sheets : List SheetMeaning) (folder : Folder) (minute : ℤ) (words : List (List ℕ))
+pub was_answered : (sheets : List SheetSpec) (folder : Folder) (minute : ℤ) (words : List (List ℕ))
     (question : Question) (answer : Answer) → question_of_words sheets words ≡ Ok question → ReadsFiles question
     → answer_of sheets folder minute words ≡ Ok answer → WasAnswered folder minute question answer
 was_answered sheets folder minute words question answer asked reads ok =
@@ -176,14 +176,14 @@ was_answered sheets folder minute words question answer asked reads ok =
     (sym (words_answer sheets folder minute words question asked) ∙ ok)
 
 -- the answer is that of the request over the contents of the files
-is_over_file : (sheets : List SheetMeaning) (folder : Folder) (minute : ℤ) (question : Question) (answer : Answer)
+is_over_file : (sheets : List SheetSpec) (folder : Folder) (minute : ℤ) (question : Question) (answer : Answer)
     (was : WasAnswered folder minute question answer) → is_report question.command ≡ false
     → answered_over_file sheets (λ slot. folder) minute question was.name ≡ Ok answer
 unfolding answered_over_file answered
 is_over_file sheets folder minute question answer was plain =
     rw (read_whole folder question was.name was.read was.files, plain, was.text) refl
 
-pub is_answered : (sheets : List SheetMeaning) (folder : Folder) (minute : ℤ) (question : Question) (answer : Answer)
+pub is_answered : (sheets : List SheetSpec) (folder : Folder) (minute : ℤ) (question : Question) (answer : Answer)
     → is_report question.command ≡ false → WasAnswered folder minute question answer
     → answered_over_optional_file sheets (λ slot. folder) minute question question.file ≡ Ok answer
 is_answered sheets folder minute question answer plain was =

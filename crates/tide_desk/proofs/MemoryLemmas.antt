@@ -6,17 +6,17 @@ use Rattle.tide_edge.specs.SinkStates.{SinkState, Wrote, put}
 use Rattle.tide_edge.specs.Workings.MemoryLaws.{memory_store}
 use Rattle.tide_fault.specs.declared.status.Status.{Status}
 use Rattle.tide_fault.specs.declared.status.Status.TheVariants.{Done, Rejected}
-use Rattle.named_files.specs.declared.no_answer.NoAnswer.{NoAnswer}
+use Rattle.named_files.specs.declared.run_fault.RunFault.{RunFault}
 use Rattle.tide_desk.specs.InMemory.{MemoryHoldsTheAnswer, answer_in}
 use Rattle.tide_desk.specs.Outcomes.{is_write_fault, output_with, text_with}
 
-taken_whole : (before after : HeldSink) (text : List ℕ) → before.taken ≡ []
-    → sink_state after ≡ put text (sink_state before) → after.taken ≡ text
-taken_whole before after text empty is = ap (λ (s : SinkState). s.taken) is ∙ ap (λ (taken : List ℕ). taken ++ text) empty
+taken_whole : (before after : HeldSink) (text : List ℕ) → before.accepted ≡ []
+    → sink_state after ≡ put text (sink_state before) → after.accepted ≡ text
+taken_whole before after text empty is = ap (λ (s : SinkState). s.accepted) is ∙ ap (λ (accepted : List ℕ). accepted ++ text) empty
 
-taken_by : (expected : Result Answer NoAnswer) (status : Status) (before after : HeldSink) → before.taken ≡ []
+taken_by : (expected : Result Answer RunFault) (status : Status) (before after : HeldSink) → before.accepted ≡ []
     → Wrote (sink_state before) (sink_state after) (is_write_fault status) (output_with expected status)
-    → (status ≡ Done) ⊎ (status ≡ Rejected) → after.taken ≡ text_with expected
+    → (status ≡ Done) ⊎ (status ≡ Rejected) → after.accepted ≡ text_with expected
 taken_by expected status before after empty wrote whole =
     elim whole [
       | inl is ↦ taken_whole before after (text_with expected) empty (rw is at wrote)

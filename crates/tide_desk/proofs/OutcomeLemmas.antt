@@ -12,21 +12,21 @@ use Rattle.tide_answer.specs.declared.text.Answer.{Answer}
 use Rattle.tide_fault.specs.Faults.{is_out_of_memory as fault_is_out_of_memory, refusal_is_out_of_memory, line_of as line_of_fault, ask_line, form_line, table_line, refusal_line as line_of_refusal}
 use Rattle.decimal_text.specs.Expected.{Excuses, memory, given}
 use Rattle.tide_edge.specs.SinkStates.{SinkState, Wrote, put}
-use Rattle.named_files.specs.declared.no_answer.NoAnswer.{NoAnswer}
-use Rattle.named_files.specs.declared.no_answer.NoAnswer.TheVariants.{Unread, Faulty}
-use Rattle.named_files.specs.declared.no_answer.NoAnswer.TheVariants as none_of
-use Rattle.named_files.specs.NoAnswers.{status_of, line_of, source_of, is_out_of_memory}
+use Rattle.named_files.specs.declared.run_fault.RunFault.{RunFault}
+use Rattle.named_files.specs.declared.run_fault.RunFault.TheVariants.{Unread, Faulty}
+use Rattle.named_files.specs.declared.run_fault.RunFault.TheVariants as none_of
+use Rattle.named_files.specs.RunFaults.{status_of, line_of, source_of, is_out_of_memory}
 use Rattle.tide_desk.specs.Outcomes.{Says, EndsAs, IsSilent, IsUntouched, Outputs, is_write_fault, output_with, line_with}
 use Rattle.named_files.specs.Reporting.{Reports}
 
 -- the status of a fault fits the expected answer, its line belongs to it, and nothing is written
-record Fits (expected : Result Answer NoAnswer) (none : NoAnswer) : Type 0 where
+record Fits (expected : Result Answer RunFault) (none : RunFault) : Type 0 where
   says : Says expected (status_of none)
   line : line_with expected (status_of none) ≡ line_of none
   output : output_with expected (status_of none) ≡ []
   unfailed : is_write_fault (status_of none) ≡ false
 
-fits : (expected : Result Answer NoAnswer) (none : NoAnswer) → Excused (is_out_of_memory none) expected none → Fits expected none
+fits : (expected : Result Answer RunFault) (none : RunFault) → Excused (is_out_of_memory none) expected none → Fits expected none
 unfolding line_of_fault ask_line form_line table_line line_of_refusal
 fits expected Unread returned = rw returned (record { says = refl; line = refl; output = refl; unfailed = refl })
 fits expected (Faulty (Ask ask.NoMemory)) returned = record { says = tt; line = refl; output = refl; unfailed = refl }
@@ -46,14 +46,14 @@ fits expected (none_of.Refused refusals.NoMemory rows) returned = record { says 
 fits expected (none_of.Refused _ rows) returned = rw returned (record { says = refl; line = refl; output = refl; unfailed = refl })
 
 -- a fault was reported and nothing was written
-ends_itself : (expected : Result Answer NoAnswer) (none : NoAnswer) (before after : Outputs) (failed : Bool)
+ends_itself : (expected : Result Answer RunFault) (none : RunFault) (before after : Outputs) (failed : Bool)
     → Excused (is_out_of_memory none) expected none → Wrote before.out after.out false []
     → Wrote before.err after.err failed (line_of none) → EndsAs expected (status_of none) before after
 ends_itself expected none before after failed returned quiet reported =
     let f = fits expected none returned in
     record { says = f.says; output = rw (f.unfailed, f.output) quiet; failed = failed; line = rw f.line reported }
 
-pub ends_reported : (expected : Result Answer NoAnswer) (none : NoAnswer) (status : Status) (before after : Outputs)
+pub ends_reported : (expected : Result Answer RunFault) (none : RunFault) (status : Status) (before after : Outputs)
     → Excused (is_out_of_memory none) expected none → Wrote before.out after.out false []
     → Reports none status before.err after.err → EndsAs expected status before after
 ends_reported expected none status before after returned quiet reported =
@@ -64,12 +64,12 @@ ends_reported expected none status before after returned quiet reported =
 
 -- a fault over observable objects is the expected one, unless reading failed and the files or the clock
 -- weren't steady
-excused_inside : (firm : Type 0) (out_of_memory : Bool) (expected : Result Answer NoAnswer) (none : NoAnswer)
+excused_inside : (firm : Type 0) (out_of_memory : Bool) (expected : Result Answer RunFault) (none : RunFault)
     → Excuses (cond out_of_memory memory given) firm expected none → Excused out_of_memory expected none
 excused_inside firm true expected none excuses = tt
 excused_inside firm false expected none excuses = excuses
 
-pub own_excused : (firm : Type 0) (expected : Result Answer NoAnswer) (none : NoAnswer)
+pub own_excused : (firm : Type 0) (expected : Result Answer RunFault) (none : RunFault)
     → Excuses (source_of none) firm expected none → firm ⊎ (¬ (status_of none ≡ ReadFault))
     → Excused (is_out_of_memory none) expected none
 own_excused firm expected Unread excuses either = elim either [ inl f ↦ excuses f | inr not_read ↦ absurd (not_read refl) ]
@@ -77,7 +77,7 @@ own_excused firm expected (Faulty fault) excuses either = excused_inside firm (f
 own_excused firm expected (none_of.Refused refusal rows) excuses either =
     excused_inside firm (refusal_is_out_of_memory refusal) expected (none_of.Refused refusal rows) excuses
 
-pub ends_own : (firm : Type 0) (expected : Result Answer NoAnswer) (none : NoAnswer) (status : Status)
+pub ends_own : (firm : Type 0) (expected : Result Answer RunFault) (none : RunFault) (status : Status)
     (before after : Outputs) → Excuses (source_of none) firm expected none → firm ⊎ (¬ (status ≡ ReadFault))
     → Wrote before.out after.out false [] → Reports none status before.err after.err
     → EndsAs expected status before after
@@ -90,7 +90,7 @@ ends_own firm expected none status before after excuses either quiet reported =
     ]
 
 -- the text was written whole, and nothing else
-pub ends_whole : (expected : Result Answer NoAnswer) (answer : Answer) (rejected : Bool) (status : Status) (before after : Outputs)
+pub ends_whole : (expected : Result Answer RunFault) (answer : Answer) (rejected : Bool) (status : Status) (before after : Outputs)
     → expected ≡ Ok answer → rejected ≡ answer.rejected → status ≡ (if rejected then Rejected else Done)
     → Wrote before.out after.out false answer.text → after.err ≡ put [] before.err → EndsAs expected status before after
 ends_whole expected answer true status before after is judged ends wrote quiet =
@@ -107,17 +107,17 @@ untouched Rejected output = tt
 untouched WriteFault output = tt
 untouched _ output = refl
 
-excuses_itself : (is : Bool) (none : NoAnswer) → Excused {T = Answer} is (Err none) none
+excuses_itself : (is : Bool) (none : RunFault) → Excused {T = Answer} is (Err none) none
 excuses_itself true none = tt
 excuses_itself false none = refl
 
-refused_silent : {A : Type 0} (none : NoAnswer) (status : Status) (before after : A) → Says (Err none) status → IsSilent status before after
+refused_silent : {A : Type 0} (none : RunFault) (status : Status) (before after : A) → Says (Err none) status → IsSilent status before after
 refused_silent none Done before after says = absurd says
 refused_silent none Rejected before after says = absurd says
 refused_silent none _ before after says = tt
 
 -- the status of a reason isn't that of an answer
-pub reported_silent : {A : Type 0} (none : NoAnswer) (status : Status) (unprinted printed : SinkState) (before after : A)
+pub reported_silent : {A : Type 0} (none : RunFault) (status : Status) (unprinted printed : SinkState) (before after : A)
     → Reports none status unprinted printed → IsSilent status before after
 reported_silent none status unprinted printed before after reported =
     elim reported [

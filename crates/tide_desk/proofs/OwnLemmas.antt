@@ -6,16 +6,16 @@ use Rattle.std.specs.Prelude.{IsOk, IfErr, IfSome, pos}
 use Rattle.std.specs.Option.{IsSomeAnd}
 use Rattle.decimal_text.specs.Expected.{◌>>=◌, Excuses, Meets, memory, given}
 use Rattle.question.specs.declared.question.Question.{Question}
-use Rattle.report_sheets.specs.Sheets.{SheetMeaning}
+use Rattle.report_sheets.specs.Sheets.{SheetSpec}
 use Rattle.tide_answer.specs.declared.text.Answer.{Answer}
 use Rattle.tide_edge.specs.Clocks.{clock_after, next_minute}
 use Rattle.tide_edge.specs.StoreLaws.{IsLawful}
 use Rattle.tide_fault.specs.declared.fault.Fault.{Fault}
 use Rattle.tide_fault.specs.Faults.{is_out_of_memory as fault_is_out_of_memory, refusal_is_out_of_memory}
 use Rattle.named_files.specs.declared.materials.Materials.{Materials}
-use Rattle.named_files.specs.declared.no_answer.NoAnswer.{NoAnswer}
-use Rattle.named_files.specs.declared.no_answer.NoAnswer.TheVariants.{Unread, Faulty, Refused}
-use Rattle.named_files.specs.NoAnswers.{faulty, reading_failed, refused_over, source_of}
+use Rattle.named_files.specs.declared.run_fault.RunFault.{RunFault}
+use Rattle.named_files.specs.declared.run_fault.RunFault.TheVariants.{Unread, Faulty, Refused}
+use Rattle.named_files.specs.RunFaults.{faulty, reading_failed, refused_over, source_of}
 use Rattle.named_files.specs.Opened.{AreShownFor, IsResultOf}
 use Rattle.named_files.specs.Readings.{Folders, files_in}
 use Rattle.named_files.proofs.OpenedLemmas.{shows_own_for}
@@ -30,11 +30,11 @@ use Rattle.tide_desk.proofs.SettledLemmas.{never}
 
 -- the answers with what the clock returned and with its next minute are the same, or the clock is needed
 -- and has returned none
-abbrev IsSame : Type 0 → Result Answer NoAnswer → Result Answer NoAnswer → Type 0
+abbrev IsSame : Type 0 → Result Answer RunFault → Result Answer RunFault → Type 0
 IsSame missed shown own = (shown ≡ own) ⊎ ((shown ≡ Err Unread) × missed)
 
-same_by : (read : Result Materials NoAnswer) (reads : Bool) (returned : Option ℤ) (minute : ℤ)
-    (next : Materials → ℤ → Result Answer NoAnswer) → (IsTrue reads → IfSome returned (λ m. m ≡ minute))
+same_by : (read : Result Materials RunFault) (reads : Bool) (returned : Option ℤ) (minute : ℤ)
+    (next : Materials → ℤ → Result Answer RunFault) → (IsTrue reads → IfSome returned (λ m. m ≡ minute))
     → IsSame (IsOk read × IsTrue reads)
     (read >>= λ r. (if reads then minute_given returned else Ok (pos 0)) >>= λ now. next r now)
     (read >>= λ r. next r (if reads then minute else pos 0))
@@ -43,7 +43,7 @@ same_by (Ok read) false returned minute next is = inl refl
 same_by (Ok read) true (Some m) minute next is = inl (ap (next read) (is refl))
 same_by (Ok read) true None minute next is = inr (refl, (refl, refl))
 
-same_over : (sheets : List SheetMeaning) (folders : Folders) (returned : Option ℤ) (minute : ℤ) (question : Question) (name : List ℕ)
+same_over : (sheets : List SheetSpec) (folders : Folders) (returned : Option ℤ) (minute : ℤ) (question : Question) (name : List ℕ)
     → (IsTrue (reads_clock question.command) → IfSome returned (λ m. m ≡ minute))
     → IsSame (IsOk (files_in folders question name) × IsTrue (reads_clock question.command))
     (shown_over sheets folders returned question name) (answered_over_file sheets folders minute question name)
@@ -57,7 +57,7 @@ same_over sheets folders returned minute question name is =
 abbrev Reads : Folders → Question → Option (List ℕ) → Type 0
 Reads folders question file = IsSomeAnd file (λ name. IsOk (files_in folders question name)) × IsTrue (reads_clock question.command)
 
-same_file : (sheets : List SheetMeaning) (folders : Folders) (returned : Option ℤ) (minute : ℤ) (question : Question)
+same_file : (sheets : List SheetSpec) (folders : Folders) (returned : Option ℤ) (minute : ℤ) (question : Question)
     (file : Option (List ℕ))
     → (IsTrue (reads_clock question.command) → IfSome returned (λ m. m ≡ minute))
     → IsSame (Reads folders question file) (shown_by sheets folders returned question file)
@@ -65,7 +65,7 @@ same_file : (sheets : List SheetMeaning) (folders : Folders) (returned : Option 
 same_file sheets folders returned minute question None is = inl refl
 same_file sheets folders returned minute question (Some name) is = same_over sheets folders returned minute question name is
 
-same_asked : (sheets : List SheetMeaning) (folders : Folders) (returned : Option ℤ) (minute : ℤ) (asked : Result Question Fault)
+same_asked : (sheets : List SheetSpec) (folders : Folders) (returned : Option ℤ) (minute : ℤ) (asked : Result Question Fault)
     → (ReadsClock asked → IfSome returned (λ m. m ≡ minute))
     → IsSame (HasFiles folders asked × ReadsClock asked)
     (faulty asked >>= λ question. shown_by sheets folders returned question question.file)
@@ -73,7 +73,7 @@ same_asked : (sheets : List SheetMeaning) (folders : Folders) (returned : Option
 same_asked sheets folders returned minute (Ok question) is = same_file sheets folders returned minute question question.file is
 same_asked sheets folders returned minute (Err fault) is = inl refl
 
-same_answer : (sheets : List SheetMeaning) (folders : Folders) (returned : Option ℤ) (minute : ℤ) (words : List (List ℕ))
+same_answer : (sheets : List SheetSpec) (folders : Folders) (returned : Option ℤ) (minute : ℤ) (words : List (List ℕ))
     → (ReadsClock (question_of_words sheets words) → IfSome returned (λ m. m ≡ minute))
     → IsSame (HasFiles folders (question_of_words sheets words) × ReadsClock (question_of_words sheets words))
     (answer_shown sheets folders returned words) (answer_from sheets folders minute words)
@@ -82,17 +82,17 @@ same_answer sheets folders returned minute words is = same_asked sheets folders 
 
 -- ---- The expected result
 
-abbrev unread_answer : Result Answer NoAnswer
+abbrev unread_answer : Result Answer RunFault
 unread_answer = Err Unread
 
-inside : (firm also : Type 0) (out_of_memory : Bool) (own : Result Answer NoAnswer) (none : NoAnswer) → (none ≡ Unread → ⊥)
+inside : (firm also : Type 0) (out_of_memory : Bool) (own : Result Answer RunFault) (none : RunFault) → (none ≡ Unread → ⊥)
     → Excuses (if out_of_memory then memory else given) firm unread_answer none
     → Excuses (if out_of_memory then memory else given) also own none
 inside firm also true own none other excuses = tt
 inside firm also false own none other excuses = let same : unread_answer ≡ Err none = excuses in let one : none ≡ Unread = cc in absurd (other one)
 
 -- a result is excused if the clock has failed
-missed : (firm also : Type 0) (shown own result : Result Answer NoAnswer) → shown ≡ Err Unread
+missed : (firm also : Type 0) (shown own result : Result Answer RunFault) → shown ≡ Err Unread
     → (reading_failed result ≡ true → also → ⊥) → Meets source_of firm shown result → Meets source_of also own result
 missed firm also shown own (Ok answer) is failed meets = let never_both : unread_answer ≡ Ok answer = sym is ∙ meets in cc
 missed firm also shown own (Err Unread) is failed meets = λ a. absurd (failed refl a)
@@ -101,35 +101,35 @@ missed firm also shown own (Err (Faulty fault)) is failed meets =
 missed firm also shown own (Err (Refused refusal rows)) is failed meets =
     inside firm also (refusal_is_out_of_memory refusal) own (Refused refusal rows) (λ e. absurd cc) (rw is at meets)
 
-weaker : (firm also : Type 0) (expected result : Result Answer NoAnswer) → (also → firm) → Meets source_of firm expected result
+weaker : (firm also : Type 0) (expected result : Result Answer RunFault) → (also → firm) → Meets source_of firm expected result
     → Meets source_of also expected result
 weaker firm also expected (Ok answer) implies meets = meets
 weaker firm also expected (Err none) implies meets = excuses_weaker also firm (source_of none) expected none implies meets
 
-module _ (sheets : List SheetMeaning) (words : List (List ℕ)) (before after : Sources) (result : Result Answer NoAnswer) (unread : Type 0)
-    (lawful : IsLawful after.files) (store : after.files.store ≡ before.files.store)
+module _ (sheets : List SheetSpec) (words : List (List ℕ)) (before after : Sources) (result : Result Answer RunFault) (unread : Type 0)
+    (lawful : IsLawful after.files) (file_contents : after.files.file_contents ≡ before.files.file_contents)
     (shown : IsResultOf (names_wanted (question_of_words sheets words)) (AreShownFor (question_of_words sheets words))
     (λ folders. answer_shown sheets folders (given_between before.clock after.clock) words)
-    before.files.openings after.files.openings result)
+    before.files.open_log after.files.open_log result)
     (last : IsReadLast (ReadsClock (question_of_words sheets words)) unread (AreShownFor (question_of_words sheets words))
     (λ folders. HasFiles folders (question_of_words sheets words)) before after result)
-    (observable : IsTrue before.files.store.is_observable) where
+    (observable : IsTrue before.files.file_contents.is_observable) where
   abbrev own : Folders
-  own = λ slot. before.files.store.folder
+  own = λ slot. before.files.file_contents.folder
 
   abbrev asked : Result Question Fault
   asked = question_of_words sheets words
 
-  last_shows : (firm : Bool) → (IsTrue firm → IsTrue before.files.store.is_steady) → AreShownFor asked firm last.openings own
-  last_shows firm steady = shows_own_for asked firm last.openings before.files after.files steady lawful store last.all observable
+  last_shows : (firm : Bool) → (IsTrue firm → IsTrue before.files.file_contents.is_steady) → AreShownFor asked firm last.open_log own
+  last_shows firm steady = shows_own_for asked firm last.open_log before.files after.files steady lawful file_contents last.all observable
 
   -- the result is the expected one over the contents
   pub own_answer : (ReadsClock asked → IsTrue before.clock.is_observable)
       → Meets source_of (IsFirm (ReadsClock asked) before after)
-      (answer_of sheets before.files.store.folder (next_minute before.clock) words) result
+      (answer_of sheets before.files.file_contents.folder (next_minute before.clock) words) result
   own_answer readable =
-      let steady = before.files.store.is_steady in
-      let shows = shows_own_for asked steady shown.openings before.files after.files (λ s. s) lawful store shown.all observable in
+      let steady = before.files.file_contents.is_steady in
+      let shows = shows_own_for asked steady shown.open_log before.files after.files (λ s. s) lawful file_contents shown.all observable in
       let meets = shown.answer steady own shows in
       elim (same_answer sheets own (given_between before.clock after.clock) (next_minute before.clock) words
       (λ reads. last.minute (readable reads))) [

@@ -8,15 +8,15 @@ use Rattle.question.specs.declared.command.Command.{Command}
 use Rattle.question.specs.declared.command.Command.TheVariants.{Predict, Certify, Report}
 use Rattle.question.specs.declared.question.Question.{Question}
 use Rattle.station_table.specs.declared.offsets.Offsets.{Offsets}
-use Rattle.station_span.specs.declared.asked.Asked.{Asked}
-use Rattle.tide_answer.specs.declared.given.Given.{Given}
-use Rattle.station_span.specs.declared.reach.Reach.TheVariants.{Events}
+use Rattle.station_span.specs.declared.span_request.SpanRequest.{SpanRequest}
+use Rattle.tide_answer.specs.declared.inputs.Given.{Given}
+use Rattle.station_span.specs.declared.purpose.Purpose.TheVariants.{Events}
 use Rattle.tide_answer.specs.declared.ready.Ready.{Ready}
 use Rattle.tide_fault.specs.declared.refusal.Refusal.{Refusal}
 use Rattle.tide_answer.specs.declared.text.Answer.{Answer}
 use Rattle.listing.specs.ByLayout.{events_text}
 use Rattle.tide_answer.specs.Answers.{answered, asks_span, certified, named_by, predicted, text_alone, text_by, text_of_events}
-use Rattle.tide_answer.specs.Asking.{asked_by_question}
+use Rattle.tide_answer.specs.Asking.{request_by_question}
 use Rattle.station_span.specs.Following.{events_of}
 use Rattle.station_span.specs.Sites.{site_in}
 use Rattle.tide_answer.specs.Streams.{can_stream, prepared, streams_by}
@@ -40,38 +40,38 @@ says_site : {S : Type 0} (site : Result S Refusal) (made : S → Answer) (stream
 says_site (Ok s) made streams quiet = says_stream (streams s) (made s) (quiet s)
 says_site (Err refusal) made streams quiet = refl
 
-says_steps : {S : Type 0} (name : Result (List ℕ) Refusal) (asked : Result Asked Refusal)
-    (site : List ℕ → Asked → Result S Refusal) (made : List ℕ → Asked → S → Answer) (streams : S → Bool)
-    → ((n : List ℕ) (a : Asked) (s : S) → (made n a s).rejected ≡ false) → Says (name >>= λ n. asked >>= λ a. site n a
+says_steps : {S : Type 0} (name : Result (List ℕ) Refusal) (asked : Result SpanRequest Refusal)
+    (site : List ℕ → SpanRequest → Result S Refusal) (made : List ℕ → SpanRequest → S → Answer) (streams : S → Bool)
+    → ((n : List ℕ) (a : SpanRequest) (s : S) → (made n a s).rejected ≡ false) → Says (name >>= λ n. asked >>= λ a. site n a
     >>= λ s. Ok (made n a s)) ((name >>= λ n. asked >>= λ a. site n a >>= λ s. Ok (made n a s)) >>= λ answer. name
     >>= λ n. asked >>= λ a. site n a >>= λ s. Ok (record { stream = if streams s then Some answer else None }))
 says_steps (Err refusal) asked site made streams quiet = refl
 says_steps (Ok n) (Err refusal) site made streams quiet = refl
 says_steps (Ok n) (Ok a) site made streams quiet = says_site (site n a) (made n a) streams (quiet n a)
 
-by_command : (command : Command) (book : Book) (table : List Offsets) (question : Question) (given : Given)
+by_command : (command : Command) (book : Book) (table : List Offsets) (question : Question) (inputs : Given)
     → IsTrue (can_stream command)
-    → Says (text_by command book table question given) (text_by command book table question given >>= λ answer.
-    named_by question.station >>= λ n. named_by (asked_by_question question) >>= λ a. site_in Events book table n a
-    >>= λ s. Ok (record { stream = if streams_by s.basis question.layout given.zone then Some answer else None }))
+    → Says (text_by command book table question inputs) (text_by command book table question inputs >>= λ answer.
+    named_by question.station >>= λ n. named_by (request_by_question question) >>= λ a. site_in Events book table n a
+    >>= λ s. Ok (record { stream = if streams_by s.basis question.layout inputs.zone then Some answer else None }))
 unfolding asks_span predicted certified
-by_command Predict book table question given can =
-    says_steps (named_by question.station) (named_by (asked_by_question question)) (site_in Events book table)
-    (λ n a s. text_of_events book s a (events_text question.layout n s.station.units (events_of book s a) given.zone))
-    (λ s. streams_by s.basis question.layout given.zone)
+by_command Predict book table question inputs can =
+    says_steps (named_by question.station) (named_by (request_by_question question)) (site_in Events book table)
+    (λ n a s. text_of_events book s a (events_text question.layout n s.station.units (events_of book s a) inputs.zone))
+    (λ s. streams_by s.basis question.layout inputs.zone)
     (λ n a s. refl)
-by_command Certify book table question given can =
-    says_steps (named_by question.station) (named_by (asked_by_question question)) (site_in Events book table)
+by_command Certify book table question inputs can =
+    says_steps (named_by question.station) (named_by (request_by_question question)) (site_in Events book table)
     _
-    (λ s. streams_by s.basis question.layout given.zone)
+    (λ s. streams_by s.basis question.layout inputs.zone)
     (λ n a s. refl)
-by_command _ book table question given can = absurd (let no = can in cc)
+by_command _ book table question inputs can = absurd (let no = can in cc)
 
-pub prepared_says : (book : Book) (table : List Offsets) (question : Question) (given : Given)
+pub prepared_says : (book : Book) (table : List Offsets) (question : Question) (inputs : Given)
     → IsTrue (can_stream question.command)
-    → Says (answered book table question given) (prepared book table question given)
+    → Says (answered book table question inputs) (prepared book table question inputs)
 unfolding prepared answered
-prepared_says book table question given can = by_command question.command book table question given can
+prepared_says book table question inputs can = by_command question.command book table question inputs can
 
 -- ---- The source of a reply
 

@@ -14,10 +14,10 @@ use Rattle.tide_fault.specs.declared.fault.Fault.TheVariants.{Ask, NoSheet, TooL
 use Rattle.tide_fault.specs.declared.refusal.Refusal.TheVariants as refusals
 use Rattle.tide_fault.specs.declared.status.Status.{Status}
 use Rattle.tide_fault.specs.Faults.{is_out_of_memory as fault_is_out_of_memory}
-use Rattle.named_files.specs.declared.no_answer.NoAnswer.{NoAnswer}
-use Rattle.named_files.specs.declared.no_answer.NoAnswer.TheVariants.{Unread, Faulty}
-use Rattle.named_files.specs.declared.no_answer.NoAnswer.TheVariants as none_of
-use Rattle.named_files.specs.NoAnswers.{source_of}
+use Rattle.named_files.specs.declared.run_fault.RunFault.{RunFault}
+use Rattle.named_files.specs.declared.run_fault.RunFault.TheVariants.{Unread, Faulty}
+use Rattle.named_files.specs.declared.run_fault.RunFault.TheVariants as none_of
+use Rattle.named_files.specs.RunFaults.{source_of}
 use Rattle.named_files.specs.Readings.{Folders, files_in}
 use Rattle.named_files.specs.Reporting.{Reports}
 use Rattle.tide_desk.specs.Answers.{ReadsClock, HasFiles}
@@ -28,7 +28,7 @@ pub never : {G : Type 0} → false ≡ true → G
 never is = cc
 
 -- such a reason follows from the request and the bytes that were read
-settled_given : (none : NoAnswer) → IsSettled none → source_of none ≡ given
+settled_given : (none : RunFault) → IsSettled none → source_of none ≡ given
 settled_given Unread settled = never settled
 settled_given (Faulty (Ask ask.NoMemory)) settled = never settled
 settled_given (Faulty (Ask _)) settled = refl
@@ -45,7 +45,7 @@ settled_given (none_of.Refused refusals.NoMemory rows) settled = never settled
 settled_given (none_of.Refused _ rows) settled = refl
 
 -- such a reason is the expected one
-settled_expected : {A : Type 0} (firm : Type 0) (expected : Result A NoAnswer) (none : NoAnswer)
+settled_expected : {A : Type 0} (firm : Type 0) (expected : Result A RunFault) (none : RunFault)
     → Excuses (source_of none) firm expected none → IsSettled none → expected ≡ Err none
 settled_expected firm expected none excuses settled =
     subst (λ source. Excuses source firm expected none) (settled_given none settled) excuses
@@ -55,7 +55,7 @@ no_value (Ok value) fault is ok = cc
 no_value (Err other) fault is ok = never ok
 
 -- the reason isn't that a file couldn't be read, if it can be
-pub unread_unsettled : {A : Type 0} (firm : Type 0) (expected : Result A NoAnswer) (none : NoAnswer)
+pub unread_unsettled : {A : Type 0} (firm : Type 0) (expected : Result A RunFault) (none : RunFault)
     → Excuses (source_of none) firm expected none → IsOk expected → IsSettled none → ⊥
 unread_unsettled firm expected none excuses ok settled =
     no_value expected none (settled_expected firm expected none excuses settled) ok
@@ -80,7 +80,7 @@ nameless_unread folders asked question is none has =
     subst P none (rw is at has)
 
 -- the line that is written belongs to the status
-pub settled_reported : (none : NoAnswer) (status : Status) (before after : SinkState) → Reports none status before after
+pub settled_reported : (none : RunFault) (status : Status) (before after : SinkState) → Reports none status before after
     → IsTrue (is_settled status) → IsSettled none
 settled_reported none status before after reported settled =
     elim reported [

@@ -5,14 +5,14 @@ use Rattle.std.specs.List.{position_or_len}
 use Rattle.std.specs.Result.{result_and}
 use Rattle.std.proofs.lemmas.Bool.{ltb-true}
 use Rattle.report_sheets.specs.Pages.{has_sheet, missing_of}
-use Rattle.report_sheets.specs.Sheets.{SheetMeaning}
+use Rattle.report_sheets.specs.Sheets.{SheetSpec}
 
 some_place : (within : Bool) (other place : ℕ) → cond within (Some other) None ≡ Some place → (within ≡ true) × (other ≡ place)
 some_place true other place is = (refl, cc)
 some_place false other place is = absurd cc
 
 -- the index is one of the requested words
-pub missing_within : (sheets : List SheetMeaning) (wanted : List (List ℕ)) (place : ℕ)
+pub missing_within : (sheets : List SheetSpec) (wanted : List (List ℕ)) (place : ℕ)
     → missing_of sheets wanted ≡ Some place → place < length wanted
 unfolding missing_of
 missing_within sheets wanted place is =

@@ -2,14 +2,14 @@
 use Rattle.std.proofs.Common.{◌≡◌, ◌∙◌, ap, ℕ, true, false, List, [], ◌++◌, map, append-nil, append_assoc, Option, Some, None, Result, Ok, Err, inl, refl, sym}
 use Rattle.std.specs.Bool.{IsTrue}
 use Rattle.decimal_text.specs.Expected.{Excused, Meets}
-use Rattle.named_files.specs.declared.no_answer.NoAnswer.{NoAnswer}
-use Rattle.named_files.specs.NoAnswers.{is_out_of_memory, source_of}
+use Rattle.named_files.specs.declared.run_fault.RunFault.{RunFault}
+use Rattle.named_files.specs.RunFaults.{is_out_of_memory, source_of}
 use Rattle.named_files.specs.Opened.{AreShownFor, IsResultOf, failing_file}
 use Rattle.named_files.specs.Reporting.{Reports}
 use Rattle.named_files.proofs.OpenedLemmas.{shows_itself_for, up_to}
 use Rattle.named_files.proofs.SettledLemmas.{reported_settles}
 use Rattle.question.specs.declared.question.Question.{Question}
-use Rattle.report_sheets.specs.Sheets.{SheetMeaning}
+use Rattle.report_sheets.specs.Sheets.{SheetSpec}
 use Rattle.tide_answer.specs.declared.text.Answer.{Answer}
 use Rattle.tide_edge.specs.SinkStates.{Wrote}
 use Rattle.tide_fault.specs.declared.fault.Fault.{Fault}
@@ -36,51 +36,51 @@ wider (Err fault) why = ([], refl)
 -- ---- The end
 
 -- the answer by the openings is an expected one
-by_openings : (sheets : List SheetMeaning) (words : List (List ℕ)) (before after : Sources) (result : Result Answer NoAnswer)
+by_openings : (sheets : List SheetSpec) (words : List (List ℕ)) (before after : Sources) (result : Result Answer RunFault)
     (shown : IsResultOf (names_wanted (question_of_words sheets words)) (AreShownFor (question_of_words sheets words))
     (λ folders. answer_shown sheets folders (given_between before.clock after.clock) words)
-    before.files.openings after.files.openings result)
-    → Meets source_of (IsTrue true) (answer_by sheets words shown.openings before.clock after.clock) result
+    before.files.open_log after.files.open_log result)
+    → Meets source_of (IsTrue true) (answer_by sheets words shown.open_log before.clock after.clock) result
 by_openings sheets words before after result shown =
-    shown.answer true (folders_by (question_of_words sheets words) shown.openings)
-    (shows_itself_for (question_of_words sheets words) shown.openings (folders_by (question_of_words sheets words) shown.openings)
-    (λ question is. ap (λ asked. folders_by asked shown.openings) is))
+    shown.answer true (folders_by (question_of_words sheets words) shown.open_log)
+    (shows_itself_for (question_of_words sheets words) shown.open_log (folders_by (question_of_words sheets words) shown.open_log)
+    (λ question is. ap (λ asked. folders_by asked shown.open_log) is))
 
-pub shown_answered : (sheets : List SheetMeaning) (words : List (List ℕ)) (before after : Sources) (answer : Answer) (status : Status)
+pub shown_answered : (sheets : List SheetSpec) (words : List (List ℕ)) (before after : Sources) (answer : Answer) (status : Status)
     (unwritten written : Outputs)
     → IsResultOf (names_wanted (question_of_words sheets words)) (AreShownFor (question_of_words sheets words))
     (λ folders. answer_shown sheets folders (given_between before.clock after.clock) words)
-    before.files.openings after.files.openings (Ok answer)
-    → ((expected : Result Answer NoAnswer) → expected ≡ Ok answer → EndsAs expected status unwritten written)
+    before.files.open_log after.files.open_log (Ok answer)
+    → ((expected : Result Answer RunFault) → expected ≡ Ok answer → EndsAs expected status unwritten written)
     → EndsAsShown sheets words before after status unwritten written
 shown_answered sheets words before after answer status unwritten written shown ends =
     let is = by_openings sheets words before after (Ok answer) shown in
     record {
-      openings = shown.openings;
+      open_log = shown.open_log;
       all = shown.all;
       unopened = shown.unopened;
       names = shown.names;
       last = λ other. (shown.unopened, rw is shown.names);
-      ends = ends (answer_by sheets words shown.openings before.clock after.clock) is;
+      ends = ends (answer_by sheets words shown.open_log before.clock after.clock) is;
     }
 
-pub shown_refused : (sheets : List SheetMeaning) (words : List (List ℕ)) (before after : Sources) (none : NoAnswer) (status : Status)
+pub shown_refused : (sheets : List SheetSpec) (words : List (List ℕ)) (before after : Sources) (none : RunFault) (status : Status)
     (unwritten written : Outputs)
     → IsResultOf (names_wanted (question_of_words sheets words)) (AreShownFor (question_of_words sheets words))
     (λ folders. answer_shown sheets folders (given_between before.clock after.clock) words)
-    before.files.openings after.files.openings (Err none)
+    before.files.open_log after.files.open_log (Err none)
     → Wrote unwritten.out written.out false [] → Reports none status unwritten.err written.err
     → EndsAsShown sheets words before after status unwritten written
 shown_refused sheets words before after none status unwritten written shown quiet reported =
     let meets = by_openings sheets words before after (Err none) shown in
-    let expected : Result Answer NoAnswer = answer_by sheets words shown.openings before.clock after.clock in
+    let expected : Result Answer RunFault = answer_by sheets words shown.open_log before.clock after.clock in
     let returned : Excused (is_out_of_memory none) expected none = own_excused (IsTrue true) expected none meets (inl refl) in
     let to = wider (question_of_words sheets words) (failing_file {T = Answer} (Err none)) in
     record {
-      openings = shown.openings;
+      open_log = shown.open_log;
       all = shown.all;
       unopened = shown.unopened ++ to.0;
-      names = to.1 ∙ ap (λ n. n ++ to.0) shown.names ∙ append_assoc (map (λ o. o.name) shown.openings) shown.unopened to.0;
+      names = to.1 ∙ ap (λ n. n ++ to.0) shown.names ∙ append_assoc (map (λ o. o.name) shown.open_log) shown.unopened to.0;
       last = λ other.
           (shown.unopened, rw (reported_settles expected none status unwritten.err written.err meets reported other) shown.names);
       ends = ends_reported expected none status unwritten written returned quiet reported;

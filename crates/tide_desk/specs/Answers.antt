@@ -34,17 +34,17 @@ use Rattle.question.specs.Questions.{question_of}
 use Rattle.question.specs.Words.{asks_to_serve, pairs_of}
 use Rattle.report_sheets.specs.declared.head.Head.{Head}
 use Rattle.report_sheets.specs.Pages.{missing_of, pages_of}
-use Rattle.report_sheets.specs.Sheets.{SheetMeaning}
+use Rattle.report_sheets.specs.Sheets.{SheetSpec}
 use Rattle.station_table.specs.declared.offsets.Offsets.{Offsets}
 use Rattle.tide_fault.specs.declared.fault.Fault.{Fault}
 use Rattle.tide_fault.specs.declared.fault.Fault.TheVariants.{Ask, NoSheet, Refused}
 use Rattle.tide_fault.specs.declared.refusal.Refusal.{Refusal}
-use Rattle.tide_answer.specs.declared.given.Given.{Given}
+use Rattle.tide_answer.specs.declared.inputs.Given.{Given}
 use Rattle.tide_answer.specs.declared.listed.Listed.{Listed}
 use Rattle.tide_answer.specs.declared.text.Answer.{Answer}
 use Rattle.tide_answer.specs.Answers.{answered, answered_without_files, listed, text_alone}
-use Rattle.named_files.specs.declared.no_answer.NoAnswer.{NoAnswer}
-use Rattle.named_files.specs.NoAnswers.{faulty, refused_over}
+use Rattle.named_files.specs.declared.run_fault.RunFault.{RunFault}
+use Rattle.named_files.specs.RunFaults.{faulty, refused_over}
 use Rattle.named_files.specs.declared.materials.Materials.{Materials}
 use Rattle.named_files.specs.Readings.{Folders, files_allowed, files_in}
 use Rattle.tide_edge.specs.FileStates.{Folder}
@@ -81,7 +81,7 @@ found_in wanted None = Ok tt
 found_in wanted (Some place) = Err (NoSheet (word_at wanted place))
 
 -- the request of a command line, if a report can have these sheets
-unfoldable pub question_of_words : List SheetMeaning → List (List ℕ) → Result Question Fault
+unfoldable pub question_of_words : List SheetSpec → List (List ℕ) → Result Question Fault
 question_of_words sheets words = do
   question ← ask_from (question_in words)
   known ← found_in (wanted_by question) (missing_of sheets (wanted_by question))
@@ -89,11 +89,11 @@ question_of_words sheets words = do
 
 -- the request names a file
 abbrev pub NamesFile : Result Question Fault → Type 0
-NamesFile asked = IsOkAnd asked (λ question. IsSome question.file)
+NamesFile parsed_question = IsOkAnd parsed_question (λ question. IsSome question.file)
 
 -- the request names files that exist, can be read and are in their formats
 abbrev pub HasFiles : Folders → Result Question Fault → Type 0
-HasFiles folders asked = IsOkAnd asked (λ question. IsSomeAnd question.file (λ name. IsOk (files_in folders question name)))
+HasFiles folders parsed_question = IsOkAnd parsed_question (λ question. IsSomeAnd question.file (λ name. IsOk (files_in folders question name)))
 
 -- ---- The clock, which is read after all files
 
@@ -113,7 +113,7 @@ given_with read now = record { zone = read.zone; certificate = read.certificate;
 
 -- the request is for a command that reads the clock
 abbrev pub ReadsClock : Result Question Fault → Type 0
-ReadsClock asked = IsOkAnd asked (λ question. IsTrue (reads_clock question.command))
+ReadsClock parsed_question = IsOkAnd parsed_question (λ question. IsTrue (reads_clock question.command))
 
 -- ---- The bytes that may be read
 
@@ -138,19 +138,19 @@ abbrev pub head_of : Listed → ℤ → Head
 head_of listed now = record { name = listed.name; units = listed.units; now = now }
 
 -- the answer of `report`: the pages of the requested sheets, with the station's events
-unfoldable pub reported : List SheetMeaning → Book → List Offsets → Question → ℤ → Result Answer Refusal
+unfoldable pub reported : List SheetSpec → Book → List Offsets → Question → ℤ → Result Answer Refusal
 reported sheets book table question now = do
   events ← listed book table question
   Ok (text_alone (pages_of sheets (wanted_by question) (head_of events now) events.events))
 
 -- the answer with harmonic constants and a table: a report if the Bool is true, else an answer without
 -- sheets
-abbrev pub answered_over_book : Bool → List SheetMeaning → Book → List Offsets → Question → Given → Result Answer Refusal
-answered_over_book true sheets book table question given = reported sheets book table question given.now
-answered_over_book false sheets book table question given = answered book table question given
+abbrev pub answered_over_book : Bool → List SheetSpec → Book → List Offsets → Question → Given → Result Answer Refusal
+answered_over_book true sheets book table question inputs = reported sheets book table question inputs.now
+answered_over_book false sheets book table question inputs = answered book table question inputs
 
 -- the answer with the files; the harmonics file has this name
-unfoldable pub answered_over_file : List SheetMeaning → Folders → ℤ → Question → List ℕ → Result Answer NoAnswer
+unfoldable pub answered_over_file : List SheetSpec → Folders → ℤ → Question → List ℕ → Result Answer RunFault
 answered_over_file sheets folders minute question name = do
   read ← files_in folders question name
   refused_over read.table
@@ -158,16 +158,16 @@ answered_over_file sheets folders minute question name = do
       (given_with read (minute_for question.command minute)))
 
 -- the answer to a request, which may name no file
-abbrev pub answered_over_optional_file : List SheetMeaning → Folders → ℤ → Question → Option (List ℕ) → Result Answer NoAnswer
+abbrev pub answered_over_optional_file : List SheetSpec → Folders → ℤ → Question → Option (List ℕ) → Result Answer RunFault
 answered_over_optional_file sheets folders minute question None = faulty (refused_from (answered_without_files question))
 answered_over_optional_file sheets folders minute question (Some name) = answered_over_file sheets folders minute question name
 
 -- the answer to a command line; each file is read from a separate folder
-unfoldable pub answer_from : List SheetMeaning → Folders → ℤ → List (List ℕ) → Result Answer NoAnswer
+unfoldable pub answer_from : List SheetSpec → Folders → ℤ → List (List ℕ) → Result Answer RunFault
 answer_from sheets folders minute words = do
   question ← faulty (question_of_words sheets words)
   answered_over_optional_file sheets folders minute question question.file
 
 -- the answer to a command line with a folder of files and the present minute
-abbrev pub answer_of : List SheetMeaning → Folder → ℤ → List (List ℕ) → Result Answer NoAnswer
+abbrev pub answer_of : List SheetSpec → Folder → ℤ → List (List ℕ) → Result Answer RunFault
 answer_of sheets folder = answer_from sheets (λ slot. folder)

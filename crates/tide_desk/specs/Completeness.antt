@@ -9,21 +9,21 @@ use Rattle.peak_text.specs.declared.certificate.PeakCertificate.{PeakCertificate
 use Rattle.highest_water.specs.declared.verdict.PeakVerdict.TheVariants.{Accepted}
 use Rattle.peak_text.specs.PeakReadings.{peak_of}
 use Rattle.named_files.specs.declared.materials.Materials.{Materials}
-use Rattle.named_files.specs.declared.no_answer.NoAnswer.{NoAnswer}
-use Rattle.named_files.specs.NoAnswers.{status_of}
+use Rattle.named_files.specs.declared.run_fault.RunFault.{RunFault}
+use Rattle.named_files.specs.RunFaults.{status_of}
 use Rattle.named_files.specs.Readings.{book_named, certificate_named, files_in, table_named, zone_named}
 use Rattle.question.specs.declared.command.Command.TheVariants.{Check, PeakCheck}
 use Rattle.question.specs.declared.question.Question.{Question}
-use Rattle.report_sheets.specs.Sheets.{SheetMeaning}
+use Rattle.report_sheets.specs.Sheets.{SheetSpec}
 use Rattle.station_cells.specs.Rejections.{rejection_of}
 use Rattle.station_span.specs.Following.{followed_by}
 use Rattle.station_span.specs.Peaks.{highest_site, highest_verdict}
 use Rattle.station_span.specs.Sites.{Site, site_in}
-use Rattle.station_span.specs.declared.reach.Reach.TheVariants.{Events}
+use Rattle.station_span.specs.declared.purpose.Purpose.TheVariants.{Events}
 use Rattle.station_table.specs.declared.offsets.Offsets.{Offsets}
 use Rattle.tide_answer.specs.declared.text.Answer.{Answer}
 use Rattle.tide_answer.specs.Answers.{checked, peak_checked, version_of}
-use Rattle.tide_answer.specs.Asking.{asked_by_certificate, asked_by_peak_certificate}
+use Rattle.tide_answer.specs.Asking.{request_by_certificate, request_by_peak_certificate}
 use Rattle.tide_edge.specs.Clocks.{next_minute}
 use Rattle.tide_edge.specs.Faults.{Rose}
 use Rattle.tide_edge.specs.FileStates.{Folder}
@@ -42,19 +42,19 @@ use Rattle.tide_desk.specs.Shown.{answer_by}
 
 -- the folder of the files, for observable objects
 abbrev pub folder_held : {F O E K : Type 0} → States F O E K → Objects F O E K → Folder
-folder_held s o = (s.files o.files).store.folder
+folder_held s o = (s.files o.files).file_contents.folder
 
 -- the answer to a command line with the contents of observable objects
-abbrev pub answer_held : {F O E K : Type 0} → States F O E K → List SheetMeaning → List (List ℕ) → Objects F O E K
-    → Result Answer NoAnswer
+abbrev pub answer_held : {F O E K : Type 0} → States F O E K → List SheetSpec → List (List ℕ) → Objects F O E K
+    → Result Answer RunFault
 answer_held s sheets words o = answer_of sheets (folder_held s o) (next_minute (s.clock o.clock)) words
 
 -- The files are observable and steady (one that exists can always be opened and read); the clock is
 -- observable and has not failed, if the command line reads it; and no write of the answer has failed. (A
 -- saturated count of faults counts as one that grew.)
-pub record NothingFailed {F O E K : Type 0} (s : States F O E K) (sheets : List SheetMeaning) (words : List (List ℕ))
+pub record NothingFailed {F O E K : Type 0} (s : States F O E K) (sheets : List SheetSpec) (words : List (List ℕ))
     (before after : Objects F O E K) : Type 0 where
-  pub observable : IsTrue (s.files before.files).store.is_observable
+  pub observable : IsTrue (s.files before.files).file_contents.is_observable
   pub readable : ReadsClock (question_of_words sheets words) → IsTrue (s.clock before.clock).is_observable
   pub firm : IsFirm (ReadsClock (question_of_words sheets words)) (sources_of s before) (sources_of s after)
   pub written : ¬ (Rose (s.out before.out).faults (s.out after.out).faults)
@@ -62,13 +62,13 @@ pub record NothingFailed {F O E K : Type 0} (s : States F O E K) (sheets : List 
 -- ---- The end of a run over objects that don't fail
 
 -- the status of an answer, or of the reason why there is none
-abbrev pub status_with : Result Answer NoAnswer → Status
+abbrev pub status_with : Result Answer RunFault → Status
 status_with (Ok answer) = if answer.rejected then Rejected else Done
 status_with (Err none) = status_of none
 
 -- the status is the answer's, and the output is the whole text; or there is no answer, and the line on
 -- `err` gives the reason
-pub record EndsWhole {F O E K : Type 0} (s : States F O E K) (expected : Result Answer NoAnswer) (status : Status)
+pub record EndsWhole {F O E K : Type 0} (s : States F O E K) (expected : Result Answer RunFault) (status : Status)
     (before after : Objects F O E K) : Type 0 where
   pub ends : status ≡ status_with expected
   pub text : s.out after.out ≡ put (text_with expected) (s.out before.out)
@@ -83,7 +83,7 @@ pub record RanOut {F O E K : Type 0} (status : Status) (before after : Objects F
 -- of memory: with a read fault only if a file that the command line names is missing, and never with a
 -- write fault.
 abbrev pub EndsByItsAnswer : {F O E K : Type 0} → States F O E K → Type 0
-EndsByItsAnswer {F} {O} {E} {K} s = (sheets : List SheetMeaning) (words : List (List ℕ)) (status : Status)
+EndsByItsAnswer {F} {O} {E} {K} s = (sheets : List SheetSpec) (words : List (List ℕ)) (status : Status)
     (before after : Objects F O E K) →
     AnswersAs s sheets words status before after → NothingFailed s sheets words before after →
     EndsWhole s (answer_held s sheets words before) status before after ⊎ RanOut status before after
@@ -93,9 +93,9 @@ EndsByItsAnswer {F} {O} {E} {K} s = (sheets : List SheetMeaning) (words : List (
 -- answer has failed. So it ends with a read fault only if the clock couldn't be read or a file couldn't
 -- be read to its end.
 abbrev pub EndsByWhatCame : {F O E K : Type 0} → States F O E K → Type 0
-EndsByWhatCame {F} {O} {E} {K} s = (sheets : List SheetMeaning) (words : List (List ℕ)) (status : Status) (before after : Objects F O E K)
+EndsByWhatCame {F} {O} {E} {K} s = (sheets : List SheetSpec) (words : List (List ℕ)) (status : Status) (before after : Objects F O E K)
     (answers : AnswersAs s sheets words status before after) → ¬ (Rose (s.out before.out).faults (s.out after.out).faults) →
-    EndsWhole s (answer_by sheets words answers.shown.openings (s.clock before.clock) (s.clock after.clock)) status before after
+    EndsWhole s (answer_by sheets words answers.shown.open_log (s.clock before.clock) (s.clock after.clock)) status before after
     ⊎ RanOut status before after
 
 -- ---- A request that nothing refuses
@@ -103,7 +103,7 @@ EndsByWhatCame {F} {O} {E} {K} s = (sheets : List SheetMeaning) (words : List (L
 -- The command line is a request whose files are all present, no longer than may be read and in their
 -- formats, and with their contents it has this answer: its station is found and has a curve, its span is
 -- in the file's years, and no bound is exceeded.
-pub record HasAnswer (sheets : List SheetMeaning) (folder : Folder) (minute : ℤ) (words : List (List ℕ)) (answer : Answer)
+pub record HasAnswer (sheets : List SheetSpec) (folder : Folder) (minute : ℤ) (words : List (List ℕ)) (answer : Answer)
     : Type 0 where
   pub question : Question
   pub asked : question_of_words sheets words ≡ Ok question
@@ -126,7 +126,7 @@ pub record WroteAll {F O E K : Type 0} (s : States F O E K) (answer : Answer) (s
 -- steady (one that exists can always be opened and read), have the contents that the command line names,
 -- and are no longer than may be read, and if the clock and the outputs don't fail.
 abbrev pub IsComplete : {F O E K : Type 0} → States F O E K → Type 0
-IsComplete {F} {O} {E} {K} s = (sheets : List SheetMeaning) (words : List (List ℕ)) (status : Status) (before after : Objects F O E K)
+IsComplete {F} {O} {E} {K} s = (sheets : List SheetSpec) (words : List (List ℕ)) (status : Status) (before after : Objects F O E K)
     (answer : Answer) →
     AnswersAs s sheets words status before after → NothingFailed s sheets words before after →
     HasAnswer sheets (folder_held s before) (next_minute (s.clock before.clock)) words answer →
@@ -148,7 +148,7 @@ pub record IsValid (book : Book) (table : List Offsets) (text : List ℕ) : Type
   pub certificate : Certificate
   pub site : Site
   pub written : certificate_of text ≡ Ok certificate
-  pub unrefused : site_in Events book table certificate.station (asked_by_certificate certificate) ≡ Ok site
+  pub unrefused : site_in Events book table certificate.station (request_by_certificate certificate) ≡ Ok site
   pub accepted : rejection_of (followed_by (version_of certificate) book site certificate.mark)
       (widened_of site.basis certificate.begin certificate.end) certificate.tracks ≡ None
 
@@ -158,8 +158,8 @@ pub record IsValidPeak (book : Book) (table : List Offsets) (text : List ℕ) : 
   pub certificate : PeakCertificate
   pub site : Site
   pub written : peak_of text ≡ Ok certificate
-  pub unrefused : highest_site book table certificate.station (asked_by_peak_certificate certificate) ≡ Ok site
-  pub accepted : highest_verdict book site (asked_by_peak_certificate certificate) certificate.peak ≡ Accepted
+  pub unrefused : highest_site book table certificate.station (request_by_peak_certificate certificate) ≡ Ok site
+  pub accepted : highest_verdict book site (request_by_peak_certificate certificate) certificate.peak ≡ Accepted
 
 -- every certificate that `check` accepts is valid: the curve of each of its tracks accepts the track's
 -- cells
@@ -183,7 +183,7 @@ pub record HoldsFiles (folder : Folder) (question : Question) (book : Book) (tab
 -- A check of a valid certificate over files, a clock and outputs that don't fail accepts it, with the
 -- listing of the certificate's station, span and mark, or runs out of memory.
 abbrev pub AcceptsValid : {F O E K : Type 0} → States F O E K → Type 0
-AcceptsValid {F} {O} {E} {K} s = (sheets : List SheetMeaning) (words : List (List ℕ)) (check : Question) (book : Book)
+AcceptsValid {F} {O} {E} {K} s = (sheets : List SheetSpec) (words : List (List ℕ)) (check : Question) (book : Book)
     (table : List Offsets) (text : List ℕ) (zone : Zone) (status : Status) (before after : Objects F O E K) →
     Asks sheets words Check check → HoldsFiles (folder_held s before) check book table text →
     zone_named (folder_held s before) check.zone ≡ Ok zone →
@@ -193,7 +193,7 @@ AcceptsValid {F} {O} {E} {K} s = (sheets : List SheetMeaning) (words : List (Lis
 -- A check of a valid certificate of a highest water over files, a clock and outputs that don't fail
 -- accepts it, with the highest water, or runs out of memory.
 abbrev pub AcceptsValidPeaks : {F O E K : Type 0} → States F O E K → Type 0
-AcceptsValidPeaks {F} {O} {E} {K} s = (sheets : List SheetMeaning) (words : List (List ℕ)) (check : Question) (book : Book)
+AcceptsValidPeaks {F} {O} {E} {K} s = (sheets : List SheetSpec) (words : List (List ℕ)) (check : Question) (book : Book)
     (table : List Offsets) (text : List ℕ) (status : Status) (before after : Objects F O E K) →
     Asks sheets words PeakCheck check → HoldsFiles (folder_held s before) check book table text →
     IsValidPeak book table text → AnswersAs s sheets words status before after → NothingFailed s sheets words before after →

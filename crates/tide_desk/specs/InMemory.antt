@@ -1,7 +1,7 @@
 -- The contract of a run over objects in memory (this project).
 use Rattle.std.specs.Prelude.{◌≡◌, ◌⊎◌, ℕ, List, [], IsTrue, Result}
-use Rattle.named_files.specs.declared.no_answer.NoAnswer.{NoAnswer}
-use Rattle.report_sheets.specs.Sheets.{SheetMeaning}
+use Rattle.named_files.specs.declared.run_fault.RunFault.{RunFault}
+use Rattle.report_sheets.specs.Sheets.{SheetSpec}
 use Rattle.tide_answer.specs.declared.text.Answer.{Answer}
 use Rattle.tide_edge.specs.Memory.{HeldClock, HeldFiles, HeldSink, clock_state, files_state, folder_of, sink_state}
 use Rattle.tide_fault.specs.declared.status.Status.{Status}
@@ -25,15 +25,15 @@ abbrev pub outputs_in : Held → Outputs
 outputs_in held = outputs (sink_state held.out) (sink_state held.err)
 
 -- the answer to a command line with the files and the minute in memory
-abbrev pub answer_in : List SheetMeaning → Held → List (List ℕ) → Result Answer NoAnswer
+abbrev pub answer_in : List SheetSpec → Held → List (List ℕ) → Result Answer RunFault
 answer_in sheets held words = answer_of sheets (folder_of held.files.files) held.clock.minute words
 
 -- in memory, what a run promises over observable files and an observable clock: it ends as by the answer
 -- over their contents, if the files are steady and the clock hasn't failed, or if the status isn't a
 -- read fault
-abbrev pub EndsAsPromised : List SheetMeaning → List (List ℕ) → Status → Held → Held → Type 0
+abbrev pub EndsAsPromised : List SheetSpec → List (List ℕ) → Status → Held → Held → Type 0
 EndsAsPromised sheets words status before after =
-    IsTrue (files_state before.files).store.is_observable
+    IsTrue (files_state before.files).file_contents.is_observable
     → (ReadsClock (question_of_words sheets words) → IsTrue (clock_state before.clock).is_observable)
     → IsFirm (ReadsClock (question_of_words sheets words)) (sources_in before) (sources_in after) ⊎ (¬ (status ≡ ReadFault))
     → EndsAs (answer_in sheets before words) status (outputs_in before) (outputs_in after)
@@ -41,7 +41,7 @@ EndsAsPromised sheets words status before after =
 -- In memory the premises hold: any status other than a read fault is the answer's, and if a run is done
 -- or rejects a certificate, a sink that was empty contains exactly the answer's text.
 abbrev pub MemoryHoldsTheAnswer : Type 0
-MemoryHoldsTheAnswer = (sheets : List SheetMeaning) (words : List (List ℕ)) (status : Status) (before after : Held) →
-    before.out.taken ≡ [] → EndsAsPromised sheets words status before after → ¬ (status ≡ ReadFault) →
+MemoryHoldsTheAnswer = (sheets : List SheetSpec) (words : List (List ℕ)) (status : Status) (before after : Held) →
+    before.out.accepted ≡ [] → EndsAsPromised sheets words status before after → ¬ (status ≡ ReadFault) →
     Says (answer_in sheets before words) status
-    × ((status ≡ Done) ⊎ (status ≡ Rejected) → after.out.taken ≡ text_with (answer_in sheets before words))
+    × ((status ≡ Done) ⊎ (status ≡ Rejected) → after.out.accepted ≡ text_with (answer_in sheets before words))

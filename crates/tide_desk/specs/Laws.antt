@@ -7,7 +7,7 @@ use Rattle.question.specs.declared.command.Command.{Command}
 use Rattle.question.specs.declared.command.Command.TheVariants.{Predict, Certify, Check}
 use Rattle.question.specs.declared.layout.Layout.TheVariants.{Plain}
 use Rattle.question.specs.declared.question.Question.{Question}
-use Rattle.report_sheets.specs.Sheets.{SheetMeaning}
+use Rattle.report_sheets.specs.Sheets.{SheetSpec}
 use Rattle.station_table.specs.declared.offsets.Offsets.{Offsets}
 use Rattle.zone_time.specs.declared.zone.Zone.{Zone}
 use Rattle.tide_answer.specs.declared.text.Answer.{Answer}
@@ -20,7 +20,7 @@ use Rattle.tide_edge.specs.FileStates.{Folder}
 -- ---- the requests
 
 -- the command line is this request for the command, and the sheets have the words that it names
-pub record Asks (sheets : List SheetMeaning) (words : List (List ℕ)) (command : Command) (question : Question) : Type 0 where
+pub record Asks (sheets : List SheetSpec) (words : List (List ℕ)) (command : Command) (question : Question) : Type 0 where
   pub asked : question_of_words sheets words ≡ Ok question
   pub is : question.command ≡ command
 
@@ -82,7 +82,7 @@ pub record HoldsCertificate (before after : Folder) (certify check : Question) (
 -- the answer is the line `Accepted`, and then the answer, with the same folder, to each request that
 -- meets the condition: to any command line that is one, at any minute, and to a request without a
 -- command line, which names no certificate
-pub record AcceptsWith (sheets : List SheetMeaning) (folder : Folder) (asks : Question → Type 0) (answer : Answer) : Type 0 where
+pub record AcceptsWith (sheets : List SheetSpec) (folder : Folder) (asks : Question → Type 0) (answer : Answer) : Type 0 where
   pub shown : Answer
   pub text : answer ≡ text_alone (codes "Accepted\n" ++ shown.text)
   pub to_words : (minute : ℤ) (words : List (List ℕ)) (question : Question) →
@@ -93,13 +93,13 @@ pub record AcceptsWith (sheets : List SheetMeaning) (folder : Folder) (asks : Qu
 
 -- the answer is the line `Accepted`, and then what `predict` prints for a subject (station, span and
 -- mark) with the files of the check and in its zone
-abbrev pub AcceptsWithListing : List SheetMeaning → Folder → Question → Subject → Answer → Type 0
+abbrev pub AcceptsWithListing : List SheetSpec → Folder → Question → Subject → Answer → Type 0
 AcceptsWithListing sheets folder check subject = AcceptsWith sheets folder (AsksListing check subject)
 
 -- the answer of `certify` is accepted, with the listing of its station, span and mark, by each later
 -- check, in any folder, that has the same constants and table, and the answer's text as its certificate
 abbrev pub AcceptsWhatCertifyAnswers : Type 0
-AcceptsWhatCertifyAnswers = (sheets : List SheetMeaning) (before after : Folder) (minute later : ℤ)
+AcceptsWhatCertifyAnswers = (sheets : List SheetSpec) (before after : Folder) (minute later : ℤ)
     (words more : List (List ℕ)) (certify check : Question) (certificate : Answer) (zone : Zone) →
     Asks sheets words Certify certify → answer_of sheets before minute words ≡ Ok certificate →
     Asks sheets more Check check → HoldsCertificate before after certify check certificate.text →
@@ -109,7 +109,7 @@ AcceptsWhatCertifyAnswers = (sheets : List SheetMeaning) (before after : Folder)
 
 -- with the file, the table and the zone that the check names, the text under its certificate's name is a
 -- true certificate, and the answer has the listing of the certificate's station, span and mark
-pub record IsTrueAnswer (sheets : List SheetMeaning) (folder : Folder) (check : Question) (answer : Answer) : Type 0 where
+pub record IsTrueAnswer (sheets : List SheetSpec) (folder : Folder) (check : Question) (answer : Answer) : Type 0 where
   pub book : Book
   pub table : List Offsets
   pub zone : Zone
@@ -124,7 +124,7 @@ pub record IsTrueAnswer (sheets : List SheetMeaning) (folder : Folder) (check : 
 -- every certificate that `check` accepts has exactly the events of its station, span and mark, however
 -- it was made
 abbrev pub AcceptsOnlyTrueCertificates : Type 0
-AcceptsOnlyTrueCertificates = (sheets : List SheetMeaning) (folder : Folder) (minute : ℤ) (words : List (List ℕ))
+AcceptsOnlyTrueCertificates = (sheets : List SheetSpec) (folder : Folder) (minute : ℤ) (words : List (List ℕ))
     (check : Question) (answer : Answer) →
     Asks sheets words Check check → answer_of sheets folder minute words ≡ Ok answer → answer.rejected ≡ false →
     IsTrueAnswer sheets folder check answer

@@ -22,14 +22,14 @@ use Rattle.std.specs.Result.{IsOkAnd}
 use Rattle.tide_fault.specs.declared.status.Status.{Status}
 use Rattle.tide_fault.specs.declared.status.Status.TheVariants.{Done, Rejected, ReadFault, WriteFault, NoMemory}
 use Rattle.tide_answer.specs.declared.text.Answer.{Answer}
-use Rattle.tide_edge.specs.Calls.{answer}
+use Rattle.tide_edge.specs.FaultSchedule.{answer}
 use Rattle.tide_edge.specs.Clocks.{ClockState, clock_after}
 use Rattle.tide_edge.specs.Faults.{Rose}
 use Rattle.tide_edge.specs.FileStates.{FilesState}
 use Rattle.tide_edge.specs.SinkStates.{SinkState, Wrote}
 use Rattle.tide_edge.specs.Whole.{Allowance, ReadWithin}
-use Rattle.named_files.specs.declared.no_answer.NoAnswer.{NoAnswer}
-use Rattle.named_files.specs.NoAnswers.{status_of, line_of}
+use Rattle.named_files.specs.declared.run_fault.RunFault.{RunFault}
+use Rattle.named_files.specs.RunFaults.{status_of, line_of}
 
 -- the status is the one of an answer that couldn't be written
 abbrev pub is_write_fault : Status → Bool
@@ -45,12 +45,12 @@ is_settled _ = true
 -- ---- The end of a run
 
 -- there is no answer, and the status is the reason's
-abbrev pub IsRefused : Result Answer NoAnswer → Status → Type 0
+abbrev pub IsRefused : Result Answer RunFault → Status → Type 0
 IsRefused expected status = IsErrAnd expected (λ none. status_of none ≡ status)
 
 -- A status fits the expected answer: an answer is done, or rejected, or can't be written; a refusal has
 -- its status; out of memory fits any answer.
-abbrev pub Says : Result Answer NoAnswer → Status → Type 0
+abbrev pub Says : Result Answer RunFault → Status → Type 0
 Says expected Done = IsOkAnd expected (λ answer. answer.rejected ≡ false)
 Says expected Rejected = IsOkAnd expected (λ answer. answer.rejected ≡ true)
 Says expected WriteFault = IsOkAnd expected (λ answer. Unit {0})
@@ -58,26 +58,26 @@ Says expected NoMemory = Unit {0}
 Says expected status = IsRefused expected status
 
 -- the text of an answer; no text without an answer
-abbrev pub text_with : Result Answer NoAnswer → List ℕ
+abbrev pub text_with : Result Answer RunFault → List ℕ
 text_with (Ok answer) = answer.text
 text_with (Err none) = []
 
 -- the text that is written to standard output with this status: the answer's, or none for a refusal, a
 -- read fault or out of memory
-abbrev pub output_with : Result Answer NoAnswer → Status → List ℕ
+abbrev pub output_with : Result Answer RunFault → Status → List ℕ
 output_with expected Done = text_with expected
 output_with expected Rejected = text_with expected
 output_with expected WriteFault = text_with expected
 output_with expected _ = []
 
 -- the line of the reason why there is no answer; no line with an answer
-abbrev pub refusal_line : Result Answer NoAnswer → List ℕ
+abbrev pub refusal_line : Result Answer RunFault → List ℕ
 refusal_line (Ok answer) = []
 refusal_line (Err none) = line_of none
 
 -- the line that is written to standard error with this status: none with an answer, else the line of the
 -- reason
-abbrev pub line_with : Result Answer NoAnswer → Status → List ℕ
+abbrev pub line_with : Result Answer RunFault → Status → List ℕ
 line_with expected Done = []
 line_with expected Rejected = []
 line_with expected WriteFault = codes "write fault\n"
@@ -94,7 +94,7 @@ abbrev pub outputs : SinkState → SinkState → Outputs
 outputs out err = record { out = out; err = err }
 
 -- The run ends with this answer: its status fits the answer, and the texts for this status were written.
-pub record EndsAs (expected : Result Answer NoAnswer) (status : Status) (before after : Outputs) : Type 0 where
+pub record EndsAs (expected : Result Answer RunFault) (status : Status) (before after : Outputs) : Type 0 where
   pub says : Says expected status
   pub output : Wrote before.out after.out (is_write_fault status) (output_with expected status)
   pub failed : Bool
@@ -114,7 +114,7 @@ sources files clock = record { files = files; clock = clock }
 -- the files are steady (one that exists can always be opened and read), and the clock, if it was to be
 -- read, has not failed
 pub record IsFirm (asks : Type 0) (before after : Sources) : Type 0 where
-  pub files : IsTrue before.files.store.is_steady
+  pub files : IsTrue before.files.file_contents.is_steady
   pub clock : ¬ (asks × Rose before.clock.faults after.clock.faults)
 
 -- Reading has failed exactly if one of the files and the clock has failed, once. The files were read

@@ -6,8 +6,8 @@ use Rattle.named_files.specs.Readings.{files_in, zone_named}
 use Rattle.question.specs.declared.command.Command.TheVariants.{Certify, Check, Peak, PeakCheck}
 use Rattle.question.specs.declared.layout.Layout.TheVariants.{Plain}
 use Rattle.question.specs.declared.question.Question.{Question}
-use Rattle.report_sheets.specs.Sheets.{SheetMeaning}
-use Rattle.station_span.specs.declared.asked.Asked.{Asked}
+use Rattle.report_sheets.specs.Sheets.{SheetSpec}
+use Rattle.station_span.specs.declared.span_request.SpanRequest.{SpanRequest}
 use Rattle.station_table.specs.declared.offsets.Offsets.{Offsets}
 use Rattle.tide_answer.specs.declared.text.Answer.{Answer}
 use Rattle.tide_answer.specs.Answers.{highest as highest_water, predicted}
@@ -28,43 +28,43 @@ use Rattle.tide_desk.specs.Shown.{folders_by}
 -- ---- By the contents of the files
 
 -- a run over observable files is done, and its output was empty before
-pub record IsDone {F O E K : Type 0} (s : States F O E K) (sheets : List SheetMeaning) (words : List (List ℕ))
+pub record IsDone {F O E K : Type 0} (s : States F O E K) (sheets : List SheetSpec) (words : List (List ℕ))
     (before after : Objects F O E K) : Type 0 where
   pub answers : AnswersAs s sheets words Done before after
-  pub observable : IsTrue (s.files before.files).store.is_observable
-  pub empty : (s.out before.out).taken ≡ []
+  pub observable : IsTrue (s.files before.files).file_contents.is_observable
+  pub empty : (s.out before.out).accepted ≡ []
 
 -- A check over files, a clock and outputs that don't fail accepts a certificate that is, byte for byte,
 -- what a run of `certify` that was done has written, with the same constants and table, and lists its
 -- events; or it runs out of memory.
 abbrev pub ChecksWhatWasCertified : {F O E K G P D L : Type 0} → States F O E K → States G P D L → Type 0
-ChecksWhatWasCertified {F} {O} {E} {K} {G} {P} {D} {L} s t = (sheets : List SheetMeaning) (words more : List (List ℕ))
+ChecksWhatWasCertified {F} {O} {E} {K} {G} {P} {D} {L} s t = (sheets : List SheetSpec) (words more : List (List ℕ))
     (certify check : Question) (zone : Zone) (before after : Objects F O E K) (status : Status) (first last : Objects G P D L) →
     Asks sheets words Certify certify → IsDone s sheets words before after →
     Asks sheets more Check check → AnswersAs t sheets more status first last → NothingFailed t sheets more first last →
-    HoldsCertificate (folder_held s before) (folder_held t first) certify check (s.out after.out).taken →
+    HoldsCertificate (folder_held s before) (folder_held t first) certify check (s.out after.out).accepted →
     zone_named (folder_held t first) check.zone ≡ Ok zone →
     EndsAccepting t (AcceptsWithListing sheets (folder_held t first) check (subject_of certify)) status first last
 
 -- A `peakcheck` over files, a clock and outputs that don't fail accepts a certificate that is what a run
 -- of `peak` that was done has written, and prints the highest water; or it runs out of memory.
 abbrev pub ChecksWhatPeakCertified : {F O E K G P D L : Type 0} → States F O E K → States G P D L → Type 0
-ChecksWhatPeakCertified {F} {O} {E} {K} {G} {P} {D} {L} s t = (sheets : List SheetMeaning) (words more : List (List ℕ))
+ChecksWhatPeakCertified {F} {O} {E} {K} {G} {P} {D} {L} s t = (sheets : List SheetSpec) (words more : List (List ℕ))
     (peak check : Question) (before after : Objects F O E K) (status : Status) (first last : Objects G P D L) →
     Asks sheets words Peak peak → IsDone s sheets words before after →
     Asks sheets more PeakCheck check → AnswersAs t sheets more status first last → NothingFailed t sheets more first last →
-    HoldsCertificate (folder_held s before) (folder_held t first) peak check (s.out after.out).taken →
+    HoldsCertificate (folder_held s before) (folder_held t first) peak check (s.out after.out).accepted →
     EndsAccepting t (AcceptsWithHighest sheets (folder_held t first) check (subject_of peak)) status first last
 
 -- ---- By the bytes that were read, over objects of any kind
 
 -- The bytes that were read for a request are all bytes of its files, no longer than may be read and in
 -- their formats, and these are their contents.
-pub record CameAs (sheets : List SheetMeaning) (words : List (List ℕ)) (question : Question) (openings : List Opening) (read : Materials)
+pub record CameAs (sheets : List SheetSpec) (words : List (List ℕ)) (question : Question) (open_log : List Opening) (read : Materials)
     : Type 0 where
   pub name : List ℕ
   pub file : question.file ≡ Some name
-  pub files : files_in (folders_by (question_of_words sheets words) openings) question name ≡ Ok read
+  pub files : files_in (folders_by (question_of_words sheets words) open_log) question name ≡ Ok read
 
 -- the certificate that the second run read is what the first one wrote, with the same constants and table
 pub record IsPassedOn (first second : Materials) (written : List ℕ) : Type 0 where
@@ -73,26 +73,26 @@ pub record IsPassedOn (first second : Materials) (written : List ℕ) : Type 0 w
   pub certificate : second.certificate ≡ written
 
 -- the subject of a request for this name and span: the station, the span and the mark
-abbrev pub subject_over : List ℕ → Asked → Subject
-subject_over name asked = record { station = Some name; begin = Some asked.begin; end = Some asked.end; mark = asked.mark }
+abbrev pub subject_over : List ℕ → SpanRequest → Subject
+subject_over name span_request = record { station = Some name; begin = Some span_request.begin; end = Some span_request.end; mark = span_request.mark }
 
 -- the answer is the line `Accepted`, and the listing of the events of a subject (station, span and mark)
 -- with these constants and table, in the local time of a zone
 pub record AcceptsSubject (book : Book) (table : List Offsets) (zone : Zone) (subject : Subject) (answer : Answer) : Type 0 where
   pub name : List ℕ
-  pub asked : Asked
-  pub about : subject ≡ subject_over name asked
-  pub listing : AcceptsListing (predicted book table name asked Plain zone) answer
+  pub span_request : SpanRequest
+  pub about : subject ≡ subject_over name span_request
+  pub listing : AcceptsListing (predicted book table name span_request Plain zone) answer
 
 -- A check accepts a certificate that it read if it is what a run of `certify` that was done has written,
 -- and both runs read the same constants and table, and lists its events; or it runs out of memory,
 -- unless a write of its answer has failed.
 abbrev pub ChecksWhatCame : {F O E K G P D L : Type 0} → States F O E K → States G P D L → Type 0
-ChecksWhatCame {F} {O} {E} {K} {G} {P} {D} {L} s t = (sheets : List SheetMeaning) (words more : List (List ℕ)) (certify check : Question)
+ChecksWhatCame {F} {O} {E} {K} {G} {P} {D} {L} s t = (sheets : List SheetSpec) (words more : List (List ℕ)) (certify check : Question)
     (before after : Objects F O E K) (status : Status) (first last : Objects G P D L) (one two : Materials)
     (made : AnswersAs s sheets words Done before after) (checks : AnswersAs t sheets more status first last) →
-    Asks sheets words Certify certify → (s.out before.out).taken ≡ [] → CameAs sheets words certify made.shown.openings one →
-    Asks sheets more Check check → CameAs sheets more check checks.shown.openings two → IsPassedOn one two (s.out after.out).taken →
+    Asks sheets words Certify certify → (s.out before.out).accepted ≡ [] → CameAs sheets words certify made.shown.open_log one →
+    Asks sheets more Check check → CameAs sheets more check checks.shown.open_log two → IsPassedOn one two (s.out after.out).accepted →
     ¬ (Rose (t.out first.out).faults (t.out last.out).faults) →
     EndsAccepting t (AcceptsSubject one.book one.table two.zone (subject_of certify)) status first last
 
@@ -100,18 +100,18 @@ ChecksWhatCame {F} {O} {E} {K} {G} {P} {D} {L} s t = (sheets : List SheetMeaning
 -- constants and table, in universal time
 pub record AcceptsPeakOf (book : Book) (table : List Offsets) (subject : Subject) (answer : Answer) : Type 0 where
   pub name : List ℕ
-  pub asked : Asked
-  pub about : subject ≡ subject_over name asked
-  pub highest : AcceptsListing (highest_water book table name asked Utc) answer
+  pub span_request : SpanRequest
+  pub about : subject ≡ subject_over name span_request
+  pub highest : AcceptsListing (highest_water book table name span_request Utc) answer
 
 -- A `peakcheck` accepts a certificate that it read if it is what a run of `peak` that was done has
 -- written, and prints the highest water; or it runs out of memory, unless a write of its answer has
 -- failed.
 abbrev pub ChecksPeakThatCame : {F O E K G P D L : Type 0} → States F O E K → States G P D L → Type 0
-ChecksPeakThatCame {F} {O} {E} {K} {G} {P} {D} {L} s t = (sheets : List SheetMeaning) (words more : List (List ℕ)) (peak check : Question)
+ChecksPeakThatCame {F} {O} {E} {K} {G} {P} {D} {L} s t = (sheets : List SheetSpec) (words more : List (List ℕ)) (peak check : Question)
     (before after : Objects F O E K) (status : Status) (first last : Objects G P D L) (one two : Materials)
     (made : AnswersAs s sheets words Done before after) (checks : AnswersAs t sheets more status first last) →
-    Asks sheets words Peak peak → (s.out before.out).taken ≡ [] → CameAs sheets words peak made.shown.openings one →
-    Asks sheets more PeakCheck check → CameAs sheets more check checks.shown.openings two → IsPassedOn one two (s.out after.out).taken →
+    Asks sheets words Peak peak → (s.out before.out).accepted ≡ [] → CameAs sheets words peak made.shown.open_log one →
+    Asks sheets more PeakCheck check → CameAs sheets more check checks.shown.open_log two → IsPassedOn one two (s.out after.out).accepted →
     ¬ (Rose (t.out first.out).faults (t.out last.out).faults) →
     EndsAccepting t (AcceptsPeakOf one.book one.table (subject_of peak)) status first last

@@ -6,7 +6,7 @@ use Rattle.peak_text.specs.declared.certificate.PeakCertificate.{PeakCertificate
 use Rattle.question.specs.declared.command.Command.TheVariants.{Highest, Peak, PeakCheck}
 use Rattle.question.specs.declared.question.Question.{Question}
 use Rattle.question.specs.declared.question.ZoneWord.TheVariants.{Utc}
-use Rattle.report_sheets.specs.Sheets.{SheetMeaning}
+use Rattle.report_sheets.specs.Sheets.{SheetSpec}
 use Rattle.station_table.specs.declared.offsets.Offsets.{Offsets}
 use Rattle.tide_answer.specs.declared.text.Answer.{Answer}
 use Rattle.tide_answer.specs.PeakLaws.{IsTruePeak}
@@ -38,13 +38,13 @@ pub record AsksHighest (check : Question) (subject : Subject) (question : Questi
 
 -- the answer is the line `Accepted`, and then what `highest` prints for a subject (station and span)
 -- with the files of the check, in universal time
-abbrev pub AcceptsWithHighest : List SheetMeaning → Folder → Question → Subject → Answer → Type 0
+abbrev pub AcceptsWithHighest : List SheetSpec → Folder → Question → Subject → Answer → Type 0
 AcceptsWithHighest sheets folder check subject = AcceptsWith sheets folder (AsksHighest check subject)
 
 -- the answer of `peak` is accepted, with the highest water of its station and span, by each later check,
 -- in any folder, that has the same constants and table, and the answer's text as its certificate
 abbrev pub AcceptsWhatPeakAnswers : Type 0
-AcceptsWhatPeakAnswers = (sheets : List SheetMeaning) (before after : Folder) (minute later : ℤ)
+AcceptsWhatPeakAnswers = (sheets : List SheetSpec) (before after : Folder) (minute later : ℤ)
     (words more : List (List ℕ)) (peak check : Question) (certificate : Answer) →
     Asks sheets words Peak peak → answer_of sheets before minute words ≡ Ok certificate →
     Asks sheets more PeakCheck check → HoldsCertificate before after peak check certificate.text →
@@ -53,7 +53,7 @@ AcceptsWhatPeakAnswers = (sheets : List SheetMeaning) (before after : Folder) (m
 
 -- with the file and the table that the check names, the text under its certificate's name is a true
 -- certificate, and the answer has the highest water of the certificate's station and span
-pub record IsTruePeakAnswer (sheets : List SheetMeaning) (folder : Folder) (check : Question) (answer : Answer) : Type 0 where
+pub record IsTruePeakAnswer (sheets : List SheetSpec) (folder : Folder) (check : Question) (answer : Answer) : Type 0 where
   pub book : Book
   pub table : List Offsets
   pub text : List ℕ
@@ -66,7 +66,7 @@ pub record IsTruePeakAnswer (sheets : List SheetMeaning) (folder : Folder) (chec
 -- every certificate that `peakcheck` accepts has the highest water of its station and span, however it
 -- was made
 abbrev pub AcceptsOnlyTruePeaks : Type 0
-AcceptsOnlyTruePeaks = (sheets : List SheetMeaning) (folder : Folder) (minute : ℤ) (words : List (List ℕ))
+AcceptsOnlyTruePeaks = (sheets : List SheetSpec) (folder : Folder) (minute : ℤ) (words : List (List ℕ))
     (check : Question) (answer : Answer) →
     Asks sheets words PeakCheck check → answer_of sheets folder minute words ≡ Ok answer → answer.rejected ≡ false →
     IsTruePeakAnswer sheets folder check answer

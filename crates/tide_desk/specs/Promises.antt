@@ -1,7 +1,7 @@
 -- The contract of a run, over files, a clock and outputs of any kind (this project).
 use Rattle.std.specs.Prelude.{◌≡◌, ◌⊎◌, ℕ, ℤ, List, IsTrue, Ok}
-use Rattle.report_sheets.specs.Sheets.{SheetMeaning}
-use Rattle.named_files.specs.NoAnswers.{is_read_fault}
+use Rattle.report_sheets.specs.Sheets.{SheetSpec}
+use Rattle.named_files.specs.RunFaults.{is_read_fault}
 use Rattle.tide_edge.specs.Clocks.{ClockState, clock_after, next_minute}
 use Rattle.tide_edge.specs.FileStates.{FilesState}
 use Rattle.tide_edge.specs.SinkStates.{SinkState}
@@ -51,13 +51,13 @@ outputs_of s o = outputs (s.out o.out) (s.err o.err)
 --   files or of the clock.
 -- - `unwritten`, `unprinted`: the outputs that are unchanged without an answer, and with one.
 -- - All others: the cases in which the files and the clock are unchanged, and in which the clock is read.
-pub record AnswersAs {F O E K : Type 0} (s : States F O E K) (sheets : List SheetMeaning) (words : List (List ℕ)) (status : Status)
+pub record AnswersAs {F O E K : Type 0} (s : States F O E K) (sheets : List SheetSpec) (words : List (List ℕ)) (status : Status)
     (before after : Objects F O E K) : Type 0 where
   pub shown : EndsAsShown sheets words (sources_of s before) (sources_of s after) status (outputs_of s before) (outputs_of s after)
-  pub own_files : IsTrue (s.files before.files).store.is_observable
+  pub own_files : IsTrue (s.files before.files).file_contents.is_observable
       → (ReadsClock (question_of_words sheets words) → IsTrue (s.clock before.clock).is_observable)
       → IsFirm (ReadsClock (question_of_words sheets words)) (sources_of s before) (sources_of s after) ⊎ (¬ (status ≡ ReadFault))
-      → EndsAs (answer_of sheets (s.files before.files).store.folder (next_minute (s.clock before.clock)) words) status
+      → EndsAs (answer_of sheets (s.files before.files).file_contents.folder (next_minute (s.clock before.clock)) words) status
       (outputs_of s before) (outputs_of s after)
   pub reads : WentOn (is_read_fault status) (ReadsClock (question_of_words sheets words)) (allowed_by (question_of_words sheets words))
       (sources_of s before) (sources_of s after)
@@ -65,8 +65,8 @@ pub record AnswersAs {F O E K : Type 0} (s : States F O E K) (sheets : List Shee
   pub unprinted : IsSilent status before.err after.err
   pub unopened : ¬ (NamesFile (question_of_words sheets words)) → after.files ≡ before.files
   pub unread : ¬ (ReadsClock (question_of_words sheets words)) → after.clock ≡ before.clock
-  pub read_last : IsTrue (s.files before.files).store.is_observable
-      → ¬ (HasFiles (λ slot. (s.files before.files).store.folder) (question_of_words sheets words)) → after.clock ≡ before.clock
-  pub read_once : IsTrue (s.files before.files).store.is_observable → ReadsClock (question_of_words sheets words)
-      → HasFiles (λ slot. (s.files before.files).store.folder) (question_of_words sheets words) → IsTrue (is_settled status)
+  pub read_last : IsTrue (s.files before.files).file_contents.is_observable
+      → ¬ (HasFiles (λ slot. (s.files before.files).file_contents.folder) (question_of_words sheets words)) → after.clock ≡ before.clock
+  pub read_once : IsTrue (s.files before.files).file_contents.is_observable → ReadsClock (question_of_words sheets words)
+      → HasFiles (λ slot. (s.files before.files).file_contents.folder) (question_of_words sheets words) → IsTrue (is_settled status)
       → (minute : ℤ) × (s.clock after.clock ≡ clock_after (Ok minute) (s.clock before.clock))

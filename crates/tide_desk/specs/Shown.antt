@@ -4,7 +4,7 @@ use Rattle.std.specs.Prelude.{◌≡◌, ℕ, ℤ, pos, Bool, true, false, IsTru
 use Rattle.decimal_text.specs.Expected.{◌>>=◌}
 use Rattle.question.specs.declared.command.Command.{Command}
 use Rattle.question.specs.declared.question.Question.{Question}
-use Rattle.report_sheets.specs.Sheets.{SheetMeaning}
+use Rattle.report_sheets.specs.Sheets.{SheetSpec}
 use Rattle.tide_answer.specs.declared.text.Answer.{Answer}
 use Rattle.tide_answer.specs.Answers.{answered_without_files}
 use Rattle.tide_edge.specs.Clocks.{ClockState, clock_after, next_minute}
@@ -14,9 +14,9 @@ use Rattle.tide_fault.specs.declared.fault.Fault.{Fault}
 use Rattle.tide_fault.specs.declared.slot.Slot.{Slot}
 use Rattle.tide_fault.specs.declared.status.Status.{Status}
 use Rattle.tide_fault.specs.declared.status.Status.TheVariants.{NoMemory}
-use Rattle.named_files.specs.declared.no_answer.NoAnswer.{NoAnswer}
-use Rattle.named_files.specs.declared.no_answer.NoAnswer.TheVariants.{Unread}
-use Rattle.named_files.specs.NoAnswers.{faulty, reading_failed, refused_over}
+use Rattle.named_files.specs.declared.run_fault.RunFault.{RunFault}
+use Rattle.named_files.specs.declared.run_fault.RunFault.TheVariants.{Unread}
+use Rattle.named_files.specs.RunFaults.{faulty, reading_failed, refused_over}
 use Rattle.named_files.specs.Opened.{failing_file, folders_shown, names_to}
 use Rattle.named_files.specs.Readings.{Folders, files_in}
 use Rattle.tide_desk.specs.Answers.{answered_over_book, question_of_words, reads_clock, given_with, is_report, refused_from}
@@ -26,16 +26,16 @@ use Rattle.tide_desk.specs.Workings.Settled.{IsSettled}
 -- ---- The answer, if the clock may fail
 
 -- the minute that a clock returned, or the reason why there is no answer if it failed
-abbrev pub minute_given : Option ℤ → Result ℤ NoAnswer
+abbrev pub minute_given : Option ℤ → Result ℤ RunFault
 minute_given None = Err Unread
 minute_given (Some minute) = Ok minute
 
 -- the minute for a command, from what the clock returned: 0 if the command doesn't read the clock
-abbrev pub minute_read : Command → Option ℤ → Result ℤ NoAnswer
+abbrev pub minute_read : Command → Option ℤ → Result ℤ RunFault
 minute_read command given = if reads_clock command then minute_given given else Ok (pos 0)
 
 -- the answer with the files, if the clock, which is read after them, may have failed
-unfoldable pub shown_over : List SheetMeaning → Folders → Option ℤ → Question → List ℕ → Result Answer NoAnswer
+unfoldable pub shown_over : List SheetSpec → Folders → Option ℤ → Question → List ℕ → Result Answer RunFault
 shown_over sheets folders given question name = do
   read ← files_in folders question name
   now ← minute_read question.command given
@@ -43,12 +43,12 @@ shown_over sheets folders given question name = do
       (answered_over_book (is_report question.command) sheets read.book read.table question (given_with read now))
 
 -- the answer to a request, which may name no file
-abbrev pub shown_by : List SheetMeaning → Folders → Option ℤ → Question → Option (List ℕ) → Result Answer NoAnswer
+abbrev pub shown_by : List SheetSpec → Folders → Option ℤ → Question → Option (List ℕ) → Result Answer RunFault
 shown_by sheets folders given question None = faulty (refused_from (answered_without_files question))
 shown_by sheets folders given question (Some name) = shown_over sheets folders given question name
 
 -- the answer to a command line; each file is read from a separate folder
-unfoldable pub answer_shown : List SheetMeaning → Folders → Option ℤ → List (List ℕ) → Result Answer NoAnswer
+unfoldable pub answer_shown : List SheetSpec → Folders → Option ℤ → List (List ℕ) → Result Answer RunFault
 answer_shown sheets folders given words = do
   question ← faulty (question_of_words sheets words)
   shown_by sheets folders given question question.file
@@ -68,31 +68,31 @@ names_wanted (Err fault) why = []
 
 -- the files of a command line as the openings show them
 abbrev pub folders_by : Result Question Fault → List Opening → Folders
-folders_by (Ok question) openings = folders_shown question openings
-folders_by (Err fault) openings = λ slot name. None
+folders_by (Ok question) open_log = folders_shown question open_log
+folders_by (Err fault) open_log = λ slot name. None
 
 -- the minute that a clock returned between two states, if it returned one
 abbrev pub given_between : ClockState → ClockState → Option ℤ
-given_between before after = slice_get after.given (length before.given)
+given_between before after = slice_get after.returned_minutes (length before.returned_minutes)
 
 -- the answer to a command line, from the openings and from what the clock returned between two states
-abbrev pub answer_by : List SheetMeaning → List (List ℕ) → List Opening → ClockState → ClockState → Result Answer NoAnswer
-answer_by sheets words openings before after =
-    answer_shown sheets (folders_by (question_of_words sheets words) openings) (given_between before after) words
+abbrev pub answer_by : List SheetSpec → List (List ℕ) → List Opening → ClockState → ClockState → Result Answer RunFault
+answer_by sheets words open_log before after =
+    answer_shown sheets (folders_by (question_of_words sheets words) open_log) (given_between before after) words
 
 -- A run ends with the answer to its command line, from what it opened and what the clock returned. It
 -- opened the first of the files that the command line names, in the order of reading, each once; and
 -- unless memory ran out, none after the one that is the reason why there is no answer.
-pub record EndsAsShown (sheets : List SheetMeaning) (words : List (List ℕ)) (before after : Sources) (status : Status)
+pub record EndsAsShown (sheets : List SheetSpec) (words : List (List ℕ)) (before after : Sources) (status : Status)
     (unwritten written : Outputs) : Type 0 where
-  pub openings : List Opening
-  pub all : openings_of after.files.openings ≡ openings_of before.files.openings ++ openings
+  pub open_log : List Opening
+  pub all : openings_of after.files.open_log ≡ openings_of before.files.open_log ++ open_log
   pub unopened : List (List ℕ)
-  pub names : names_wanted (question_of_words sheets words) None ≡ map (λ o. o.name) openings ++ unopened
+  pub names : names_wanted (question_of_words sheets words) None ≡ map (λ o. o.name) open_log ++ unopened
   pub last : ¬ (status ≡ NoMemory) → (behind : List (List ℕ))
-      × (names_wanted (question_of_words sheets words) (failing_file (answer_by sheets words openings before.clock after.clock))
-      ≡ map (λ o. o.name) openings ++ behind)
-  pub ends : EndsAs (answer_by sheets words openings before.clock after.clock) status unwritten written
+      × (names_wanted (question_of_words sheets words) (failing_file (answer_by sheets words open_log before.clock after.clock))
+      ≡ map (λ o. o.name) open_log ++ behind)
+  pub ends : EndsAs (answer_by sheets words open_log before.clock after.clock) status unwritten written
 
 -- The clock is read after all files, at most once. The fields, for any contents of the files that agree
 -- with what was read of them:
@@ -102,13 +102,13 @@ pub record EndsAsShown (sheets : List SheetMeaning) (words : List (List ℕ)) (b
 -- - `failed`: the clock has failed, if they can and a file or the clock has failed.
 -- - `minute`: an observable clock returned its next minute, if it returned one.
 pub record IsReadLast {T : Type 0} (asks unread : Type 0) (shows : Bool → List Opening → Folders → Type 0) (has_files : Folders → Type 0)
-    (before after : Sources) (result : Result T NoAnswer) : Type 0 where
-  pub openings : List Opening
-  pub all : openings_of after.files.openings ≡ openings_of before.files.openings ++ openings
-  pub last : (folders : Folders) → shows false openings folders → ¬ (has_files folders) → unread
-  pub once : (folders : Folders) → shows false openings folders → has_files folders → asks → IfErr result IsSettled
+    (before after : Sources) (result : Result T RunFault) : Type 0 where
+  pub open_log : List Opening
+  pub all : openings_of after.files.open_log ≡ openings_of before.files.open_log ++ open_log
+  pub last : (folders : Folders) → shows false open_log folders → ¬ (has_files folders) → unread
+  pub once : (folders : Folders) → shows false open_log folders → has_files folders → asks → IfErr result IsSettled
       → (minute : ℤ) × (after.clock ≡ clock_after (Ok minute) before.clock)
-  pub failed : (folders : Folders) → shows true openings folders → has_files folders → reading_failed result ≡ true
+  pub failed : (folders : Folders) → shows true open_log folders → has_files folders → reading_failed result ≡ true
       → Rose before.clock.faults after.clock.faults
   pub minute : IsTrue before.clock.is_observable
       → IfSome (given_between before.clock after.clock) (λ minute. minute ≡ next_minute before.clock)

@@ -2,7 +2,7 @@
 -- (this project).
 use Rattle.std.specs.Prelude.{ℕ, pos, List, [], ◌∷◌, codes}
 use Rattle.harmonics_text.specs.Worked.{file_of, pier_lines}
-use Rattle.tide_edge.specs.Calls.{HeldCalls}
+use Rattle.tide_edge.specs.FaultSchedule.{HeldCalls}
 use Rattle.tide_edge.specs.Memory.{HeldClock, HeldFiles, HeldSink, clock_state, files_state, sink_state}
 use Rattle.tide_desk.specs.Promises.{Objects, States, objects, states}
 
@@ -20,11 +20,11 @@ pier_files = record {
 
 -- an empty output in memory, which accepts at most 10 bytes in a write and 1,000 bytes in all
 abbrev pub empty_sink : HeldSink
-empty_sink = record { taken = []; most = 10; room = 1000; calls = no_calls }
+empty_sink = record { accepted = []; most = 10; capacity = 1000; fault_schedule = no_calls }
 
 -- a clock at 2000-01-10T03:00Z
 abbrev pub pier_clock : HeldClock
-pier_clock = record { minute = pos 15791220; given = []; calls = no_calls }
+pier_clock = record { minute = pos 15791220; returned_minutes = []; fault_schedule = no_calls }
 
 -- the states of objects in memory
 abbrev pub in_memory : States HeldFiles HeldSink HeldSink HeldClock

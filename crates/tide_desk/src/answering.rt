@@ -1,8 +1,8 @@
 //! The answer to a command line, or the first reason why there is none.
 
 ghost use Rattle.std.specs.Prelude.{◌≡◌, false, IsTrue, None, IsOk, IfOk, IfErr, IfSome, OnErr, if◌then◌else◌, map};
-ghost use Rattle.decimal_text.specs.Expected.{ReturnsUnless};
-ghost use Rattle.named_files.specs.NoAnswers.{reading_failed, refused_over, faulty, is_out_of_memory};
+ghost use Rattle.decimal_text.specs.Expected.{EqualsUnlessNoMemory};
+ghost use Rattle.named_files.specs.RunFaults.{reading_failed, refused_over, faulty, is_out_of_memory};
 ghost use Rattle.named_files.specs.Opened.{AreShown, AreShownFor, IsResultOf, failing_file, names_to};
 ghost use Rattle.named_files.specs.Readings.{files_allowed, files_in};
 ghost use Rattle.named_files.specs.Workings.Materials.{AreMaterials};
@@ -31,7 +31,7 @@ use crate::body::Body;
 use crate::reply::Reply;
 use crate::replying::body_with;
 use decimal_text::{Text, Words};
-use named_files::{Materials, NoAnswer, read_files};
+use named_files::{Materials, RunFault, read_files};
 use question::{Command, ValidQuestion};
 use report_sheets::Sheet;
 use station_table::OffsetTable;
@@ -53,18 +53,18 @@ pub fn answer_words<F: Files, K: Clock>(
     files: &mut F,
     clock: &mut K,
     sheets: Vec<Box<dyn Sheet>>,
-) -> Result<Reply, NoAnswer>
-    ensures shown { let meanings = map meaning sheets.items in let asked = question_of_words meanings words.now in
-        IsResultOf (names_wanted asked) (AreShownFor asked)
-        (λ folders. answer_shown meanings folders (given_between (K.state clock.old) (K.state clock.new)) words.now)
-        (F.state files.old).openings (F.state files.new).openings result }
-    ensures reads { let asked = question_of_words (map meaning sheets.items) words.now in
-        WentOn (reading_failed result) (ReadsClock asked) (allowed_by asked)
+) -> Result<Reply, RunFault>
+    ensures shown { let sheet_specs = map sheet_spec sheets.items in let parsed_question = question_of_words sheet_specs words.now in
+        IsResultOf (names_wanted parsed_question) (AreShownFor parsed_question)
+        (λ folders. answer_shown sheet_specs folders (given_between (K.state clock.old) (K.state clock.new)) words.now)
+        (F.state files.old).open_log (F.state files.new).open_log result }
+    ensures reads { let parsed_question = question_of_words (map sheet_spec sheets.items) words.now in
+        WentOn (reading_failed result) (ReadsClock parsed_question) (allowed_by parsed_question)
         (sources (F.state files.old) (K.state clock.old)) (sources (F.state files.new) (K.state clock.new)) }
-    ensures unopened { ¬ (NamesFile (question_of_words (map meaning sheets.items) words.now)) → files.new ≡ files.old }
-    ensures clock_unread { ¬ (ReadsClock (question_of_words (map meaning sheets.items) words.now)) → clock.new ≡ clock.old }
-    ensures last { let asked = question_of_words (map meaning sheets.items) words.now in
-        IsReadLast (ReadsClock asked) (clock.new ≡ clock.old) (AreShownFor asked) (λ folders. HasFiles folders asked)
+    ensures unopened { ¬ (NamesFile (question_of_words (map sheet_spec sheets.items) words.now)) → files.new ≡ files.old }
+    ensures clock_unread { ¬ (ReadsClock (question_of_words (map sheet_spec sheets.items) words.now)) → clock.new ≡ clock.old }
+    ensures last { let parsed_question = question_of_words (map sheet_spec sheets.items) words.now in
+        IsReadLast (ReadsClock parsed_question) (clock.new ≡ clock.old) (AreShownFor parsed_question) (λ folders. HasFiles folders parsed_question)
         (sources (F.state files.old) (K.state clock.old)) (sources (F.state files.new) (K.state clock.new)) result }
 {
     let question = read_words(alloc, words, &sheets)?;
@@ -84,13 +84,13 @@ pub fn answer_words<F: Files, K: Clock>(
 }
 
 /// Returns the answer to a request that names no file.
-fn answer_without(alloc: Global, question: &ValidQuestion<'_>) -> Result<Reply, NoAnswer>
-    ensures exact { ReturnsUnless is_out_of_memory (faulty (refused_from (answered_without_files question.now))) result }
+fn answer_without(alloc: Global, question: &ValidQuestion<'_>) -> Result<Reply, RunFault>
+    ensures exact { EqualsUnlessNoMemory is_out_of_memory (faulty (refused_from (answered_without_files question.now))) result }
     ensures read { reading_failed result ≡ false }
 {
     match answer_alone(alloc, question) {
         Ok(answer) => Ok(Reply::made(answer)),
-        Err(refusal) => Err(NoAnswer::Faulty(Fault::Refused(refusal))),
+        Err(refusal) => Err(RunFault::Faulty(Fault::Refused(refusal))),
     }
 }
 
@@ -102,12 +102,12 @@ fn answer_over<F: Files, K: Clock>(
     files: &mut F,
     clock: &mut K,
     sheets: Vec<Box<dyn Sheet>>,
-) -> Result<Reply, NoAnswer>
+) -> Result<Reply, RunFault>
     requires zone { IsZoneWord question.now.zone }
     ensures shown { IsResultOf (names_to name.now question.now) (AreShown question.now)
-        (λ folders. shown_over (map meaning sheets.items) folders (given_between (K.state clock.old) (K.state clock.new))
+        (λ folders. shown_over (map sheet_spec sheets.items) folders (given_between (K.state clock.old) (K.state clock.new))
         question.now name.now)
-        (F.state files.old).openings (F.state files.new).openings result }
+        (F.state files.old).open_log (F.state files.new).open_log result }
     ensures reads { WentOn (reading_failed result) (IsTrue (reads_clock question.now.command)) (files_allowed question.now)
         (sources (F.state files.old) (K.state clock.old)) (sources (F.state files.new) (K.state clock.new)) }
     ensures clock_unread { ¬ (IsTrue (reads_clock question.now.command)) → clock.new ≡ clock.old }
@@ -126,13 +126,13 @@ fn answer_over<F: Files, K: Clock>(
 }
 
 /// Returns the present minute if the command needs it, and 0 otherwise.
-fn read_minute<K: Clock>(clock: &mut K, question: &ValidQuestion<'_>) -> Result<i64, NoAnswer>
+fn read_minute<K: Clock>(clock: &mut K, question: &ValidQuestion<'_>) -> Result<i64, RunFault>
     ensures minute { IsTrue (K.state clock.old).is_observable
         → IfSome (given_between (K.state clock.old) (K.state clock.new)) (λ minute. minute ≡ next_minute (K.state clock.old)) }
-    ensures given { ReturnsUnless (λ none. false)
+    ensures given { EqualsUnlessNoMemory (λ none. false)
         (minute_read question.now.command (given_between (K.state clock.old) (K.state clock.new))) result }
     ensures in_range { IfOk result IsClockMinute }
-    ensures unread { IfErr result (λ none. none ≡ NoAnswer.Unread) }
+    ensures unread { IfErr result (λ none. none ≡ RunFault.Unread) }
     ensures asked { OnErr result (IsTrue (reads_clock question.now.command)) }
     ensures time { K.state clock.new ≡ (if reads_clock question.now.command
         then clock_after (reading_of result) (K.state clock.old) else K.state clock.old) }
@@ -143,7 +143,7 @@ fn read_minute<K: Clock>(clock: &mut K, question: &ValidQuestion<'_>) -> Result<
     }
     match clock.minute() {
         Ok(minute) => Ok(minute),
-        Err(_) => Err(NoAnswer::Unread),
+        Err(_) => Err(RunFault::Unread),
     }
 }
 
@@ -161,11 +161,11 @@ fn answer_with(
     question: &ValidQuestion<'_>,
     now: i64,
     sheets: Vec<Box<dyn Sheet>>,
-) -> Result<Reply, NoAnswer>
+) -> Result<Reply, RunFault>
     requires materials { AreMaterials read }
     requires now { IsClockMinute now }
-    ensures exact { ReturnsUnless is_out_of_memory (refused_over read.table (answered_over_book (is_report question.now.command)
-        (map meaning sheets.items) read.book read.table question.now (given_with read now))) result }
+    ensures exact { EqualsUnlessNoMemory is_out_of_memory (refused_over read.table (answered_over_book (is_report question.now.command)
+        (map sheet_spec sheets.items) read.book read.table question.now (given_with read now))) result }
     ensures read { reading_failed result ≡ false }
     ensures of_no_file { failing_file result ≡ None }
 {
@@ -175,20 +175,20 @@ fn answer_with(
         zone,
         certificate,
     } = read;
-    let given = Given {
+    let inputs = Given {
         zone,
         certificate,
         now,
     };
     let stations = StationData::new(&book, &table);
-    let replied = body_with(alloc, &stations, question, &given, sheets);
-    drop(given);
+    let replied = body_with(alloc, &stations, question, &inputs, sheets);
+    drop(inputs);
     drop(book);
     refused_over(replied, table)
 }
 
 /// Returns the answer of `replied` to a command line; `table` is the table of offsets that was read.
-fn refused_over(replied: Result<Body, Refusal>, table: OffsetTable) -> Result<Reply, NoAnswer>
+fn refused_over(replied: Result<Body, Refusal>, table: OffsetTable) -> Result<Reply, RunFault>
     requires valid { IfOk replied IsReply }
     ensures exact { result ≡ refused_over table (answer_from replied) }
     ensures read { reading_failed result ≡ false }
@@ -196,6 +196,6 @@ fn refused_over(replied: Result<Body, Refusal>, table: OffsetTable) -> Result<Re
 {
     match replied {
         Ok(body) => Ok(Reply::of(body)),
-        Err(refusal) => Err(NoAnswer::Refused(refusal, table)),
+        Err(refusal) => Err(RunFault::Refused(refusal, table)),
     }
 }

@@ -1,7 +1,7 @@
 //! The request of a command line.
 
 ghost use Rattle.std.specs.Prelude.{◌<◌, [], Some, length, map, unwrap_or, IfOk};
-ghost use Rattle.decimal_text.specs.Expected.{Excused, ReturnsUnless};
+ghost use Rattle.decimal_text.specs.Expected.{Excused, EqualsUnlessNoMemory};
 ghost use Rattle.question.specs.Asked.{IsAsked};
 ghost use Rattle.question.specs.Questions.{is_out_of_memory as ask_is_out_of_memory};
 ghost use Rattle.report_sheets.specs.Pages.{missing_of};
@@ -25,7 +25,7 @@ pub fn read_words(
     words: &Words,
     sheets: &Vec<Box<dyn Sheet>>,
 ) -> Result<Question, Fault>
-    ensures exact { ReturnsUnless is_out_of_memory (question_of_words (map meaning sheets.now.items) words.now) result }
+    ensures exact { EqualsUnlessNoMemory is_out_of_memory (question_of_words (map sheet_spec sheets.now.items) words.now) result }
     ensures asked { IfOk result IsAsked }
 {
     let question = question_in_words(alloc, words)?;
@@ -34,7 +34,7 @@ pub fn read_words(
 
 /// Returns the request of the arguments `words`; their command isn't `serve`.
 fn question_in_words(alloc: Global, words: &Words) -> Result<Question, AskFault>
-    ensures exact { ReturnsUnless ask_is_out_of_memory (question_in words.now) result }
+    ensures exact { EqualsUnlessNoMemory ask_is_out_of_memory (question_in words.now) result }
     ensures asked { IfOk result IsAsked }
 {
     if asks_to_serve(words) {
@@ -47,7 +47,7 @@ fn question_in_words(alloc: Global, words: &Words) -> Result<Question, AskFault>
 /// Returns `Ok` if each word in `wanted` is the word of one of `sheets`.
 fn check_found(wanted: &Option<Words>, sheets: &Vec<Box<dyn Sheet>>) -> Result<(), Fault>
     ensures { let wanted = unwrap_or wanted.now [] in
-        ReturnsUnless is_out_of_memory (found_in wanted (missing_of (map meaning sheets.now.items) wanted)) result }
+        EqualsUnlessNoMemory is_out_of_memory (found_in wanted (missing_of (map sheet_spec sheets.now.items) wanted)) result }
 {
     match wanted {
         Some(wanted) => match missing(sheets, wanted) {

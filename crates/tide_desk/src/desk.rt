@@ -1,7 +1,7 @@
 //! One run, from the arguments to the exit status.
 
 ghost use Rattle.std.specs.Prelude.{◌≡◌, false, Ok, if◌then◌else◌, map};
-ghost use Rattle.named_files.specs.NoAnswers.{is_read_fault};
+ghost use Rattle.named_files.specs.RunFaults.{is_read_fault};
 ghost use Rattle.tide_desk.specs.Outcomes.{EndsAs, IsSilent, IsUntouched, outputs};
 ghost use Rattle.tide_desk.specs.Promises.{AnswersAs, objects, states};
 ghost use Rattle.tide_fault.specs.declared.status.Status.{Status};
@@ -49,7 +49,7 @@ pub fn run<F: Files, O: Sink, E: Sink, K: Clock>(
     clock: &mut K,
     sheets: Vec<Box<dyn Sheet>>,
 ) -> Status
-    ensures { AnswersAs (states F.state O.state E.state K.state) (map meaning sheets.items) words.now result
+    ensures { AnswersAs (states F.state O.state E.state K.state) (map sheet_spec sheets.items) words.now result
         (objects files.old out.old err.old clock.old) (objects files.new out.new err.new clock.new) }
 {
     match answer_words(alloc, words, files, clock, sheets) {

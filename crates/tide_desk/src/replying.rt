@@ -1,7 +1,7 @@
 //! The source of the answer to a request with the files that were read.
 
 ghost use Rattle.std.specs.Prelude.{◌≡◌, ◌&&◌, IfOk, map};
-ghost use Rattle.decimal_text.specs.Expected.{ReturnsUnless};
+ghost use Rattle.decimal_text.specs.Expected.{EqualsUnlessNoMemory};
 ghost use Rattle.tide_answer.specs.Answers.{answered};
 ghost use Rattle.tide_fault.specs.Faults.{refusal_is_out_of_memory};
 ghost use Rattle.tide_answer.specs.Givens.{IsGiven};
@@ -29,22 +29,22 @@ pub fn body_with(
     alloc: Global,
     stations: &StationData<'_>,
     question: &ValidQuestion<'_>,
-    given: &Given,
+    inputs: &Given,
     sheets: Vec<Box<dyn Sheet>>,
 ) -> Result<Body, Refusal>
-    requires given { IsGiven given.now }
-    ensures exact { ReturnsUnless refusal_is_out_of_memory (answered_over_book (is_report question.now.command)
-        (map meaning sheets.items) stations.now.book stations.now.table question.now given.entry.now) (answer_by result) }
+    requires inputs { IsGiven inputs.now }
+    ensures exact { EqualsUnlessNoMemory refusal_is_out_of_memory (answered_over_book (is_report question.now.command)
+        (map sheet_spec sheets.items) stations.now.book stations.now.table question.now inputs.entry.now) (answer_by result) }
     ensures valid { IfOk result IsReply }
     ensures streams { IfOk result (λ body. is_stream body
-        ≡ (may_stream question.now given.entry.now.zone
-        && is_streaming (prepared stations.now.book stations.now.table question.now given.entry.now))) }
+        ≡ (may_stream question.now inputs.entry.now.zone
+        && is_streaming (prepared stations.now.book stations.now.table question.now inputs.entry.now))) }
 {
     if is_report(question.get().command) {
-        let answer = report(alloc, stations, question, given, sheets)?;
+        let answer = report(alloc, stations, question, inputs, sheets)?;
         return Ok(Body::Text(answer));
     }
-    body_for(alloc, stations, question, given)
+    body_for(alloc, stations, question, inputs)
 }
 
 /// Returns true if `command` is `report`.
@@ -59,18 +59,18 @@ fn body_for(
     alloc: Global,
     stations: &StationData<'_>,
     question: &ValidQuestion<'_>,
-    given: &Given,
+    inputs: &Given,
 ) -> Result<Body, Refusal>
-    requires given { IsGiven given.now }
-    ensures exact { ReturnsUnless refusal_is_out_of_memory
-        (answered stations.now.book stations.now.table question.now given.entry.now) (answer_by result) }
+    requires inputs { IsGiven inputs.now }
+    ensures exact { EqualsUnlessNoMemory refusal_is_out_of_memory
+        (answered stations.now.book stations.now.table question.now inputs.entry.now) (answer_by result) }
     ensures valid { IfOk result IsReply }
     ensures streams { IfOk result (λ body. is_stream body
-        ≡ (may_stream question.now given.entry.now.zone
-        && is_streaming (prepared stations.now.book stations.now.table question.now given.entry.now))) }
+        ≡ (may_stream question.now inputs.entry.now.zone
+        && is_streaming (prepared stations.now.book stations.now.table question.now inputs.entry.now))) }
 {
-    let seen = given.view();
-    if may_stream(question.get(), &given.zone) {
+    let seen = inputs.view();
+    if may_stream(question.get(), &inputs.zone) {
         let ready = prepare_valid(alloc, stations, question, seen)?;
         if ready.streams() {
             return Ok(Body::Stream(ready));

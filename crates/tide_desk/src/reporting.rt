@@ -1,7 +1,7 @@
 //! The report of a station's events.
 
 ghost use Rattle.std.specs.Prelude.{◌≡◌, ◌≢◌, ◌≤◌, [], All, IfOk, map, unwrap_or};
-ghost use Rattle.decimal_text.specs.Expected.{ReturnsUnless};
+ghost use Rattle.decimal_text.specs.Expected.{EqualsUnlessNoMemory};
 ghost use Rattle.event_text.specs.Lines.{IsListed};
 ghost use Rattle.harmonics_book.specs.declared.book.Units.{Units};
 ghost use Rattle.report_sheets.specs.Pages.{pages_of};
@@ -29,17 +29,17 @@ pub fn report(
     alloc: Global,
     stations: &StationData<'_>,
     question: &ValidQuestion<'_>,
-    given: &Given,
+    inputs: &Given,
     sheets: Vec<Box<dyn Sheet>>,
 ) -> Result<Answer, Refusal>
-    requires given { IsGiven given.now }
-    ensures { ReturnsUnless refusal_is_out_of_memory
-        (reported (map meaning sheets.items) stations.now.book stations.now.table question.now given.entry.now.now) result }
+    requires inputs { IsGiven inputs.now }
+    ensures { EqualsUnlessNoMemory refusal_is_out_of_memory
+        (reported (map sheet_spec sheets.items) stations.now.book stations.now.table question.now inputs.entry.now.now) result }
 {
     let book = stations.book().get();
     let question = question.get();
-    let listed = station_events(alloc, book, stations.table(), question, given)?;
-    let text = pages(alloc, listed, given.now, &question.sheets, sheets)?;
+    let listed = station_events(alloc, book, stations.table(), question, inputs)?;
+    let text = pages(alloc, listed, inputs.now, &question.sheets, sheets)?;
     Ok(Answer {
         text,
         rejected: false,
@@ -59,7 +59,7 @@ fn pages(
     requires units { listed.units ≢ Units.KnotsSquared }
     requires events { All (IsListed listed.units) listed.events }
     ensures { IfOk result (λ text. text
-        ≡ pages_of (map meaning sheets.items) (unwrap_or wanted.now []) (head_of listed now) listed.events) }
+        ≡ pages_of (map sheet_spec sheets.items) (unwrap_or wanted.now []) (head_of listed now) listed.events) }
 {
     let head = Head {
         name: listed.name,

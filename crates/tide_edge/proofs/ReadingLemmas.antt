@@ -12,7 +12,7 @@ use Rattle.tide_edge.specs.declared.read_all_fault.ReadAllFault.{ReadAllFault}
 use Rattle.tide_edge.specs.declared.read_all_fault.ReadAllFault.TheVariants.{Failed as ReadFailed, TooLong, NoMemory}
 use Rattle.decimal_text.specs.Expected.{Source, Meets, is_outside_fault}
 use Rattle.tide_edge.specs.Faults.{faults_after}
-use Rattle.tide_edge.specs.FileStates.{FilesState, Opening, Openings, Store, files_after_open, files_after_read, just_opened, listed, opening_after_failure, opening_after_read, openings_of}
+use Rattle.tide_edge.specs.FileStates.{FilesState, Opening, Openings, FileContents, files_after_open, files_after_read, just_opened, as_list, opening_after_failure, opening_after_read, openings_of}
 use Rattle.tide_edge.specs.StoreLaws.{AreOfStore, IsLawful, IsOfStore, IsReadOf}
 use Rattle.tide_edge.specs.Whole.{Allowance, HasPassed, IsOutOfMemory, OpenedOnce, ReadWithin, Shows, both, one_file, source_of, whole}
 use Rattle.tide_edge.specs.Workings.MemoryLaws.{listed_read}
@@ -51,44 +51,44 @@ ends_few : (is_zero : Bool) → (if is_zero then 0 + 1 else 0) ≤ 1
 ends_few true = omega arith
 ends_few false = omega arith
 
-longer : (count : ℕ) (bytes room : List ℕ) → count ≤ length room → length (bytes ++ take count room) ≡ length bytes + count
-longer count bytes room within = rw (length-append bytes (take count room), length-take-le count room within) refl
+longer : (count : ℕ) (bytes buffer : List ℕ) → count ≤ length buffer → length (bytes ++ take count buffer) ≡ length bytes + count
+longer count bytes buffer within = rw (length-append bytes (take count buffer), length-take-le count buffer within) refl
 
 -- these bytes of a file were read so far, and then there was one more `read`
 module _ (limit : ℕ) (bytes : List ℕ) (before now after : FilesState) (so_far : IsSoFar before now bytes)
     (within : length bytes ≤ limit) where
   -- the file after it
-  came : (opening : Opening) (store : after.store ≡ now.store) (taken : List ℕ) (result : Result (Unit {0}) ReadAllFault)
-      → opening.name ≡ so_far.name → after.openings ≡ record now.openings { latest = Some opening }
+  came : (opening : Opening) (file_contents : after.file_contents ≡ now.file_contents) (accepted : List ℕ) (result : Result (Unit {0}) ReadAllFault)
+      → opening.name ≡ so_far.name → after.open_log ≡ record now.open_log { latest = Some opening }
       → after.faults ≡ faults_after (is_outside_fault source_of result) now.faults → opening.ends ≤ 1
       → length opening.bytes ≤ limit + PIECE → (result ≡ Err TooLong) ↔ (limit < length opening.bytes)
       → ((firm : Bool) (file : Option (List ℕ)) → Shows limit firm opening file
-      → Meets source_of (IsTrue firm) (whole limit file) (all_taken taken result))
-      → HasCome limit before after taken result
-  came opening store taken result named openings faults ends few too_long answer = record {
+      → Meets source_of (IsTrue firm) (whole limit file) (all_taken accepted result))
+      → HasCome limit before after accepted result
+  came opening file_contents accepted result named open_log faults ends few too_long answer = record {
     opening = opening;
     fresh = rw named so_far.fresh;
-    openings = rw so_far.openings at openings;
+    open_log = rw so_far.open_log at open_log;
     ends = ends;
     bytes = few;
-    store = store ∙ so_far.store;
+    file_contents = file_contents ∙ so_far.file_contents;
     faults = faults ∙ ap (faults_after (is_outside_fault source_of result)) so_far.faults;
     too_long = too_long;
     answer = answer;
   }
 
-  module _ (count : ℕ) (room : List ℕ) (is : after ≡ files_after_read (Ok count) room now) where
+  module _ (count : ℕ) (buffer : List ℕ) (is : after ≡ files_after_read (Ok count) buffer now) where
     -- the file after a piece was read
     abbrev last : Opening
-    last = opening_after_read count room (still_open so_far.name bytes)
+    last = opening_after_read count buffer (still_open so_far.name bytes)
 
-    came_on : (taken : List ℕ) (result : Result (Unit {0}) ReadAllFault) → is_outside_fault source_of result ≡ false
+    came_on : (accepted : List ℕ) (result : Result (Unit {0}) ReadAllFault) → is_outside_fault source_of result ≡ false
         → length last.bytes ≤ limit + PIECE → (result ≡ Err TooLong) ↔ (limit < length last.bytes)
         → ((firm : Bool) (file : Option (List ℕ)) → Shows limit firm last file
-        → Meets source_of (IsTrue firm) (whole limit file) (all_taken taken result))
-        → HasCome limit before after taken result
-    came_on taken result unfailed few too_long answer =
-        came last (ap (λ s. s.store) is) taken result refl (rw (is, so_far.openings) refl) (rw (is, unfailed) refl) (ends_few (count == 0)) few
+        → Meets source_of (IsTrue firm) (whole limit file) (all_taken accepted result))
+        → HasCome limit before after accepted result
+    came_on accepted result unfailed few too_long answer =
+        came last (ap (λ s. s.file_contents) is) accepted result refl (rw (is, so_far.open_log) refl) (rw (is, unfailed) refl) (ends_few (count == 0)) few
         too_long answer
 
     -- the end was found
@@ -101,33 +101,33 @@ module _ (limit : ℕ) (bytes : List ℕ) (before now after : FilesState) (so_fa
         ended_whole limit bytes parts.0 file within (rw all at parts.1) (parts.2 (rw none (omega arith))))
 
     -- more than the limit was read
-    pub come_long : length room ≡ PIECE → count ≤ length room → limit - length bytes < count → HasCome limit before after bytes (Err TooLong)
+    pub come_long : length buffer ≡ PIECE → count ≤ length buffer → limit - length bytes < count → HasCome limit before after bytes (Err TooLong)
     come_long piece few over =
-        let all = longer count bytes room few in
+        let all = longer count bytes buffer few in
         let long : limit < length last.bytes = rw all (omega (arith, over)) in
         came_on bytes (Err TooLong) refl (rw all (omega (arith, within, piece, few))) (λ e. long, λ l. refl)
         (λ firm file shows. let parts = shows.read (or_true (nat_lt 0 last.ends) (nat_lt limit (length last.bytes)) (is_long limit last.bytes long)) in
         long_whole limit last.bytes parts.0 file long parts.1)
 
     -- memory ran out
-    pub come_full : (taken : List ℕ) (result : Result (Unit {0}) ReadAllFault) → count ≤ length room → count ≤ limit - length bytes
-        → IsErrAnd result (λ it. it ≡ NoMemory) → HasCome limit before after taken result
-    come_full taken (Ok done) few under fault = absurd fault
-    come_full taken (Err it) few under fault =
-        let short : length last.bytes ≤ limit = rw (longer count bytes room few) (omega (arith, within, under)) in
+    pub come_full : (accepted : List ℕ) (result : Result (Unit {0}) ReadAllFault) → count ≤ length buffer → count ≤ limit - length bytes
+        → IsErrAnd result (λ it. it ≡ NoMemory) → HasCome limit before after accepted result
+    come_full accepted (Ok done) few under fault = absurd fault
+    come_full accepted (Err it) few under fault =
+        let short : length last.bytes ≤ limit = rw (longer count bytes buffer few) (omega (arith, within, under)) in
         rw fault
-        (came_on taken (Err NoMemory) refl (omega (arith, short)) (λ e. absurd cc, λ over. absurd (omega (arith, over, short)))
+        (came_on accepted (Err NoMemory) refl (omega (arith, short)) (λ e. absurd cc, λ over. absurd (omega (arith, over, short)))
         (λ firm file shows. tt))
 
   -- a read failed
-  pub come_failed : (room : List ℕ) (failed : Failed) (result : Result (Unit {0}) ReadAllFault)
-      → after ≡ files_after_read (Err failed) room now → IsErrAnd result (λ it. it ≡ ReadFailed)
+  pub come_failed : (buffer : List ℕ) (failed : Failed) (result : Result (Unit {0}) ReadAllFault)
+      → after ≡ files_after_read (Err failed) buffer now → IsErrAnd result (λ it. it ≡ ReadFailed)
       → HasCome limit before after bytes result
-  come_failed room failed (Ok done) is fault = absurd fault
-  come_failed room failed (Err it) is fault =
+  come_failed buffer failed (Ok done) is fault = absurd fault
+  come_failed buffer failed (Err it) is fault =
       rw fault
-      (came (opening_after_failure (still_open so_far.name bytes)) (ap (λ s. s.store) is) bytes (Err ReadFailed) refl
-      (rw (is, so_far.openings) refl) (ap (λ s. s.faults) is) (omega arith) (omega (arith, within))
+      (came (opening_after_failure (still_open so_far.name bytes)) (ap (λ s. s.file_contents) is) bytes (Err ReadFailed) refl
+      (rw (is, so_far.open_log) refl) (ap (λ s. s.faults) is) (omega arith) (omega (arith, within))
       (λ e. absurd cc, λ over. absurd (omega (arith, over, within)))
       (λ firm file shows f. rw (shows.absent f (not_long limit bytes within) refl) refl))
 
@@ -138,12 +138,12 @@ fault_taken : (bytes : List ℕ) (result : Result (Unit {0}) ReadAllFault)
 fault_taken bytes (Ok done) = refl
 fault_taken bytes (Err fault) = refl
 
-module _ (opened : Unit {0}) (limit : ℕ) (name taken : List ℕ) (s after : FilesState) (result : Result (Unit {0}) ReadAllFault)
-    (come : HasCome limit (files_after_open (Ok opened) name s) after taken result) where
-  latest_is : after.openings ≡ record { earlier = openings_of s.openings; latest = Some come.opening }
-  latest_is = come.openings
+module _ (opened : Unit {0}) (limit : ℕ) (name accepted : List ℕ) (s after : FilesState) (result : Result (Unit {0}) ReadAllFault)
+    (come : HasCome limit (files_after_open (Ok opened) name s) after accepted result) where
+  latest_is : after.open_log ≡ record { earlier = openings_of s.open_log; latest = Some come.opening }
+  latest_is = come.open_log
 
-  pub opened_once : OpenedOnce source_of (whole limit) limit name s.openings after.openings (all_taken taken result)
+  pub opened_once : OpenedOnce source_of (whole limit) limit name s.open_log after.open_log (all_taken accepted result)
   opened_once =
       let same : Some (just_opened true name) ≡ Some (just_opened true come.opening.name) = come.fresh in
       let named : come.opening.name ≡ name = sym (ap (λ latest. option_map_or (λ it. it.name) latest []) same) in
@@ -151,16 +151,16 @@ module _ (opened : Unit {0}) (limit : ℕ) (name taken : List ℕ) (s after : Fi
 
   pub opened_within : ReadWithin (one_file limit) (is_outside_fault source_of result) s after
   opened_within = record {
-    openings = come.opening ∷ [];
+    open_log = come.opening ∷ [];
     all = ap openings_of latest_is;
     opens = omega arith;
     ends = omega (arith, come.ends);
     bytes = omega (arith, come.bytes);
-    store = come.store;
+    file_contents = come.file_contents;
     faults = come.faults;
   }
 
-  pub opened_long : (result ≡ Err TooLong) ↔ HasPassed limit s.openings after.openings
+  pub opened_long : (result ≡ Err TooLong) ↔ HasPassed limit s.open_log after.open_log
   opened_long = (
     λ e. (come.opening, latest_is, come.too_long.0 e),
     λ has.
@@ -174,21 +174,21 @@ module _ (failed : Failed) (limit : ℕ) (name : List ℕ) (s : FilesState) wher
   abbrev unopened : FilesState
   unopened = files_after_open {T = Unit {0}} (Err failed) name s
 
-  pub unopened_once : OpenedOnce source_of (whole limit) limit name s.openings unopened.openings (Err ReadFailed)
+  pub unopened_once : OpenedOnce source_of (whole limit) limit name s.open_log unopened.open_log (Err ReadFailed)
   unopened_once = inr (just_opened false name, refl, refl, λ firm file shows f. rw (shows.absent f refl refl) refl)
 
   pub unopened_within : ReadWithin (one_file limit) true s unopened
   unopened_within = record {
-    openings = just_opened false name ∷ [];
+    open_log = just_opened false name ∷ [];
     all = refl;
     opens = omega arith;
     ends = omega arith;
     bytes = omega arith;
-    store = refl;
+    file_contents = refl;
     faults = refl;
   }
 
-  pub unopened_short : HasPassed limit s.openings unopened.openings → ⊥
+  pub unopened_short : HasPassed limit s.open_log unopened.open_log → ⊥
   unopened_short has =
       let same : Some (just_opened false name) ≡ Some has.0 = ap (λ o. o.latest) has.1 in
       let one : just_opened false name ≡ has.0 = cc in
@@ -214,12 +214,12 @@ once_as source expected also expected_also limit name before after result other 
 -- reading nothing is within each allowance
 pub read_none : (allowed : Allowance) (s : FilesState) → ReadWithin allowed false s s
 read_none allowed s = record {
-  openings = [];
-  all = sym (append-nil (openings_of s.openings));
+  open_log = [];
+  all = sym (append-nil (openings_of s.open_log));
   opens = omega arith;
   ends = omega arith;
   bytes = omega arith;
-  store = refl;
+  file_contents = refl;
   faults = refl;
 }
 
@@ -233,12 +233,12 @@ go_on before between after first second is next =
 pub read_then : (a b : Allowance) (failed : Bool) (before between after : FilesState)
     → ReadWithin a false before between → ReadWithin b failed between after → ReadWithin (both a b) failed before after
 read_then a b failed before between after first second = record {
-  openings = first.openings ++ second.openings;
-  all = go_on before.openings between.openings after.openings first.openings second.openings first.all second.all;
-  opens = rw (length-append first.openings second.openings) (omega (arith, first.opens, second.opens));
-  ends = rw (sum_by-append (λ (o : Opening). o.ends) first.openings second.openings) (omega (arith, first.ends, second.ends));
-  bytes = rw (sum_by-append (λ (o : Opening). length o.bytes) first.openings second.openings) (omega (arith, first.bytes, second.bytes));
-  store = second.store ∙ first.store;
+  open_log = first.open_log ++ second.open_log;
+  all = go_on before.open_log between.open_log after.open_log first.open_log second.open_log first.all second.all;
+  opens = rw (length-append first.open_log second.open_log) (omega (arith, first.opens, second.opens));
+  ends = rw (sum_by-append (λ (o : Opening). o.ends) first.open_log second.open_log) (omega (arith, first.ends, second.ends));
+  bytes = rw (sum_by-append (λ (o : Opening). length o.bytes) first.open_log second.open_log) (omega (arith, first.bytes, second.bytes));
+  file_contents = second.file_contents ∙ first.file_contents;
   faults = second.faults ∙ ap (faults_after failed) first.faults;
 }
 
@@ -259,19 +259,19 @@ absent_as true true G absent reads t = never (sym reads)
 absent_as true false G absent reads t = never t
 
 -- an opening shows the contents of the file that it opened
-pub shows_by_law : (limit : ℕ) (firm : Bool) (store : Store) (o : Opening) → (IsTrue firm → IsTrue store.is_steady) → IsOfStore store o
-    → Shows limit firm o (store.folder o.name)
-shows_by_law limit firm store o steady (left, is) = record {
+pub shows_by_law : (limit : ℕ) (firm : Bool) (file_contents : FileContents) (o : Opening) → (IsTrue firm → IsTrue file_contents.is_steady) → IsOfStore file_contents o
+    → Shows limit firm o (file_contents.folder o.name)
+shows_by_law limit firm file_contents o steady (left, is) = record {
   read = λ t. let opened = is_opened o.is_open (nat_lt 0 o.ends || nat_lt limit (length o.bytes)) t in
-      (left, content_some (store.folder o.name) o.bytes left (is.exists opened) (rw opened at is.prefix), is.whole);
-  absent = λ f out why. absent_as o.is_open o.read_failed (store.folder o.name ≡ None) (is.absent (steady f)) (is.steady (steady f)) why;
+      (left, content_some (file_contents.folder o.name) o.bytes left (is.exists opened) (rw opened at is.prefix), is.whole);
+  absent = λ f out why. absent_as o.is_open o.read_failed (file_contents.folder o.name ≡ None) (is.absent (steady f)) (is.steady (steady f)) why;
 }
 
 -- all openings are of the files that they opened
-pub all_of_store : (s : FilesState) → AreOfStore s → All (IsOfStore s.store) (openings_of s.openings)
+pub all_of_store : (s : FilesState) → AreOfStore s → All (IsOfStore s.file_contents) (openings_of s.open_log)
 all_of_store s of =
-    All-append (IsOfStore s.store) s.openings.earlier (listed s.openings.latest) of.earlier
-    (listed_read s.store s.rest s.openings.latest of.latest)
+    All-append (IsOfStore s.file_contents) s.open_log.earlier (as_list s.open_log.latest) of.earlier
+    (listed_read s.file_contents s.unread_bytes s.open_log.latest of.latest)
 
 memory_meets : {T E : Type 0} (source : E → Source) (firm : Type 0) (expected result : Result T E) → IsOutOfMemory source result
     → Meets source firm expected result
@@ -280,14 +280,14 @@ memory_meets source firm expected (Err fault) out = rw out tt
 
 -- the result of reading one file of observable files is the expected one for its contents
 pub own_once : {T E : Type 0} (source : E → Source) (expected : Option (List ℕ) → Result T E) (limit : ℕ) (name : List ℕ)
-    (before after : FilesState) (result : Result T E) → after.store ≡ before.store → IsLawful after
-    → OpenedOnce source expected limit name before.openings after.openings result → IsTrue before.store.is_observable
-    → Meets source (IsTrue before.store.is_steady) (expected (before.store.folder name)) result
-own_once source expected limit name before after result store lawful (inl (same, out)) t =
-    memory_meets source (IsTrue before.store.is_steady) (expected (before.store.folder name)) result out
-own_once source expected limit name before after result store lawful (inr (opening, named, is, answer)) t =
-    let of = lawful (rw store t) in
-    let latest : IfSome (Some opening) (λ o. IsReadOf after.store after.rest o) = rw is at of.latest in
-    let shows = shows_by_law limit before.store.is_steady before.store opening (λ f. f) (after.rest, rw store at latest) in
-    answer before.store.is_steady (before.store.folder name)
-    (subst (λ (n : List ℕ). Shows limit before.store.is_steady opening (before.store.folder n)) named shows)
+    (before after : FilesState) (result : Result T E) → after.file_contents ≡ before.file_contents → IsLawful after
+    → OpenedOnce source expected limit name before.open_log after.open_log result → IsTrue before.file_contents.is_observable
+    → Meets source (IsTrue before.file_contents.is_steady) (expected (before.file_contents.folder name)) result
+own_once source expected limit name before after result file_contents lawful (inl (same, out)) t =
+    memory_meets source (IsTrue before.file_contents.is_steady) (expected (before.file_contents.folder name)) result out
+own_once source expected limit name before after result file_contents lawful (inr (opening, named, is, answer)) t =
+    let of = lawful (rw file_contents t) in
+    let latest : IfSome (Some opening) (λ o. IsReadOf after.file_contents after.unread_bytes o) = rw is at of.latest in
+    let shows = shows_by_law limit before.file_contents.is_steady before.file_contents opening (λ f. f) (after.unread_bytes, rw file_contents at latest) in
+    answer before.file_contents.is_steady (before.file_contents.folder name)
+    (subst (λ (n : List ℕ). Shows limit before.file_contents.is_steady opening (before.file_contents.folder n)) named shows)

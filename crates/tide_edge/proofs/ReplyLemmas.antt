@@ -48,19 +48,19 @@ part_at (start ∷ more ∷ starts) bytes zero end within next last = grind (ari
 part_at (start ∷ more ∷ starts) bytes (suc i) end within next last =
     part_at (more ∷ starts) bytes i end (omega arith) (λ h. grind (arith, common_steps, next)) (λ h. last (omega arith))
 
-abbrev pub held : List (List ℕ) → ℕ → ℕ → HeldReplies
-held replies room more = record { replies = replies; room = room; more = more }
+abbrev pub contents : List (List ℕ) → ℕ → ℕ → HeldReplies
+contents replies capacity more = record { replies = replies; capacity = capacity; more = more }
 
-pub begin_view : (starts items bytes : List ℕ) (room more : ℕ) (now : HeldReplies)
-    → held (parts starts bytes) room more ≡ now → items ≡ starts ++ length bytes ∷ []
-    → held (parts items bytes) room (more - 1) ≡ held (now.replies ++ [] ∷ []) now.room (now.more - 1)
-begin_view starts items bytes room more now is one =
-    rw (← is, one) (ap (λ ps. held ps room (more - 1)) (parts_begin starts bytes))
+pub begin_view : (starts items bytes : List ℕ) (capacity more : ℕ) (now : HeldReplies)
+    → contents (parts starts bytes) capacity more ≡ now → items ≡ starts ++ length bytes ∷ []
+    → contents (parts items bytes) capacity (more - 1) ≡ contents (now.replies ++ [] ∷ []) now.capacity (now.more - 1)
+begin_view starts items bytes capacity more now is one =
+    rw (← is, one) (ap (λ ps. contents ps capacity (more - 1)) (parts_begin starts bytes))
 
-pub append_view : (starts items bytes piece : List ℕ) (room more : ℕ) (now : HeldReplies)
-    → held (parts starts bytes) room more ≡ now → items ≡ bytes ++ piece
+pub append_view : (starts items bytes piece : List ℕ) (capacity more : ℕ) (now : HeldReplies)
+    → contents (parts starts bytes) capacity more ≡ now → items ≡ bytes ++ piece
     → All (λ start. start ≤ length bytes) starts
-    → held (parts starts items) (room - length piece) more
-    ≡ held (append_to_last now.replies piece) (now.room - length piece) now.more
-append_view starts items bytes piece room more now is joined within =
-    rw (← is, joined) (ap (λ ps. held ps (room - length piece) more) (parts_append starts bytes piece within))
+    → contents (parts starts items) (capacity - length piece) more
+    ≡ contents (append_to_last now.replies piece) (now.capacity - length piece) now.more
+append_view starts items bytes piece capacity more now is joined within =
+    rw (← is, joined) (ap (λ ps. contents ps (capacity - length piece) more) (parts_append starts bytes piece within))

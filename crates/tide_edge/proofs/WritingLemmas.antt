@@ -5,11 +5,11 @@ use Rattle.tide_edge.specs.SinkStates.{SinkState, put}
 
 -- writing no byte changes nothing
 pub put_none : (s : SinkState) → put [] s ≡ s
-put_none s = ap (λ taken. record s { taken = taken }) (append-nil s.taken)
+put_none s = ap (λ accepted. record s { accepted = accepted }) (append-nil s.accepted)
 
 -- two texts written in turn are one text
 pub put_put : (first second : List ℕ) (s : SinkState) → put second (put first s) ≡ put (first ++ second) s
-put_put first second s = ap (λ taken. record s { taken = taken }) (append_assoc s.taken first second)
+put_put first second s = ap (λ accepted. record s { accepted = accepted }) (append_assoc s.accepted first second)
 
 -- the bytes accepted after one more piece
 pub sent_on : (bytes : List ℕ) (sent count : ℕ) (before now after : SinkState) → now ≡ put (take sent bytes) before

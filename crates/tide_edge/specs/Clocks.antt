@@ -14,15 +14,15 @@ pub record IsClockMinute (minute : ℤ) : Type 0 where
 pub record ClockState : Type 0 where
   pub is_observable : Bool
   pub minute_at : ℕ → ℤ
-  pub given : List ℤ
-  pub asked : ℕ
+  pub returned_minutes : List ℤ
+  pub readings : ℕ
   pub faults : ℕ
 
 -- the minute that the next reading returns, unless it fails
 abbrev pub next_minute : ClockState → ℤ
-next_minute s = s.minute_at (counted s.asked)
+next_minute s = s.minute_at (counted s.readings)
 
 -- the clock after one reading with this result
 abbrev pub clock_after : Result ℤ Failed → ClockState → ClockState
-clock_after (Ok minute) s = record s { given = s.given ++ minute ∷ []; asked = counted s.asked }
-clock_after (Err failed) s = record s { asked = counted s.asked; faults = counted s.faults }
+clock_after (Ok minute) s = record s { returned_minutes = s.returned_minutes ++ minute ∷ []; readings = counted s.readings }
+clock_after (Err failed) s = record s { readings = counted s.readings; faults = counted s.faults }

@@ -21,7 +21,7 @@ AreOfRequests keeps_pieces (request ∷ requests) (c ∷ more) =
 -- each connection is of one request, and none waits if there are no more connections
 pub record IsOfRequests (d : DoorState) : Type 0 where
   pub connections : AreOfRequests d.keeps_pieces d.requests (connections_of d.connections)
-  pub over : IsTrue d.doorway.is_over → waiting_of d ≡ []
+  pub over : IsTrue d.listener_state.is_over → waiting_of d ≡ []
 
 -- the law of doors: if the requests are observable, each connection is of one of them (`IsOfRequests`)
 abbrev pub IsLawful : DoorState → Type 0

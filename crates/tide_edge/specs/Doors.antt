@@ -30,41 +30,41 @@ use Rattle.std.specs.Prelude.{
 use Rattle.tide_edge.specs.declared.failed.Failed.{Failed}
 use Rattle.std.specs.Option.{option_map}
 use Rattle.tide_edge.specs.Faults.{counted, faults_after}
-use Rattle.tide_edge.specs.FileStates.{listed}
+use Rattle.tide_edge.specs.FileStates.{as_list}
 
 -- The part of a door's state that is always observable: the port passed to `listen`, and whether the
 -- door listens; the number of connections accepted, which saturates at the greatest `u64`; whether one
 -- is open; and whether `next` has returned false, so that there are no more connections.
-pub record Doorway : Type 0 where
+pub record ListenerState : Type 0 where
   pub port : Option ℕ
   pub listens : Bool
-  pub taken : ℕ
+  pub accepted : ℕ
   pub is_open : Bool
   pub is_over : Bool
 
 -- the observable part of a door's state before `listen` is called
-abbrev pub not_listening : Doorway
-not_listening = record { port = None; listens = false; taken = 0; is_open = false; is_over = false }
+abbrev pub not_listening : ListenerState
+not_listening = record { port = None; listens = false; accepted = 0; is_open = false; is_over = false }
 
 -- the observable part of a door's state after `listen` with this port; the Bool says whether the call
 -- succeeded
-abbrev pub asked : ℕ → Bool → Doorway
-asked port listens =
-    record { port = Some port; listens = listens; taken = 0; is_open = false; is_over = false }
+abbrev pub listen_requested : ℕ → Bool → ListenerState
+listen_requested port listens =
+    record { port = Some port; listens = listens; accepted = 0; is_open = false; is_over = false }
 
 -- the observable part of a door's state after `next` with this result: another connection is open, or
 -- there are no more, or it failed and nothing has changed
-abbrev pub after_next : Result Bool Failed → Doorway → Doorway
+abbrev pub after_next : Result Bool Failed → ListenerState → ListenerState
 after_next (Ok true) d =
-    record { port = d.port; listens = d.listens; taken = counted d.taken; is_open = true; is_over = d.is_over }
+    record { port = d.port; listens = d.listens; accepted = counted d.accepted; is_open = true; is_over = d.is_over }
 after_next (Ok false) d =
-    record { port = d.port; listens = d.listens; taken = d.taken; is_open = d.is_open; is_over = true }
+    record { port = d.port; listens = d.listens; accepted = d.accepted; is_open = d.is_open; is_over = true }
 after_next (Err failed) d = d
 
 -- the observable part of a door's state after `close`: no connection is open
-abbrev pub closed : Doorway → Doorway
+abbrev pub closed : ListenerState → ListenerState
 closed d =
-    record { port = d.port; listens = d.listens; taken = d.taken; is_open = false; is_over = d.is_over }
+    record { port = d.port; listens = d.listens; accepted = d.accepted; is_open = false; is_over = d.is_over }
 
 -- the first list, or the empty list if there is none
 abbrev pub first_or_empty : {A : Type 0} → List (List A) → List A
@@ -106,11 +106,11 @@ no_connections = record { earlier = []; latest = None }
 
 -- all connections in the order in which they were accepted
 abbrev pub connections_of : Connections → List Connection
-connections_of c = c.earlier ++ listed c.latest
+connections_of c = c.earlier ++ as_list c.latest
 
 -- a door before `listen`: it has accepted no connection, has none open, and `next` hasn't returned
-abbrev pub IsUntouched : Doorway → Connections → Type 0
-IsUntouched doorway connections = (doorway ≡ not_listening) × (connections ≡ no_connections)
+abbrev pub IsUntouched : ListenerState → Connections → Type 0
+IsUntouched listener_state connections = (listener_state ≡ not_listening) × (connections ≡ no_connections)
 
 -- a connection that was just accepted: no byte was read or written yet
 abbrev pub just_taken : Connection
@@ -122,15 +122,15 @@ connections_after_next (Ok true) c = record { earlier = connections_of c; latest
 connections_after_next (Ok false) c = c
 connections_after_next (Err failed) c = c
 
--- the connection after a read: the first bytes of `room`, as many as the result says, were received; or
+-- the connection after a read: the first bytes of `buffer`, as many as the result says, were received; or
 -- the read failed
 abbrev pub connection_after_read : Result ℕ Failed → List ℕ → Connection → Connection
-connection_after_read (Ok count) room c = record c {
-  came = c.came ++ take count room;
+connection_after_read (Ok count) buffer c = record c {
+  came = c.came ++ take count buffer;
   last = count;
   is_ended = (count == 0) || c.is_ended;
 }
-connection_after_read (Err failed) room c = record c { last = 0; read_failed = true }
+connection_after_read (Err failed) buffer c = record c { last = 0; read_failed = true }
 
 -- the connection after a write: the first bytes of `piece`, as many as the result says, were accepted;
 -- or the write failed
@@ -153,7 +153,7 @@ pub record DoorState : Type 0 where
   pub is_observable : Bool
   pub keeps_pieces : Bool
   pub requests : List (List (List ℕ))
-  pub doorway : Doorway
+  pub listener_state : ListenerState
   pub connections : Connections
   pub faults : ℕ
   pub line_faults : ℕ
@@ -176,22 +176,22 @@ unread_of (request ∷ requests) (c ∷ next ∷ more) = unread_of requests (nex
 -- the state of a door after `listen` on `port` with this result
 abbrev pub door_after_listen : {T : Type 0} → Result T Failed → ℕ → DoorState → DoorState
 door_after_listen result port s = record s {
-  doorway = asked port (is_ok result);
+  listener_state = listen_requested port (is_ok result);
   faults = faults_after (is_err result) s.faults;
 }
 
 -- the state of a door after `next` with this result
 abbrev pub door_after_next : Result Bool Failed → DoorState → DoorState
 door_after_next result s = record s {
-  doorway = after_next result s.doorway;
+  listener_state = after_next result s.listener_state;
   connections = connections_after_next result s.connections;
   faults = faults_after (is_err result) s.faults;
 }
 
--- the state of a door after `read` with this result; `room` is the caller's buffer after the call
+-- the state of a door after `read` with this result; `buffer` is the caller's buffer after the call
 abbrev pub door_after_read : Result ℕ Failed → List ℕ → DoorState → DoorState
-door_after_read result room s = record s {
-  connections = change_latest (connection_after_read result room) s.connections;
+door_after_read result buffer s = record s {
+  connections = change_latest (connection_after_read result buffer) s.connections;
   line_faults = faults_after (is_err result) s.line_faults;
 }
 
@@ -204,4 +204,4 @@ door_after_write result piece s = record s {
 
 -- the state of a door after `close`
 abbrev pub door_after_close : DoorState → DoorState
-door_after_close s = record s { doorway = closed s.doorway }
+door_after_close s = record s { listener_state = closed s.listener_state }

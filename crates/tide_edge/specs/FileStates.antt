@@ -34,7 +34,7 @@ Folder = List ℕ → Option (List ℕ)
 -- The part of the state of files that no call changes: whether the contents are observable, the files by
 -- their names, and whether the files are steady, so that opening and reading an existing one doesn't
 -- fail. If the contents aren't observable, folder and steadiness are meaningless.
-pub record Store : Type 0 where
+pub record FileContents : Type 0 where
   pub is_observable : Bool
   pub folder : Folder
   pub is_steady : Bool
@@ -57,13 +57,13 @@ abbrev pub no_openings : Openings
 no_openings = record { earlier = []; latest = None }
 
 -- the list of a value, or the empty list
-abbrev pub listed : {A : Type 0} → Option A → List A
-listed None = []
-listed (Some value) = value ∷ []
+abbrev pub as_list : {A : Type 0} → Option A → List A
+as_list None = []
+as_list (Some value) = value ∷ []
 
 -- all calls of `open`, the earliest first
 abbrev pub openings_of : Openings → List Opening
-openings_of o = o.earlier ++ listed o.latest
+openings_of o = o.earlier ++ as_list o.latest
 
 -- an opening before any byte is read; `is_open` says whether a file was opened
 abbrev pub just_opened : Bool → List ℕ → Opening
@@ -73,17 +73,17 @@ just_opened is_open name = record { name = name; is_open = is_open; bytes = []; 
 abbrev pub openings_after_open : Bool → List ℕ → Openings → Openings
 openings_after_open is_open name o = record { earlier = openings_of o; latest = Some (just_opened is_open name) }
 
--- the opening after `count` bytes were read into the first bytes of `room`; a count of 0 is the end of
+-- the opening after `count` bytes were read into the first bytes of `buffer`; a count of 0 is the end of
 -- the file
 abbrev pub opening_after_read : ℕ → List ℕ → Opening → Opening
-opening_after_read count room opening = record opening {
-  bytes = opening.bytes ++ take count room;
+opening_after_read count buffer opening = record opening {
+  bytes = opening.bytes ++ take count buffer;
   ends = (if count == 0 then opening.ends + 1 else opening.ends);
 }
 
 -- the openings after a `read` of `count` bytes, which belong to the latest opening
 abbrev pub openings_after_read : ℕ → List ℕ → Openings → Openings
-openings_after_read count room o = record o { latest = option_map (opening_after_read count room) o.latest }
+openings_after_read count buffer o = record o { latest = option_map (opening_after_read count buffer) o.latest }
 
 -- the opening after a `read` that failed
 abbrev pub opening_after_failure : Opening → Opening
@@ -97,9 +97,9 @@ openings_after_failure o = record o { latest = option_map opening_after_failure 
 -- meaningful only if the contents are observable; the openings with the bytes read; and the number of
 -- failures, which saturates at the greatest `u64`.
 pub record FilesState : Type 0 where
-  pub store : Store
-  pub rest : List ℕ
-  pub openings : Openings
+  pub file_contents : FileContents
+  pub unread_bytes : List ℕ
+  pub open_log : Openings
   pub faults : ℕ
 
 -- the unread bytes after `open`: the whole file, or none if the call failed
@@ -110,15 +110,15 @@ begun (Err failed) file = []
 -- the state of files after `open` of `name` with this result
 abbrev pub files_after_open : {T : Type 0} → Result T Failed → List ℕ → FilesState → FilesState
 files_after_open result name s = record s {
-  rest = (if s.store.is_observable then begun result (s.store.folder name) else s.rest);
-  openings = openings_after_open (is_ok result) name s.openings;
+  unread_bytes = (if s.file_contents.is_observable then begun result (s.file_contents.folder name) else s.unread_bytes);
+  open_log = openings_after_open (is_ok result) name s.open_log;
   faults = faults_after (is_err result) s.faults;
 }
 
--- the state of files after `read` with this result; `room` is the caller's buffer after the call
+-- the state of files after `read` with this result; `buffer` is the caller's buffer after the call
 abbrev pub files_after_read : Result ℕ Failed → List ℕ → FilesState → FilesState
-files_after_read (Ok count) room s = record s {
-  rest = (if s.store.is_observable then drop count s.rest else s.rest);
-  openings = openings_after_read count room s.openings;
+files_after_read (Ok count) buffer s = record s {
+  unread_bytes = (if s.file_contents.is_observable then drop count s.unread_bytes else s.unread_bytes);
+  open_log = openings_after_read count buffer s.open_log;
 }
-files_after_read (Err failed) room s = record s { openings = openings_after_failure s.openings; faults = counted s.faults }
+files_after_read (Err failed) buffer s = record s { open_log = openings_after_failure s.open_log; faults = counted s.faults }

@@ -1,6 +1,6 @@
 pub mod Adapters
 pub mod Faults
-pub mod Calls
+pub mod FaultSchedule
 pub mod Clocks
 pub mod Doors
 pub mod DoorLaws

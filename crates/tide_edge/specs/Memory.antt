@@ -36,13 +36,13 @@ use Rattle.std.specs.Option.{option_map}
 use Rattle.std.specs.Str.{bytes_eq}
 use Rattle.tide_edge.specs.declared.named_file.NamedFile.{NamedFile}
 use Rattle.tide_edge.specs.declared.failed.Failed.{Failed}
-use Rattle.tide_edge.specs.Calls.{HeldCalls, answer, is_to_fail, after_call}
+use Rattle.tide_edge.specs.FaultSchedule.{HeldCalls, answer, is_to_fail, after_call}
 use Rattle.tide_edge.specs.Clocks.{ClockState}
 use Rattle.tide_edge.specs.Doors.{
-  Doorway,
+  ListenerState,
   DoorState,
   Connections,
-  asked,
+  listen_requested,
   after_next,
   closed,
   append_to_last,
@@ -76,81 +76,81 @@ folder_of files name = option_map (λ file. file.bytes) (find (λ file. bytes_eq
 -- what calls have made of files in memory: the state of the files, and the calls
 pub record FilesNow : Type 0 where
   pub state : FilesState
-  pub calls : HeldCalls
+  pub fault_schedule : HeldCalls
 
 -- files in memory before any call; their contents are observable, and they are steady if no call is to
 -- fail
 abbrev pub before_calls : HeldFiles → FilesNow
-before_calls held = record {
+before_calls contents = record {
   state = record {
-    store = record { is_observable = true; folder = folder_of held.files; is_steady = length held.fails == 0 };
-    rest = [];
-    openings = no_openings;
+    file_contents = record { is_observable = true; folder = folder_of contents.files; is_steady = length contents.fails == 0 };
+    unread_bytes = [];
+    open_log = no_openings;
     faults = 0;
   };
-  calls = record { fails = held.fails; made = 0; faults = 0 };
+  fault_schedule = record { fails = contents.fails; made = 0; faults = 0 };
 }
 
 -- the bytes of the file that the next `open` finds, unless it is to fail
 abbrev pub found : FilesNow → List ℕ → Option (List ℕ)
-found now name = (if is_to_fail now.calls then None else now.state.store.folder name)
+found now name = (if is_to_fail now.fault_schedule then None else now.state.file_contents.folder name)
 
 -- the result of `open` of `name`: it fails if the call is to fail, or if there is no such file
 abbrev pub open_result : FilesNow → List ℕ → Result (Unit {0}) Failed
 open_result now name = answer (is_none (found now name)) record {}
 
--- the result of `read` with a buffer of length `room`: the number of bytes copied, unless the call is to
--- fail
+-- the result of `read` with a buffer of length `buffer_length`: the number of bytes copied, unless the
+-- call is to fail
 abbrev pub read_result : FilesNow → ℕ → Result ℕ Failed
-read_result now room = answer (is_to_fail now.calls) (min room (length now.state.rest))
+read_result now buffer_length = answer (is_to_fail now.fault_schedule) (min buffer_length (length now.state.unread_bytes))
 
 -- files in memory after a call
 abbrev pub after_file_call : FilesNow → FileCall → FilesNow
 after_file_call now (Open name) = record {
   state = files_after_open (open_result now name) name now.state;
-  calls = after_call (is_err (open_result now name)) now.calls;
+  fault_schedule = after_call (is_err (open_result now name)) now.fault_schedule;
 }
 after_file_call now (Read more) = record {
-  state = files_after_read (read_result now (more + 1)) now.state.rest now.state;
-  calls = after_call (is_to_fail now.calls) now.calls;
+  state = files_after_read (read_result now (more + 1)) now.state.unread_bytes now.state;
+  fault_schedule = after_call (is_to_fail now.fault_schedule) now.fault_schedule;
 }
 
 -- files in memory after all their calls
 abbrev pub files_now : HeldFiles → FilesNow
-files_now held = fold after_file_call (before_calls held) held.history
+files_now contents = fold after_file_call (before_calls contents) contents.history
 
 -- the observable state of files in memory
 abbrev pub files_state : HeldFiles → FilesState
-files_state held = (files_now held).state
+files_state contents = (files_now contents).state
 
 -- a sink in memory: the bytes accepted, the most bytes that one call accepts, the most bytes that all
 -- calls accept, and the calls
 pub record HeldSink : Type 0 where
-  pub taken : List ℕ
+  pub accepted : List ℕ
   pub most : ℕ
-  pub room : ℕ
-  pub calls : HeldCalls
+  pub capacity : ℕ
+  pub fault_schedule : HeldCalls
 
 -- the observable state of a sink in memory
 abbrev pub sink_state : HeldSink → SinkState
-sink_state held = record { taken = held.taken; faults = held.calls.faults }
+sink_state contents = record { accepted = contents.accepted; faults = contents.fault_schedule.faults }
 
 -- the next `write` fails: it is one of the calls that are to fail, or the room is used up
 abbrev pub is_refused : HeldSink → Bool
-is_refused held = is_to_fail held.calls || (length held.taken == held.room)
+is_refused contents = is_to_fail contents.fault_schedule || (length contents.accepted == contents.capacity)
 
 -- the number of bytes that the next `write` accepts of a piece of length `piece`: 0 if it fails
 abbrev pub write_count : HeldSink → ℕ → ℕ
-write_count held piece =
-    (if is_refused held then 0 else min piece (min held.most (held.room - length held.taken)))
+write_count contents piece =
+    (if is_refused contents then 0 else min piece (min contents.most (contents.capacity - length contents.accepted)))
 
 -- the sink in memory after `write` of `piece`
 abbrev pub after_write : HeldSink → List ℕ → HeldSink
-after_write held piece = record {
-  taken = held.taken ++ take (write_count held (length piece)) piece;
-  most = held.most;
-  room = held.room;
-  calls = after_call (is_refused held) held.calls;
+after_write contents piece = record {
+  accepted = contents.accepted ++ take (write_count contents (length piece)) piece;
+  most = contents.most;
+  capacity = contents.capacity;
+  fault_schedule = after_call (is_refused contents) contents.fault_schedule;
 }
 
 -- A door in memory: all requests in their pieces; the part that is always observable; the bytes of each
@@ -159,13 +159,13 @@ after_write held piece = record {
 -- `next`; and the failures of `read` and `write`.
 pub record HeldDoor : Type 0 where
   pub requests : List (List (List ℕ))
-  pub doorway : Doorway
+  pub listener_state : ListenerState
   pub connections : Connections
-  pub waiting : List (List (List ℕ))
+  pub pending : List (List (List ℕ))
   pub coming : List (List ℕ)
   pub replies : List (List ℕ)
-  pub room : ℕ
-  pub calls : HeldCalls
+  pub capacity : ℕ
+  pub fault_schedule : HeldCalls
   pub line_faults : ℕ
 
 -- no piece is empty
@@ -174,19 +174,19 @@ are_pieces pieces = list_all (λ piece. nat_lt 0 (length piece)) pieces
 
 -- the observable state of a door in memory: each `read` returns bytes of one piece only
 abbrev pub door_state : HeldDoor → DoorState
-door_state held = record {
+door_state contents = record {
   is_observable = true;
   keeps_pieces = true;
-  requests = held.requests;
-  doorway = held.doorway;
-  connections = held.connections;
-  faults = held.calls.faults;
-  line_faults = held.line_faults;
+  requests = contents.requests;
+  listener_state = contents.listener_state;
+  connections = contents.connections;
+  faults = contents.fault_schedule.faults;
+  line_faults = contents.line_faults;
 }
 
 -- the result of the next call of `next` of a door in memory: whether a request waits, or a failure
 abbrev pub comes : HeldDoor → Result Bool Failed
-comes held = answer (is_to_fail held.calls) (nat_lt 0 (length held.waiting))
+comes contents = answer (is_to_fail contents.fault_schedule) (nat_lt 0 (length contents.pending))
 
 -- a call of `next` returned true
 abbrev pub is_taken : Result Bool Failed → Bool
@@ -195,90 +195,91 @@ is_taken (Err failed) = false
 
 -- the door in memory after `listen` on `port`
 abbrev pub after_listen : HeldDoor → ℕ → HeldDoor
-after_listen held port = record held {
-  doorway = asked port (not (is_to_fail held.calls));
-  calls = after_call (is_to_fail held.calls) held.calls;
+after_listen contents port = record contents {
+  listener_state = listen_requested port (not (is_to_fail contents.fault_schedule));
+  fault_schedule = after_call (is_to_fail contents.fault_schedule) contents.fault_schedule;
 }
 
 -- the door in memory after `next`
 abbrev pub after_taking : HeldDoor → HeldDoor
-after_taking held = record held {
-  doorway = after_next (comes held) held.doorway;
-  connections = connections_after_next (comes held) held.connections;
-  waiting = (if is_taken (comes held) then drop 1 held.waiting else held.waiting);
-  coming = (if is_taken (comes held) then first_or_empty held.waiting else held.coming);
-  replies = (if is_taken (comes held) then held.replies ++ [] ∷ [] else held.replies);
-  calls = after_call (is_to_fail held.calls) held.calls;
+after_taking contents = record contents {
+  listener_state = after_next (comes contents) contents.listener_state;
+  connections = connections_after_next (comes contents) contents.connections;
+  pending = (if is_taken (comes contents) then drop 1 contents.pending else contents.pending);
+  coming = (if is_taken (comes contents) then first_or_empty contents.pending else contents.coming);
+  replies = (if is_taken (comes contents) then contents.replies ++ [] ∷ [] else contents.replies);
+  fault_schedule = after_call (is_to_fail contents.fault_schedule) contents.fault_schedule;
 }
 
 -- the calls after a call of `read` or `write`, whose failures are counted separately
 abbrev pub after_line_call : HeldCalls → HeldCalls
-after_line_call calls = record { fails = calls.fails; made = counted calls.made; faults = calls.faults }
+after_line_call fault_schedule = record { fails = fault_schedule.fails; made = counted fault_schedule.made; faults = fault_schedule.faults }
 
 -- the number of bytes that the next `read` copies of the first unread piece to a buffer of length
--- `room`: 0 if it fails
+-- `buffer_length`: 0 if it fails
 abbrev pub line_count : HeldDoor → ℕ → ℕ
-line_count held room = (if is_to_fail held.calls then 0 else min room (length (first_or_empty held.coming)))
+line_count contents buffer_length = (if is_to_fail contents.fault_schedule then 0 else min buffer_length (length (first_or_empty contents.coming)))
 
--- the result of the next `read` of a door in memory with a buffer of length `room`
+-- the result of the next `read` of a door in memory with a buffer of length `buffer_length`
 abbrev pub line_read : HeldDoor → ℕ → Result ℕ Failed
-line_read held room = answer (is_to_fail held.calls) (line_count held room)
+line_read contents buffer_length = answer (is_to_fail contents.fault_schedule) (line_count contents buffer_length)
 
--- the door in memory after `read` with a buffer of length `room`; `filled` is the buffer after the call
+-- the door in memory after `read` with a buffer of length `buffer_length`; `filled` is the buffer after
+-- the call
 abbrev pub after_line_read : HeldDoor → ℕ → List ℕ → HeldDoor
-after_line_read held room filled = record held {
-  connections = change_latest (connection_after_read (line_read held room) filled) held.connections;
-  coming = (if is_to_fail held.calls then held.coming else left_after (line_count held room) held.coming);
-  calls = after_line_call held.calls;
-  line_faults = faults_after (is_to_fail held.calls) held.line_faults;
+after_line_read contents buffer_length filled = record contents {
+  connections = change_latest (connection_after_read (line_read contents buffer_length) filled) contents.connections;
+  coming = (if is_to_fail contents.fault_schedule then contents.coming else left_after (line_count contents buffer_length) contents.coming);
+  fault_schedule = after_line_call contents.fault_schedule;
+  line_faults = faults_after (is_to_fail contents.fault_schedule) contents.line_faults;
 }
 
 -- the next `write` fails: it is one of the calls that are to fail, or the room is used up
 abbrev pub is_shut : HeldDoor → Bool
-is_shut held = is_to_fail held.calls || (held.room == 0)
+is_shut contents = is_to_fail contents.fault_schedule || (contents.capacity == 0)
 
 -- the number of bytes that the next `write` accepts of a piece of length `piece`: 0 if it fails
 abbrev pub reply_count : HeldDoor → ℕ → ℕ
-reply_count held piece = (if is_shut held then 0 else min piece held.room)
+reply_count contents piece = (if is_shut contents then 0 else min piece contents.capacity)
 
 -- the result of the next `write` of `piece` to a door in memory
 abbrev pub line_write : HeldDoor → List ℕ → Result ℕ Failed
-line_write held piece = answer (is_shut held) (reply_count held (length piece))
+line_write contents piece = answer (is_shut contents) (reply_count contents (length piece))
 
 -- the door in memory after `write` of `piece`
 abbrev pub after_line_write : HeldDoor → List ℕ → HeldDoor
-after_line_write held piece = record held {
-  connections = change_latest (connection_after_write (line_write held piece) piece) held.connections;
-  replies = (if is_shut held then held.replies else append_to_last held.replies (take (reply_count held (length piece)) piece));
-  room = held.room - reply_count held (length piece);
-  calls = after_line_call held.calls;
-  line_faults = faults_after (is_shut held) held.line_faults;
+after_line_write contents piece = record contents {
+  connections = change_latest (connection_after_write (line_write contents piece) piece) contents.connections;
+  replies = (if is_shut contents then contents.replies else append_to_last contents.replies (take (reply_count contents (length piece)) piece));
+  capacity = contents.capacity - reply_count contents (length piece);
+  fault_schedule = after_line_call contents.fault_schedule;
+  line_faults = faults_after (is_shut contents) contents.line_faults;
 }
 
 -- the door in memory after `close`
 abbrev pub after_close : HeldDoor → HeldDoor
-after_close held = record held { doorway = closed held.doorway }
+after_close contents = record contents { listener_state = closed contents.listener_state }
 
 -- a clock that always shows one minute, and the minutes returned until now
 pub record HeldClock : Type 0 where
   pub minute : ℤ
-  pub given : List ℤ
-  pub calls : HeldCalls
+  pub returned_minutes : List ℤ
+  pub fault_schedule : HeldCalls
 
 -- the observable state of a fixed clock: the same minute for each reading
 abbrev pub clock_state : HeldClock → ClockState
-clock_state held = record {
+clock_state contents = record {
   is_observable = true;
-  minute_at = λ asking. held.minute;
-  given = held.given;
-  asked = held.calls.made;
-  faults = held.calls.faults;
+  minute_at = λ asking. contents.minute;
+  returned_minutes = contents.returned_minutes;
+  readings = contents.fault_schedule.made;
+  faults = contents.fault_schedule.faults;
 }
 
 -- the clock in memory after another reading
 abbrev pub after_minute : HeldClock → HeldClock
-after_minute held = record {
-  minute = held.minute;
-  given = (if is_to_fail held.calls then held.given else held.given ++ held.minute ∷ []);
-  calls = after_call (is_to_fail held.calls) held.calls;
+after_minute contents = record {
+  minute = contents.minute;
+  returned_minutes = (if is_to_fail contents.fault_schedule then contents.returned_minutes else contents.returned_minutes ++ contents.minute ∷ []);
+  fault_schedule = after_call (is_to_fail contents.fault_schedule) contents.fault_schedule;
 }

@@ -6,12 +6,12 @@ use Rattle.tide_edge.specs.Faults.{counted}
 -- the bytes that a sink's calls reported as accepted, and the number of failed calls, which saturates at
 -- the greatest `u64`
 pub record SinkState : Type 0 where
-  pub taken : List ℕ
+  pub accepted : List ℕ
   pub faults : ℕ
 
 -- the sink with `bytes` appended to the accepted ones
 abbrev pub put : List ℕ → SinkState → SinkState
-put bytes s = record s { taken = s.taken ++ bytes }
+put bytes s = record s { accepted = s.accepted ++ bytes }
 
 -- the sink after a failed call
 abbrev pub sink_failed : SinkState → SinkState

@@ -90,12 +90,12 @@ both first second = record { files = first.files + second.files; bytes = first.b
 -- files, and no more bytes read than it has. The count of faults is one more if a call failed, else
 -- unchanged. The contents are unchanged.
 pub record ReadWithin (allowed : Allowance) (failed : Bool) (before after : FilesState) : Type 0 where
-  pub openings : List Opening
-  pub all : openings_of after.openings ≡ openings_of before.openings ++ openings
-  pub opens : length openings ≤ allowed.files
-  pub ends : sum_by (λ o. o.ends) openings ≤ allowed.files
-  pub bytes : sum_by (λ o. length o.bytes) openings ≤ allowed.bytes
-  pub store : after.store ≡ before.store
+  pub open_log : List Opening
+  pub all : openings_of after.open_log ≡ openings_of before.open_log ++ open_log
+  pub opens : length open_log ≤ allowed.files
+  pub ends : sum_by (λ o. o.ends) open_log ≤ allowed.files
+  pub bytes : sum_by (λ o. length o.bytes) open_log ≤ allowed.bytes
+  pub file_contents : after.file_contents ≡ before.file_contents
   pub faults : after.faults ≡ faults_after failed before.faults
 
 -- a result is the error that memory ran out

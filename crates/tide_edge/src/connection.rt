@@ -52,14 +52,14 @@ impl OneConnection {
         }
     }
 
-    /// Records a read: its bytes are the first of `room`, as many as `outcome` says, or it failed.
-    pub(crate) fn read(&mut self, room: &[u8], outcome: &Result<usize, Failed>)
-        requires { IfOk outcome.now (λ count. count ≤ length room.now) }
-        ensures { self.new ≡ connection_after_read outcome.now room.now self.old }
+    /// Records a read: its bytes are the first of `buffer`, as many as `outcome` says, or it failed.
+    pub(crate) fn read(&mut self, buffer: &[u8], outcome: &Result<usize, Failed>)
+        requires { IfOk outcome.now (λ count. count ≤ length buffer.now) }
+        ensures { self.new ≡ connection_after_read outcome.now buffer.now self.old }
     {
         match outcome {
             Ok(count) => {
-                self.came = self.came.then(&room[..*count]);
+                self.came = self.came.then(&buffer[..*count]);
                 self.last = *count;
                 self.is_ended = *count == 0 || self.is_ended;
             }

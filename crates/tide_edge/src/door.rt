@@ -27,30 +27,30 @@ pub trait Door {
     /// # Errors
     /// [`Failed`] if the door can't listen on `port`.
     fn listen(&mut self, port: u16) -> Result<(), Failed>
-        requires { (state self.old).doorway.port ≡ None }
+        requires { (state self.old).listener_state.port ≡ None }
         ensures after { state self.new ≡ door_after_listen result port (state self.old) }
-        ensures untouched { IsUntouched (state self.old).doorway (state self.old).connections };
+        ensures untouched { IsUntouched (state self.old).listener_state (state self.old).connections };
 
     /// Accepts the next connection and returns true, or returns false if no more will come.
     ///
     /// # Errors
     /// [`Failed`] if no connection could be accepted.
     fn next(&mut self) -> Result<bool, Failed>
-        requires listens { IsTrue (state self.old).doorway.listens }
-        requires none_open { (state self.old).doorway.is_open ≡ false }
+        requires listens { IsTrue (state self.old).listener_state.listens }
+        requires none_open { (state self.old).listener_state.is_open ≡ false }
         ensures { state self.new ≡ door_after_next result (state self.old) };
 
-    /// Reads the next bytes of the open connection into the first bytes of `room`, and returns their
+    /// Reads the next bytes of the open connection into the first bytes of `buffer`, and returns their
     /// count: 0 at the end of the request. If the door keeps pieces, one call reads bytes of one piece
     /// only.
     ///
     /// # Errors
     /// [`Failed`] if the connection can't be read.
-    fn read(&mut self, room: &mut [u8]) -> Result<usize, Failed>
-        requires room { 0 < length room.old }
-        requires open { IsTrue (state self.old).doorway.is_open }
-        ensures after { state self.new ≡ door_after_read result room.new (state self.old) }
-        ensures within { IfOk result (λ count. count ≤ length room.old) };
+    fn read(&mut self, buffer: &mut [u8]) -> Result<usize, Failed>
+        requires buffer { 0 < length buffer.old }
+        requires open { IsTrue (state self.old).listener_state.is_open }
+        ensures after { state self.new ≡ door_after_read result buffer.new (state self.old) }
+        ensures within { IfOk result (λ count. count ≤ length buffer.old) };
 
     /// Writes the first bytes of `piece`, at least one, to the open connection, and returns their count.
     ///
@@ -58,14 +58,14 @@ pub trait Door {
     /// [`Failed`] if no byte was accepted.
     fn write(&mut self, piece: &[u8]) -> Result<usize, Failed>
         requires piece { 0 < length piece.now }
-        requires open { IsTrue (state self.old).doorway.is_open }
+        requires open { IsTrue (state self.old).listener_state.is_open }
         ensures after { state self.new ≡ door_after_write result piece.now (state self.old) }
         ensures some { IfOk result (λ count. 0 < count) }
         ensures within { IfOk result (λ count. count ≤ length piece.now) };
 
     /// Closes the open connection.
     fn close(&mut self)
-        requires { IsTrue (state self.old).doorway.is_open }
+        requires { IsTrue (state self.old).listener_state.is_open }
         ensures { state self.new ≡ door_after_close (state self.old) };
 
     ghost lawful: { (door : Self) → IsLawful (state door) };

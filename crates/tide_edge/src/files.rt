@@ -22,24 +22,24 @@ pub trait Files {
     /// only if there is no file `name`.
     fn open(&mut self, name: &Text) -> Result<(), Failed>
         ensures after { state self.new ≡ files_after_open result name.now (state self.old) }
-        ensures found { IsTrue (state self.old).store.is_observable → OnOk result (IsSome ((state self.old).store.folder name.now)) }
-        ensures absent { IsTrue (state self.old).store.is_observable → IsTrue (state self.old).store.is_steady
-            → OnErr result ((state self.old).store.folder name.now ≡ None) };
+        ensures found { IsTrue (state self.old).file_contents.is_observable → OnOk result (IsSome ((state self.old).file_contents.folder name.now)) }
+        ensures absent { IsTrue (state self.old).file_contents.is_observable → IsTrue (state self.old).file_contents.is_steady
+            → OnErr result ((state self.old).file_contents.folder name.now ≡ None) };
 
-    /// Reads the next bytes of the open file into the first bytes of `room`, and returns their count: 0
+    /// Reads the next bytes of the open file into the first bytes of `buffer`, and returns their count: 0
     /// at the end of the file, and if no file is open.
     ///
     /// # Errors
     /// [`Failed`] if the file can't be read; the count of faults grows, the opening is marked, and
     /// nothing else changes. If the files are steady, it never fails.
-    fn read(&mut self, room: &mut [u8]) -> Result<usize, Failed>
-        requires { 0 < length room.old }
-        ensures after { state self.new ≡ files_after_read result room.new (state self.old) }
-        ensures within { IfOk result (λ count. count ≤ length room.old) }
-        ensures next_bytes { IsTrue (state self.old).store.is_observable
-            → IfOk result (λ count. take count room.new ≡ take count (state self.old).rest) }
-        ensures end { IsTrue (state self.old).store.is_observable → IfOk result (λ count. (count ≡ 0) ↔ ((state self.old).rest ≡ [])) }
-        ensures reads { IsTrue (state self.old).store.is_observable → IsTrue (state self.old).store.is_steady → IsOk result };
+    fn read(&mut self, buffer: &mut [u8]) -> Result<usize, Failed>
+        requires { 0 < length buffer.old }
+        ensures after { state self.new ≡ files_after_read result buffer.new (state self.old) }
+        ensures within { IfOk result (λ count. count ≤ length buffer.old) }
+        ensures next_bytes { IsTrue (state self.old).file_contents.is_observable
+            → IfOk result (λ count. take count buffer.new ≡ take count (state self.old).unread_bytes) }
+        ensures end { IsTrue (state self.old).file_contents.is_observable → IfOk result (λ count. (count ≡ 0) ↔ ((state self.old).unread_bytes ≡ [])) }
+        ensures reads { IsTrue (state self.old).file_contents.is_observable → IsTrue (state self.old).file_contents.is_steady → IsOk result };
 
     /// If the files are observable, the bytes read after each opening are a prefix of the file's bytes,
     /// and all of them if its end was found. If they are also steady, only a file that isn't there

@@ -3,9 +3,9 @@
 ghost use Rattle.std.specs.Prelude.{◌≡◌, [], IfOk};
 ghost use Rattle.tide_edge.specs.Clocks.{IsClockMinute};
 
-use crate::calls::Calls;
 use crate::clock::Clock;
 use crate::failed::Failed;
+use crate::fault_schedule::FaultSchedule;
 use ghost_log::Log;
 use std::marker::Model;
 use std::slice;
@@ -14,8 +14,8 @@ use std::slice;
 #[derive(Drop)]
 pub struct FixedClock {
     minute: i64,
-    given: Log<i64>,
-    calls: Calls,
+    returned_minutes: Log<i64>,
+    fault_schedule: FaultSchedule,
 }
 
 impl Model for FixedClock {
@@ -24,7 +24,7 @@ impl Model for FixedClock {
 
     ghost Value = { HeldClock };
 
-    ghost view = { λ c. record { minute = c.minute; given = c.given.items; calls = c.calls } };
+    ghost view = { λ c. record { minute = c.minute; returned_minutes = c.returned_minutes.items; fault_schedule = c.fault_schedule } };
 
     ghost invariant = { λ c. IsClockMinute c.minute };
 }
@@ -36,31 +36,31 @@ impl FixedClock {
         requires { IsClockMinute minute }
         ensures { result ≡ record {
           minute = minute;
-          given = [];
-          calls = record { fails = fails.items; made = 0; faults = 0 };
+          returned_minutes = [];
+          fault_schedule = record { fails = fails.items; made = 0; faults = 0 };
         } }
     {
         FixedClock {
             minute,
-            given: Log::new(),
-            calls: Calls::new(fails),
+            returned_minutes: Log::new(),
+            fault_schedule: FaultSchedule::new(fails),
         }
     }
 }
 
 impl Clock for FixedClock {
-    ghost use Rattle.tide_edge.specs.Calls.{answer, is_to_fail};
+    ghost use Rattle.tide_edge.specs.FaultSchedule.{answer, is_to_fail};
     ghost use Rattle.tide_edge.specs.Memory.{clock_state, after_minute};
 
     ghost state = { λ c. clock_state c };
 
     fn minute(&mut self) -> Result<i64, Failed>
-        ensures answer { result ≡ answer (is_to_fail self.old.calls) self.old.minute }
+        ensures answer { result ≡ answer (is_to_fail self.old.fault_schedule) self.old.minute }
         ensures after { self.new ≡ after_minute self.old }
         ensures in_range { IfOk result IsClockMinute }
     {
-        self.calls.next()?;
-        self.given = self.given.then(slice::from_ref(&self.minute));
+        self.fault_schedule.next()?;
+        self.returned_minutes = self.returned_minutes.then(slice::from_ref(&self.minute));
         Ok(self.minute)
     }
 }

@@ -21,37 +21,37 @@ const LAST_MINUTE: u64 = 10_000_000_000;
 #[derive(Drop)]
 pub struct HostClock<R: rt::Clock + Drop> {
     system: R,
-    given: Log<i64>,
+    returned_minutes: Log<i64>,
     faults: u64,
-    asked: u64,
+    readings: u64,
 }
 
 impl<R: rt::Clock + Drop> HostClock<R> {
     /// Returns a clock that reads the time of the machine from `system`.
     pub fn new(system: R) -> HostClock<R>
-        ensures given { (⟦<HostClock<R> as Clock>⟧.state result).given ≡ [] }
+        ensures returned_minutes { (⟦<HostClock<R> as Clock>⟧.state result).returned_minutes ≡ [] }
         ensures faults { (⟦<HostClock<R> as Clock>⟧.state result).faults ≡ 0 }
-        ensures asked { (⟦<HostClock<R> as Clock>⟧.state result).asked ≡ 0 }
+        ensures readings { (⟦<HostClock<R> as Clock>⟧.state result).readings ≡ 0 }
     {
         HostClock {
             system,
-            given: Log::new(),
+            returned_minutes: Log::new(),
             faults: 0,
-            asked: 0,
+            readings: 0,
         }
     }
 }
 
 impl<R: rt::Clock + Drop> Clock for HostClock<R> {
     ghost state = { λ h.
-        record { is_observable = false; minute_at = λ reading. pos 0; given = h.given.items; asked = h.asked; faults = h.faults } };
+        record { is_observable = false; minute_at = λ reading. pos 0; returned_minutes = h.returned_minutes.items; readings = h.readings; faults = h.faults } };
 
     fn minute(&mut self) -> Result<i64, Failed> {
-        self.asked = one_more(self.asked);
+        self.readings = one_more(self.readings);
         if let Ok(now) = SystemTime::now(&self.system)
             && let Some(minute) = minute_at(now)
         {
-            self.given = self.given.then(slice::from_ref(&minute));
+            self.returned_minutes = self.returned_minutes.then(slice::from_ref(&minute));
             return Ok(minute);
         }
         Err(count_fault(&mut self.faults))

@@ -5,10 +5,10 @@ ghost use Rattle.std.specs.Io.KnownBytes.{ReadConsumes, WriteAppends};
 ghost use Rattle.tide_edge.specs.Doors.{IsUntouched, door_after_next, door_after_read, door_after_write};
 
 use crate::door::Door;
-use crate::doorway::Doorway;
 use crate::failed::Failed;
 use crate::host_fault::count_fault;
 use crate::host_line::HostLine;
+use crate::listener_state::ListenerState;
 use crate::open_line::{read_open, write_open};
 use crate::passed::Connections;
 use std::io::{self, ErrorKind};
@@ -33,11 +33,11 @@ pub struct HostDoor<R: Net + rt::Clock + Drop> {
     system: R,
     listener: Option<R::Listener>,
     line: Option<HostLine<R::Stream>>,
-    doorway: Doorway,
+    listener_state: ListenerState,
     connections: Connections,
     faults: u64,
     line_faults: u64,
-    ghost untouched: { doorway.port ≡ None → IsUntouched doorway connections },
+    ghost untouched: { listener_state.port ≡ None → IsUntouched listener_state connections },
 }
 
 impl<R: Net + rt::Clock + Drop> HostDoor<R> {
@@ -45,7 +45,7 @@ impl<R: Net + rt::Clock + Drop> HostDoor<R> {
 
     /// Returns a door at the ports of `system`, the machine, that doesn't listen yet.
     pub fn new(system: R) -> HostDoor<R>
-        ensures doorway { (⟦<HostDoor<R> as Door>⟧.state result).doorway ≡ not_listening }
+        ensures listener_state { (⟦<HostDoor<R> as Door>⟧.state result).listener_state ≡ not_listening }
         ensures connections { (⟦<HostDoor<R> as Door>⟧.state result).connections ≡ no_connections }
         ensures faults { (⟦<HostDoor<R> as Door>⟧.state result).faults ≡ 0 }
         ensures line_faults { (⟦<HostDoor<R> as Door>⟧.state result).line_faults ≡ 0 }
@@ -54,7 +54,7 @@ impl<R: Net + rt::Clock + Drop> HostDoor<R> {
             system,
             listener: None,
             line: None,
-            doorway: Doorway::not_listening(),
+            listener_state: ListenerState::not_listening(),
             connections: Connections::none(),
             faults: 0,
             line_faults: 0,
@@ -70,7 +70,7 @@ impl<R: Net + rt::Clock + Drop> Door for HostDoor<R> {
       is_observable = false;
       keeps_pieces = false;
       requests = [];
-      doorway = h.doorway;
+      listener_state = h.listener_state;
       connections = h.connections;
       faults = h.faults;
       line_faults = h.line_faults;
@@ -82,19 +82,19 @@ impl<R: Net + rt::Clock + Drop> Door for HostDoor<R> {
         match TcpListener::bind(&self.system, (Ipv4Addr::LOCALHOST, port)) {
             Ok(listener) => {
                 self.listener = Some(listener);
-                self.doorway = Doorway::asked(port, true);
+                self.listener_state = ListenerState::listen_requested(port, true);
                 Ok(())
             }
             Err(_) => {
-                self.doorway = Doorway::asked(port, false);
+                self.listener_state = ListenerState::listen_requested(port, false);
                 Err(count_fault(&mut self.faults))
             }
         }
     }
 
     fn next(&mut self) -> Result<bool, Failed>
-        requires listens { IsTrue (⟦<HostDoor<R> as Door>⟧.state self.old).doorway.listens }
-        requires none_open { (⟦<HostDoor<R> as Door>⟧.state self.old).doorway.is_open ≡ false }
+        requires listens { IsTrue (⟦<HostDoor<R> as Door>⟧.state self.old).listener_state.listens }
+        requires none_open { (⟦<HostDoor<R> as Door>⟧.state self.old).listener_state.is_open ≡ false }
         ensures after { ⟦<HostDoor<R> as Door>⟧.state self.new ≡ door_after_next result (⟦<HostDoor<R> as Door>⟧.state self.old) }
         ensures never_over { IfOk result IsTrue }
     {
@@ -102,29 +102,29 @@ impl<R: Net + rt::Clock + Drop> Door for HostDoor<R> {
             && let Ok(stream) = take_next(listener)
         {
             self.line = Some(HostLine::new(stream, &self.system));
-            self.doorway.open();
+            self.listener_state.open();
             self.connections.open();
             return Ok(true);
         }
         Err(count_fault(&mut self.faults))
     }
 
-    fn read(&mut self, room: &mut [u8]) -> Result<usize, Failed>
-        requires room { 0 < length room.old }
-        requires open { IsTrue (⟦<HostDoor<R> as Door>⟧.state self.old).doorway.is_open }
-        ensures after { ⟦<HostDoor<R> as Door>⟧.state self.new ≡ door_after_read result room.new (⟦<HostDoor<R> as Door>⟧.state self.old) }
-        ensures within { IfOk result (λ count. count ≤ length room.old) }
+    fn read(&mut self, buffer: &mut [u8]) -> Result<usize, Failed>
+        requires buffer { 0 < length buffer.old }
+        requires open { IsTrue (⟦<HostDoor<R> as Door>⟧.state self.old).listener_state.is_open }
+        ensures after { ⟦<HostDoor<R> as Door>⟧.state self.new ≡ door_after_read result buffer.new (⟦<HostDoor<R> as Door>⟧.state self.old) }
+        ensures within { IfOk result (λ count. count ≤ length buffer.old) }
         ensures tied { ReadConsumes (known_of R.Stream.remaining (line_of self.old))
-            (known_of R.Stream.remaining (line_of self.new)) result room.new }
+            (known_of R.Stream.remaining (line_of self.new)) result buffer.new }
     {
-        let read = read_open(&mut self.line, &self.system, &mut self.line_faults, room);
-        self.connections.read(room, &read);
+        let read = read_open(&mut self.line, &self.system, &mut self.line_faults, buffer);
+        self.connections.read(buffer, &read);
         read
     }
 
     fn write(&mut self, piece: &[u8]) -> Result<usize, Failed>
         requires piece { 0 < length piece.now }
-        requires open { IsTrue (⟦<HostDoor<R> as Door>⟧.state self.old).doorway.is_open }
+        requires open { IsTrue (⟦<HostDoor<R> as Door>⟧.state self.old).listener_state.is_open }
         ensures after { ⟦<HostDoor<R> as Door>⟧.state self.new
             ≡ door_after_write result piece.now (⟦<HostDoor<R> as Door>⟧.state self.old) }
         ensures some { IfOk result (λ count. 0 < count) }
@@ -142,7 +142,7 @@ impl<R: Net + rt::Clock + Drop> Door for HostDoor<R> {
             line.part(&self.system);
         }
         self.line = None;
-        self.doorway.close();
+        self.listener_state.close();
     }
 }
 

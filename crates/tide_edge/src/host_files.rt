@@ -7,7 +7,7 @@ ghost use Rattle.tide_edge.specs.FileStates.{FilesState, no_openings, files_afte
 use crate::failed::Failed;
 use crate::files::Files;
 use crate::host_fault::count_fault;
-use crate::openings::Openings;
+use crate::open_log::Openings;
 use crate::read_through::read_through;
 use decimal_text::Text;
 use std::{fs, rt};
@@ -21,7 +21,7 @@ use std::{fs, rt};
 pub struct HostFiles<R: rt::Files + Drop> {
     system: R,
     opened: Option<R::File>,
-    openings: Openings,
+    open_log: Openings,
     faults: u64,
 }
 
@@ -31,13 +31,13 @@ impl<R: rt::Files + Drop> HostFiles<R> {
     /// Returns the files of `system`, the machine; none is open.
     pub fn new(system: R) -> HostFiles<R>
         ensures none_open { file_of result ≡ None }
-        ensures openings { (⟦<HostFiles<R> as Files>⟧.state result).openings ≡ no_openings }
+        ensures open_log { (⟦<HostFiles<R> as Files>⟧.state result).open_log ≡ no_openings }
         ensures faults { (⟦<HostFiles<R> as Files>⟧.state result).faults ≡ 0 }
     {
         HostFiles {
             system,
             opened: None,
-            openings: Openings::none(),
+            open_log: Openings::none(),
             faults: 0,
         }
     }
@@ -48,9 +48,9 @@ impl<R: rt::Files + Drop> Files for HostFiles<R> {
     ghost use Rattle.tide_edge.specs.Workings.MemoryLaws.{unobservable};
 
     ghost state = { λ h. record {
-      store = record { is_observable = false; folder = λ name. None; is_steady = false };
-      rest = [];
-      openings = h.openings;
+      file_contents = record { is_observable = false; folder = λ name. None; is_steady = false };
+      unread_bytes = [];
+      open_log = h.open_log;
       faults = h.faults;
     } };
 
@@ -66,29 +66,29 @@ impl<R: rt::Files + Drop> Files for HostFiles<R> {
         match fs::open(&self.system, name.as_str()) {
             Ok(file) => {
                 self.opened = Some(file);
-                self.openings.open(name, true);
+                self.open_log.open(name, true);
                 Ok(())
             }
             Err(_) => {
-                self.openings.open(name, false);
+                self.open_log.open(name, false);
                 Err(count_fault(&mut self.faults))
             }
         }
     }
 
-    fn read(&mut self, room: &mut [u8]) -> Result<usize, Failed>
-        requires { 0 < length room.old }
+    fn read(&mut self, buffer: &mut [u8]) -> Result<usize, Failed>
+        requires { 0 < length buffer.old }
         ensures after { ⟦<HostFiles<R> as Files>⟧.state self.new
-            ≡ files_after_read result room.new (⟦<HostFiles<R> as Files>⟧.state self.old) }
-        ensures within { IfOk result (λ count. count ≤ length room.old) }
+            ≡ files_after_read result buffer.new (⟦<HostFiles<R> as Files>⟧.state self.old) }
+        ensures within { IfOk result (λ count. count ≤ length buffer.old) }
         ensures tied { ReadConsumes (left_of R.File.remaining (file_of self.old))
-            (left_of R.File.remaining (file_of self.new)) result room.new }
+            (left_of R.File.remaining (file_of self.new)) result buffer.new }
     {
-        let outcome = read_through(&mut self.opened, room);
+        let outcome = read_through(&mut self.opened, buffer);
         match outcome {
-            Ok(count) => self.openings.read(room, count),
+            Ok(count) => self.open_log.read(buffer, count),
             Err(_) => {
-                self.openings.fail();
+                self.open_log.fail();
                 count_fault(&mut self.faults);
             }
         }

@@ -69,12 +69,12 @@ impl<S: OpenStream + Read + Write + Drop> HostLine<S> {
         }
     }
 
-    /// Reads the next bytes into the first bytes of `room`, and returns their count: 0 at their end.
-    pub(crate) fn read(&mut self, clock: &impl rt::Clock, room: &mut [u8]) -> io::Result<usize>
-        ensures within { IfOk result (λ count. count ≤ length room.old) }
-        ensures tied { ReadConsumes (S.remaining (stream_of self.old)) (S.remaining (stream_of self.new)) result room.new }
+    /// Reads the next bytes into the first bytes of `buffer`, and returns their count: 0 at their end.
+    pub(crate) fn read(&mut self, clock: &impl rt::Clock, buffer: &mut [u8]) -> io::Result<usize>
+        ensures within { IfOk result (λ count. count ≤ length buffer.old) }
+        ensures tied { ReadConsumes (S.remaining (stream_of self.old)) (S.remaining (stream_of self.new)) result buffer.new }
     {
-        read_in_time(&mut self.stream, self.deadline, clock, room)
+        read_in_time(&mut self.stream, self.deadline, clock, buffer)
     }
 
     /// Writes the first bytes of `piece`, and returns their count. The time for the reply begins with the
@@ -97,9 +97,9 @@ impl<S: OpenStream + Read + Write + Drop> HostLine<S> {
             return;
         }
         self.deadline = Deadline::in_seconds(clock, FAREWELL_SECONDS);
-        let mut room = [0; 4096];
+        let mut buffer = [0; 4096];
         for _ in 0..TRIES {
-            match self.read(clock, &mut room) {
+            match self.read(clock, &mut buffer) {
                 Ok(count) if count > 0 => {}
                 _ => return,
             }
@@ -107,19 +107,19 @@ impl<S: OpenStream + Read + Write + Drop> HostLine<S> {
     }
 }
 
-/// Reads into the first bytes of `room` before the deadline, and returns the count: 0 at the end.
+/// Reads into the first bytes of `buffer` before the deadline, and returns the count: 0 at the end.
 fn read_in_time<S: OpenStream + Read>(
     stream: &mut S,
     deadline: Deadline,
     clock: &impl rt::Clock,
-    room: &mut [u8],
+    buffer: &mut [u8],
 ) -> io::Result<usize>
-    ensures within { IfOk result (λ count. count ≤ length room.old) }
-    ensures tied { ReadConsumes (S.remaining stream.old) (S.remaining stream.new) result room.new }
+    ensures within { IfOk result (λ count. count ≤ length buffer.old) }
+    ensures tied { ReadConsumes (S.remaining stream.old) (S.remaining stream.new) result buffer.new }
 {
     for _ in 0..TRIES {
         stream.set_read_timeout(Some(deadline.left(clock)?))?;
-        match stream.read(room) {
+        match stream.read(buffer) {
             Err(fault) if fault.kind() == ErrorKind::Interrupted => {}
             answer => return answer,
         }

@@ -26,7 +26,7 @@ impl<W: Write + Drop> HostSink<W> {
     /// Returns a sink over `writer`, such as `rt.stdout()` or `rt.stderr()`.
     pub fn new(writer: W) -> HostSink<W>
         ensures over { writer_of result ≡ writer }
-        ensures unused { ⟦<HostSink<W> as Sink>⟧.state result ≡ record { taken = []; faults = 0 } }
+        ensures unused { ⟦<HostSink<W> as Sink>⟧.state result ≡ record { accepted = []; faults = 0 } }
     {
         HostSink {
             writer,
@@ -39,7 +39,7 @@ impl<W: Write + Drop> HostSink<W> {
 impl<W: Write + Drop> Sink for HostSink<W> {
     ghost use Rattle.tide_edge.specs.Adapters.{writer_of, WritesThrough};
 
-    ghost state = { λ h. record { taken = h.accepted.items; faults = h.faults } };
+    ghost state = { λ h. record { accepted = h.accepted.items; faults = h.faults } };
 
     fn write(&mut self, piece: &[u8]) -> Result<usize, Failed>
         requires { 0 < length piece.now }

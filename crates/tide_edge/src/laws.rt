@@ -26,7 +26,7 @@ use crate::sink::Sink;
 /// opening and reading an existing file doesn't fail.
 pub fn memory_files_are_observable()
     ensures state { (m : HeldFiles) → ⟦<MemoryFiles as Files>⟧.state m ≡ files_state m }
-    ensures store { (m : HeldFiles) → (files_state m).store
+    ensures file_contents { (m : HeldFiles) → (files_state m).file_contents
         ≡ record { is_observable = true; folder = folder_of m.files; is_steady = length m.fails == 0 } }
 {}
 

@@ -6,13 +6,12 @@
 //! any implementation.
 #![tactic(auto)]
 
-mod calls;
 mod clock;
 mod connection;
 mod count;
 mod door;
-mod doorway;
 mod failed;
+mod fault_schedule;
 mod file_call;
 mod files;
 mod fixed_clock;
@@ -23,13 +22,14 @@ mod host_files;
 mod host_line;
 mod host_sink;
 mod laws;
+mod listener_state;
 mod memory_door;
 mod memory_files;
 mod memory_sink;
 mod named_file;
 mod open_line;
+mod open_log;
 mod opening;
-mod openings;
 mod passed;
 mod piece;
 mod pieces;
@@ -39,9 +39,9 @@ mod reading;
 mod receiver;
 mod replies;
 mod request_queue;
-mod rest;
 mod rows;
 mod sink;
+mod unread_bytes;
 mod write_through;
 mod writing;
 
@@ -66,6 +66,6 @@ pub use piece::PIECE;
 pub use read_all_fault::ReadAllFault;
 pub use reading::{pass_file, read_all};
 pub use receiver::Receiver;
-pub use rows::worked_rows;
+pub use rows::sample_states;
 pub use sink::Sink;
 pub use writing::{WriteFailed, write_all};

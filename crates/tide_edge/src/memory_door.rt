@@ -23,8 +23,8 @@ impl MemoryDoor {
     ghost use Rattle.tide_edge.specs.Doors.{no_connections, not_listening};
 
     /// Returns a door at which `requests` wait, each as the pieces in which it arrives; no piece is
-    /// empty. All replies together have at most `room` bytes. The calls with a number in `fails`,
-    /// counted from 1 without calls of `close`, fail, and so does a write if `room` is used up.
+    /// empty. All replies together have at most `capacity` bytes. The calls with a number in `fails`,
+    /// counted from 1 without calls of `close`, fail, and so does a write if `capacity` is used up.
     ///
     /// It allocates the memory for all replies here, and none later.
     ///
@@ -33,24 +33,24 @@ impl MemoryDoor {
     pub fn new(
         alloc: Global,
         requests: Vec<Vec<Bytes>>,
-        room: u64,
+        capacity: u64,
         fails: Vec<u64>,
     ) -> Result<MemoryDoor, AllocError>
         requires { IsTrue (list_all (λ request. are_pieces request.items) requests.items) }
         ensures { IfOk result (λ door. held_by door ≡ record {
           requests = map (λ request. request.items) requests.items;
-          doorway = not_listening;
+          listener_state = not_listening;
           connections = no_connections;
-          waiting = map (λ request. request.items) requests.items;
+          pending = map (λ request. request.items) requests.items;
           coming = [];
           replies = [];
-          room = room;
-          calls = record { fails = fails.items; made = 0; faults = 0 };
+          capacity = capacity;
+          fault_schedule = record { fails = fails.items; made = 0; faults = 0 };
           line_faults = 0;
         }) }
     {
         Ok(MemoryDoor {
-            queue: RequestQueue::new(alloc, requests, room, fails)?,
+            queue: RequestQueue::new(alloc, requests, capacity, fails)?,
         })
     }
 
@@ -66,7 +66,7 @@ impl MemoryDoor {
 
 impl Door for MemoryDoor {
     ghost use Rattle.tide_edge.specs.Adapters.{held_by};
-    ghost use Rattle.tide_edge.specs.Calls.{answer, is_to_fail};
+    ghost use Rattle.tide_edge.specs.FaultSchedule.{answer, is_to_fail};
     ghost use Rattle.tide_edge.specs.Doors.{IsUntouched};
     ghost use Rattle.tide_edge.specs.Memory.{
       door_state,
@@ -88,38 +88,38 @@ impl Door for MemoryDoor {
     ghost lawful = { λ d _. lawful_by d.queue d.tied };
 
     fn listen(&mut self, port: u16) -> Result<(), Failed>
-        requires { (held_by self.old).doorway.port ≡ None }
-        ensures answer { result ≡ answer (is_to_fail (held_by self.old).calls) record {} }
+        requires { (held_by self.old).listener_state.port ≡ None }
+        ensures answer { result ≡ answer (is_to_fail (held_by self.old).fault_schedule) record {} }
         ensures after { (held_by self.new) ≡ after_listen (held_by self.old) port }
-        ensures untouched { IsUntouched (held_by self.old).doorway (held_by self.old).connections }
+        ensures untouched { IsUntouched (held_by self.old).listener_state (held_by self.old).connections }
     {
         self.queue.listen(port)
     }
 
     fn next(&mut self) -> Result<bool, Failed>
-        requires listens { IsTrue (held_by self.old).doorway.listens }
-        requires none_open { (held_by self.old).doorway.is_open ≡ false }
+        requires listens { IsTrue (held_by self.old).listener_state.listens }
+        requires none_open { (held_by self.old).listener_state.is_open ≡ false }
         ensures answer { result ≡ comes (held_by self.old) }
         ensures after { (held_by self.new) ≡ after_taking (held_by self.old) }
     {
         self.queue.next()
     }
 
-    fn read(&mut self, room: &mut [u8]) -> Result<usize, Failed>
-        requires room { 0 < length room.old }
-        requires open { IsTrue (held_by self.old).doorway.is_open }
-        ensures answer { result ≡ line_read (held_by self.old) (length room.old) }
-        ensures after { (held_by self.new) ≡ after_line_read (held_by self.old) (length room.old) room.new }
-        ensures filled { room.new ≡ take (line_count (held_by self.old) (length room.old)) (concat (held_by self.old).coming)
-            ++ drop (line_count (held_by self.old) (length room.old)) room.old }
+    fn read(&mut self, buffer: &mut [u8]) -> Result<usize, Failed>
+        requires buffer { 0 < length buffer.old }
+        requires open { IsTrue (held_by self.old).listener_state.is_open }
+        ensures answer { result ≡ line_read (held_by self.old) (length buffer.old) }
+        ensures after { (held_by self.new) ≡ after_line_read (held_by self.old) (length buffer.old) buffer.new }
+        ensures filled { buffer.new ≡ take (line_count (held_by self.old) (length buffer.old)) (concat (held_by self.old).coming)
+            ++ drop (line_count (held_by self.old) (length buffer.old)) buffer.old }
         ensures end { IfOk result (λ count. (count ≡ 0) ↔ (concat (held_by self.old).coming ≡ [])) }
     {
-        self.queue.read(room)
+        self.queue.read(buffer)
     }
 
     fn write(&mut self, piece: &[u8]) -> Result<usize, Failed>
         requires piece { 0 < length piece.now }
-        requires open { IsTrue (held_by self.old).doorway.is_open }
+        requires open { IsTrue (held_by self.old).listener_state.is_open }
         ensures answer { result ≡ line_write (held_by self.old) piece.now }
         ensures after { (held_by self.new) ≡ after_line_write (held_by self.old) piece.now }
         ensures some { IfOk result (λ count. 0 < count) }
@@ -128,7 +128,7 @@ impl Door for MemoryDoor {
     }
 
     fn close(&mut self)
-        requires { IsTrue (held_by self.old).doorway.is_open }
+        requires { IsTrue (held_by self.old).listener_state.is_open }
         ensures { (held_by self.new) ≡ after_close (held_by self.old) }
     {
         self.queue.close();

@@ -27,16 +27,16 @@ ghost use Rattle.std.specs.Prelude.{
 };
 ghost use Rattle.std.specs.Option.{option_map};
 ghost use Rattle.std.specs.Str.{bytes_eq};
-ghost use Rattle.tide_edge.specs.Calls.{after_call, answer, is_to_fail};
+ghost use Rattle.tide_edge.specs.FaultSchedule.{after_call, answer, is_to_fail};
 ghost use Rattle.tide_edge.specs.Memory.{folder_of};
 ghost use Rattle.tide_edge.specs.Workings.OpenFile.{bytes_at, rest_of};
 
-use crate::calls::Calls;
 use crate::failed::Failed;
+use crate::fault_schedule::FaultSchedule;
 use crate::file_call::{OneFileCall, then_open, then_read};
 use crate::files::Files;
 use crate::named_file::NamedFile;
-use crate::rest::rest_from;
+use crate::unread_bytes::rest_from;
 use decimal_text::Text;
 use ghost_log::Log;
 use std::marker::Model;
@@ -47,7 +47,7 @@ pub struct MemoryFiles {
     files: Vec<NamedFile>,
     opened: Option<usize>,
     at: usize,
-    calls: Calls,
+    fault_schedule: FaultSchedule,
     history: Log<OneFileCall>,
 }
 
@@ -57,10 +57,10 @@ impl Model for MemoryFiles {
 
     ghost Value = { HeldFiles };
 
-    ghost view = { λ m. record { files = m.files.items; fails = m.calls.fails; history = m.history.items } };
+    ghost view = { λ m. record { files = m.files.items; fails = m.fault_schedule.fails; history = m.history.items } };
 
     ghost invariant = { λ m.
-        IsOpenAs (record { files = m.files.items; fails = m.calls.fails; history = m.history.items }) m.opened m.at m.calls };
+        IsOpenAs (record { files = m.files.items; fails = m.fault_schedule.fails; history = m.history.items }) m.opened m.at m.fault_schedule };
 }
 
 impl MemoryFiles {
@@ -73,7 +73,7 @@ impl MemoryFiles {
             files,
             opened: None,
             at: 0,
-            calls: Calls::new(fails),
+            fault_schedule: FaultSchedule::new(fails),
             history: Log::new(),
         }
     }
@@ -93,42 +93,42 @@ impl Files for MemoryFiles {
         ensures answer { result ≡ open_result (files_now self.old) name.now }
         ensures history { self.new ≡ record self.old { history = self.old.history ++ Open name.now ∷ [] } }
         ensures after { files_state self.new ≡ files_after_open result name.now (files_state self.old) }
-        ensures found { OnOk result (IsSome ((files_state self.old).store.folder name.now)) }
-        ensures absent { IsTrue (files_state self.old).store.is_steady → OnErr result ((files_state self.old).store.folder name.now ≡ None) }
+        ensures found { OnOk result (IsSome ((files_state self.old).file_contents.folder name.now)) }
+        ensures absent { IsTrue (files_state self.old).file_contents.is_steady → OnErr result ((files_state self.old).file_contents.folder name.now ≡ None) }
     {
         self.history = then_open(&self.history, name);
-        self.opened = find(&mut self.calls, &self.files, name);
+        self.opened = find(&mut self.fault_schedule, &self.files, name);
         self.at = 0;
         result_of(self.opened)
     }
 
-    fn read(&mut self, room: &mut [u8]) -> Result<usize, Failed>
-        requires { 0 < length room.old }
-        ensures answer { result ≡ read_result (files_now self.old) (length room.old) }
-        ensures history { self.new ≡ record self.old { history = self.old.history ++ Read (length room.old - 1) ∷ [] } }
+    fn read(&mut self, buffer: &mut [u8]) -> Result<usize, Failed>
+        requires { 0 < length buffer.old }
+        ensures answer { result ≡ read_result (files_now self.old) (length buffer.old) }
+        ensures history { self.new ≡ record self.old { history = self.old.history ++ Read (length buffer.old - 1) ∷ [] } }
         ensures filled { let count = result_unwrap_or result 0 in
-            room.new ≡ take count (files_state self.old).rest ++ drop count room.old }
-        ensures after { files_state self.new ≡ files_after_read result room.new (files_state self.old) }
-        ensures within { IfOk result (λ count. count ≤ length room.old) }
-        ensures next_bytes { IfOk result (λ count. take count room.new ≡ take count (files_state self.old).rest) }
-        ensures end { IfOk result (λ count. (count ≡ 0) ↔ ((files_state self.old).rest ≡ [])) }
-        ensures reads { IsTrue (files_state self.old).store.is_steady → IsOk result }
+            buffer.new ≡ take count (files_state self.old).unread_bytes ++ drop count buffer.old }
+        ensures after { files_state self.new ≡ files_after_read result buffer.new (files_state self.old) }
+        ensures within { IfOk result (λ count. count ≤ length buffer.old) }
+        ensures next_bytes { IfOk result (λ count. take count buffer.new ≡ take count (files_state self.old).unread_bytes) }
+        ensures end { IfOk result (λ count. (count ≡ 0) ↔ ((files_state self.old).unread_bytes ≡ [])) }
+        ensures reads { IsTrue (files_state self.old).file_contents.is_steady → IsOk result }
     {
-        self.history = then_read(&self.history, room.len() - 1);
-        self.calls.next()?;
-        let rest = rest_at(&self.files, self.opened, self.at);
-        let count = room.len().min(rest.len());
-        room[..count].copy_from_slice(&rest[..count]);
+        self.history = then_read(&self.history, buffer.len() - 1);
+        self.fault_schedule.next()?;
+        let unread_bytes = rest_at(&self.files, self.opened, self.at);
+        let count = buffer.len().min(unread_bytes.len());
+        buffer[..count].copy_from_slice(&unread_bytes[..count]);
         self.at += count;
         Ok(count)
     }
 }
 
 /// Returns the result of `open`, which has found the file with this index, or none.
-fn result_of(place: Option<usize>) -> Result<(), Failed>
-    ensures { result ≡ answer (is_none place) record {} }
+fn result_of(index: Option<usize>) -> Result<(), Failed>
+    ensures { result ≡ answer (is_none index) record {} }
 {
-    match place {
+    match index {
         Some(_) => Ok(()),
         None => Err(Failed),
     }
@@ -136,22 +136,22 @@ fn result_of(place: Option<usize>) -> Result<(), Failed>
 
 /// Counts a call, and returns the index of the first file called `name`, or `None` if the call is to fail
 /// or there is no such file.
-fn find(calls: &mut Calls, files: &[NamedFile], name: &Text) -> Option<usize>
-    ensures place { option_map (bytes_at files.now) result ≡ (if is_to_fail calls.old then None else folder_of files.now name.now) }
-    ensures after { calls.new ≡ after_call (is_none result) calls.old }
+fn find(fault_schedule: &mut FaultSchedule, files: &[NamedFile], name: &Text) -> Option<usize>
+    ensures index { option_map (bytes_at files.now) result ≡ (if is_to_fail fault_schedule.old then None else folder_of files.now name.now) }
+    ensures after { fault_schedule.new ≡ after_call (is_none result) fault_schedule.old }
 {
-    if calls.next().is_err() {
+    if fault_schedule.next().is_err() {
         return None;
     }
-    let place = place_of(files, name);
-    if place.is_none() {
-        calls.fail();
+    let index = index_of_file(files, name);
+    if index.is_none() {
+        fault_schedule.fail();
     }
-    place
+    index
 }
 
 /// Returns the index of the first file called `name`, or `None` if there isn't one.
-fn place_of(files: &[NamedFile], name: &Text) -> Option<usize>
+fn index_of_file(files: &[NamedFile], name: &Text) -> Option<usize>
     ensures { folder_of files.now name.now ≡ option_map (bytes_at files.now) result }
 {
     first_named(files, name)
@@ -167,11 +167,11 @@ fn first_named(files: &[NamedFile], name: &Text) -> Option<usize>
 
 /// Returns the bytes of the file with index `opened` from byte `at` on: none if `opened` is `None`.
 fn rest_at(files: &[NamedFile], opened: Option<usize>, at: usize) -> &[u8]
-    ensures rest { result.now ≡ rest_of files.now opened at }
+    ensures unread_bytes { result.now ≡ rest_of files.now opened at }
     ensures fits { at + length result.now < 2 ^ 64 }
 {
     match opened {
-        Some(place) if place < files.len() => rest_from(files[place].bytes.as_slice(), at),
+        Some(index) if index < files.len() => rest_from(files[index].bytes.as_slice(), at),
         _ => &[],
     }
 }

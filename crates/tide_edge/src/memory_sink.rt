@@ -2,8 +2,8 @@
 
 ghost use Rattle.std.specs.Prelude.{◌≡◌, ◌<◌, ◌≤◌, [], IfOk, length};
 
-use crate::calls::Calls;
 use crate::failed::Failed;
+use crate::fault_schedule::FaultSchedule;
 use crate::sink::Sink;
 use std::alloc::{AllocError, Global};
 use std::marker::Model;
@@ -13,8 +13,8 @@ use std::marker::Model;
 pub struct MemorySink {
     bytes: Vec<u8>,
     most: u64,
-    room: u64,
-    calls: Calls,
+    capacity: u64,
+    fault_schedule: FaultSchedule,
 }
 
 impl Model for MemorySink {
@@ -23,51 +23,52 @@ impl Model for MemorySink {
 
     ghost Value = { HeldSink };
 
-    ghost view = { λ s. record { taken = s.bytes.items; most = s.most; room = s.room; calls = s.calls } };
+    ghost view = { λ s. record { accepted = s.bytes.items; most = s.most; capacity = s.capacity; fault_schedule = s.fault_schedule } };
 
-    ghost invariant = { λ s. (1 ≤ s.most) × (vec_len s.bytes ≤ s.room) × (s.room ≤ vec_capacity s.bytes) };
+    ghost invariant = { λ s. (1 ≤ s.most) × (vec_len s.bytes ≤ s.capacity) × (s.capacity ≤ vec_capacity s.bytes) };
 }
 
 impl MemorySink {
-    /// Returns an empty sink that accepts at most `most` bytes a call and `room` bytes in all. The calls
-    /// with a number in `fails`, counted from 1, fail, and so does each call if `room` is used up.
+    /// Returns an empty sink that accepts at most `most` bytes a call and `capacity` bytes in all. The
+    /// calls with a number in `fails`, counted from 1, fail, and so does each call if `capacity` is
+    /// used up.
     ///
-    /// It allocates `room` bytes here, and none later.
+    /// It allocates `capacity` bytes here, and none later.
     ///
     /// # Errors
     /// [`AllocError`] if memory runs out.
     pub fn new(
         alloc: Global,
         most: u64,
-        room: u64,
+        capacity: u64,
         fails: Vec<u64>,
     ) -> Result<MemorySink, AllocError>
         requires { 1 ≤ most }
         ensures { IfOk result (λ sink. sink ≡ record {
-          taken = [];
+          accepted = [];
           most = most;
-          room = room;
-          calls = record { fails = fails.items; made = 0; faults = 0 };
+          capacity = capacity;
+          fault_schedule = record { fails = fails.items; made = 0; faults = 0 };
         }) }
     {
         Ok(MemorySink {
-            bytes: Vec::with_capacity(alloc, room as usize)?,
+            bytes: Vec::with_capacity(alloc, capacity as usize)?,
             most,
-            room,
-            calls: Calls::new(fails),
+            capacity,
+            fault_schedule: FaultSchedule::new(fails),
         })
     }
 
     /// Borrows the bytes accepted until now.
     pub fn bytes(&self) -> &[u8]
-        ensures { result.now ≡ self.now.taken }
+        ensures { result.now ≡ self.now.accepted }
     {
         self.bytes.as_slice()
     }
 }
 
 impl Sink for MemorySink {
-    ghost use Rattle.tide_edge.specs.Calls.{answer};
+    ghost use Rattle.tide_edge.specs.FaultSchedule.{answer};
     ghost use Rattle.tide_edge.specs.Memory.{sink_state, is_refused, write_count, after_write};
 
     ghost state = { λ s. sink_state s };
@@ -78,10 +79,10 @@ impl Sink for MemorySink {
         ensures after { self.new ≡ after_write self.old piece.now }
         ensures some { IfOk result (λ count. 0 < count) }
     {
-        self.calls.next()?;
-        let left = self.room - self.bytes.len() as u64;
+        self.fault_schedule.next()?;
+        let left = self.capacity - self.bytes.len() as u64;
         if left == 0 {
-            return Err(self.calls.fail());
+            return Err(self.fault_schedule.fail());
         }
         let count = (piece.len() as u64).min(self.most).min(left) as usize;
         self.bytes.extend_from_slice(&piece[..count]).unwrap();

@@ -12,21 +12,21 @@ use std::io::{Read, Write};
 use std::net::OpenStream;
 use std::rt;
 
-/// Reads into the first bytes of `room` and returns the count; a failure is counted in `faults`.
+/// Reads into the first bytes of `buffer` and returns the count; a failure is counted in `faults`.
 pub(crate) fn read_open<S: OpenStream + Read + Write + Drop>(
     line: &mut Option<HostLine<S>>,
     clock: &impl rt::Clock,
     faults: &mut u64,
-    room: &mut [u8],
+    buffer: &mut [u8],
 ) -> Result<usize, Failed>
-    ensures within { IfOk result (λ count. count ≤ length room.old) }
+    ensures within { IfOk result (λ count. count ≤ length buffer.old) }
     ensures counts { faults.new ≡ faults_after (is_err result) faults.old }
-    ensures tied { ReadConsumes (known_of S.remaining line.old) (known_of S.remaining line.new) result room.new }
+    ensures tied { ReadConsumes (known_of S.remaining line.old) (known_of S.remaining line.new) result buffer.new }
 {
     let Some(line) = line else {
         return Err(count_fault(faults));
     };
-    match line.read(clock, room) {
+    match line.read(clock, buffer) {
         Ok(count) => Ok(count),
         Err(_) => Err(count_fault(faults)),
     }

@@ -48,12 +48,12 @@ impl OneOpening {
         }
     }
 
-    /// Records that the first `count` bytes of `room` were read.
-    pub(crate) fn read(&mut self, room: &[u8], count: usize)
-        requires { count ≤ length room.now }
-        ensures { self.new ≡ opening_after_read count room.now self.old }
+    /// Records that the first `count` bytes of `buffer` were read.
+    pub(crate) fn read(&mut self, buffer: &[u8], count: usize)
+        requires { count ≤ length buffer.now }
+        ensures { self.new ≡ opening_after_read count buffer.now self.old }
     {
-        self.bytes = self.bytes.then(&room[..count]);
+        self.bytes = self.bytes.then(&buffer[..count]);
         if count == 0 {
             self.ends = self.ends.then(&[()]);
         }

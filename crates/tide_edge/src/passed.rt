@@ -54,13 +54,13 @@ impl Connections {
         self.latest = Some(OneConnection::new());
     }
 
-    /// Records a call of `read` with `room` and its `outcome`.
-    pub(crate) fn read(&mut self, room: &[u8], outcome: &Result<usize, Failed>)
-        requires { IfOk outcome.now (λ count. count ≤ length room.now) }
-        ensures { self.new ≡ change_latest (connection_after_read outcome.now room.now) self.old }
+    /// Records a call of `read` with `buffer` and its `outcome`.
+    pub(crate) fn read(&mut self, buffer: &[u8], outcome: &Result<usize, Failed>)
+        requires { IfOk outcome.now (λ count. count ≤ length buffer.now) }
+        ensures { self.new ≡ change_latest (connection_after_read outcome.now buffer.now) self.old }
     {
         if let Some(latest) = &mut self.latest {
-            latest.read(room, outcome);
+            latest.read(buffer, outcome);
         }
     }
 

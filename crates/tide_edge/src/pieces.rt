@@ -5,7 +5,7 @@ ghost use Rattle.std.specs.List.{concat};
 ghost use Rattle.tide_edge.specs.Doors.{first_or_empty, left_after};
 ghost use Rattle.tide_edge.specs.Memory.{are_pieces};
 
-use crate::rest::rest_from;
+use crate::unread_bytes::rest_from;
 use decimal_text::Bytes;
 use std::collections::VecDeque;
 use std::marker::Model;
@@ -41,22 +41,22 @@ impl Pieces {
         }
     }
 
-    /// Copies the next bytes of the first piece into the first bytes of `room`, and returns their count:
-    /// 0 if none are left.
-    pub(crate) fn read(&mut self, room: &mut [u8]) -> usize
-        requires { 0 < length room.old }
+    /// Copies the next bytes of the first piece into the first bytes of `buffer`, and returns their
+    /// count: 0 if none are left.
+    pub(crate) fn read(&mut self, buffer: &mut [u8]) -> usize
+        requires { 0 < length buffer.old }
         ensures end { (result ≡ 0) ↔ (concat self.old ≡ []) }
-        ensures count { result ≡ min (length room.old) (length (first_or_empty self.old)) }
+        ensures count { result ≡ min (length buffer.old) (length (first_or_empty self.old)) }
         ensures after { self.new ≡ left_after result self.old }
-        ensures filled { room.new ≡ take result (concat self.old) ++ drop result room.old }
+        ensures filled { buffer.new ≡ take result (concat self.old) ++ drop result buffer.old }
     {
         let Some(piece) = self.pieces.front() else {
             return 0;
         };
-        let rest = rest_from(piece.as_slice(), self.at);
-        let count = room.len().min(rest.len());
-        room[..count].copy_from_slice(&rest[..count]);
-        if count == rest.len() {
+        let unread_bytes = rest_from(piece.as_slice(), self.at);
+        let count = buffer.len().min(unread_bytes.len());
+        buffer[..count].copy_from_slice(&unread_bytes[..count]);
+        if count == unread_bytes.len() {
             self.pieces.pop_front();
             self.at = 0;
         } else {

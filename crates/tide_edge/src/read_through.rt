@@ -7,20 +7,20 @@ ghost use Rattle.tide_edge.specs.Adapters.{left_of};
 use crate::failed::Failed;
 use std::io::Read;
 
-/// Reads into the first bytes of `room` and returns the count: 0 at the end of the file, which is then
+/// Reads into the first bytes of `buffer` and returns the count: 0 at the end of the file, which is then
 /// closed, and if no file is open.
 pub(crate) fn read_through<F: Read + Drop>(
     opened: &mut Option<F>,
-    room: &mut [u8],
+    buffer: &mut [u8],
 ) -> Result<usize, Failed>
-    requires { 0 < length room.old }
-    ensures within { IfOk result (λ count. count ≤ length room.old) }
-    ensures through { ReadConsumes (left_of F.remaining opened.old) (left_of F.remaining opened.new) result room.new }
+    requires { 0 < length buffer.old }
+    ensures within { IfOk result (λ count. count ≤ length buffer.old) }
+    ensures through { ReadConsumes (left_of F.remaining opened.old) (left_of F.remaining opened.new) result buffer.new }
 {
     let Some(file) = opened else {
         return Ok(0);
     };
-    let count = match file.read(room) {
+    let count = match file.read(buffer) {
         Ok(count) => count,
         Err(_) => return Err(Failed),
     };

@@ -26,11 +26,11 @@ pub fn read_all<F: Files>(
     name: &Text,
     limit: u64,
 ) -> Result<Bytes, ReadAllFault>
-    ensures whole { IsTrue (F.state files.old).store.is_observable
-        → Meets source_of (IsTrue (F.state files.old).store.is_steady) (whole limit ((F.state files.old).store.folder name.now)) result }
-    ensures came { OpenedOnce source_of (whole limit) limit name.now (F.state files.old).openings (F.state files.new).openings result }
+    ensures whole { IsTrue (F.state files.old).file_contents.is_observable
+        → Meets source_of (IsTrue (F.state files.old).file_contents.is_steady) (whole limit ((F.state files.old).file_contents.folder name.now)) result }
+    ensures came { OpenedOnce source_of (whole limit) limit name.now (F.state files.old).open_log (F.state files.new).open_log result }
     ensures within { IfOk result (λ bytes. length bytes ≤ limit) }
-    ensures too_long { (result ≡ Err ReadAllFault.TooLong) ↔ HasPassed limit (F.state files.old).openings (F.state files.new).openings }
+    ensures too_long { (result ≡ Err ReadAllFault.TooLong) ↔ HasPassed limit (F.state files.old).open_log (F.state files.new).open_log }
     ensures read { ReadWithin (one_file limit) (is_outside_fault source_of result) (F.state files.old) (F.state files.new) }
 {
     let mut kept = Kept {
@@ -56,46 +56,47 @@ pub fn pass_file<F: Files, R: Receiver>(
     limit: u64,
     receiver: &mut R,
 ) -> Result<(), ReadAllFault>
-    requires unused { R.taken receiver.old ≡ [] }
+    requires unused { R.accepted receiver.old ≡ [] }
     requires most { limit ≤ R.most receiver.old }
-    ensures came { OpenedOnce source_of (whole limit) limit name.now (F.state files.old).openings (F.state files.new).openings
-        (all_taken (R.taken receiver.new) result) }
-    ensures within { OnOk result (length (R.taken receiver.new) ≤ limit) }
-    ensures too_long { (result ≡ Err ReadAllFault.TooLong) ↔ HasPassed limit (F.state files.old).openings (F.state files.new).openings }
+    ensures came { OpenedOnce source_of (whole limit) limit name.now (F.state files.old).open_log (F.state files.new).open_log
+        (all_taken (R.accepted receiver.new) result) }
+    ensures within { OnOk result (length (R.accepted receiver.new) ≤ limit) }
+    ensures too_long { (result ≡ Err ReadAllFault.TooLong) ↔ HasPassed limit (F.state files.old).open_log (F.state files.new).open_log }
     ensures read { ReadWithin (one_file limit) (is_outside_fault source_of result) (F.state files.old) (F.state files.new) }
 {
-    let mut room = vec![in alloc; 0; PIECE]?;
+    let mut buffer = vec![in alloc; 0; PIECE]?;
     match files.open(name) {
-        Ok(()) => pass_rest(files, &mut room, limit, receiver),
+        Ok(()) => pass_rest(files, &mut buffer, limit, receiver),
         Err(_) => Err(ReadAllFault::Failed),
     }
 }
 
-/// Passes the unread bytes of the open file to `receiver`, in pieces of at most the length of `room`, if
-/// at most `limit` bytes are unread. The file was just opened, and `receiver` has received none before.
+/// Passes the unread bytes of the open file to `receiver`, in pieces of at most the length of `buffer`,
+/// if at most `limit` bytes are unread. The file was just opened, and `receiver` has received none
+/// before.
 fn pass_rest<F: Files, R: Receiver>(
     files: &mut F,
-    room: &mut [u8],
+    buffer: &mut [u8],
     limit: u64,
     receiver: &mut R,
 ) -> Result<(), ReadAllFault>
-    requires room { length room.old ≡ PIECE }
-    requires fresh { IsFresh (F.state files.old).openings }
-    requires unused { R.taken receiver.old ≡ [] }
+    requires buffer { length buffer.old ≡ PIECE }
+    requires fresh { IsFresh (F.state files.old).open_log }
+    requires unused { R.accepted receiver.old ≡ [] }
     requires most { limit ≤ R.most receiver.old }
-    ensures came { HasCome limit (F.state files.old) (F.state files.new) (R.taken receiver.new) result }
-    ensures within { OnOk result (length (R.taken receiver.new) ≤ limit) }
+    ensures came { HasCome limit (F.state files.old) (F.state files.new) (R.accepted receiver.new) result }
+    ensures within { OnOk result (length (R.accepted receiver.new) ≤ limit) }
 {
     let mut passed = 0;
     loop {
-        let count = files.read(room)?;
+        let count = files.read(buffer)?;
         if count == 0 {
             return Ok(());
         }
         if count as u64 > limit - passed {
             return Err(ReadAllFault::TooLong);
         }
-        receiver.take(&room[..count])?;
+        receiver.take(&buffer[..count])?;
         passed += count as u64;
     }
 }
@@ -107,7 +108,7 @@ struct Kept {
 }
 
 impl Receiver for Kept {
-    ghost taken = { λ kept. kept.bytes.items };
+    ghost accepted = { λ kept. kept.bytes.items };
 
     ghost most = { λ kept. 2 ^ 64 };
 

@@ -9,7 +9,7 @@ use std::alloc::AllocError;
 /// In contracts its state has the bytes that it received, and the greatest number that it can receive.
 /// No call changes this number.
 pub trait Receiver {
-    ghost taken: { Self → List ℕ };
+    ghost accepted: { Self → List ℕ };
 
     ghost most: { Self → ℕ };
 
@@ -18,7 +18,7 @@ pub trait Receiver {
     /// # Errors
     /// [`AllocError`] if memory runs out.
     fn take(&mut self, piece: &[u8]) -> Result<(), AllocError>
-        requires { length (taken self.old) + length piece.now ≤ most self.old }
-        ensures taken { OnOk result (taken self.new ≡ taken self.old ++ piece.now) }
+        requires { length (accepted self.old) + length piece.now ≤ most self.old }
+        ensures accepted { OnOk result (accepted self.new ≡ accepted self.old ++ piece.now) }
         ensures most { most self.new ≡ most self.old };
 }

@@ -3,7 +3,7 @@
 ghost use Rattle.std.specs.Prelude.{◌≡◌, ◌<◌, ◌≤◌, ◌+◌, ◌-◌, ◌++◌, [], ◌∷◌, All, length, Some, IfOk, MatchOption, slice_get};
 ghost use Rattle.tide_edge.specs.Doors.{append_to_last};
 
-use crate::rest::rest_from;
+use crate::unread_bytes::rest_from;
 use std::alloc::{AllocError, Global};
 use std::marker::Model;
 
@@ -12,7 +12,7 @@ use std::marker::Model;
 pub(crate) struct Replies {
     bytes: Vec<u8>,
     starts: Vec<usize>,
-    room: u64,
+    capacity: u64,
     more: usize,
 }
 
@@ -22,25 +22,25 @@ impl Model for Replies {
 
     ghost Value = { HeldReplies };
 
-    ghost view = { λ r. record { replies = parts r.starts.items r.bytes.items; room = r.room; more = r.more } };
+    ghost view = { λ r. record { replies = parts r.starts.items r.bytes.items; capacity = r.capacity; more = r.more } };
 
-    ghost invariant = { λ r. (vec_len r.bytes + r.room ≤ vec_capacity r.bytes)
+    ghost invariant = { λ r. (vec_len r.bytes + r.capacity ≤ vec_capacity r.bytes)
         × (vec_len r.starts + r.more ≤ vec_capacity r.starts)
         × All (λ start. start ≤ length r.bytes.items) r.starts.items };
 }
 
 impl Replies {
-    /// Returns no replies, with memory for `room` bytes in `more` replies.
+    /// Returns no replies, with memory for `capacity` bytes in `more` replies.
     ///
     /// # Errors
     /// [`AllocError`] if memory runs out.
-    pub(crate) fn new(alloc: Global, room: u64, more: usize) -> Result<Replies, AllocError>
-        ensures { IfOk result (λ replies. replies ≡ record { replies = []; room = room; more = more }) }
+    pub(crate) fn new(alloc: Global, capacity: u64, more: usize) -> Result<Replies, AllocError>
+        ensures { IfOk result (λ replies. replies ≡ record { replies = []; capacity = capacity; more = more }) }
     {
         Ok(Replies {
-            bytes: Vec::with_capacity(alloc, room as usize)?,
+            bytes: Vec::with_capacity(alloc, capacity as usize)?,
             starts: Vec::with_capacity(alloc, more)?,
-            room,
+            capacity,
             more,
         })
     }
@@ -50,7 +50,7 @@ impl Replies {
         requires { 0 < self.old.more }
         ensures { self.new ≡ record {
           replies = self.old.replies ++ [] ∷ [];
-          room = self.old.room;
+          capacity = self.old.capacity;
           more = self.old.more - 1;
         } }
     {
@@ -60,31 +60,31 @@ impl Replies {
 
     /// Appends `piece` to the last reply.
     pub(crate) fn append(&mut self, piece: &[u8])
-        requires { length piece.now ≤ self.old.room }
+        requires { length piece.now ≤ self.old.capacity }
         ensures { self.new ≡ record {
           replies = append_to_last self.old.replies piece.now;
-          room = self.old.room - length piece.now;
+          capacity = self.old.capacity - length piece.now;
           more = self.old.more;
         } }
     {
-        self.room -= piece.len() as u64;
+        self.capacity -= piece.len() as u64;
         self.bytes.extend_from_slice(piece).unwrap();
     }
 
     /// Returns the number of bytes that the replies may still grow by.
-    pub(crate) fn room(&self) -> u64
-        ensures { result ≡ self.now.room }
+    pub(crate) fn capacity(&self) -> u64
+        ensures { result ≡ self.now.capacity }
     {
-        self.room
+        self.capacity
     }
 
-    /// Returns the reply with index `place`, counted from 0, or `None` if at most `place` replies were
+    /// Returns the reply with index `index`, counted from 0, or `None` if at most `index` replies were
     /// begun.
-    pub(crate) fn get(&self, place: u64) -> Option<&[u8]>
-        ensures { MatchOption result (length self.now.replies ≤ place)
-            (λ reply. slice_get self.now.replies place ≡ Some reply.now) }
+    pub(crate) fn get(&self, index: u64) -> Option<&[u8]>
+        ensures { MatchOption result (length self.now.replies ≤ index)
+            (λ reply. slice_get self.now.replies index ≡ Some reply.now) }
     {
-        let at = place as usize;
+        let at = index as usize;
         if at >= self.starts.len() {
             return None;
         }

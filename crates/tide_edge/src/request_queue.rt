@@ -22,10 +22,10 @@ ghost use Rattle.std.specs.Prelude.{
 ghost use Rattle.std.specs.List.{concat, list_all};
 ghost use Rattle.tide_edge.specs.Memory.{are_pieces};
 
-use crate::calls::Calls;
-use crate::doorway::Doorway;
 use crate::failed::Failed;
+use crate::fault_schedule::FaultSchedule;
 use crate::host_fault::count_fault;
+use crate::listener_state::ListenerState;
 use crate::passed::Connections;
 use crate::pieces::Pieces;
 use crate::replies::Replies;
@@ -39,12 +39,12 @@ use std::marker::Model;
 #[derive(Drop)]
 pub(crate) struct RequestQueue {
     requests: Log<Vec<Bytes>>,
-    doorway: Doorway,
+    listener_state: ListenerState,
     connections: Connections,
-    waiting: VecDeque<Vec<Bytes>>,
+    pending: VecDeque<Vec<Bytes>>,
     coming: Pieces,
     replies: Replies,
-    calls: Calls,
+    fault_schedule: FaultSchedule,
     line_faults: u64,
 }
 
@@ -59,23 +59,23 @@ impl Model for RequestQueue {
 
     ghost view = { λ d. record {
       requests = map (λ request. request.items) d.requests.items;
-      doorway = d.doorway;
+      listener_state = d.listener_state;
       connections = d.connections;
-      waiting = map (λ request. request.items) d.waiting.items;
+      pending = map (λ request. request.items) d.pending.items;
       coming = d.coming;
       replies = d.replies.replies;
-      room = d.replies.room;
-      calls = d.calls;
+      buffer = d.replies.buffer;
+      fault_schedule = d.fault_schedule;
       line_faults = d.line_faults;
     } };
 
-    ghost invariant = { λ d. (deque_len d.waiting ≤ d.replies.more)
-        × IsTrue (list_all (λ request. are_pieces request.items) d.waiting.items)
-        × (d.doorway.port ≡ None → IsUntouched d.doorway d.connections) };
+    ghost invariant = { λ d. (deque_len d.pending ≤ d.replies.more)
+        × IsTrue (list_all (λ request. are_pieces request.items) d.pending.items)
+        × (d.listener_state.port ≡ None → IsUntouched d.listener_state d.connections) };
 }
 
 impl RequestQueue {
-    ghost use Rattle.tide_edge.specs.Calls.{answer, is_to_fail};
+    ghost use Rattle.tide_edge.specs.FaultSchedule.{answer, is_to_fail};
     ghost use Rattle.tide_edge.specs.Doors.{IsUntouched, no_connections, not_listening};
     ghost use Rattle.tide_edge.specs.Memory.{
       comes,
@@ -91,8 +91,8 @@ impl RequestQueue {
     };
 
     /// Returns a queue in which `requests` wait, each as the pieces in which it arrives; no piece is
-    /// empty. All replies together have at most `room` bytes. The calls with a number in `fails`,
-    /// counted from 1 without calls of `close`, fail, and so does a write if `room` is used up.
+    /// empty. All replies together have at most `buffer` bytes. The calls with a number in `fails`,
+    /// counted from 1 without calls of `close`, fail, and so does a write if `buffer` is used up.
     ///
     /// It allocates the memory for all replies here, and none later.
     ///
@@ -101,30 +101,30 @@ impl RequestQueue {
     pub(crate) fn new(
         alloc: Global,
         requests: Vec<Vec<Bytes>>,
-        room: u64,
+        buffer: u64,
         fails: Vec<u64>,
     ) -> Result<RequestQueue, AllocError>
         requires { IsTrue (list_all (λ request. are_pieces request.items) requests.items) }
         ensures { IfOk result (λ queue. queue ≡ record {
           requests = map (λ request. request.items) requests.items;
-          doorway = not_listening;
+          listener_state = not_listening;
           connections = no_connections;
-          waiting = map (λ request. request.items) requests.items;
+          pending = map (λ request. request.items) requests.items;
           coming = [];
           replies = [];
-          room = room;
-          calls = record { fails = fails.items; made = 0; faults = 0 };
+          buffer = buffer;
+          fault_schedule = record { fails = fails.items; made = 0; faults = 0 };
           line_faults = 0;
         }) }
     {
         Ok(RequestQueue {
             requests: Log::new().then(&requests),
-            doorway: Doorway::not_listening(),
+            listener_state: ListenerState::not_listening(),
             connections: Connections::none(),
-            replies: Replies::new(alloc, room, requests.len())?,
-            waiting: VecDeque::from(requests),
+            replies: Replies::new(alloc, buffer, requests.len())?,
+            pending: VecDeque::from(requests),
             coming: Pieces::new(Vec::new(alloc)),
-            calls: Calls::new(fails),
+            fault_schedule: FaultSchedule::new(fails),
             line_faults: 0,
         })
     }
@@ -143,13 +143,13 @@ impl RequestQueue {
     /// # Errors
     /// [`Failed`] if this call is one of those that are to fail.
     pub(crate) fn listen(&mut self, port: u16) -> Result<(), Failed>
-        requires { self.old.doorway.port ≡ None }
-        ensures answer { result ≡ answer (is_to_fail self.old.calls) record {} }
+        requires { self.old.listener_state.port ≡ None }
+        ensures answer { result ≡ answer (is_to_fail self.old.fault_schedule) record {} }
         ensures after { self.new ≡ after_listen self.old port }
-        ensures untouched { IsUntouched self.old.doorway self.old.connections }
+        ensures untouched { IsUntouched self.old.listener_state self.old.connections }
     {
-        let outcome = self.calls.next();
-        self.doorway = Doorway::asked(port, outcome.is_ok());
+        let outcome = self.fault_schedule.next();
+        self.listener_state = ListenerState::listen_requested(port, outcome.is_ok());
         outcome
     }
 
@@ -158,43 +158,43 @@ impl RequestQueue {
     /// # Errors
     /// [`Failed`] if this call is one of those that are to fail.
     pub(crate) fn next(&mut self) -> Result<bool, Failed>
-        requires listens { IsTrue self.old.doorway.listens }
-        requires none_open { self.old.doorway.is_open ≡ false }
+        requires listens { IsTrue self.old.listener_state.listens }
+        requires none_open { self.old.listener_state.is_open ≡ false }
         ensures answer { result ≡ comes self.old }
         ensures after { self.new ≡ after_taking self.old }
     {
-        self.calls.next()?;
-        let Some(pieces) = self.waiting.pop_front() else {
-            self.doorway.end();
+        self.fault_schedule.next()?;
+        let Some(pieces) = self.pending.pop_front() else {
+            self.listener_state.end();
             return Ok(false);
         };
         self.coming = Pieces::new(pieces);
         self.replies.begin();
-        self.doorway.open();
+        self.listener_state.open();
         self.connections.open();
         Ok(true)
     }
 
-    /// Reads the next bytes of the current request into the first bytes of `room`, and returns their
+    /// Reads the next bytes of the current request into the first bytes of `buffer`, and returns their
     /// count.
     ///
     /// # Errors
     /// [`Failed`] if this call is one of those that are to fail.
-    pub(crate) fn read(&mut self, room: &mut [u8]) -> Result<usize, Failed>
-        requires room { 0 < length room.old }
-        requires open { IsTrue self.old.doorway.is_open }
-        ensures answer { result ≡ line_read self.old (length room.old) }
-        ensures after { self.new ≡ after_line_read self.old (length room.old) room.new }
-        ensures filled { room.new ≡ take (line_count self.old (length room.old)) (concat self.old.coming)
-            ++ drop (line_count self.old (length room.old)) room.old }
+    pub(crate) fn read(&mut self, buffer: &mut [u8]) -> Result<usize, Failed>
+        requires buffer { 0 < length buffer.old }
+        requires open { IsTrue self.old.listener_state.is_open }
+        ensures answer { result ≡ line_read self.old (length buffer.old) }
+        ensures after { self.new ≡ after_line_read self.old (length buffer.old) buffer.new }
+        ensures filled { buffer.new ≡ take (line_count self.old (length buffer.old)) (concat self.old.coming)
+            ++ drop (line_count self.old (length buffer.old)) buffer.old }
         ensures end { IfOk result (λ count. (count ≡ 0) ↔ (concat self.old.coming ≡ [])) }
     {
-        let outcome = if self.calls.is_next_to_fail() {
+        let outcome = if self.fault_schedule.is_next_to_fail() {
             Err(count_fault(&mut self.line_faults))
         } else {
-            Ok(self.coming.read(room))
+            Ok(self.coming.read(buffer))
         };
-        self.connections.read(room, &outcome);
+        self.connections.read(buffer, &outcome);
         outcome
     }
 
@@ -204,16 +204,16 @@ impl RequestQueue {
     /// [`Failed`] if this call is one of those that are to fail, or if no room is left.
     pub(crate) fn write(&mut self, piece: &[u8]) -> Result<usize, Failed>
         requires piece { 0 < length piece.now }
-        requires open { IsTrue self.old.doorway.is_open }
+        requires open { IsTrue self.old.listener_state.is_open }
         ensures answer { result ≡ line_write self.old piece.now }
         ensures after { self.new ≡ after_line_write self.old piece.now }
         ensures some { IfOk result (λ count. 0 < count) }
     {
-        let room = self.replies.room();
-        let outcome = if self.calls.is_next_to_fail() || room == 0 {
+        let buffer = self.replies.buffer();
+        let outcome = if self.fault_schedule.is_next_to_fail() || buffer == 0 {
             Err(count_fault(&mut self.line_faults))
         } else {
-            let count = (piece.len() as u64).min(room) as usize;
+            let count = (piece.len() as u64).min(buffer) as usize;
             self.replies.append(&piece[..count]);
             Ok(count)
         };
@@ -223,9 +223,9 @@ impl RequestQueue {
 
     /// Closes the open connection.
     pub(crate) fn close(&mut self)
-        requires { IsTrue self.old.doorway.is_open }
+        requires { IsTrue self.old.listener_state.is_open }
         ensures { self.new ≡ after_close self.old }
     {
-        self.doorway.close();
+        self.listener_state.close();
     }
 }

@@ -1,8 +1,8 @@
 //! Examples of the definitions that contracts cite.
 
 ghost use Rattle.std.specs.Prelude.{◌≡◌, ◌-◌, ◌^◌, true, false, [], ◌∷◌, Some, None, Ok, Err};
-ghost use Rattle.tide_edge.specs.Calls.{is_to_fail};
-ghost use Rattle.tide_edge.specs.Doors.{asked, after_next, append_to_last, left_after};
+ghost use Rattle.tide_edge.specs.FaultSchedule.{is_to_fail};
+ghost use Rattle.tide_edge.specs.Doors.{listen_requested, after_next, append_to_last, left_after};
 ghost use Rattle.tide_edge.specs.Faults.{counted, Rose};
 ghost use Rattle.tide_edge.specs.Memory.{Open, Read, files_now, files_state, folder_of, read_result, is_refused, write_count};
 ghost use Rattle.tide_edge.specs.Whole.{whole};
@@ -12,7 +12,7 @@ use crate::read_all_fault::ReadAllFault;
 
 /// Proves examples of the definitions of outside objects: which files are read whole, and how each call
 /// changes the count of faults, the pieces of a connection that wait, the connections and the clock.
-pub fn worked_rows()
+pub fn sample_states()
     ensures piece { PIECE ≡ 65536 }
     ensures fits { whole 3 (Some (7 ∷ 8 ∷ 9 ∷ [])) ≡ Ok (7 ∷ 8 ∷ 9 ∷ []) }
     ensures too_long { whole 2 (Some (7 ∷ 8 ∷ 9 ∷ [])) ≡ Err ReadAllFault.TooLong }
@@ -43,24 +43,24 @@ pub fn worked_rows()
       files = record { name = 97 ∷ []; bytes = 7 ∷ 8 ∷ [] } ∷ [];
       fails = 3 ∷ [];
       history = Open (97 ∷ []) ∷ Read 8 ∷ Read 8 ∷ Read 8 ∷ [];
-    })).openings.latest
+    })).open_log.latest
         ≡ Some (record { name = 97 ∷ []; is_open = true; bytes = 7 ∷ 8 ∷ []; ends = 1; read_failed = true }) }
     ensures nearly_full { write_count (record {
-      taken = 7 ∷ 8 ∷ [];
+      accepted = 7 ∷ 8 ∷ [];
       most = 2;
-      room = 3;
-      calls = record { fails = []; made = 0; faults = 0 };
+      capacity = 3;
+      fault_schedule = record { fails = []; made = 0; faults = 0 };
     }) 9 ≡ 1 }
     ensures full { is_refused (record {
-      taken = 7 ∷ 8 ∷ [];
+      accepted = 7 ∷ 8 ∷ [];
       most = 2;
-      room = 2;
-      calls = record { fails = []; made = 0; faults = 0 };
+      capacity = 2;
+      fault_schedule = record { fails = []; made = 0; faults = 0 };
     }) ≡ true }
 
-    ensures next_counts { (after_next (Ok true) (record (asked 80 true) { taken = 2 ^ 64 - 2 })).taken ≡ 2 ^ 64 - 1 }
-    ensures count_stays { (after_next (Ok true) (record (asked 80 true) { taken = 2 ^ 64 - 1 })).taken ≡ 2 ^ 64 - 1 }
-    ensures no_more { (after_next (Ok false) (asked 80 true)).is_over ≡ true }
+    ensures next_counts { (after_next (Ok true) (record (listen_requested 80 true) { accepted = 2 ^ 64 - 2 })).accepted ≡ 2 ^ 64 - 1 }
+    ensures count_stays { (after_next (Ok true) (record (listen_requested 80 true) { accepted = 2 ^ 64 - 1 })).accepted ≡ 2 ^ 64 - 1 }
+    ensures no_more { (after_next (Ok false) (listen_requested 80 true)).is_over ≡ true }
     ensures to_the_last { append_to_last ((1 ∷ []) ∷ (2 ∷ []) ∷ []) (3 ∷ []) ≡ (1 ∷ []) ∷ (2 ∷ 3 ∷ []) ∷ [] }
     ensures piece_read { left_after 2 ((7 ∷ 8 ∷ []) ∷ (9 ∷ []) ∷ []) ≡ (9 ∷ []) ∷ [] }
     ensures piece_begun { left_after 1 ((7 ∷ 8 ∷ []) ∷ (9 ∷ []) ∷ []) ≡ (8 ∷ []) ∷ (9 ∷ []) ∷ [] }

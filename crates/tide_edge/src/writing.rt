@@ -3,8 +3,8 @@
 ghost use Rattle.std.specs.Prelude.{◌≡◌, ◌<◌, length, take, IfErr, OnOk};
 ghost use Rattle.tide_edge.specs.SinkStates.{put, sink_failed};
 
-use crate::rest::rest_from;
 use crate::sink::Sink;
+use crate::unread_bytes::rest_from;
 use thiserror::Error;
 
 /// The error of a write that failed before all bytes were accepted.

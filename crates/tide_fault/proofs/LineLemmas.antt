@@ -20,5 +20,5 @@ moment_by minute is =
     let parts = both-true (int_le (negsuc 1035593279) minute) (int_le minute (pos 4223371679)) is in
     record { first = from_test _ _ parts.0; last = from_test _ _ parts.1 }
 
-pub no_reference : (rows : List Offsets) (place : ℕ) → length rows ≤ place → reference_at rows place ≡ []
-no_reference rows place past = ap (λ row. option_map_or (λ offsets. offsets.reference) row []) (slice_get_past rows place past)
+pub no_reference : (rows : List Offsets) (index : ℕ) → length rows ≤ index → reference_at rows index ≡ []
+no_reference rows index past = ap (λ row. option_map_or (λ offsets. offsets.reference) row []) (slice_get_past rows index past)

@@ -7,7 +7,7 @@ use Rattle.cert_text.specs.declared.fault.CertFault.TheVariants as cert
 use Rattle.harmonics_text.specs.declared.fault.BookFault.{BookFault}
 use Rattle.harmonics_text.specs.declared.fault.BookFault.TheVariants as form
 use Rattle.harmonics_text.specs.declared.fault.Why.{Why}
-use Rattle.harmonics_text.specs.Whys.{number_of, text_of}
+use Rattle.harmonics_text.specs.Whys.{fault_number, text_of}
 use Rattle.question.specs.declared.fault.AskFault.{AskFault}
 use Rattle.question.specs.declared.fault.AskFault.TheVariants as ask
 use Rattle.question.specs.Keys.{name_of}
@@ -17,7 +17,7 @@ use Rattle.station_table.specs.declared.fault.OffsetWhy.{OffsetWhy}
 use Rattle.station_table.specs.declared.finding.FindFault.{FindFault}
 use Rattle.station_table.specs.declared.finding.FindFault.TheVariants as find
 use Rattle.station_table.specs.declared.offsets.Offsets.{Offsets as TableRow}
-use Rattle.station_table.specs.Reasons.{number_of as number_of_row, text_of as text_of_row}
+use Rattle.station_table.specs.Reasons.{fault_number as number_of_row, text_of as text_of_row}
 use Rattle.station_curve.specs.declared.fault.CurveFault.{CurveFault}
 use Rattle.station_curve.specs.declared.fault.CurveFault.TheVariants as curve
 use Rattle.zone_time.specs.Moments.{moment_text}
@@ -111,7 +111,7 @@ ask_line (ask.MissingKey key) = codes "words: " ++ name_of key ++ codes " is mis
 -- the line for a bad line of a harmonics file, with its number, the reason and the reason's number
 abbrev pub file_line : ℕ → Why → List ℕ
 file_line line why =
-    (codes "file: line " ++ decimal line ++ codes ": ") ++ text_of why ++ (codes " (" ++ decimal (number_of why) ++ codes ")\n")
+    (codes "file: line " ++ decimal line ++ codes ": ") ++ text_of why ++ (codes " (" ++ decimal (fault_number why) ++ codes ")\n")
 
 -- the line for a file of harmonic constants that can't be read as a book
 unfoldable pub form_line : BookFault → List ℕ
@@ -130,7 +130,7 @@ table_line (table.At row why) = row_line row why
 
 -- the name of the reference station of the row at an index of the table, counted from 0
 abbrev pub reference_at : List TableRow → ℕ → List ℕ
-reference_at rows place = option_map_or (λ row. row.reference) (slice_get rows place) []
+reference_at rows index = option_map_or (λ row. row.reference) (slice_get rows index) []
 
 -- a line that ends with a name
 abbrev pub naming_line : List ℕ → List ℕ → List ℕ
@@ -155,7 +155,7 @@ refusal_line rows NoMemory = codes "no memory\n"
 refusal_line rows (NotACertificate line) = codes "certificate: line " ++ decimal line ++ codes "\n"
 refusal_line rows (BadSample line why) = file_line line why
 refusal_line rows NoStation = codes "refused: no station\n"
-refusal_line rows (NoReference place) = naming_line (codes "refused: no reference ") (reference_at rows place)
+refusal_line rows (NoReference index) = naming_line (codes "refused: no reference ") (reference_at rows index)
 refusal_line rows Hydraulic = codes "refused: hydraulic\n"
 refusal_line rows BackwardSpan = codes "refused: backward span\n"
 refusal_line rows EmptySpan = codes "refused: empty span\n"

@@ -14,13 +14,13 @@ use Rattle.tide_fault.specs.declared.status.Status.TheVariants.{
 }
 
 -- the number of an exit status, from 0 to 8
-abbrev pub number_of : Status → ℕ
-number_of Done = 0
-number_of Rejected = 1
-number_of Words = 2
-number_of FileRefused = 3
-number_of Refused = 4
-number_of Limit = 5
-number_of ReadFault = 6
-number_of WriteFault = 7
-number_of NoMemory = 8
+abbrev pub status_number : Status → ℕ
+status_number Done = 0
+status_number Rejected = 1
+status_number Words = 2
+status_number FileRefused = 3
+status_number Refused = 4
+status_number Limit = 5
+status_number ReadFault = 6
+status_number WriteFault = 7
+status_number NoMemory = 8

@@ -26,11 +26,11 @@ pub enum Status {
 }
 
 impl Status {
-    ghost use Rattle.tide_fault.specs.Statuses.{number_of};
+    ghost use Rattle.tide_fault.specs.Statuses.{status_number};
 
     /// Returns the exit status of the program as a number, 0 to 8.
     pub fn number(&self) -> u8
-        ensures { result ≡ number_of self.now }
+        ensures { result ≡ status_number self.now }
     {
         *self as u8
     }

@@ -20,43 +20,43 @@ one request a b x y = one_row_at (head_end request) request a b x y
 
 -- a prefix of a connection's bytes that was read: all of them, or enough to determine the reply
 pub record IsRead (bytes request : List ℕ) : Type 0 where
-  pub rest : List ℕ
-  pub parts : bytes ≡ request ++ rest
-  pub enough : (rest ≡ []) ⊎ IsEnough request
+  pub unread_bytes : List ℕ
+  pub parts : bytes ≡ request ++ unread_bytes
+  pub enough : (unread_bytes ≡ []) ⊎ IsEnough request
 
-row_whole : (request rest : List ℕ) (row : ReplyRow) → (rest ≡ []) ⊎ IsEnough request → IsRow request row → IsRow (request ++ rest) row
-row_whole request rest row enough is =
+row_whole : (request unread_bytes : List ℕ) (row : ReplyRow) → (unread_bytes ≡ []) ⊎ IsEnough request → IsRow request row → IsRow (request ++ unread_bytes) row
+row_whole request unread_bytes row enough is =
     elim enough [
       | inl none ↦
-          (let same : request ++ rest ≡ request = ap (λ xs. request ++ xs) none ∙ append-nil request in
+          (let same : request ++ unread_bytes ≡ request = ap (λ xs. request ++ xs) none ∙ append-nil request in
           subst (λ (r : List ℕ). IsRow r row) (sym same) is)
       | inr e ↦
           (let same : e.0 ≡ row = one request e.0 row e.1 is in
-          settled_stays request rest row is (subst (λ (r : ReplyRow). IsTrue (is_settled r)) same e.2))
+          settled_stays request unread_bytes row is (subst (λ (r : ReplyRow). IsTrue (is_settled r)) same e.2))
     ]
 
-answers_behind : (served_data : ServedData) (minute : ℤ) (request rest reply : List ℕ) → (rest ≡ []) ⊎ IsEnough request
-    → Answers served_data minute request reply → Answers served_data minute (request ++ rest) reply
+answers_behind : (served_data : ServedData) (minute : ℤ) (request unread_bytes reply : List ℕ) → (unread_bytes ≡ []) ⊎ IsEnough request
+    → Answers served_data minute request reply → Answers served_data minute (request ++ unread_bytes) reply
 answers_behind served_data minute [] [] reply enough answers = answers
-answers_behind served_data minute [] (r ∷ rest) reply enough answers =
+answers_behind served_data minute [] (r ∷ unread_bytes) reply enough answers =
     elim enough [ inl none ↦ absurd (cc) | inr e ↦ absurd (not_enough e) ]
-answers_behind served_data minute (b ∷ request) rest reply enough answers =
+answers_behind served_data minute (b ∷ request) unread_bytes reply enough answers =
     elim answers [
-      | inl made ↦ inl (made.0, row_whole (b ∷ request) rest made.0 enough made.1, made.2)
-      | inr made ↦ inr (made.0, row_whole (b ∷ request) rest made.0 enough made.1, made.2, made.3)
+      | inl made ↦ inl (made.0, row_whole (b ∷ request) unread_bytes made.0 enough made.1, made.2)
+      | inr made ↦ inr (made.0, row_whole (b ∷ request) unread_bytes made.0 enough made.1, made.2, made.3)
     ]
 
 pub answers_whole : (served_data : ServedData) (minute : ℤ) (bytes request reply : List ℕ) → IsRead bytes request
     → Answers served_data minute request reply → Answers served_data minute bytes reply
 answers_whole served_data minute bytes request reply read answers =
     subst (λ (bs : List ℕ). Answers served_data minute bs reply) (sym read.parts)
-    (answers_behind served_data minute request read.rest reply read.enough answers)
+    (answers_behind served_data minute request read.unread_bytes reply read.enough answers)
 
 pub same_byte : (bytes request : List ℕ) → IsRead bytes request → has_byte request ≡ has_byte bytes
 same_byte bytes [] read =
     elim read.enough [ inl none ↦ ap has_byte (sym (read.parts ∙ none)) | inr e ↦ absurd (not_enough e) ]
 same_byte bytes (b ∷ request) read =
-    let parts : bytes ≡ b ∷ (request ++ read.rest) = read.parts in ap has_byte (sym parts)
+    let parts : bytes ≡ b ∷ (request ++ read.unread_bytes) = read.parts in ap has_byte (sym parts)
 
 pub none_came : (bytes : List ℕ) → IsRead bytes [] → bytes ≡ []
 none_came bytes read = elim read.enough [ inl none ↦ read.parts ∙ none | inr e ↦ absurd (not_enough e) ]

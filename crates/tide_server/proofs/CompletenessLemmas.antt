@@ -7,10 +7,10 @@ use Rattle.harmonics_text.specs.declared.fault.BookFault.TheVariants as form
 use Rattle.harmonics_text.specs.Reading.{book_of}
 use Rattle.harmonics_book.specs.Worked.{pier_book}
 use Rattle.harmonics_text.specs.Worked.{file_of, pier_lines}
-use Rattle.named_files.specs.declared.no_answer.NoAnswer.{NoAnswer}
-use Rattle.named_files.specs.declared.no_answer.NoAnswer.TheVariants.{Unread, Faulty}
-use Rattle.named_files.specs.declared.no_answer.NoAnswer.TheVariants as none_of
-use Rattle.named_files.specs.NoAnswers.{source_of, status_of}
+use Rattle.named_files.specs.declared.run_fault.RunFault.{RunFault}
+use Rattle.named_files.specs.declared.run_fault.RunFault.TheVariants.{Unread, Faulty}
+use Rattle.named_files.specs.declared.run_fault.RunFault.TheVariants as none_of
+use Rattle.named_files.specs.RunFaults.{source_of, status_of}
 use Rattle.named_files.specs.Readings.{book_named, table_named}
 use Rattle.question.specs.declared.command.Command.TheVariants.{Serve}
 use Rattle.question.specs.declared.fault.AskFault.TheVariants as ask
@@ -33,7 +33,7 @@ use Rattle.tide_server.specs.Worked.{in_memory, pier, pier_data, pier_words}
 -- ---- No connection was served
 
 -- a fault that is excused is the expected one, unless it is out of memory
-said_for : {A : Type 0} (expected : Result A NoAnswer) (why : NoAnswer) (firm : Type 0) → firm → Excuses (source_of why) firm expected why
+said_for : {A : Type 0} (expected : Result A RunFault) (why : RunFault) (firm : Type 0) → firm → Excuses (source_of why) firm expected why
     → (expected ≡ Err why) ⊎ (status_of why ≡ NoMemory)
 said_for expected Unread firm stood excused = inl (excused stood)
 said_for expected (Faulty (Ask ask.NoMemory)) firm stood excused = inr refl
@@ -53,13 +53,13 @@ said_for expected (none_of.Refused _ rows) firm stood excused = inl excused
 -- the port was not listened to
 before_listening : {F D E K : Type 0} (s : ServiceStates F D E K) (words : List (List ℕ)) (status is : Status)
     (before after : Services F D E K)
-    → ServesAs s words status before after → (s.door after.door).doorway.port ≡ None → status ≡ is → EndedBefore status is before after
+    → ServesAs s words status before after → (s.door after.door).listener_state.port ≡ None → status ≡ is → EndedBefore status is before after
 before_listening s words status is before after serves unasked ends =
     record { ends = ends; door = serves.unlistened unasked; clock = serves.unread (inl unasked) }
 
-by_why : {F D E K : Type 0} (s : ServiceStates F D E K) (words : List (List ℕ)) (expected : Result ServedData NoAnswer)
-    (why : NoAnswer) (status : Status) (before after : Services F D E K)
-    → ServesAs s words status before after → (s.door after.door).doorway.port ≡ None → status ≡ status_of why
+by_why : {F D E K : Type 0} (s : ServiceStates F D E K) (words : List (List ℕ)) (expected : Result ServedData RunFault)
+    (why : RunFault) (status : Status) (before after : Services F D E K)
+    → ServesAs s words status before after → (s.door after.door).listener_state.port ≡ None → status ≡ status_of why
     → (expected ≡ Err why) ⊎ (status_of why ≡ NoMemory) → EndsBy s expected status before after ⊎ EndedBefore status NoMemory before after
 by_why s words expected why status before after serves unasked ends said =
     elim said [
@@ -68,12 +68,12 @@ by_why s words expected why status before after serves unasked ends said =
     ]
 
 by_refusal : {F D E K : Type 0} (s : ServiceStates F D E K) (words : List (List ℕ)) (firm : Type 0)
-    (expected : Result ServedData NoAnswer) (status : Status) (before after : Services F D E K)
-    → firm → (s.door before.door).doorway.port ≡ None → ServesAs s words status before after
+    (expected : Result ServedData RunFault) (status : Status) (before after : Services F D E K)
+    → firm → (s.door before.door).listener_state.port ≡ None → ServesAs s words status before after
     → IsRefused firm expected status (server_states_of s before) (server_states_of s after)
     → EndsBy s expected status before after ⊎ EndedBefore status NoMemory before after
 by_refusal s words firm expected status before after stood unasked serves refused =
-    let still : (s.door after.door).doorway.port ≡ None = ap (λ d. d.doorway.port) refused.door ∙ unasked in
+    let still : (s.door after.door).listener_state.port ≡ None = ap (λ d. d.listener_state.port) refused.door ∙ unasked in
     elim refused.said [
       | inl said ↦ by_why s words expected refused.why status before after serves still said.0
           (said_for expected refused.why firm stood refused.excused)
@@ -96,7 +96,7 @@ risen false before after is failed = absurd (cc)
 
 unfailing : {F D E K : Type 0} (s : ServiceStates F D E K) (served_data : ServedData) (before after : Services F D E K)
     → NothingFailed s before after
-    → (s.door after.door).doorway.port ≡ Some served_data.port → EndedBy true (server_states_of s before) (server_states_of s after) → ⊥
+    → (s.door after.door).listener_state.port ≡ Some served_data.port → EndedBy true (server_states_of s before) (server_states_of s after) → ⊥
 unfailing s served_data before after nothing asked ended =
     one_failed ended.files ended.clock ended.door ended.one
     (λ is. let none = ended.files_first is in absurd (cc))
@@ -122,9 +122,9 @@ served_all s words served_data status before after serves nothing listened =
 
 pub serves_completely : {F D E K : Type 0} (s : ServiceStates F D E K) → IsComplete s
 serves_completely s words status before after unasked serves nothing =
-    let expected = served_data_of (s.files before.files).store.folder words in
+    let expected = served_data_of (s.files before.files).file_contents.folder words in
     elim (serves.own_files nothing.observable) [
-      | inl refused ↦ by_refusal s words (IsTrue (s.files before.files).store.is_steady) expected status before after
+      | inl refused ↦ by_refusal s words (IsTrue (s.files before.files).file_contents.is_steady) expected status before after
           nothing.steady unasked serves refused
       | inr listened ↦ inl (rw listened.1 (served_all s words listened.0 status before after serves nothing listened.2))
     ]
@@ -132,7 +132,7 @@ serves_completely s words status before after unasked serves nothing =
 -- ---- A server worked out by hand
 
 pier_named : book_of (file_of pier_lines) ≡ Ok pier_book
-    → served_data_named (λ slot. (in_memory.files pier.files).store.folder)
+    → served_data_named (λ slot. (in_memory.files pier.files).file_contents.folder)
     (record (bare Serve) { file = Some (codes "f") }) (codes "f") ≡ Ok pier_data
 unfolding served_data_named book_named table_named
 pier_named is = rw is refl
@@ -142,7 +142,7 @@ unfolding service_of question_of with_items with_item some_text
 pier_asked = refl
 
 pub pier_served : book_of (file_of pier_lines) ≡ Ok pier_book
-    → served_data_of (in_memory.files pier.files).store.folder pier_words ≡ Ok pier_data
+    → served_data_of (in_memory.files pier.files).file_contents.folder pier_words ≡ Ok pier_data
 unfolding served_data_from
 pier_served is = rw pier_asked (pier_named is)
 

@@ -54,14 +54,14 @@ read_none first fresh = record {
   door = ap (λ l. record first { connections = record first.connections { latest = l } }) fresh;
 }
 
-pub still_open : (first now : DoorState) (request : List ℕ) → ReadSoFar first request now → now.doorway ≡ first.doorway
-still_open first now request so_far = ap (λ d. d.doorway) so_far.door
+pub still_open : (first now : DoorState) (request : List ℕ) → ReadSoFar first request now → now.listener_state ≡ first.listener_state
+still_open first now request so_far = ap (λ d. d.listener_state) so_far.door
 
 -- the result of one more read
 pub record OneMore (now : DoorState) (request next : List ℕ) (count : ℕ) (after : DoorState) : Type 0 where
-  pub room : List ℕ
-  pub door : after ≡ door_after_read (Ok count) room now
-  pub came : next ≡ request ++ take count room
+  pub buffer : List ℕ
+  pub door : after ≡ door_after_read (Ok count) buffer now
+  pub came : next ≡ request ++ take count buffer
   pub longer : length next ≡ length request + count
   pub within : count ≤ PIECE
 
@@ -69,7 +69,7 @@ pub read_on : (first now after : DoorState) (request next : List ℕ) (count : �
     → OneMore now request next count after → after ≡ with_latest (read_as false next count ((count == 0) || false)) first
 read_on first now after request next count so_far more =
     more.door
-    ∙ ap (door_after_read (Ok count) more.room) so_far.door
+    ∙ ap (door_after_read (Ok count) more.buffer) so_far.door
     ∙ ap (λ bytes. with_latest (read_as false bytes count ((count == 0) || false)) first) (sym more.came)
 
 not_over : (ends settled : Bool) → (ends || settled) ≡ false → (ends || false) ≡ false
@@ -91,9 +91,9 @@ not_settled true settled is = absurd (cc)
 not_settled false settled is = is
 
 pub still_open_after : (first now after : DoorState) (request next : List ℕ) (count : ℕ) → ReadSoFar first request now
-    → OneMore now request next count after → after.doorway ≡ first.doorway
+    → OneMore now request next count after → after.listener_state ≡ first.listener_state
 still_open_after first now after request next count so_far more =
-    ap (λ d. d.doorway) (read_on first now after request next count so_far more)
+    ap (λ d. d.listener_state) (read_on first now after request next count so_far more)
 
 -- ---- The end of reading
 
@@ -122,12 +122,12 @@ prefix_of bytes more =
     let fits : length bytes ≤ length bytes = omega arith in take-append-le (length bytes) bytes more fits ∙ all_of bytes
 
 -- no more is read, since the last read failed
-pub has_failed : (first now after : DoorState) (request room : List ℕ) (failed : Failed) → ReadSoFar first request now
-    → ¬ (IsEnough request) → after ≡ door_after_read (Err failed) room now → HasRead true request first after
-has_failed first now after request room failed so_far waits is = record {
+pub has_failed : (first now after : DoorState) (request buffer : List ℕ) (failed : Failed) → ReadSoFar first request now
+    → ¬ (IsEnough request) → after ≡ door_after_read (Err failed) buffer now → HasRead true request first after
+has_failed first now after request buffer failed so_far waits is = record {
   count = 0;
   is_ended = false;
-  door = is ∙ ap (door_after_read (Err failed) room) so_far.door;
+  door = is ∙ ap (door_after_read (Err failed) buffer) so_far.door;
   enough = record {
     waits =
         let whole : length request - 0 ≡ length request = omega arith in
@@ -149,7 +149,7 @@ has_read first now after request next count so_far waits more over = record {
     waits =
         let before : length next - count ≡ length request = omega (arith, more.longer) in
         let same : take (length next - count) next ≡ request =
-        ap (λ n. take n next) before ∙ ap (take (length request)) more.came ∙ prefix_of request (take count more.room) in
+        ap (λ n. take n next) before ∙ ap (take (length request)) more.came ∙ prefix_of request (take count more.buffer) in
         subst (λ (bs : List ℕ). ¬ (IsEnough bs)) (sym same) waits;
     one = more.within;
     until = over;
@@ -159,7 +159,7 @@ has_read first now after request next count so_far waits more over = record {
 -- ---- The room for a piece
 
 -- the first bytes of a room that is as long as the piece
-pub first_of_room : (room more piece : List ℕ) (long count : ℕ) → piece ≡ take long (room ++ more) → length room ≡ long
-    → count ≤ long → take count piece ≡ take count room
-first_of_room room more piece long count is fills within =
-    ap (take count) is ∙ take-take count long (room ++ more) within ∙ take-append-le count room more (rw fills within)
+pub first_of_room : (buffer more piece : List ℕ) (long count : ℕ) → piece ≡ take long (buffer ++ more) → length buffer ≡ long
+    → count ≤ long → take count piece ≡ take count buffer
+first_of_room buffer more piece long count is fills within =
+    ap (take count) is ∙ take-take count long (buffer ++ more) within ∙ take-append-le count buffer more (rw fills within)

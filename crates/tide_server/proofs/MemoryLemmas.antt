@@ -8,7 +8,7 @@ use Rattle.tide_edge.specs.Clocks.{ClockState, next_minute}
 use Rattle.tide_edge.specs.Faults.{faults_after}
 use Rattle.tide_edge.specs.Memory.{folder_of}
 use Rattle.tide_fault.specs.declared.status.Status.{Status}
-use Rattle.named_files.specs.NoAnswers.{is_read_fault}
+use Rattle.named_files.specs.RunFaults.{is_read_fault}
 use Rattle.tide_server.specs.declared.served_data.ServedData.{ServedData}
 use Rattle.tide_server.specs.Laws.{AreAnswered, AreAnsweredBut, HasAnswered, InMemory, server_states_in, is_left}
 use Rattle.tide_server.specs.Openings.{EndsAs, served_data_of}
@@ -112,8 +112,8 @@ holds_answers served_data has_failed before after served = record {
   requests = map (λ c. c.request) served.served;
   replies = map (λ c. c.reply) served.served;
   left = served.left;
-  taken = served.requests;
-  given = served.replies;
+  accepted = served.requests;
+  returned_replies = served.replies;
   each = length-map served.served (λ c. c.reply) ∙ sym (length-map served.served (λ c. c.request));
   answered = λ same few.
       let cut : RoseBy (cuts served.served) before.door.line_faults before.door.line_faults =
@@ -133,13 +133,13 @@ holds_answers served_data has_failed before after served = record {
       ∙ ap (faults_after (is_left served.left)) (all_unfailed served.served (server_states_in before).clock);
 }
 
-pub holds_replies : (firm : Type 0) (words : List (List ℕ)) (status : Status) (before after : InMemory) → before.door.doorway.port ≡ None
-    → ¬ (after.door.doorway.port ≡ None)
+pub holds_replies : (firm : Type 0) (words : List (List ℕ)) (status : Status) (before after : InMemory) → before.door.listener_state.port ≡ None
+    → ¬ (after.door.listener_state.port ≡ None)
     → EndsAs firm (served_data_of (folder_of before.files.files) words) status (server_states_in before) (server_states_in after)
     → (served_data : ServedData) × (served_data_of (folder_of before.files.files) words ≡ Ok served_data)
     × HasAnswered served_data (is_read_fault status) before after
 holds_replies firm words status before after unasked asked ends =
     elim ends [
-      | inl refused ↦ absurd (asked (ap (λ d. d.doorway.port) refused.door ∙ unasked))
+      | inl refused ↦ absurd (asked (ap (λ d. d.listener_state.port) refused.door ∙ unasked))
       | inr listened ↦ (listened.0, listened.1, holds_answers listened.0 (is_read_fault status) before after (listened.2.served refl refl))
     ]

@@ -21,10 +21,10 @@ use Rattle.tide_edge.specs.FileStates.{FilesState}
 use Rattle.tide_edge.specs.SinkStates.{SinkState, Wrote, WroteBoth, put}
 use Rattle.tide_edge.proofs.WritingLemmas.{put_none}
 use Rattle.tide_edge.specs.Whole.{ReadWithin, both, one_file}
-use Rattle.named_files.specs.declared.no_answer.NoAnswer.{NoAnswer}
-use Rattle.named_files.specs.declared.no_answer.NoAnswer.TheVariants.{Faulty, Unread}
-use Rattle.named_files.specs.declared.no_answer.NoAnswer.TheVariants as none_of
-use Rattle.named_files.specs.NoAnswers.{source_of, line_of, status_of}
+use Rattle.named_files.specs.declared.run_fault.RunFault.{RunFault}
+use Rattle.named_files.specs.declared.run_fault.RunFault.TheVariants.{Faulty, Unread}
+use Rattle.named_files.specs.declared.run_fault.RunFault.TheVariants as none_of
+use Rattle.named_files.specs.RunFaults.{source_of, line_of, status_of}
 use Rattle.named_files.specs.Readings.{Folders, allowed_for, limit_of}
 use Rattle.named_files.specs.Reporting.{Reports}
 use Rattle.tide_server.specs.declared.served_data.ServedData.{ServedData}
@@ -73,27 +73,27 @@ one_failed true = refl
 one_failed false = refl
 
 pub files_failed : (failed : Bool) (before after : ServerStates) → after.files.faults ≡ faults_after failed before.files.faults
-    → before.door.doorway.port ≡ None → after.door ≡ before.door → after.clock ≡ before.clock → EndedBy failed before after
+    → before.door.listener_state.port ≡ None → after.door ≡ before.door → after.clock ≡ before.clock → EndedBy failed before after
 files_failed failed before after files unasked door clock = record {
   files = failed;
   clock = false;
   door = false;
   one = one_failed failed;
   files_count = files;
-  files_first = λ is. ap (λ d. d.doorway.port) door ∙ unasked;
+  files_first = λ is. ap (λ d. d.listener_state.port) door ∙ unasked;
   door_count = ap (λ d. d.faults) door;
   door_observable = ap (λ d. d.is_observable) door;
   door_pieces = ap (λ d. d.keeps_pieces) door;
   door_requests = ap (λ d. d.requests) door;
-  given = before.clock.given;
-  asked = before.clock.asked;
+  returned_minutes = before.clock.returned_minutes;
+  readings = before.clock.readings;
   clock_state = clock;
 }
 
 -- ---- No connection was served
 
 -- the reason is reported
-pub refused_for : (firm : Type 0) (expected : Result ServedData NoAnswer) (none : NoAnswer) (status : Status) (before after : ServerStates)
+pub refused_for : (firm : Type 0) (expected : Result ServedData RunFault) (none : RunFault) (status : Status) (before after : ServerStates)
     → Excuses (source_of none) firm expected none → after.door ≡ before.door → after.clock ≡ before.clock
     → Reports none status before.err after.err → IsRefused firm expected status before after
 refused_for firm expected none status before after excused door clock reported =
@@ -119,7 +119,7 @@ refused_for firm expected none status before after excused door clock reported =
     ]
 
 -- memory ran out
-pub refused_full : (firm : Type 0) (expected : Result ServedData NoAnswer) (status : Status) (before after : ServerStates) (failed : Bool)
+pub refused_full : (firm : Type 0) (expected : Result ServedData RunFault) (status : Status) (before after : ServerStates) (failed : Bool)
     → status ≡ NoMemory → after.door ≡ before.door → after.clock ≡ before.clock
     → Wrote before.err after.err failed (codes "no memory\n") → IsRefused firm expected status before after
 refused_full firm expected status before after failed full door clock wrote = record {
@@ -164,7 +164,7 @@ refused_another firm folders words status before after failed another is door cl
 -- ---- The status
 
 -- the status for a reason why there is no data isn't that of a server that is done
-not_done : (none : NoAnswer) → ¬ (status_of none ≡ Done)
+not_done : (none : RunFault) → ¬ (status_of none ≡ Done)
 not_done Unread is = absurd (cc)
 not_done (Faulty (Ask ask.NoMemory)) is = absurd (cc)
 not_done (Faulty (Ask _)) is = absurd (cc)
@@ -180,7 +180,7 @@ not_done (Faulty (Refused _)) is = absurd (cc)
 not_done (none_of.Refused refusals.NoMemory rows) is = absurd (cc)
 not_done (none_of.Refused _ rows) is = absurd (cc)
 
-pub never_done : (none : NoAnswer) (status : Status) (before after : SinkState) → Reports none status before after → ¬ (status ≡ Done)
+pub never_done : (none : RunFault) (status : Status) (before after : SinkState) → Reports none status before after → ¬ (status ≡ Done)
 never_done none status before after reported is =
     elim reported [ inl t ↦ not_done none (sym t.0 ∙ is) | inr t ↦ (let out = t.0 in absurd (cc)) ]
 

@@ -3,7 +3,7 @@ use Rattle.std.proofs.Common.{◌≡◌, ℕ, ℤ, Bool, true, false, List, Opti
 use Rattle.std.specs.Prelude.{if◌then◌else◌, option_and_then, unwrap_or, codes, drop, IfOk, Result, Ok, Err}
 use Rattle.std.specs.Option.{option_map, option_or}
 use Rattle.std.specs.Str.{bytes_eq}
-use Rattle.decimal_text.specs.Expected.{◌>>=◌, ReturnsUnless}
+use Rattle.decimal_text.specs.Expected.{◌>>=◌, EqualsUnlessNoMemory}
 use Rattle.question.specs.declared.command.Command.{Command}
 use Rattle.question.specs.declared.fault.AskFault.{AskFault}
 use Rattle.question.specs.declared.key.Key.TheVariants as key
@@ -14,7 +14,7 @@ use Rattle.question.specs.declared.question.ZoneWord.{ZoneWord}
 use Rattle.question.specs.declared.question.ZoneWord.TheVariants.{Utc, Fixed}
 use Rattle.question.specs.Commands.{command_named}
 use Rattle.question.specs.Forms.{after, file_zone, offset_of, zone_of}
-use Rattle.question.specs.Questions.{Said, is_out_of_memory, asked, command_of, complete, missing_key, nothing_said, question_of, question_with, with_items}
+use Rattle.question.specs.Questions.{KeyTexts, is_out_of_memory, question_from, command_of, complete, missing_key, no_key_texts, question_of, question_with, with_items}
 use Rattle.http_rows.specs.Rows.{Asking}
 use Rattle.tide_server.specs.Queries.{items_of, pairs_of}
 use Rattle.tide_server.specs.Replies.{names_file}
@@ -27,15 +27,15 @@ fixed_alone : (minutes : Option ℤ) → names (option_map Fixed minutes) ≡ fa
 fixed_alone None = refl
 fixed_alone (Some minutes) = refl
 
-no_name : (rest : Option (List ℕ)) (minutes : Option ℤ)
-    → names (option_or (option_and_then (file_zone Query) rest) (option_map Fixed minutes)) ≡ false
+no_name : (unread_bytes : Option (List ℕ)) (minutes : Option ℤ)
+    → names (option_or (option_and_then (file_zone Query) unread_bytes) (option_map Fixed minutes)) ≡ false
 no_name None minutes = fixed_alone minutes
 no_name (Some name) minutes = fixed_alone minutes
 
-no_file : (utc : Bool) (rest : Option (List ℕ)) (minutes : Option ℤ)
-    → names (if utc then Some Utc else option_or (option_and_then (file_zone Query) rest) (option_map Fixed minutes)) ≡ false
-no_file true rest minutes = refl
-no_file false rest minutes = no_name rest minutes
+no_file : (utc : Bool) (unread_bytes : Option (List ℕ)) (minutes : Option ℤ)
+    → names (if utc then Some Utc else option_or (option_and_then (file_zone Query) unread_bytes) (option_map Fixed minutes)) ≡ false
+no_file true unread_bytes minutes = refl
+no_file false unread_bytes minutes = no_name unread_bytes minutes
 
 form_names_none : (text : List ℕ) → names (zone_of Query text) ≡ false
 unfolding zone_of
@@ -49,21 +49,21 @@ field_names_none : (said : Option (List ℕ)) → names_file (unwrap_or (option_
 field_names_none None = refl
 field_names_none (Some text) = or_utc (zone_of Query text) (form_names_none text)
 
-of_whole : (command : Command) (said : Said) (whole : Result (Unit {0}) AskFault) (question : Question)
-    → (whole >>= λ w. Ok (asked Query command said)) ≡ Ok question → names_file question.zone ≡ false
+of_whole : (command : Command) (said : KeyTexts) (whole : Result (Unit {0}) AskFault) (question : Question)
+    → (whole >>= λ w. Ok (question_from Query command said)) ≡ Ok question → names_file question.zone ≡ false
 of_whole command said (Ok w) question is =
-    let same : asked Query command said ≡ question = cc in rw (← same) (field_names_none (said key.Zone))
+    let same : question_from Query command said ≡ question = cc in rw (← same) (field_names_none (said key.Zone))
 of_whole command said (Err fault) question is = absurd (cc)
 
-of_said : (command : Command) (said : Result Said AskFault) (question : Question)
-    → (said >>= λ s. complete (missing_key Query command s) >>= λ w. Ok (asked Query command s)) ≡ Ok question
+of_said : (command : Command) (said : Result KeyTexts AskFault) (question : Question)
+    → (said >>= λ s. complete (missing_key Query command s) >>= λ w. Ok (question_from Query command s)) ≡ Ok question
     → names_file question.zone ≡ false
 of_said command (Ok s) question is = of_whole command s (complete (missing_key Query command s)) question is
 of_said command (Err fault) question is = absurd (cc)
 
 items_name_no_file : (command : Command) (items : List Item) (question : Question)
     → question_with Query command items ≡ Ok question → names_file question.zone ≡ false
-items_name_no_file command items question is = of_said command (with_items Query command 1 items nothing_said) question is
+items_name_no_file command items question is = of_said command (with_items Query command 1 items no_key_texts) question is
 
 of_command : (command : Result Command AskFault) (items : List Item) (question : Question)
     → (command >>= λ c. question_with Query c items) ≡ Ok question → names_file question.zone ≡ false
@@ -76,7 +76,7 @@ unfolding question_of
 query_names_no_file command items question is = of_command (command_of Query command) items question is
 
 pub read_names_no_file : (command : Command) (items : List Item) (result : Result Question AskFault)
-    → ReturnsUnless is_out_of_memory (question_with Query command items) result
+    → EqualsUnlessNoMemory is_out_of_memory (question_with Query command items) result
     → IfOk result (λ question. names_file question.zone ≡ false)
 read_names_no_file command items (Ok question) is = items_name_no_file command items question is
 read_names_no_file command items (Err fault) is = tt

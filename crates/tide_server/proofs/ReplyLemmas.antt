@@ -24,7 +24,7 @@ settled_reply_stays book table minute request more reply row is settled x =
 
 fixed_is : (book : Book) (table : List Offsets) (minute : ℤ) (reply : List ℕ) (row : ReplyRow) → fixed_of row ≡ Some reply
     → reply ≡ reply_of book table minute row
-fixed_is book table minute reply (rejects rejection bodiless) is = cc
+fixed_is book table minute reply (rejects rejection is_head_request) is = cc
 fixed_is book table minute reply (asks asking) is = absurd (cc)
 
 pub fixed_row_replies : (book : Book) (table : List Offsets) (minute : ℤ) (request reply : List ℕ) (row : ReplyRow) → IsRow request row

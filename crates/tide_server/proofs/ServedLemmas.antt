@@ -10,7 +10,7 @@ use Rattle.std.proofs.Math.Seq.{take-add}
 use Rattle.tide_edge.specs.Clocks.{ClockState, clock_after, next_minute}
 use Rattle.tide_edge.specs.DoorLaws.{AreOfRequests, IsOfRequest}
 use Rattle.tide_edge.specs.Doors.{Connection, connections_of, left_after, replies_of, unread_of, waiting_of}
-use Rattle.tide_edge.specs.FileStates.{listed}
+use Rattle.tide_edge.specs.FileStates.{as_list}
 use Rattle.tide_server.specs.declared.served_data.ServedData.{ServedData}
 use Rattle.tide_server.specs.Conversations.{AreNext, AreServed, HasServed, IsAnswered, IsLast, IsReadEnough, IsSent, IsServed, after_minutes, is_cut, reads_clock}
 use Rattle.tide_server.specs.Serving.{Answers, AnswersUnlessCut, AreHeld, AsksUnlessCut, Conversation, Exchange, IsEnough, IsHeld, IsLastReadAsNeeded, IsReadAsNeeded, MayLeave, Served, clock_after_all, clock_at_end, clock_failed, clock_with, has_byte}
@@ -90,7 +90,7 @@ nothing_left came bytes is = rw (← is) (grind (arith, common_steps))
 read_of : (keeps : Bool) (request : List (List ℕ)) (c : Connection) → IsOfRequest keeps request c → IsReadEnough c → c.read_failed ≡ false
     → IsRead (concat request) c.came
 read_of keeps request c of enough unfailed = record {
-  rest = drop (length c.came) (concat request);
+  unread_bytes = drop (length c.came) (concat request);
   parts = rest_parts keeps request c of;
   enough = elim enough.until [
     | inl ended ↦ inl (nothing_left c.came (concat request) (of.whole ended))
@@ -120,11 +120,11 @@ asked_answers : (read_failed write_failed : Bool) (served_data : ServedData) (mi
     → (read_failed ≡ false → IsRead bytes came) → true ≡ (not read_failed && has_byte came)
     → AnswersUnlessCut (read_failed || write_failed) (Answers served_data minute) bytes sent
 asked_answers true write_failed served_data minute bytes came sent sends read asked = absurd (cc)
-asked_answers false true served_data minute bytes came sent (rest, some, answers) read asked = inr (
-  sent ++ rest,
-  answers_whole served_data minute bytes came (sent ++ rest) (read refl) answers,
+asked_answers false true served_data minute bytes came sent (unread_bytes, some, answers) read asked = inr (
+  sent ++ unread_bytes,
+  answers_whole served_data minute bytes came (sent ++ unread_bytes) (read refl) answers,
   length sent,
-  all_taken sent rest,
+  all_taken sent unread_bytes,
 )
 asked_answers false false served_data minute bytes came sent answers read asked =
     answers_whole served_data minute bytes came sent (read refl) answers
@@ -157,7 +157,7 @@ given_next : (minute : Option ℤ) (clock : ClockState) → IsNextMinute minute 
 given_next None clock is = refl
 given_next (Some minute) clock is = ap (λ m. clock_after (Ok m) clock) is
 
-next_by : (asking : Option ℤ) (clock : ClockState) (later : List ℤ) → AreNext clock (listed asking ++ later)
+next_by : (asking : Option ℤ) (clock : ClockState) (later : List ℤ) → AreNext clock (as_list asking ++ later)
     → IsNextMinute asking (next_minute clock) × AreNext (clock_given asking clock) later
 unfolding AreNext
 next_by None clock later are = (tt, are)
@@ -179,7 +179,7 @@ all_held keeps served_data (r ∷ rs) (c ∷ more) minutes clock are (asking, la
     )
 
 given_more : (asking : Option ℤ) (later : List ℤ) (clock : ClockState)
-    → after_minutes (listed asking ++ later) clock ≡ after_minutes later (clock_given asking clock)
+    → after_minutes (as_list asking ++ later) clock ≡ after_minutes later (clock_given asking clock)
 unfolding after_minutes
 given_more None later clock = refl
 given_more (Some minute) later clock = refl
@@ -207,7 +207,7 @@ needed_by : (request : List (List ℕ)) (c : Connection) → IsOfRequest true re
 needed_by request c of enough = record {
   before = length c.came - c.last;
   all = length c.came;
-  rest = refl;
+  unread_bytes = refl;
   waits =
       let within : length c.came - c.last ≤ length c.came = omega arith in
       let same : take (length c.came - c.last) (concat request) ≡ take (length c.came - c.last) c.came =
@@ -222,7 +222,7 @@ AreReadEnough [] = Unit {0}
 AreReadEnough (c ∷ more) = IsReadEnough c × AreReadEnough more
 
 enough_of : (served_data : ServedData) (over : List Connection) (minutes : List ℤ) (left : Option Connection) → AreServed served_data over minutes
-    → IsLast left → AreReadEnough (over ++ listed left)
+    → IsLast left → AreReadEnough (over ++ as_list left)
 unfolding AreServed AreReadEnough
 enough_of served_data [] minutes None served last = tt
 enough_of served_data [] minutes (Some c) served last = (last.read, tt)
@@ -242,9 +242,9 @@ last_needed (r ∷ s ∷ rs) (c ∷ next ∷ more) are enough = last_needed (s �
 
 pub record IsLeftOf (served_data : ServedData) (has_failed : Bool) (rs : List (List (List ℕ))) (left : Option Connection) : Type 0 where
   pub requests : List (List (List ℕ))
-  pub taken : requests ≡ take (length (listed left)) rs
-  pub replies : map (λ c. c.sent) (listed left) ≡ map (λ request. []) requests
-  pub counted : length requests ≡ length (listed left)
+  pub accepted : requests ≡ take (length (as_list left)) rs
+  pub replies : map (λ c. c.sent) (as_list left) ≡ map (λ request. []) requests
+  pub counted : length requests ≡ length (as_list left)
   pub last : MayLeave has_failed requests
   pub bytes : All (λ request. ¬ (concat request ≡ [])) requests
   pub clock : (clock : ClockState) → (if is_some left then clock_failed clock else clock) ≡ clock_at_end requests clock
@@ -265,17 +265,17 @@ asks true came is = absurd (cc)
 asks false [] is = absurd (cc)
 asks false (b ∷ bytes) is = λ none. absurd (cc)
 
-some_came : (bytes came rest : List ℕ) → bytes ≡ came ++ rest → ¬ (came ≡ []) → ¬ (bytes ≡ [])
-some_came bytes [] rest parts some none = some refl
-some_came bytes (b ∷ came) rest parts some none = absurd (cc)
+some_came : (bytes came unread_bytes : List ℕ) → bytes ≡ came ++ unread_bytes → ¬ (came ≡ []) → ¬ (bytes ≡ [])
+some_came bytes [] unread_bytes parts some none = some refl
+some_came bytes (b ∷ came) unread_bytes parts some none = absurd (cc)
 
 left_of : (keeps : Bool) (served_data : ServedData) (has_failed : Bool) (rs : List (List (List ℕ))) (left : Option Connection)
-    → AreOfRequests keeps rs (listed left) → IsLast left → (IsTrue (is_some left) → IsTrue has_failed)
+    → AreOfRequests keeps rs (as_list left) → IsLast left → (IsTrue (is_some left) → IsTrue has_failed)
     → IsLeftOf served_data has_failed rs left
 unfolding AreOfRequests
 left_of keeps served_data has_failed rs None are last ends = record {
   requests = [];
-  taken = refl;
+  accepted = refl;
   replies = refl;
   counted = refl;
   last = may_leave_none has_failed;
@@ -285,7 +285,7 @@ left_of keeps served_data has_failed rs None are last ends = record {
 left_of keeps served_data has_failed [] (Some c) are last ends = absurd are
 left_of keeps served_data has_failed (r ∷ rs) (Some c) are last ends = record {
   requests = r ∷ [];
-  taken = refl;
+  accepted = refl;
   replies = ap (λ reply. reply ∷ []) last.unanswered.sent;
   counted = refl;
   last = may_leave has_failed r (ends refl);
@@ -314,25 +314,25 @@ pub all_served : (served_data : ServedData) (has_failed : Bool) (before after : 
 all_served served_data has_failed before after same law k passed =
     let keeps = before.door.keeps_pieces in
     let earlier : List Connection = connections_of before.door.connections in
-    let all : List Connection = passed.over ++ listed passed.left in
+    let all : List Connection = passed.over ++ as_list passed.left in
     let rs : List (List (List ℕ)) = drop (length earlier) before.door.requests in
     let parts : connections_of after.door.connections ≡ earlier ++ all =
-    passed.connections ∙ append_assoc earlier passed.over (listed passed.left) in
+    passed.connections ∙ append_assoc earlier passed.over (as_list passed.left) in
     let are : AreOfRequests keeps before.door.requests (earlier ++ all) =
     subst (λ (cs : List Connection). AreOfRequests keeps before.door.requests cs) parts
     (subst (λ (r : List (List (List ℕ))). AreOfRequests keeps r (connections_of after.door.connections)) same law) in
     let now : AreOfRequests keeps rs all = of_later keeps before.door.requests earlier all are in
-    let first : AreOfRequests keeps rs passed.over = of_first keeps rs passed.over (listed passed.left) now in
+    let first : AreOfRequests keeps rs passed.over = of_first keeps rs passed.over (as_list passed.left) now in
     let left = left_of keeps served_data has_failed (drop (length passed.over) rs) passed.left
-    (of_later keeps rs passed.over (listed passed.left) now) passed.last passed.ends in
+    (of_later keeps rs passed.over (as_list passed.left) now) passed.last passed.ends in
     let served : List Conversation = conversations rs passed.over in
     let next = passed.next k in
-    let taken : map (λ (c : Conversation). c.request) served ++ left.requests ≡ take (length all) rs =
+    let accepted : map (λ (c : Conversation). c.request) served ++ left.requests ≡ take (length all) rs =
     ap (λ x. x ++ left.requests) (requests_of keeps rs passed.over first)
-    ∙ ap (λ x. take (length passed.over) rs ++ x) left.taken
-    ∙ sym (take-add (length passed.over) (length (listed passed.left)) rs)
-    ∙ ap (λ n. take n rs) (sym (length-append passed.over (listed passed.left))) in
-    let waiting : waiting_of after.door ≡ drop (length all) rs =
+    ∙ ap (λ x. take (length passed.over) rs ++ x) left.accepted
+    ∙ sym (take-add (length passed.over) (length (as_list passed.left)) rs)
+    ∙ ap (λ n. take n rs) (sym (length-append passed.over (as_list passed.left))) in
+    let pending : waiting_of after.door ≡ drop (length all) rs =
     ap (λ n. drop n after.door.requests) (ap length parts ∙ length-append earlier all)
     ∙ ap (drop (length earlier + length all)) same
     ∙ sym (drop-drop (length all) (length earlier) before.door.requests) in
@@ -343,20 +343,20 @@ all_served served_data has_failed before after same law k passed =
       left = left.requests;
       requests =
           sym (take-append-drop (length all) rs)
-          ∙ ap (λ x. x ++ drop (length all) rs) (sym taken)
-          ∙ ap (λ x. map (λ (c : Conversation). c.request) served ++ left.requests ++ x) (sym waiting);
+          ∙ ap (λ x. x ++ drop (length all) rs) (sym accepted)
+          ∙ ap (λ x. map (λ (c : Conversation). c.request) served ++ left.requests ++ x) (sym pending);
       replies =
           ap (map (λ (c : Connection). c.sent)) passed.connections
-          ∙ map-append (λ (c : Connection). c.sent) (earlier ++ passed.over) (listed passed.left)
-          ∙ ap (λ x. x ++ map (λ (c : Connection). c.sent) (listed passed.left)) (map-append (λ (c : Connection). c.sent) earlier passed.over)
-          ∙ ap (λ x. replies_of before.door ++ x ++ map (λ (c : Connection). c.sent) (listed passed.left))
+          ∙ map-append (λ (c : Connection). c.sent) (earlier ++ passed.over) (as_list passed.left)
+          ∙ ap (λ x. x ++ map (λ (c : Connection). c.sent) (as_list passed.left)) (map-append (λ (c : Connection). c.sent) earlier passed.over)
+          ∙ ap (λ x. replies_of before.door ++ x ++ map (λ (c : Connection). c.sent) (as_list passed.left))
           (sym (replies_in keeps rs passed.over first))
           ∙ ap (λ x. replies_of before.door ++ map (λ (c : Conversation). c.reply) served ++ x) left.replies;
       counted = omega (arith, passed.counted, as_many keeps rs passed.over first, left.counted);
       held = all_held keeps served_data rs passed.over passed.minutes before.clock first passed.served next;
       read = λ is.
           subst (λ (ps : List (List ℕ)). IsLastReadAsNeeded (map (λ c. c.request) served ++ left.requests) ps) (sym unread)
-          (subst (λ (x : List (List (List ℕ))). IsLastReadAsNeeded x (unread_of before.door.requests (earlier ++ all))) (sym taken)
+          (subst (λ (x : List (List (List ℕ))). IsLastReadAsNeeded x (unread_of before.door.requests (earlier ++ all))) (sym accepted)
           (last_by keeps before.door.requests earlier all are is
           (enough_of served_data passed.over passed.minutes passed.left passed.served passed.last)));
       cut = rw (cuts_of keeps rs passed.over first) passed.cut;

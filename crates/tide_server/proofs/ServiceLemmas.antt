@@ -10,7 +10,7 @@ use Rattle.tide_edge.specs.FileStates.{FilesState}
 use Rattle.tide_edge.specs.SinkStates.{SinkState, Wrote}
 use Rattle.tide_fault.specs.declared.status.Status.{Status}
 use Rattle.tide_fault.specs.declared.status.Status.TheVariants.{Done, ReadFault}
-use Rattle.named_files.specs.NoAnswers.{is_read_fault}
+use Rattle.named_files.specs.RunFaults.{is_read_fault}
 use Rattle.tide_server.specs.declared.outage.Outage.{Outage}
 use Rattle.tide_server.specs.declared.outage.Outage.TheVariants as outages
 use Rattle.tide_server.specs.declared.served_data.ServedData.{ServedData}
@@ -106,8 +106,8 @@ ended_listening value served_data status door opened door_after err err_after cl
         pieces = e.kept.pieces;
         requests = e.kept.requests;
         faults = e.kept.faults;
-        given = e.kept.given;
-        asked = e.kept.asked;
+        returned_minutes = e.kept.returned_minutes;
+        asked = e.kept.readings;
         clock = e.kept.clock;
       };
     }
@@ -134,8 +134,8 @@ unlistening T served_data failed_to door err err_after clock failed wrote = reco
     pieces = refl;
     requests = refl;
     faults = refl;
-    given = clock.given;
-    asked = clock.asked;
+    returned_minutes = clock.returned_minutes;
+    readings = clock.readings;
     clock = refl;
   };
 }
@@ -182,7 +182,7 @@ ended_by served_data status before after files left e same = record {
   door_observable = e.kept.is_observable;
   door_pieces = e.kept.pieces;
   door_requests = e.kept.requests;
-  given = e.kept.given;
-  asked = e.kept.asked;
+  returned_minutes = e.kept.returned_minutes;
+  asked = e.kept.readings;
   clock_state = e.kept.clock;
 }

@@ -5,9 +5,9 @@ use Rattle.std.specs.Prelude.{ℤ, count_by, ◌==◌, ◌||◌, ◌&&◌, ◌-�
 use Rattle.std.proofs.lemmas.Grind.{common_steps}
 use Rattle.std.proofs.lemmas.Bool.Decides.{nat_tests}
 use Rattle.tide_edge.specs.Clocks.{ClockState, clock_after, next_minute}
-use Rattle.tide_edge.specs.Doors.{Connection, Doorway, DoorState, after_next, closed, connections_of, door_after_close, door_after_next}
+use Rattle.tide_edge.specs.Doors.{Connection, ListenerState, DoorState, after_next, closed, connections_of, door_after_close, door_after_next}
 use Rattle.tide_edge.specs.Faults.{counted, faults_after}
-use Rattle.tide_edge.specs.FileStates.{listed}
+use Rattle.tide_edge.specs.FileStates.{as_list}
 use Rattle.tide_server.specs.declared.outage.Outage.{Outage}
 use Rattle.tide_server.specs.declared.outage.Outage.TheVariants as outages
 use Rattle.tide_server.specs.declared.served_data.ServedData.{ServedData}
@@ -35,33 +35,33 @@ none_kept before = record {
   pieces = refl;
   requests = refl;
   faults = refl;
-  given = before.clock.given;
-  asked = before.clock.asked;
+  returned_minutes = before.clock.returned_minutes;
+  readings = before.clock.readings;
   clock = refl;
 }
 
 with_counts : ClockState → List ℤ → ℕ → ℕ → ClockState
-with_counts clock given asked faults = record clock { given = given; asked = asked; faults = faults }
+with_counts clock returned_minutes readings faults = record clock { returned_minutes = returned_minutes; readings = readings; faults = faults }
 
-clock_asked : (minute : Option ℤ) (before now after : ClockState) (given : List ℤ) (asked : ℕ)
-    → now ≡ with_counts before given asked before.faults → after ≡ clock_given minute now
+clock_asked : (minute : Option ℤ) (before now after : ClockState) (returned_minutes : List ℤ) (readings : ℕ)
+    → now ≡ with_counts before returned_minutes readings before.faults → after ≡ clock_given minute now
     → (more : List ℤ) × (count : ℕ) × (after ≡ with_counts before more count before.faults)
 unfolding with_counts
-clock_asked (Some minute) before now after given asked so_far is =
-    (given ++ minute ∷ [], counted asked, is ∙ ap (clock_after (Ok minute)) so_far)
-clock_asked None before now after given asked so_far is = (given, asked, is ∙ so_far)
+clock_asked (Some minute) before now after returned_minutes readings so_far is =
+    (returned_minutes ++ minute ∷ [], counted readings, is ∙ ap (clock_after (Ok minute)) so_far)
+clock_asked None before now after returned_minutes readings so_far is = (returned_minutes, readings, is ∙ so_far)
 
 pub kept_on : (served_data : ServedData) (before now after : Exchange) → IsKept false false before now
     → StepBy (Ok true) served_data now after → IsKept false false before after
 unfolding with_counts
 kept_on served_data before now after kept step =
-    let clock = clock_asked step.ended.0 before.clock now.clock after.clock kept.given kept.asked kept.clock step.ended.1 in record {
+    let clock = clock_asked step.ended.0 before.clock now.clock after.clock kept.returned_minutes kept.readings kept.clock step.ended.1 in record {
       is_observable = ap (λ d. d.is_observable) step.door ∙ kept.is_observable;
       pieces = ap (λ d. d.keeps_pieces) step.door ∙ kept.pieces;
       requests = ap (λ d. d.requests) step.door ∙ kept.requests;
       faults = ap (λ d. d.faults) step.door ∙ kept.faults;
-      given = clock.0;
-      asked = clock.1;
+      returned_minutes = clock.0;
+      readings = clock.1;
       clock = clock.2;
     }
 
@@ -72,8 +72,8 @@ kept_over served_data before now after kept step = record {
   pieces = ap (λ d. d.keeps_pieces) step.0 ∙ kept.pieces;
   requests = ap (λ d. d.requests) step.0 ∙ kept.requests;
   faults = ap (λ d. d.faults) step.0 ∙ kept.faults;
-  given = kept.given;
-  asked = kept.asked;
+  returned_minutes = kept.returned_minutes;
+  readings = kept.readings;
   clock = step.1 ∙ kept.clock;
 }
 
@@ -85,8 +85,8 @@ kept_by served_data outages.Door before now after kept step = record {
   pieces = ap (λ d. d.keeps_pieces) step.0 ∙ kept.pieces;
   requests = ap (λ d. d.requests) step.0 ∙ kept.requests;
   faults = ap (λ d. d.faults) step.0 ∙ ap counted kept.faults;
-  given = kept.given;
-  asked = kept.asked;
+  returned_minutes = kept.returned_minutes;
+  readings = kept.readings;
   clock = step.1 ∙ kept.clock;
 }
 kept_by served_data outages.Clock before now after kept step = record {
@@ -94,8 +94,8 @@ kept_by served_data outages.Clock before now after kept step = record {
   pieces = ap (λ d. d.keeps_pieces) step.door ∙ kept.pieces;
   requests = ap (λ d. d.requests) step.door ∙ kept.requests;
   faults = ap (λ d. d.faults) step.door ∙ kept.faults;
-  given = kept.given;
-  asked = counted kept.asked;
+  returned_minutes = kept.returned_minutes;
+  readings = counted kept.readings;
   clock = step.ended.0 ∙ ap clock_failed kept.clock;
 }
 
@@ -121,7 +121,7 @@ rose_by more before now after true rose is =
 -- no connection was served
 pub none_passed : (served_data : ServedData) (has_failed : Bool) (before after : Exchange)
     → after.door.connections ≡ before.door.connections → after.door.line_faults ≡ before.door.line_faults
-    → after.clock ≡ before.clock → after.door.doorway.taken ≡ 0 → HasServed served_data has_failed before after
+    → after.clock ≡ before.clock → after.door.listener_state.accepted ≡ 0 → HasServed served_data has_failed before after
 unfolding AreServed AreNext after_minutes
 none_passed served_data has_failed before after connections lines clock none = record {
   over = [];
@@ -150,7 +150,7 @@ record HavePassed (served_data : ServedData) (before after : Exchange) : Type 0 
   over : List Connection
   minutes : List ℤ
   connections : connections_of after.door.connections ≡ connections_of before.door.connections ++ over
-  counted : after.door.doorway.taken ≡ length over
+  counted : after.door.listener_state.accepted ≡ length over
   cut : RoseBy (count_by is_cut over) before.door.line_faults after.door.line_faults
   clock : after.clock ≡ after_minutes minutes before.clock
   next : IsTrue before.clock.is_observable → AreNext before.clock minutes
@@ -160,7 +160,7 @@ have_passed : (served_data : ServedData) (before after : Exchange) → HasServed
     → HavePassed served_data before after
 have_passed served_data before after s =
     let none = none_left s.left s.ends in
-    let counted : after.door.doorway.taken ≡ length s.over + 0 = rw none at s.counted in record {
+    let counted : after.door.listener_state.accepted ≡ length s.over + 0 = rw none at s.counted in record {
       over = s.over;
       minutes = s.minutes;
       connections = (rw none at s.connections) ∙ append-nil (connections_of before.door.connections ++ s.over);
@@ -173,32 +173,32 @@ have_passed served_data before after s =
 
 served_on : (served_data : ServedData) (over : List Connection) (minutes : List ℤ) (c : Connection) (minute : Option ℤ)
     → AreServed served_data over minutes
-    → IsServed served_data c minute → AreServed served_data (over ++ c ∷ []) (minutes ++ listed minute)
+    → IsServed served_data c minute → AreServed served_data (over ++ c ∷ []) (minutes ++ as_list minute)
 unfolding AreServed
 served_on served_data [] minutes c minute so_far last = (
   minute,
   [],
-  ap (λ ms. ms ++ listed minute) so_far ∙ sym (append-nil (listed minute)),
+  ap (λ ms. ms ++ as_list minute) so_far ∙ sym (append-nil (as_list minute)),
   last,
   refl,
 )
 served_on served_data (first ∷ more) minutes c minute so_far last = (
   so_far.0,
-  so_far.1 ++ listed minute,
-  ap (λ ms. ms ++ listed minute) so_far.2 ∙ append_assoc (listed so_far.0) so_far.1 (listed minute),
+  so_far.1 ++ as_list minute,
+  ap (λ ms. ms ++ as_list minute) so_far.2 ∙ append_assoc (as_list so_far.0) so_far.1 (as_list minute),
   so_far.3,
   served_on served_data more so_far.1 c minute so_far.4 last,
 )
 
 given_more : (minute : Option ℤ) (minutes : List ℤ) (clock : ClockState)
-    → clock_given minute (after_minutes minutes clock) ≡ after_minutes (minutes ++ listed minute) clock
+    → clock_given minute (after_minutes minutes clock) ≡ after_minutes (minutes ++ as_list minute) clock
 unfolding after_minutes
 given_more None [] clock = refl
 given_more (Some m) [] clock = refl
 given_more minute (first ∷ more) clock = given_more minute more (clock_after (Ok first) clock)
 
 next_more : (minute : Option ℤ) (minutes : List ℤ) (clock : ClockState) → AreNext clock minutes
-    → IsNextMinute minute (next_minute (after_minutes minutes clock)) → AreNext clock (minutes ++ listed minute)
+    → IsNextMinute minute (next_minute (after_minutes minutes clock)) → AreNext clock (minutes ++ as_list minute)
 unfolding AreNext after_minutes
 next_more None [] clock are next = tt
 next_more (Some m) [] clock are next = (next, tt)
@@ -222,31 +222,31 @@ counted_by false count is few = rw is refl
 pub counted_on : (count : ℕ) → count < 2 ^ 64 - 1 → counted count ≡ count + 1
 counted_on count few = counted_by (count == 2 ^ 64 - 1) count refl few
 
-pub next_serving : (port count : ℕ) (after : Doorway) → count < 2 ^ 64 - 1 → after ≡ closed (after_next (Ok true) (serving port count))
+pub next_serving : (port count : ℕ) (after : ListenerState) → count < 2 ^ 64 - 1 → after ≡ closed (after_next (Ok true) (serving port count))
     → after ≡ serving port (count + 1)
 next_serving port count after few is = is ∙ ap (serving port) (counted_on count few)
 
 -- the connections after one more
 pub passed_on : (served_data : ServedData) (before now after : Exchange) → HasServed served_data false before now
-    → now.door.doorway.taken < 2 ^ 64 - 1
+    → now.door.listener_state.accepted < 2 ^ 64 - 1
     → StepBy (Ok true) served_data now after → HasServed served_data false before after
 passed_on served_data before now after passed few step =
     let so_far = have_passed served_data before now passed in
     let c = step.connection in
     let minute = step.ended.0 in
-    let taken : after.door.doorway.taken ≡ now.door.doorway.taken + 1 =
-    ap (λ d. d.doorway.taken) step.door ∙ counted_on now.door.doorway.taken few in
+    let accepted : after.door.listener_state.accepted ≡ now.door.listener_state.accepted + 1 =
+    ap (λ d. d.listener_state.accepted) step.door ∙ counted_on now.door.listener_state.accepted few in
     let one : length (so_far.over ++ c ∷ []) ≡ length so_far.over + 1 = length-append so_far.over (c ∷ []) in
     record {
       over = so_far.over ++ c ∷ [];
       left = None;
-      minutes = so_far.minutes ++ listed minute;
+      minutes = so_far.minutes ++ as_list minute;
       connections =
           ap (λ d. connections_of d.connections) step.door
           ∙ ap (λ cs. cs ++ c ∷ []) so_far.connections
           ∙ append_assoc (connections_of before.door.connections) so_far.over (c ∷ [])
           ∙ sym (append-nil (connections_of before.door.connections ++ (so_far.over ++ c ∷ [])));
-      counted = omega (arith, taken, one, so_far.counted);
+      counted = omega (arith, accepted, one, so_far.counted);
       cut =
           cut_on c so_far.over before.door.line_faults now.door.line_faults after.door.line_faults so_far.cut
           (ap (λ d. d.line_faults) step.door);
@@ -266,9 +266,9 @@ passed_on served_data before now after passed few step =
 pub passed_still : (served_data : ServedData) (has_failed : Bool) (before now after : Exchange)
     → HasServed served_data false before now
     → after.door.connections ≡ now.door.connections → after.door.line_faults ≡ now.door.line_faults
-    → after.door.doorway.taken ≡ now.door.doorway.taken → after.clock ≡ now.clock
+    → after.door.listener_state.accepted ≡ now.door.listener_state.accepted → after.clock ≡ now.clock
     → HasServed served_data has_failed before after
-passed_still served_data has_failed before now after passed connections lines taken clock =
+passed_still served_data has_failed before now after passed connections lines accepted clock =
     let so_far = have_passed served_data before now passed in record {
       over = so_far.over;
       left = None;
@@ -276,7 +276,7 @@ passed_still served_data has_failed before now after passed connections lines ta
       connections =
           ap connections_of connections ∙ so_far.connections
           ∙ sym (append-nil (connections_of before.door.connections ++ so_far.over));
-      counted = omega (arith, taken, so_far.counted);
+      counted = omega (arith, accepted, so_far.counted);
       cut = subst (λ (n : ℕ). RoseBy (count_by is_cut so_far.over) before.door.line_faults n) (sym lines) so_far.cut;
       clock = clock ∙ so_far.clock;
       next = so_far.next;
@@ -292,21 +292,21 @@ uncut false write_failed bytes asks unfailed = unfailed
 
 -- the connections after the clock has failed for one more
 left_passed : (served_data : ServedData) (before now after : Exchange) → HasServed served_data false before now
-    → now.door.doorway.taken < 2 ^ 64 - 1
+    → now.door.listener_state.accepted < 2 ^ 64 - 1
     → StepBy (Err outages.Clock) served_data now after → HasServed served_data true before after
 left_passed served_data before now after passed few step =
     let so_far = have_passed served_data before now passed in
     let c = step.connection in
     let left = step.ended.1 in
     let whole : is_cut c ≡ false = uncut c.read_failed c.write_failed (has_byte c.came) left.asked left.unanswered.unfailed in
-    let taken : after.door.doorway.taken ≡ now.door.doorway.taken + 1 =
-    ap (λ d. d.doorway.taken) step.door ∙ counted_on now.door.doorway.taken few in
+    let accepted : after.door.listener_state.accepted ≡ now.door.listener_state.accepted + 1 =
+    ap (λ d. d.listener_state.accepted) step.door ∙ counted_on now.door.listener_state.accepted few in
     record {
       over = so_far.over;
       left = Some c;
       minutes = so_far.minutes;
       connections = ap (λ d. connections_of d.connections) step.door ∙ ap (λ cs. cs ++ c ∷ []) so_far.connections;
-      counted = omega (arith, taken, so_far.counted);
+      counted = omega (arith, accepted, so_far.counted);
       cut =
           subst (λ (n : ℕ). RoseBy (count_by is_cut so_far.over) before.door.line_faults n)
           (sym (ap (λ d. d.line_faults) step.door ∙ ap (λ b. faults_after b now.door.line_faults) whole)) so_far.cut;
@@ -318,68 +318,68 @@ left_passed served_data before now after passed few step =
     }
 
 failed_passed : (served_data : ServedData) (outage : Outage) (before now after : Exchange)
-    → HasServed served_data false before now → now.door.doorway.taken < 2 ^ 64 - 1
+    → HasServed served_data false before now → now.door.listener_state.accepted < 2 ^ 64 - 1
     → StepBy (Err outage) served_data now after → HasServed served_data true before after
 failed_passed served_data outages.Door before now after passed few step =
     passed_still served_data true before now after passed (ap (λ d. d.connections) step.0) (ap (λ d. d.line_faults) step.0)
-    (ap (λ d. d.doorway.taken) step.0) step.1
+    (ap (λ d. d.listener_state.accepted) step.0) step.1
 failed_passed served_data outages.Clock before now after passed few step = left_passed served_data before now after passed few step
 
 -- ---- The end of serving
 
 -- no more connections come
 pub over_serves : (served_data : ServedData) (count : ℕ) (before now after : Exchange)
-    → now.door.doorway ≡ serving served_data.port count → IsKept false false before now → HasServed served_data false before now
+    → now.door.listener_state ≡ serving served_data.port count → IsKept false false before now → HasServed served_data false before now
     → StepBy (Ok false) served_data now after → Serves served_data (Ok tt) before after
-over_serves served_data count before now after doorway kept passed step = record {
-  port = ap (λ d. d.doorway.port) step.0 ∙ ap (λ d. d.port) doorway;
-  listens = ap (λ d. d.doorway.listens) step.0 ∙ ap (λ d. d.listens) doorway;
-  closed = ap (λ d. d.doorway.is_open) step.0 ∙ ap (λ d. d.is_open) doorway;
-  over = inl (ap (λ d. d.doorway.is_over) step.0);
+over_serves served_data count before now after listener_state kept passed step = record {
+  port = ap (λ d. d.listener_state.port) step.0 ∙ ap (λ d. d.port) listener_state;
+  listens = ap (λ d. d.listener_state.listens) step.0 ∙ ap (λ d. d.listens) listener_state;
+  closed = ap (λ d. d.listener_state.is_open) step.0 ∙ ap (λ d. d.is_open) listener_state;
+  over = inl (ap (λ d. d.listener_state.is_over) step.0);
   passed =
       passed_still served_data false before now after passed (ap (λ d. d.connections) step.0) (ap (λ d. d.line_faults) step.0)
-      (ap (λ d. d.doorway.taken) step.0) step.1;
+      (ap (λ d. d.listener_state.accepted) step.0) step.1;
   kept = kept_over served_data before now after kept step;
 }
 
 -- 2^64 - 1 connections were accepted
-pub all_serves : (served_data : ServedData) (before now : Exchange) → now.door.doorway ≡ serving served_data.port (2 ^ 64 - 1)
+pub all_serves : (served_data : ServedData) (before now : Exchange) → now.door.listener_state ≡ serving served_data.port (2 ^ 64 - 1)
     → IsKept false false before now → HasServed served_data false before now → Serves served_data (Ok tt) before now
-all_serves served_data before now doorway kept passed = record {
-  port = ap (λ d. d.port) doorway;
-  listens = ap (λ d. d.listens) doorway;
-  closed = ap (λ d. d.is_open) doorway;
-  over = inr (ap (λ d. d.taken) doorway);
+all_serves served_data before now listener_state kept passed = record {
+  port = ap (λ d. d.port) listener_state;
+  listens = ap (λ d. d.listens) listener_state;
+  closed = ap (λ d. d.is_open) listener_state;
+  over = inr (ap (λ d. d.accepted) listener_state);
   passed = passed;
   kept = kept;
 }
 
 still_closed : (served_data : ServedData) (outage : Outage) (now after : Exchange) → StepBy (Err outage) served_data now after
-    → (after.door.doorway.port ≡ now.door.doorway.port) × (after.door.doorway.listens ≡ now.door.doorway.listens)
-    × (now.door.doorway.is_open ≡ false → after.door.doorway.is_open ≡ false)
+    → (after.door.listener_state.port ≡ now.door.listener_state.port) × (after.door.listener_state.listens ≡ now.door.listener_state.listens)
+    × (now.door.listener_state.is_open ≡ false → after.door.listener_state.is_open ≡ false)
 still_closed served_data outages.Door now after step = (
-  ap (λ d. d.doorway.port) step.0,
-  ap (λ d. d.doorway.listens) step.0,
-  λ none. ap (λ d. d.doorway.is_open) step.0 ∙ none,
+  ap (λ d. d.listener_state.port) step.0,
+  ap (λ d. d.listener_state.listens) step.0,
+  λ none. ap (λ d. d.listener_state.is_open) step.0 ∙ none,
 )
 still_closed served_data outages.Clock now after step = (
-  ap (λ d. d.doorway.port) step.door,
-  ap (λ d. d.doorway.listens) step.door,
-  λ none. ap (λ d. d.doorway.is_open) step.door,
+  ap (λ d. d.listener_state.port) step.door,
+  ap (λ d. d.listener_state.listens) step.door,
+  λ none. ap (λ d. d.listener_state.is_open) step.door,
 )
 
 -- the port or the clock has failed
 pub failed_serves : (served_data : ServedData) (outage : Outage) (count : ℕ) (before now after : Exchange) → count < 2 ^ 64 - 1
-    → now.door.doorway ≡ serving served_data.port count → IsKept false false before now → HasServed served_data false before now
+    → now.door.listener_state ≡ serving served_data.port count → IsKept false false before now → HasServed served_data false before now
     → StepBy (Err outage) served_data now after → Serves served_data (Err outage) before after
-failed_serves served_data outage count before now after few doorway kept passed step =
+failed_serves served_data outage count before now after few listener_state kept passed step =
     let still = still_closed served_data outage now after step in
-    let taken : now.door.doorway.taken ≡ count = ap (λ d. d.taken) doorway in
+    let accepted : now.door.listener_state.accepted ≡ count = ap (λ d. d.accepted) listener_state in
     record {
-      port = still.0 ∙ ap (λ d. d.port) doorway;
-      listens = still.1 ∙ ap (λ d. d.listens) doorway;
-      closed = still.2 (ap (λ d. d.is_open) doorway);
+      port = still.0 ∙ ap (λ d. d.port) listener_state;
+      listens = still.1 ∙ ap (λ d. d.listens) listener_state;
+      closed = still.2 (ap (λ d. d.is_open) listener_state);
       over = tt;
-      passed = failed_passed served_data outage before now after passed (rw taken few) step;
+      passed = failed_passed served_data outage before now after passed (rw accepted few) step;
       kept = kept_by served_data outage before now after kept step;
     }

@@ -31,7 +31,7 @@ use Rattle.std.specs.Prelude.{
 }
 use Rattle.tide_edge.specs.Clocks.{ClockState, clock_after, next_minute}
 use Rattle.tide_edge.specs.Doors.{Connection, connections_of}
-use Rattle.tide_edge.specs.FileStates.{listed}
+use Rattle.tide_edge.specs.FileStates.{as_list}
 use Rattle.tide_edge.specs.declared.piece.TheConstants.{PIECE}
 use Rattle.tide_server.specs.declared.served_data.ServedData.{ServedData}
 use Rattle.tide_server.specs.Serving.{Answers, Exchange, IsEnough, RoseBy, clock_failed, has_byte}
@@ -90,7 +90,7 @@ pub record IsLeft (c : Connection) : Type 0 where
 unfoldable pub AreServed : ServedData → List Connection → List ℤ → Type 0
 AreServed served_data [] minutes = minutes ≡ []
 AreServed served_data (c ∷ more) minutes =
-    (minute : Option ℤ) × (later : List ℤ) × (minutes ≡ listed minute ++ later) × IsServed served_data c minute
+    (minute : Option ℤ) × (later : List ℤ) × (minutes ≡ as_list minute ++ later) × IsServed served_data c minute
     × AreServed served_data more later
 
 -- the connection, if any, is one for which the clock couldn't be read, and to which nothing was sent
@@ -115,8 +115,8 @@ pub record HasServed (served_data : ServedData) (has_failed : Bool) (before afte
   pub over : List Connection
   pub left : Option Connection
   pub minutes : List ℤ
-  pub connections : connections_of after.door.connections ≡ connections_of before.door.connections ++ over ++ listed left
-  pub counted : after.door.doorway.taken ≡ length over + length (listed left)
+  pub connections : connections_of after.door.connections ≡ connections_of before.door.connections ++ over ++ as_list left
+  pub counted : after.door.listener_state.accepted ≡ length over + length (as_list left)
   pub cut : RoseBy (count_by is_cut over) before.door.line_faults after.door.line_faults
   pub clock : after.clock
       ≡ (if is_some left then clock_failed (after_minutes minutes before.clock) else after_minutes minutes before.clock)

@@ -55,8 +55,8 @@ pub record HasAnswered (served_data : ServedData) (has_failed : Bool) (before af
   pub requests : List (List (List ℕ))
   pub replies : List (List ℕ)
   pub left : List (List (List ℕ))
-  pub taken : waiting_of (door_state before.door) ≡ requests ++ left ++ waiting_of (door_state after.door)
-  pub given : replies_of (door_state after.door) ≡ replies_of (door_state before.door) ++ replies ++ map (λ request. []) left
+  pub accepted : waiting_of (door_state before.door) ≡ requests ++ left ++ waiting_of (door_state after.door)
+  pub returned_replies : replies_of (door_state after.door) ≡ replies_of (door_state before.door) ++ replies ++ map (λ request. []) left
   pub each : length replies ≡ length requests
   pub answered : after.door.line_faults ≡ before.door.line_faults → before.door.line_faults < 2 ^ 64 - 1
       → AreAnswered served_data before.clock.minute requests replies
@@ -64,4 +64,4 @@ pub record HasAnswered (served_data : ServedData) (has_failed : Bool) (before af
       × AreAnsweredBut failed served_data before.clock.minute requests replies
   pub last : MayLeave has_failed left
   pub bytes : All (λ request. ¬ (concat request ≡ [])) left
-  pub clock : after.clock.calls.faults ≡ faults_after (is_left left) before.clock.calls.faults
+  pub clock : after.clock.fault_schedule.faults ≡ faults_after (is_left left) before.clock.fault_schedule.faults

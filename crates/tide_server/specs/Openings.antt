@@ -36,15 +36,15 @@ use Rattle.tide_fault.specs.declared.slot.Slot.TheVariants as slots
 use Rattle.tide_fault.specs.declared.status.Status.{Status}
 use Rattle.tide_fault.specs.declared.status.Status.TheVariants.{Done, Words, ReadFault, NoMemory}
 use Rattle.tide_edge.specs.Clocks.{ClockState}
-use Rattle.tide_edge.specs.Doors.{Doorway, DoorState}
+use Rattle.tide_edge.specs.Doors.{ListenerState, DoorState}
 use Rattle.decimal_text.specs.Expected.{Excuses}
 use Rattle.tide_edge.specs.Faults.{faults_after}
 use Rattle.tide_edge.specs.FileStates.{FilesState, Folder}
 use Rattle.tide_edge.specs.SinkStates.{SinkState, Wrote, WroteBoth}
 use Rattle.tide_edge.specs.Whole.{Allowance, both, no_file}
-use Rattle.named_files.specs.declared.no_answer.NoAnswer.{NoAnswer}
-use Rattle.named_files.specs.declared.no_answer.NoAnswer.TheVariants.{Faulty}
-use Rattle.named_files.specs.NoAnswers.{faulty, status_of, line_of, source_of, is_read_fault}
+use Rattle.named_files.specs.declared.run_fault.RunFault.{RunFault}
+use Rattle.named_files.specs.declared.run_fault.RunFault.TheVariants.{Faulty}
+use Rattle.named_files.specs.RunFaults.{faulty, status_of, line_of, source_of, is_read_fault}
 use Rattle.named_files.specs.Readings.{Folders, allowed_for, book_named, table_named}
 use Rattle.tide_server.specs.declared.served_data.ServedData.{ServedData}
 use Rattle.tide_server.specs.Conversations.{HasServed}
@@ -74,25 +74,25 @@ service_of words = service_from (service_in words)
 
 -- the data that a request to serve names: harmonic constants, a table and a port; the harmonics file has
 -- this name
-unfoldable pub served_data_named : Folders → Question → List ℕ → Result ServedData NoAnswer
+unfoldable pub served_data_named : Folders → Question → List ℕ → Result ServedData RunFault
 served_data_named folders question name = do
   book ← book_named (folders slots.File) name
   table ← table_named (folders slots.Offsets) question.offsets
   Ok (record { book = book; table = table; port = question.port })
 
 -- the data that a request to serve names, which must name a file of harmonic constants
-abbrev pub served_data_by : Folders → Question → Option (List ℕ) → Result ServedData NoAnswer
+abbrev pub served_data_by : Folders → Question → Option (List ℕ) → Result ServedData RunFault
 served_data_by folders question None = Err (Faulty (Ask (MissingKey keys.File)))
 served_data_by folders question (Some name) = served_data_named folders question name
 
 -- the data that the arguments name; each file is read from a separate folder
-unfoldable pub served_data_from : Folders → List (List ℕ) → Result ServedData NoAnswer
+unfoldable pub served_data_from : Folders → List (List ℕ) → Result ServedData RunFault
 served_data_from folders words = do
   question ← faulty (service_of words)
   served_data_by folders question question.file
 
 -- the data that the arguments name, with one folder
-abbrev pub served_data_of : Folder → List (List ℕ) → Result ServedData NoAnswer
+abbrev pub served_data_of : Folder → List (List ℕ) → Result ServedData RunFault
 served_data_of folder words = served_data_from (λ slot. folder) words
 
 -- how many files may be opened for the arguments, and how many bytes read
@@ -107,11 +107,11 @@ abbrev pub notice_of : ℕ → List ℕ
 notice_of port = codes "http://127.0.0.1:" ++ decimal port ++ codes "/\n"
 
 -- the line of the port, if the server listens
-abbrev pub notice_at : ℕ → Doorway → List ℕ
+abbrev pub notice_at : ℕ → ListenerState → List ℕ
 notice_at port door = if door.listens then notice_of port else []
 
 -- the status and the line are those for this reason why there is no data, or memory ran out
-abbrev pub IsSaid : NoAnswer → Status → List ℕ → Type 0
+abbrev pub IsSaid : RunFault → Status → List ℕ → Type 0
 IsSaid why status line = ((status ≡ status_of why) × (line ≡ line_of why)) ⊎ ((status ≡ NoMemory) × (line ≡ codes "no memory\n"))
 
 -- a command other than `serve` is refused with its status and line, even if memory runs out
@@ -134,8 +134,8 @@ server_states files door err clock = record { files = files; door = door; err = 
 
 -- No connection was served, since there is no data: `why` is the expected reason, unless memory ran out,
 -- or reading failed and the files aren't steady. The port was not listened to, and the clock not read.
-pub record IsRefused (firm : Type 0) (expected : Result ServedData NoAnswer) (status : Status) (before after : ServerStates) : Type 0 where
-  pub why : NoAnswer
+pub record IsRefused (firm : Type 0) (expected : Result ServedData RunFault) (status : Status) (before after : ServerStates) : Type 0 where
+  pub why : RunFault
   pub excused : Excuses (source_of why) firm expected why
   pub line : List ℕ
   pub said : IsSaid why status line
@@ -152,15 +152,15 @@ end_line _ = codes "read fault\n"
 -- record has the bytes of each connection, for any port and clock, and the requests that were answered,
 -- if port and clock are observable. The first line written names the port.
 pub record HasListened (served_data : ServedData) (status : Status) (before after : ServerStates) : Type 0 where
-  pub asked : after.door.doorway.port ≡ Some served_data.port
+  pub asked : after.door.listener_state.port ≡ Some served_data.port
   pub ends : (status ≡ Done) ⊎ (status ≡ ReadFault)
   pub passed : HasServed served_data (is_read_fault status) (exchange before.door before.clock) (exchange after.door after.clock)
   pub served : IsTrue before.door.is_observable → IsTrue before.clock.is_observable
       → Served served_data (is_read_fault status) (exchange before.door before.clock) (exchange after.door after.clock)
-  pub wrote : WroteBoth before.err after.err (notice_at served_data.port after.door.doorway) (end_line status)
+  pub wrote : WroteBoth before.err after.err (notice_at served_data.port after.door.listener_state) (end_line status)
 
 -- the server was refused, or has listened and served the expected data
-abbrev pub EndsAs : Type 0 → Result ServedData NoAnswer → Status → ServerStates → ServerStates → Type 0
+abbrev pub EndsAs : Type 0 → Result ServedData RunFault → Status → ServerStates → ServerStates → Type 0
 EndsAs firm expected status before after =
     IsRefused firm expected status before after
     ⊎ ((served_data : ServedData) × (expected ≡ Ok served_data) × HasListened served_data status before after)
@@ -176,17 +176,17 @@ pub record EndedBy (has_failed : Bool) (before after : ServerStates) : Type 0 wh
   pub door : Bool
   pub one : count_by (λ failed. failed) (files ∷ clock ∷ door ∷ []) ≡ (if has_failed then 1 else 0)
   pub files_count : after.files.faults ≡ faults_after files before.files.faults
-  pub files_first : IsTrue files → after.door.doorway.port ≡ None
+  pub files_first : IsTrue files → after.door.listener_state.port ≡ None
   pub door_count : after.door.faults ≡ faults_after door before.door.faults
   pub door_observable : after.door.is_observable ≡ before.door.is_observable
   pub door_pieces : after.door.keeps_pieces ≡ before.door.keeps_pieces
   pub door_requests : after.door.requests ≡ before.door.requests
-  pub given : List ℤ
-  pub asked : ℕ
-  pub clock_state : after.clock ≡ record before.clock { given = given; asked = asked; faults = faults_after clock before.clock.faults }
+  pub returned_minutes : List ℤ
+  pub readings : ℕ
+  pub clock_state : after.clock ≡ record before.clock { returned_minutes = returned_minutes; readings = readings; faults = faults_after clock before.clock.faults }
 
 -- ---- The whole objects
 
 -- the server hasn't listened, or no connection was accepted
-abbrev pub TookNone : Doorway → Type 0
-TookNone door = (door.port ≡ None) ⊎ (door.taken ≡ 0)
+abbrev pub AcceptedNone : ListenerState → Type 0
+AcceptedNone door = (door.port ≡ None) ⊎ (door.accepted ≡ 0)

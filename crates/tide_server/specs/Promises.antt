@@ -1,6 +1,6 @@
 -- The contract of a server, over objects of any kind (this project).
 use Rattle.std.specs.Prelude.{◌≡◌, ℕ, Bool, false, List, IsTrue, IsOk, None}
-use Rattle.named_files.specs.NoAnswers.{is_read_fault}
+use Rattle.named_files.specs.RunFaults.{is_read_fault}
 use Rattle.tide_edge.specs.Clocks.{ClockState}
 use Rattle.tide_edge.specs.Doors.{DoorState}
 use Rattle.tide_edge.specs.FileStates.{FilesState}
@@ -13,7 +13,7 @@ use Rattle.tide_server.specs.Openings.{
   EndsAs,
   ServerStates,
   RefusesCommand,
-  TookNone,
+  AcceptedNone,
   asks_another,
   files_asked,
   server_states,
@@ -62,15 +62,15 @@ pub record ServesAs {F D E K : Type 0} (s : ServiceStates F D E K) (words : List
     (before after : Services F D E K)
     : Type 0 where
   pub shown : EndsAsShown words status (server_states_of s before) (server_states_of s after)
-  pub own_files : IsTrue (s.files before.files).store.is_observable
-      → EndsAs (IsTrue (s.files before.files).store.is_steady) (served_data_of (s.files before.files).store.folder words) status
+  pub own_files : IsTrue (s.files before.files).file_contents.is_observable
+      → EndsAs (IsTrue (s.files before.files).file_contents.is_steady) (served_data_of (s.files before.files).file_contents.folder words) status
       (server_states_of s before) (server_states_of s after)
   pub another : IsTrue (asks_another words) → RefusesCommand status (s.err before.err) (s.err after.err)
-  pub done : status ≡ Done → IsOver (s.door after.door).doorway
+  pub done : status ≡ Done → IsOver (s.door after.door).listener_state
   pub fault : EndedBy (is_read_fault status) (server_states_of s before) (server_states_of s after)
   pub reads : (failed : Bool) × ReadWithin (files_asked (service_of words)) failed (s.files before.files) (s.files after.files)
-  pub reads_first : ¬ ((s.door after.door).doorway.port ≡ None) → (s.files after.files).faults ≡ (s.files before.files).faults
+  pub reads_first : ¬ ((s.door after.door).listener_state.port ≡ None) → (s.files after.files).faults ≡ (s.files before.files).faults
   pub unopened : ¬ (IsOk (service_of words)) → after.files ≡ before.files
-  pub unlistened : (s.door after.door).doorway.port ≡ None → after.door ≡ before.door
-  pub unread : TookNone (s.door after.door).doorway → after.clock ≡ before.clock
-  pub closed : ¬ ((s.door after.door).doorway.port ≡ None) → (s.door after.door).doorway.is_open ≡ false
+  pub unlistened : (s.door after.door).listener_state.port ≡ None → after.door ≡ before.door
+  pub unread : AcceptedNone (s.door after.door).listener_state → after.clock ≡ before.clock
+  pub closed : ¬ ((s.door after.door).listener_state.port ≡ None) → (s.door after.door).listener_state.is_open ≡ false

@@ -9,12 +9,12 @@ use Rattle.question.specs.declared.pairs.Pairs.{Pairs}
 use Rattle.http_rows.specs.Rows.{Asking}
 
 -- the text of an encoded name or value: bytes that aren't UTF-8 become U+FFFD
-unfoldable pub said_by : List ℕ → List ℕ
-said_by encoded = utf8_lossy (decode encoded)
+unfoldable pub decoded_text : List ℕ → List ℕ
+decoded_text encoded = utf8_lossy (decode encoded)
 
 -- the pair of an encoded name and an encoded value, which may be empty
 abbrev pub item_of : List ℕ × List ℕ → Item
-item_of pair = record { key = said_by pair.0; value = Some (said_by pair.1) }
+item_of pair = record { key = decoded_text pair.0; value = Some (decoded_text pair.1) }
 
 -- the pairs of a query, decoded
 abbrev pub items_of : List ℕ → List Item

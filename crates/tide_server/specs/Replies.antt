@@ -12,7 +12,7 @@ use Rattle.question.specs.Questions.{question_of}
 use Rattle.station_table.specs.declared.offsets.Offsets.{Offsets}
 use Rattle.tide_fault.specs.declared.fault.Fault.{Fault}
 use Rattle.tide_fault.specs.declared.fault.Fault.TheVariants.{Ask, Refused}
-use Rattle.tide_answer.specs.declared.given.Given.{Given}
+use Rattle.tide_answer.specs.declared.inputs.Given.{Given}
 use Rattle.tide_fault.specs.declared.refusal.Refusal.{Refusal}
 use Rattle.tide_answer.specs.declared.text.Answer.{Answer}
 use Rattle.tide_answer.specs.Answers.{answered}
@@ -43,18 +43,18 @@ given_with question asking minute = record { zone = zone_of question.zone; certi
 
 -- the reply with the line of a fault; if the Bool is true, without its body
 abbrev pub fault_reply : Code → List Offsets → Fault → Bool → List ℕ
-fault_reply code table fault bodiless = response code (codes "text/plain") [] (line_of table fault) bodiless
+fault_reply code table fault is_head_request = response code (codes "text/plain") [] (line_of table fault) is_head_request
 
 -- the reply with an answer, also one that rejects a certificate, or with a refusal
 unfoldable pub answer_reply : List Offsets → Layout → Result Answer Refusal → Bool → List ℕ
-answer_reply table layout (Ok answer) bodiless = response code.Success (media_type_of layout) [] answer.text bodiless
-answer_reply table layout (Err refusal) bodiless = fault_reply code.Unprocessable table (Refused refusal) bodiless
+answer_reply table layout (Ok answer) is_head_request = response code.Success (media_type_of layout) [] answer.text is_head_request
+answer_reply table layout (Err refusal) is_head_request = fault_reply code.Unprocessable table (Refused refusal) is_head_request
 
 -- the reply to a query that is a request, or to one that isn't a request
 unfoldable pub question_reply : Book → List Offsets → ℤ → Asking → Result Question AskFault → List ℕ
 question_reply book table minute asking (Ok question) =
-    answer_reply table question.layout (answered book table question (given_with question asking minute)) asking.bodiless
-question_reply book table minute asking (Err fault) = fault_reply code.BadRequest table (Ask fault) asking.bodiless
+    answer_reply table question.layout (answered book table question (given_with question asking minute)) asking.is_head_request
+question_reply book table minute asking (Err fault) = fault_reply code.BadRequest table (Ask fault) asking.is_head_request
 
 -- the reply to a request that no fixed reply rejects
 unfoldable pub asking_reply : Book → List Offsets → ℤ → Asking → List ℕ
@@ -62,7 +62,7 @@ asking_reply book table minute asking = question_reply book table minute asking 
 
 -- the reply to a request by its row of the table of HTTP statuses: a fixed reply, or the answer
 abbrev pub reply_of : Book → List Offsets → ℤ → ReplyRow → List ℕ
-reply_of book table minute (rejects rejection bodiless) = rejection_of rejection bodiless
+reply_of book table minute (rejects rejection is_head_request) = rejection_of rejection is_head_request
 reply_of book table minute (asks asking) = asking_reply book table minute asking
 
 -- the bytes are the reply to a whole request, by its row of the table of HTTP statuses

@@ -27,7 +27,7 @@ use Rattle.std.specs.Prelude.{
 }
 use Rattle.std.specs.List.{concat}
 use Rattle.tide_edge.specs.Clocks.{ClockState, clock_after, next_minute}
-use Rattle.tide_edge.specs.Doors.{Doorway, DoorState, connections_of, first_or_empty, left_after, replies_of, unread_of, waiting_of}
+use Rattle.tide_edge.specs.Doors.{ListenerState, DoorState, connections_of, first_or_empty, left_after, replies_of, unread_of, waiting_of}
 use Rattle.tide_edge.specs.Faults.{counted}
 use Rattle.tide_server.specs.declared.served_data.ServedData.{ServedData}
 use Rattle.tide_server.specs.Replies.{IsReply}
@@ -87,7 +87,7 @@ clock_with is_asked clock = if is_asked then clock_after (Ok (next_minute clock)
 
 -- the clock after a reading that failed
 abbrev pub clock_failed : ClockState → ClockState
-clock_failed clock = record clock { asked = counted clock.asked; faults = counted clock.faults }
+clock_failed clock = record clock { readings = counted clock.readings; faults = counted clock.faults }
 
 -- the clock after these connections, for each of which it was read once or not at all
 unfoldable pub clock_after_all : List Conversation → ClockState → ClockState
@@ -110,7 +110,7 @@ IsEnough request = (row : ReplyRow) × IsRow request row × IsTrue (is_settled r
 pub record IsReadAsNeeded (request left : List (List ℕ)) : Type 0 where
   pub before : ℕ
   pub all : ℕ
-  pub rest : left ≡ left_after all request
+  pub unread_bytes : left ≡ left_after all request
   pub waits : ¬ (IsEnough (take before (concat request)))
   pub one : all ≤ before + length (first_or_empty (left_after before request))
 
@@ -136,8 +136,8 @@ abbrev pub RoseBy : ℕ → ℕ → ℕ → Type 0
 RoseBy more before now = (now ≡ before + more) ⊎ (now ≡ 2 ^ 64 - 1)
 
 -- there are no more connections, or 2^64 - 1 were accepted
-abbrev pub IsOver : Doorway → Type 0
-IsOver door = (door.is_over ≡ true) ⊎ (door.taken ≡ 2 ^ 64 - 1)
+abbrev pub IsOver : ListenerState → Type 0
+IsOver door = (door.is_over ≡ true) ⊎ (door.accepted ≡ 2 ^ 64 - 1)
 
 -- a connection was left without a reply only if the port or the clock has failed, and it is the last one
 -- accepted
@@ -160,7 +160,7 @@ pub record Served (served_data : ServedData) (has_failed : Bool) (before after :
   pub left : List (List (List ℕ))
   pub requests : waiting_of before.door ≡ map (λ c. c.request) served ++ left ++ waiting_of after.door
   pub replies : replies_of after.door ≡ replies_of before.door ++ map (λ c. c.reply) served ++ map (λ request. []) left
-  pub counted : after.door.doorway.taken ≡ length served + length left
+  pub counted : after.door.listener_state.accepted ≡ length served + length left
   pub held : AreHeld served_data before.clock served
   pub read : IsTrue before.door.keeps_pieces
       → IsLastReadAsNeeded (map (λ c. c.request) served ++ left)

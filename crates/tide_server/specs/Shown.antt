@@ -1,13 +1,13 @@
 -- The data of a server, from the files that it opened (this project).
 use Rattle.std.specs.Prelude.{◌≡◌, ℕ, true, IsTrue, List, [], ◌∷◌, ◌++◌, map, Option, Some, None, Result, Ok, Err}
 use Rattle.question.specs.declared.question.Question.{Question}
-use Rattle.tide_edge.specs.FileStates.{Opening, listed, openings_of}
+use Rattle.tide_edge.specs.FileStates.{Opening, as_list, openings_of}
 use Rattle.tide_fault.specs.declared.fault.Fault.{Fault}
 use Rattle.tide_fault.specs.declared.slot.Slot.{Slot}
 use Rattle.tide_fault.specs.declared.slot.Slot.TheVariants as slots
 use Rattle.tide_fault.specs.declared.status.Status.{Status}
 use Rattle.tide_fault.specs.declared.status.Status.TheVariants.{NoMemory}
-use Rattle.named_files.specs.declared.no_answer.NoAnswer.{NoAnswer}
+use Rattle.named_files.specs.declared.run_fault.RunFault.{RunFault}
 use Rattle.named_files.specs.Opened.{failing_file, folders_shown}
 use Rattle.named_files.specs.Readings.{Folders}
 use Rattle.tide_server.specs.declared.served_data.ServedData.{ServedData}
@@ -16,11 +16,11 @@ use Rattle.tide_server.specs.Openings.{EndsAs, ServerStates, service_of, served_
 -- the names of the files of a request to serve, up to the file that is the reason why there is no data;
 -- the harmonics file has this name
 abbrev pub served_data_names : List ℕ → Question → Option Slot → List (List ℕ)
-served_data_names name question None = name ∷ listed question.offsets
+served_data_names name question None = name ∷ as_list question.offsets
 served_data_names name question (Some slots.File) = name ∷ []
-served_data_names name question (Some slots.Offsets) = name ∷ listed question.offsets
-served_data_names name question (Some slots.Zone) = name ∷ listed question.offsets
-served_data_names name question (Some slots.Certificate) = name ∷ listed question.offsets
+served_data_names name question (Some slots.Offsets) = name ∷ as_list question.offsets
+served_data_names name question (Some slots.Zone) = name ∷ as_list question.offsets
+served_data_names name question (Some slots.Certificate) = name ∷ as_list question.offsets
 
 -- the names of the files of a request, which may name none
 abbrev pub names_by : Question → Option (List ℕ) → Option Slot → List (List ℕ)
@@ -34,21 +34,21 @@ names_served (Err fault) why = []
 
 -- the contents of the files of the arguments, as the openings show them
 abbrev pub folders_by : Result Question Fault → List Opening → Folders
-folders_by (Ok question) openings = folders_shown question openings
-folders_by (Err fault) openings = λ slot name. None
+folders_by (Ok question) open_log = folders_shown question open_log
+folders_by (Err fault) open_log = λ slot name. None
 
 -- the data that the arguments name, from the openings of their files
-abbrev pub served_data_by_openings : List (List ℕ) → List Opening → Result ServedData NoAnswer
-served_data_by_openings words openings = served_data_from (folders_by (service_of words) openings) words
+abbrev pub served_data_by_openings : List (List ℕ) → List Opening → Result ServedData RunFault
+served_data_by_openings words open_log = served_data_from (folders_by (service_of words) open_log) words
 
 -- A server ends with the data of its arguments, from what it opened. It opened the first of the files
 -- that the arguments name, in the order of reading, each once; and unless memory ran out, none after the
 -- one that is the reason why there are no data.
 pub record EndsAsShown (words : List (List ℕ)) (status : Status) (before after : ServerStates) : Type 0 where
-  pub openings : List Opening
-  pub all : openings_of after.files.openings ≡ openings_of before.files.openings ++ openings
+  pub open_log : List Opening
+  pub all : openings_of after.files.open_log ≡ openings_of before.files.open_log ++ open_log
   pub unopened : List (List ℕ)
-  pub names : names_served (service_of words) None ≡ map (λ o. o.name) openings ++ unopened
+  pub names : names_served (service_of words) None ≡ map (λ o. o.name) open_log ++ unopened
   pub last : ¬ (status ≡ NoMemory) → (behind : List (List ℕ))
-      × (names_served (service_of words) (failing_file (served_data_by_openings words openings)) ≡ map (λ o. o.name) openings ++ behind)
-  pub ends : EndsAs (IsTrue true) (served_data_by_openings words openings) status before after
+      × (names_served (service_of words) (failing_file (served_data_by_openings words open_log)) ≡ map (λ o. o.name) open_log ++ behind)
+  pub ends : EndsAs (IsTrue true) (served_data_by_openings words open_log) status before after

@@ -3,7 +3,7 @@
 use Rattle.std.specs.Prelude.{ℕ, pos, List, [], ◌∷◌, codes}
 use Rattle.harmonics_book.specs.Worked.{pier_book}
 use Rattle.harmonics_text.specs.Worked.{file_of, pier_lines}
-use Rattle.tide_edge.specs.Calls.{HeldCalls}
+use Rattle.tide_edge.specs.FaultSchedule.{HeldCalls}
 use Rattle.tide_edge.specs.Doors.{no_connections, not_listening}
 use Rattle.tide_edge.specs.Memory.{HeldClock, HeldDoor, HeldFiles, HeldSink, clock_state, door_state, files_state, sink_state}
 use Rattle.tide_server.specs.declared.served_data.ServedData.{ServedData}
@@ -25,13 +25,13 @@ pier_files = record {
 abbrev pub quiet_door : HeldDoor
 quiet_door = record {
   requests = [];
-  doorway = not_listening;
+  listener_state = not_listening;
   connections = no_connections;
-  waiting = [];
+  pending = [];
   coming = [];
   replies = [];
-  room = 1000;
-  calls = no_calls;
+  capacity = 1000;
+  fault_schedule = no_calls;
   line_faults = 0;
 }
 
@@ -42,8 +42,8 @@ in_memory = service_states files_state door_state sink_state clock_state
 -- the objects of the example: its files, a port at which no request waits, an empty standard error, and
 -- a clock at 2000-01-10T03:00Z
 abbrev pub pier : Services HeldFiles HeldDoor HeldSink HeldClock
-pier = services pier_files quiet_door (record { taken = []; most = 10; room = 1000; calls = no_calls })
-    (record { minute = pos 15791220; given = []; calls = no_calls })
+pier = services pier_files quiet_door (record { accepted = []; most = 10; capacity = 1000; fault_schedule = no_calls })
+    (record { minute = pos 15791220; returned_minutes = []; fault_schedule = no_calls })
 
 -- the arguments of the example, `serve file=f`
 abbrev pub pier_words : List (List ℕ)

@@ -21,8 +21,8 @@ pub fn servers_are_complete<F: Files, D: Door, E: Sink, K: Clock>()
 /// Proves an example of a server in memory: the data that it serves, and that nothing failed.
 pub fn worked_servers()
     ensures words { service_of pier_words ≡ Ok (record (bare Command.Serve) { file = Some (codes "f") }) }
-    ensures served_data { served_data_of (in_memory.files pier.files).store.folder pier_words ≡ Ok pier_data }
-    ensures not_listening { (in_memory.door pier.door).doorway.port ≡ None }
+    ensures served_data { served_data_of (in_memory.files pier.files).file_contents.folder pier_words ≡ Ok pier_data }
+    ensures not_listening { (in_memory.door pier.door).listener_state.port ≡ None }
     ensures nothing_failed { NothingFailed in_memory pier pier }
 {
     worked_files();

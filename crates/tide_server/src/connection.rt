@@ -31,7 +31,7 @@ pub(crate) fn serve_connection<D: Door, K: Clock>(
     door: &mut D,
     clock: &mut K,
 ) -> Result<(), Failed>
-    requires is_open { IsTrue (D.state door.old).doorway.is_open }
+    requires is_open { IsTrue (D.state door.old).listener_state.is_open }
     requires fresh { (D.state door.old).connections.latest ≡ Some just_taken }
     ensures { Went (is_err result) served_data.now (λ c. door_after_close (with_latest c (D.state door.old))) (D.state door.new)
         (K.state clock.old) (K.state clock.new) }
@@ -50,7 +50,7 @@ fn answer_connection<D: Door, K: Clock>(
     door: &mut D,
     clock: &mut K,
 ) -> Result<(), Failed>
-    requires is_open { IsTrue (D.state door.old).doorway.is_open }
+    requires is_open { IsTrue (D.state door.old).listener_state.is_open }
     requires fresh { (D.state door.old).connections.latest ≡ Some just_taken }
     ensures { Went (is_err result) served_data.now (λ c. with_latest c (D.state door.old)) (D.state door.new)
         (K.state clock.old) (K.state clock.new) }
@@ -87,7 +87,7 @@ fn answer_row<D: Door, K: Clock>(
     door: &mut D,
     clock: &mut K,
 ) -> Result<(), Failed>
-    requires is_open { IsTrue (D.state door.old).doorway.is_open }
+    requires is_open { IsTrue (D.state door.old).listener_state.is_open }
     requires answered { IsAskingRow (row_seen row.now) }
     ensures { RowSent (is_err result) served_data.now (row_seen row.now)
         (D.state door.old) (D.state door.new) (K.state clock.old) (K.state clock.new) }
@@ -105,24 +105,28 @@ fn send_reply<D: Door>(
     now: i64,
     door: &mut D,
 ) -> Result<(), Failed>
-    requires is_open { IsTrue (D.state door.old).doorway.is_open }
+    requires is_open { IsTrue (D.state door.old).listener_state.is_open }
     requires answered { IsAskingRow (row_seen row.now) }
     requires now { IsClockMinute now }
     ensures { (text : List ℕ) × Replies served_data.now now (row_seen row.now) text
         × SentBy (is_err result) text (D.state door.old) (D.state door.new) }
 {
     match row {
-        ReplyRow::Rejects(rejection, bodiless) => send_rejection(*rejection, *bodiless, door),
+        ReplyRow::Rejects(rejection, is_head_request) => send_rejection(
+            *rejection,
+            *is_head_request,
+            door,
+        ),
         ReplyRow::Asks(asking) => match asking_reply(alloc, &served_data.stations(), asking, now) {
             Ok(response) => send_response(&response, door),
-            Err(_) => send_unavailable(asking.bodiless, door),
+            Err(_) => send_unavailable(asking.is_head_request, door),
         },
     }
 }
 
 /// Sends a response: its head, and then its body.
 fn send_response<D: Door>(response: &Response, door: &mut D) -> Result<(), Failed>
-    requires { IsTrue (D.state door.old).doorway.is_open }
+    requires { IsTrue (D.state door.old).listener_state.is_open }
     ensures { SentBy (is_err result) response.now (D.state door.old) (D.state door.new) }
 {
     let (head, body) = response.parts();
@@ -133,23 +137,23 @@ fn send_response<D: Door>(response: &Response, door: &mut D) -> Result<(), Faile
 /// Sends the reply with a fixed text for `rejection`.
 fn send_rejection<D: Door>(
     rejection: RequestRejection,
-    bodiless: bool,
+    is_head_request: bool,
     door: &mut D,
 ) -> Result<(), Failed>
-    requires { IsTrue (D.state door.old).doorway.is_open }
-    ensures { SentBy (is_err result) (rejection_of rejection bodiless) (D.state door.old) (D.state door.new) }
+    requires { IsTrue (D.state door.old).listener_state.is_open }
+    ensures { SentBy (is_err result) (rejection_of rejection is_head_request) (D.state door.old) (D.state door.new) }
 {
     let mut text = ArrayString::new();
-    write_rejection(rejection, bodiless, &mut text);
+    write_rejection(rejection, is_head_request, &mut text);
     send(door, text.as_str().as_bytes())
 }
 
 /// Sends the reply with HTTP status 503, which replaces another if memory runs out.
-fn send_unavailable<D: Door>(bodiless: bool, door: &mut D) -> Result<(), Failed>
-    requires { IsTrue (D.state door.old).doorway.is_open }
-    ensures { SentBy (is_err result) (unavailable_to bodiless) (D.state door.old) (D.state door.new) }
+fn send_unavailable<D: Door>(is_head_request: bool, door: &mut D) -> Result<(), Failed>
+    requires { IsTrue (D.state door.old).listener_state.is_open }
+    ensures { SentBy (is_err result) (unavailable_to is_head_request) (D.state door.old) (D.state door.new) }
 {
     let mut text = ArrayString::new();
-    write_unavailable(bodiless, &mut text);
+    write_unavailable(is_head_request, &mut text);
     send(door, text.as_str().as_bytes())
 }

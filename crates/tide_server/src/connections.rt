@@ -1,7 +1,7 @@
 //! The connections of a server, one after the other.
 
 ghost use Rattle.std.specs.Prelude.{◌≡◌, false, true, IsTrue};
-ghost use Rattle.tide_edge.specs.Doors.{asked};
+ghost use Rattle.tide_edge.specs.Doors.{listen_requested};
 ghost use Rattle.tide_server.specs.Serving.{exchange};
 ghost use Rattle.tide_server.specs.Workings.Steps.{Serves, StepBy};
 
@@ -23,10 +23,10 @@ pub(crate) fn serve_all<D: Door, K: Clock>(
     door: &mut D,
     clock: &mut K,
 ) -> Result<(), Outage>
-    requires listens { (D.state door.old).doorway ≡ asked served_data.now.port true }
+    requires listens { (D.state door.old).listener_state ≡ listen_requested served_data.now.port true }
     ensures serves { Serves served_data.now result
         (exchange (D.state door.old) (K.state clock.old)) (exchange (D.state door.new) (K.state clock.new)) }
-    ensures clock_unread { (D.state door.new).doorway.taken ≡ 0 → clock.new ≡ clock.old }
+    ensures clock_unread { (D.state door.new).listener_state.accepted ≡ 0 → clock.new ≡ clock.old }
 {
     for _taken in 0..u64::MAX {
         if !serve_next(alloc, served_data, request, door, clock)? {
@@ -44,11 +44,11 @@ fn serve_next<D: Door, K: Clock>(
     door: &mut D,
     clock: &mut K,
 ) -> Result<bool, Outage>
-    requires listens { IsTrue (D.state door.old).doorway.listens }
-    requires none_open { (D.state door.old).doorway.is_open ≡ false }
+    requires listens { IsTrue (D.state door.old).listener_state.listens }
+    requires none_open { (D.state door.old).listener_state.is_open ≡ false }
     ensures steps { StepBy result served_data.now
         (exchange (D.state door.old) (K.state clock.old)) (exchange (D.state door.new) (K.state clock.new)) }
-    ensures clock_unread { (D.state door.new).doorway.taken ≡ 0 → clock.new ≡ clock.old }
+    ensures clock_unread { (D.state door.new).listener_state.accepted ≡ 0 → clock.new ≡ clock.old }
 {
     match door.next() {
         Ok(comes) => {

@@ -1,7 +1,7 @@
 //! The reply to a request.
 
 ghost use Rattle.std.specs.Prelude.{◌≡◌, ◌≤◌, false, length, IfOk};
-ghost use Rattle.decimal_text.specs.Expected.{ReturnsUnless};
+ghost use Rattle.decimal_text.specs.Expected.{EqualsUnlessNoMemory};
 ghost use Rattle.harmonics_book.specs.Books.{IsBook};
 ghost use Rattle.question.specs.Asked.{IsAsked, IsZoneWord};
 ghost use Rattle.tide_answer.specs.Answers.{answered};
@@ -54,7 +54,11 @@ pub fn reply(
     ensures { IfOk result (IsReply book.now table.now now request.now) }
 {
     match row_for(request) {
-        ReplyRow::Rejects(rejection, bodiless) => rejection_reply(alloc, rejection, bodiless),
+        ReplyRow::Rejects(rejection, is_head_request) => rejection_reply(
+            alloc,
+            rejection,
+            is_head_request,
+        ),
         ReplyRow::Asks(asking) => whole_reply(alloc, &StationData::new(book, table), &asking, now),
     }
 }
@@ -80,12 +84,12 @@ fn whole_reply(
 fn rejection_reply(
     alloc: Global,
     rejection: RequestRejection,
-    bodiless: bool,
+    is_head_request: bool,
 ) -> Result<Bytes, AllocError>
-    ensures { IfOk result (λ bytes. bytes ≡ rejection_of rejection bodiless) }
+    ensures { IfOk result (λ bytes. bytes ≡ rejection_of rejection is_head_request) }
 {
     let mut out = ArrayString::new();
-    write_rejection(rejection, bodiless, &mut out);
+    write_rejection(rejection, is_head_request, &mut out);
     Ok(Bytes::from_vec(out.as_bytes().to_vec(alloc)?))
 }
 
@@ -120,7 +124,7 @@ pub(crate) fn asking_reply(
                 Code::BadRequest,
                 stations.table(),
                 Fault::Ask(fault),
-                asking.bodiless,
+                asking.is_head_request,
             )
         }
     }
@@ -128,7 +132,7 @@ pub(crate) fn asking_reply(
 
 /// Returns the question that the path and the query of a request make, or its fault.
 fn read_question(alloc: Global, asking: &Asking<'_>) -> Result<Question, AskFault>
-    ensures exact { ReturnsUnless is_out_of_memory (question_of (pairs_of (asking_seen asking.now))) result }
+    ensures exact { EqualsUnlessNoMemory is_out_of_memory (question_of (pairs_of (asking_seen asking.now))) result }
     ensures asked { IfOk result IsAsked }
     ensures no_file { IfOk result (λ question. names_file question.zone ≡ false) }
 {
@@ -154,16 +158,16 @@ fn answer_reply(
     requires no_file { names_file question.now.zone ≡ false }
     ensures { IfOk result (λ response. response ≡ answer_reply stations.now.table question.now.layout
         (answered stations.now.book stations.now.table question.now (given_with question.now (asking_seen asking.now) now))
-        asking.now.bodiless) }
+        asking.now.is_head_request) }
 {
     let zone = zone_of(&question.get().zone);
-    let given = given_with(&zone, asking.body, now);
-    let answered = answer_valid(alloc, stations, question, given);
+    let inputs = given_with(&zone, asking.body, now);
+    let answered = answer_valid(alloc, stations, question, inputs);
     drop(zone);
     match answered {
         Ok(answer) => {
             let kind = question.get().layout.media_type();
-            Ok(Response::new(Code::Success, kind, answer.text, asking.bodiless))
+            Ok(Response::new(Code::Success, kind, answer.text, asking.is_head_request))
         }
         Err(refusal) => {
             if refusal_is_out_of_memory(refusal) {
@@ -174,7 +178,7 @@ fn answer_reply(
                 Code::Unprocessable,
                 stations.table(),
                 Fault::Refused(refusal),
-                asking.bodiless,
+                asking.is_head_request,
             )
         }
     }
@@ -187,7 +191,7 @@ fn given_with<'a>(zone: &'a Zone, body: &'a [u8], now: i64) -> GivenView<'a>
     requires body { length body.now ≤ MOST_BODY }
     requires now { IsClockMinute now }
     ensures exact { given_seen result ≡ record { zone = zone.now; certificate = body.now; now = now } }
-    ensures given { IsGiven (given_seen result) }
+    ensures inputs { IsGiven (given_seen result) }
 {
     GivenView {
         zone,
@@ -224,18 +228,18 @@ fn refusal_is_out_of_memory(refusal: Refusal) -> bool
     matches!(refusal, Refusal::NoMemory)
 }
 
-/// Returns the reply with the line that reports `fault`, as HTTP status `code`. If `bodiless`, the line
-/// isn't sent.
+/// Returns the reply with the line that reports `fault`, as HTTP status `code`. If `is_head_request`,
+/// the line isn't sent.
 fn fault_reply(
     alloc: Global,
     code: Code,
     table: &OffsetTable,
     fault: Fault,
-    bodiless: bool,
+    is_head_request: bool,
 ) -> Result<Response, AllocError>
-    ensures { IfOk result (λ response. response ≡ fault_reply code table.now fault bodiless) }
+    ensures { IfOk result (λ response. response ≡ fault_reply code table.now fault is_head_request) }
 {
     let line = fault_line(alloc, &fault, table);
     drop(fault);
-    Ok(Response::new(code, "text/plain", line?, bodiless))
+    Ok(Response::new(code, "text/plain", line?, is_head_request))
 }

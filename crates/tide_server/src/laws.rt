@@ -2,7 +2,7 @@
 
 ghost use Rattle.std.specs.Prelude.{◌≡◌, ℕ, ℤ, ◌≤◌, false, List, ◌++◌, length, Option, Some, None, Ok, IsTrue};
 ghost use Rattle.harmonics_book.specs.declared.book.Book.{Book};
-ghost use Rattle.named_files.specs.NoAnswers.{is_read_fault};
+ghost use Rattle.named_files.specs.RunFaults.{is_read_fault};
 ghost use Rattle.question.specs.Questions.{question_of};
 ghost use Rattle.question.specs.declared.origin.Origin.{Origin};
 ghost use Rattle.question.specs.declared.pairs.Item.{Item};
@@ -72,8 +72,8 @@ pub fn queries_name_no_file()
 /// reply is empty.
 pub fn serve_in_memory()
     ensures { (words : List (List ℕ)) (status : Status) (before after : InMemory)
-        → before.door.doorway.port ≡ None → ¬ (after.door.doorway.port ≡ None)
-        → EndsAs (IsTrue (server_states_in before).files.store.is_steady) (served_data_of (folder_of before.files.files) words) status
+        → before.door.listener_state.port ≡ None → ¬ (after.door.listener_state.port ≡ None)
+        → EndsAs (IsTrue (server_states_in before).files.file_contents.is_steady) (served_data_of (folder_of before.files.files) words) status
         (server_states_in before) (server_states_in after)
         → (served_data : ServedData) × (served_data_of (folder_of before.files.files) words ≡ Ok served_data)
         × HasAnswered served_data (is_read_fault status) before after }

@@ -25,8 +25,8 @@ mod worked;
 pub use completeness::{servers_are_complete, worked_servers};
 pub use http_reply::reply;
 pub use http_rows::{
-    Code, Path, RequestRejection, enough, fixed_reply, unavailable_reply, worked_replies,
-    worked_rows,
+    Code, Path, RequestRejection, enough, fixed_reply, sample_requests, unavailable_reply,
+    worked_replies,
 };
 pub use laws::{
     fixed_rows_reply, long_requests_are_settled, one_reply, one_row, queries_name_no_file,

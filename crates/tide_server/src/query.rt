@@ -4,7 +4,7 @@ ghost use Rattle.std.specs.Prelude.{◌≡◌, drop, IfOk, Some};
 ghost use Rattle.http_rows.specs.Paths.{text_of};
 ghost use Rattle.question.specs.Commands.{command_named};
 ghost use Rattle.question.specs.declared.origin.Origin.{Origin};
-ghost use Rattle.tide_server.specs.Queries.{item_of, items_of, said_by};
+ghost use Rattle.tide_server.specs.Queries.{item_of, items_of, decoded_text};
 
 use decimal_text::Text;
 use form_urlencoded::{decode, raw_pairs};
@@ -46,16 +46,16 @@ fn item_of(alloc: Global, name: &[u8], value: &[u8]) -> Result<Item, AllocError>
     ensures { IfOk result (λ item. item ≡ item_of (name.now, value.now)) }
 {
     Ok(Item {
-        key: said_by(alloc, name)?,
-        value: Some(said_by(alloc, value)?),
+        key: decoded_text(alloc, name)?,
+        value: Some(decoded_text(alloc, value)?),
     })
 }
 
 /// Returns `encoded`, a name or a value of a query, decoded: `+` is a space, and bytes that aren't UTF-8
 /// become U+FFFD.
-#[tactic(auto, unfolding(crate::specs::Queries::said_by))]
-fn said_by(alloc: Global, encoded: &[u8]) -> Result<Text, AllocError>
-    ensures { IfOk result (λ text. text ≡ said_by encoded.now) }
+#[tactic(auto, unfolding(crate::specs::Queries::decoded_text))]
+fn decoded_text(alloc: Global, encoded: &[u8]) -> Result<Text, AllocError>
+    ensures { IfOk result (λ text. text ≡ decoded_text encoded.now) }
 {
     let text = decode(alloc, encoded)?;
     Text::from_str(alloc, text.as_str())

@@ -62,9 +62,9 @@ impl Request {
     /// [`Failed`] if the read failed.
     pub(crate) fn read_more<D: Door>(&mut self, door: &mut D) -> Result<usize, Failed>
         requires length_bound { length self.old < LONGEST }
-        requires open { IsTrue (D.state door.old).doorway.is_open }
-        ensures after { (room : List ℕ) × (D.state door.new ≡ door_after_read result room (D.state door.old))
-            × IfOk result (λ count. self.new ≡ self.old ++ take count room) }
+        requires open { IsTrue (D.state door.old).listener_state.is_open }
+        ensures after { (buffer : List ℕ) × (D.state door.new ≡ door_after_read result buffer (D.state door.old))
+            × IfOk result (λ count. self.new ≡ self.old ++ take count buffer) }
         ensures within { IfOk result (λ count. count ≤ PIECE) }
         ensures longer { IfOk result (λ count. length self.new ≡ length self.old + count) }
     {

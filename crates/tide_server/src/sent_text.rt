@@ -11,7 +11,7 @@ use tide_edge::{Door, Failed};
 /// # Errors
 /// [`Failed`] if a write failed. Nothing was sent after it.
 pub(crate) fn send<D: Door>(door: &mut D, text: &[u8]) -> Result<(), Failed>
-    requires { IsTrue (D.state door.old).doorway.is_open }
+    requires { IsTrue (D.state door.old).listener_state.is_open }
     ensures { SentBy (is_err result) text.now (D.state door.old) (D.state door.new) }
 {
     let mut at = 0;

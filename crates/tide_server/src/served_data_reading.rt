@@ -1,11 +1,11 @@
 //! The data that a server serves, read from files.
 
 ghost use Rattle.std.specs.Prelude.{◌≡◌, false, IsOk};
-ghost use Rattle.decimal_text.specs.Expected.{ReturnsUnless};
+ghost use Rattle.decimal_text.specs.Expected.{EqualsUnlessNoMemory};
 ghost use Rattle.question.specs.Questions.{is_out_of_memory as ask_is_out_of_memory};
 ghost use Rattle.tide_fault.specs.Faults.{is_out_of_memory};
 ghost use Rattle.tide_edge.specs.Whole.{ReadWithin, both, one_file};
-ghost use Rattle.named_files.specs.NoAnswers.{reading_failed};
+ghost use Rattle.named_files.specs.RunFaults.{reading_failed};
 ghost use Rattle.named_files.specs.Opened.{AreShown, AreShownFor, IsResultOf};
 ghost use Rattle.named_files.specs.Readings.{allowed_for, limit_of};
 ghost use Rattle.tide_fault.specs.declared.slot.Slot.{Slot};
@@ -14,7 +14,7 @@ ghost use Rattle.tide_server.specs.Shown.{names_served, served_data_names};
 
 use crate::served_data::{ServedData, ValidServedData};
 use decimal_text::{Text, Words};
-use named_files::{NoAnswer, read_book, read_table};
+use named_files::{RunFault, read_book, read_table};
 use question::{AskFault, Key, Question, asks_to_serve, pairs_of_words, read_question};
 use std::alloc::Global;
 use tide_edge::Files;
@@ -30,10 +30,10 @@ pub(crate) fn read_served_data<F: Files>(
     alloc: Global,
     words: &Words,
     files: &mut F,
-) -> Result<ValidServedData, NoAnswer>
+) -> Result<ValidServedData, RunFault>
     requires { asks_another words.now ≡ false }
     ensures shown { IsResultOf (names_served (service_of words.now)) (AreShownFor (service_of words.now))
-        (λ folders. served_data_from folders words.now) (F.state files.old).openings (F.state files.new).openings result }
+        (λ folders. served_data_from folders words.now) (F.state files.old).open_log (F.state files.new).open_log result }
     ensures read { ReadWithin (files_asked (service_of words.now)) (reading_failed result) (F.state files.old) (F.state files.new) }
     ensures unopened { ¬ (IsOk (service_of words.now)) → files.new ≡ files.old }
 {
@@ -46,7 +46,7 @@ pub(crate) fn read_served_data<F: Files>(
         }
         None => {
             drop(question);
-            Err(NoAnswer::Faulty(Fault::Ask(AskFault::MissingKey(Key::File))))
+            Err(RunFault::Faulty(Fault::Ask(AskFault::MissingKey(Key::File))))
         }
     }
 }
@@ -58,9 +58,9 @@ fn read_named<F: Files>(
     files: &mut F,
     question: &Question,
     name: &Text,
-) -> Result<ValidServedData, NoAnswer>
+) -> Result<ValidServedData, RunFault>
     ensures shown { IsResultOf (served_data_names name.now question.now) (AreShown question.now)
-        (λ folders. served_data_named folders question.now name.now) (F.state files.old).openings (F.state files.new).openings result }
+        (λ folders. served_data_named folders question.now name.now) (F.state files.old).open_log (F.state files.new).open_log result }
     ensures read { ReadWithin (both (one_file (limit_of Slot.File)) (allowed_for Slot.Offsets question.now.offsets))
         (reading_failed result) (F.state files.old) (F.state files.new) }
 {
@@ -82,7 +82,7 @@ fn read_named<F: Files>(
 #[tactic(auto, unfolding(crate::specs::Openings::service_of))]
 fn read_service(alloc: Global, words: &Words) -> Result<Question, Fault>
     requires { asks_another words.now ≡ false }
-    ensures { ReturnsUnless is_out_of_memory (service_of words.now) result }
+    ensures { EqualsUnlessNoMemory is_out_of_memory (service_of words.now) result }
 {
     let question = service_in_words(alloc, words)?;
     Ok(question)
@@ -91,7 +91,7 @@ fn read_service(alloc: Global, words: &Words) -> Result<Question, Fault>
 /// Returns the request to serve in the arguments `words`, or the fault of the arguments.
 fn service_in_words(alloc: Global, words: &Words) -> Result<Question, AskFault>
     requires { asks_another words.now ≡ false }
-    ensures { ReturnsUnless ask_is_out_of_memory (service_in words.now) result }
+    ensures { EqualsUnlessNoMemory ask_is_out_of_memory (service_in words.now) result }
 {
     let pairs = pairs_of_words(alloc, words)?;
     read_question(alloc, &pairs)

@@ -2,7 +2,7 @@
 
 ghost use Rattle.std.specs.Prelude.{◌≡◌, ◌++◌, ◌≤◌, ◌+◌, Bool, false, true, [], None, decimal};
 ghost use Rattle.arrayvec.specs.ArrayString.{array_string_len};
-ghost use Rattle.tide_edge.specs.Doors.{asked};
+ghost use Rattle.tide_edge.specs.Doors.{listen_requested};
 ghost use Rattle.tide_edge.specs.SinkStates.{Wrote};
 ghost use Rattle.tide_server.specs.Openings.{notice_of};
 ghost use Rattle.tide_server.specs.Promises.{ServesAs, service_states, services};
@@ -48,7 +48,7 @@ pub fn serve<F: Files, D: Door, E: Sink, K: Clock>(
     err: &mut E,
     clock: &mut K,
 ) -> Status
-    requires { (D.state door.old).doorway.port ≡ None }
+    requires { (D.state door.old).listener_state.port ≡ None }
     ensures { ServesAs (service_states F.state D.state E.state K.state) words.now result
         (services files.old door.old err.old clock.old) (services files.new door.new err.new clock.new) }
 {
@@ -81,11 +81,11 @@ fn serve_data<D: Door, E: Sink, K: Clock>(
     err: &mut E,
     clock: &mut K,
 ) -> Status
-    requires unasked { (D.state door.old).doorway.port ≡ None }
+    requires unasked { (D.state door.old).listener_state.port ≡ None }
     ensures ended { Ended served_data.now result
         (unread (D.state door.old) (E.state err.old) (K.state clock.old))
         (unread (D.state door.new) (E.state err.new) (K.state clock.new)) }
-    ensures clock_unread { (D.state door.new).doorway.taken ≡ 0 → clock.new ≡ clock.old }
+    ensures clock_unread { (D.state door.new).listener_state.accepted ≡ 0 → clock.new ≡ clock.old }
 {
     match door.listen(served_data.port()) {
         Ok(()) => serve_open(alloc, served_data, request, door, err, clock),
@@ -102,11 +102,11 @@ fn serve_open<D: Door, E: Sink, K: Clock>(
     err: &mut E,
     clock: &mut K,
 ) -> Status
-    requires listens { (D.state door.old).doorway ≡ asked served_data.now.port true }
+    requires listens { (D.state door.old).listener_state ≡ listen_requested served_data.now.port true }
     ensures ended { Ended served_data.now result
         (unread (D.state door.old) (E.state err.old) (K.state clock.old))
         (unread (D.state door.new) (E.state err.new) (K.state clock.new)) }
-    ensures clock_unread { (D.state door.new).doorway.taken ≡ 0 → clock.new ≡ clock.old }
+    ensures clock_unread { (D.state door.new).listener_state.accepted ≡ 0 → clock.new ≡ clock.old }
 {
     report_port(served_data.port(), err);
     match serve_all(alloc, served_data, request, door, clock) {

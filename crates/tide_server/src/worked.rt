@@ -3,7 +3,7 @@
 ghost use Rattle.std.specs.Prelude.{◌≡◌, ℤ, true, false, List, [], ◌∷◌, Some, codes};
 ghost use Rattle.harmonics_book.specs.declared.book.Book.{Book};
 ghost use Rattle.station_table.specs.declared.offsets.Offsets.{Offsets};
-ghost use Rattle.tide_server.specs.Queries.{items_of, said_by};
+ghost use Rattle.tide_server.specs.Queries.{items_of, decoded_text};
 ghost use Rattle.tide_server.specs.Replies.{reply_of};
 ghost use Rattle.http_rows.specs.Rows.{asks};
 
@@ -14,16 +14,16 @@ pub fn worked_queries()
         ∷ record { key = codes "zone"; value = Some (codes "+05:30") }
         ∷ record { key = codes "mark"; value = Some [] }
         ∷ [] }
-    ensures no_text { said_by (codes "%FFa") ≡ 239 ∷ 191 ∷ 189 ∷ 97 ∷ [] }
+    ensures no_text { decoded_text (codes "%FFa") ≡ 239 ∷ 191 ∷ 189 ∷ 97 ∷ [] }
 {}
 
 /// Proves examples of the replies, with HTTP status 400, to web queries that aren't requests: one to
 /// GET, and one to HEAD, which has no body.
 pub fn worked_answers()
     ensures none_asked { (book : Book) (table : List Offsets) (minute : ℤ)
-        → reply_of book table minute (asks record { path = codes "/clock"; query = codes "zone=UTC"; body = []; bodiless = false })
+        → reply_of book table minute (asks record { path = codes "/clock"; query = codes "zone=UTC"; body = []; is_head_request = false })
         ≡ codes "HTTP/1.1 400 Bad Request\r\nContent-Type: text/plain; charset=utf-8\r\nContent-Length: 26\r\nConnection: close\r\n\r\nwords: station is missing\n" }
     ensures head_alone { (book : Book) (table : List Offsets) (minute : ℤ)
-        → reply_of book table minute (asks record { path = codes "/stations"; query = codes "offsets=o"; body = []; bodiless = true })
+        → reply_of book table minute (asks record { path = codes "/stations"; query = codes "offsets=o"; body = []; is_head_request = true })
         ≡ codes "HTTP/1.1 400 Bad Request\r\nContent-Type: text/plain; charset=utf-8\r\nContent-Length: 33\r\nConnection: close\r\n\r\n" }
 {}

@@ -89,7 +89,7 @@ pub fn worked_stretches()
 /// Proves examples that another program computed: first minutes of years since 1970-01-01T00:00Z, and
 /// the weight of the later year in a blend and its slope.
 #[tactic(auto, unfolding(crate::specs::Weights::weight_of, crate::specs::Weights::weight_slope_of))]
-pub fn worked_rows()
+pub fn sample_weights()
     ensures epoch { year_start_of (pos 1970) ≡ pos 0 }
     ensures leap_century { year_start_of (pos 2000) ≡ pos 15778080 }
     ensures first_weight { weight_of (negsuc 59) ≡ pos 0 }

@@ -15,8 +15,8 @@ mod years;
 
 pub use finding::{place, plain_end};
 pub use laws::{
-    plain_parts, unique_places, unique_stretches, weight_steps, worked_limits, worked_places,
-    worked_rows, worked_stretches, year_lengths,
+    plain_parts, sample_weights, unique_places, unique_stretches, weight_steps, worked_limits,
+    worked_places, worked_stretches, year_lengths,
 };
 pub use parts::{Place, Stretch};
 pub use spanning::{LONGEST_SPAN, stretch};

@@ -29,9 +29,9 @@ use Rattle.zone_time.specs.ZoneFiles.{rule_moment, daylight_of, standard_time, r
 abbrev pub info_view : OffsetInfo → TypeText
 info_view info = record { seconds = info.offset.seconds; dst = info.dst; name = abbreviation_text info.abbreviation }
 
-rule_moment-rule_nanos : (year : ℤ) (d : DayTime) (ahead : ℤ) → rule_moment year (day_time_view d) ahead ≡ rule_nanos year d ahead
+rule_moment-rule_nanos : (year : ℤ) (d : DayTime) (utc_offset : ℤ) → rule_moment year (day_time_view d) utc_offset ≡ rule_nanos year d utc_offset
 unfolding rule_moment rule_nanos
-rule_moment-rule_nanos year d ahead = refl
+rule_moment-rule_nanos year d utc_offset = refl
 
 daylight_of-utc_window : (d : Dst) (year : ℤ) (standard : Offset)
     → daylight_of (dst_view d) year standard.seconds ≡ utc_window d year standard

@@ -46,11 +46,11 @@ use Rattle.jiff_tz.specs.TzifText.{TypeText, TransitionText}
 use Rattle.jiff_tz.specs.Year.{year_of_nanos}
 
 -- the instant of a rule's day and time of day in a year, in nanoseconds of universal time, by a clock
--- `ahead` seconds ahead of it: no earlier than the start of the year and no later than its end, and the
--- end of the year if the year doesn't have the day
+-- `utc_offset` seconds ahead of it: no earlier than the start of the year and no later than its end,
+-- and the end of the year if the year doesn't have the day
 unfoldable pub rule_moment : ℤ → Day × ℤ → ℤ → ℤ
-rule_moment year moment ahead = match_some (rule_day year moment.0) (last_nanosecond year) (λ day.
-    clamp_to (first_nanosecond year) (last_nanosecond year) (day *ℤ nanos_per_day +ℤ nanos_of_seconds (moment.1 -ℤ ahead)))
+rule_moment year moment utc_offset = match_some (rule_day year moment.0) (last_nanosecond year) (λ day.
+    clamp_to (first_nanosecond year) (last_nanosecond year) (day *ℤ nanos_per_day +ℤ nanos_of_seconds (moment.1 -ℤ utc_offset)))
 
 -- The daylight saving time of a year: it begins by the clock of standard time and ends by the clock of
 -- daylight saving time. It lasts the whole year if it begins with the year and its end, plus the offset
@@ -82,12 +82,12 @@ rule_type_by rule (Some dst) nanos =
 unfoldable pub rule_type : TzText → ℤ → TypeText
 rule_type rule second = rule_type_by rule rule.dst (nanos_of_seconds second)
 
--- the seconds by which a clock is ahead of universal time at a second: `ahead` before the first row of a
--- table, then as the latest row says, and after the last row as the rule says, if there is one
+-- the seconds by which a clock is ahead of universal time at a second: `utc_offset` before the first
+-- row of a table, then as the latest row says, and after the last row as the rule says, if there is one
 unfoldable pub ahead_after : Option TzText → ℤ → List TransitionText → ℤ → ℤ
-ahead_after rule ahead [] second = match_some rule ahead (λ found. (rule_type found second).seconds)
-ahead_after rule ahead (row ∷ rows) second =
-    if int_le row.second second then ahead_after rule row.after.seconds rows second else ahead
+ahead_after rule utc_offset [] second = match_some rule utc_offset (λ found. (rule_type found second).seconds)
+ahead_after rule utc_offset (row ∷ rows) second =
+    if int_le row.second second then ahead_after rule row.after.seconds rows second else utc_offset
 
 -- the seconds by which a zone file's clock is ahead of universal time at a second since
 -- 1970-01-01T00:00Z

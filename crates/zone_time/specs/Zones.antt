@@ -33,7 +33,7 @@ use Rattle.zone_time.specs.ZoneFiles.{clock_minute, is_consistent}
 -- a zone with a text for each label: a fixed offset is from -1560 to 1560 minutes (26 hours)
 abbrev pub IsZone : Zone → Type 0
 IsZone Utc = Unit {0}
-IsZone (Fixed ahead) = unsigned_abs ahead ≤ 1560
+IsZone (Fixed utc_offset) = unsigned_abs utc_offset ≤ 1560
 IsZone (File file) = Unit {0}
 
 -- a minute, since 1970-01-01T00:00Z, of the years from 2 to 9300, or of the day before them
@@ -50,7 +50,7 @@ local_at minute shown = record { minute = shown; label = Minutes (shown -ℤ min
 -- itself
 abbrev pub local_in : Zone → ℤ → Local
 local_in Utc minute = record { minute = minute; label = labels.Utc }
-local_in (Fixed ahead) minute = record { minute = minute +ℤ ahead; label = Minutes ahead }
+local_in (Fixed utc_offset) minute = record { minute = minute +ℤ utc_offset; label = Minutes utc_offset }
 local_in (File file) minute = local_at minute (clock_minute file minute)
 
 -- a fault is that memory ran out

@@ -35,7 +35,7 @@ pub fn moments_have_one_text()
 /// `jiff` computes. Also proves that a rule continues a table of changes, with the same clock at its
 /// last row, exactly if `jiff` finds that the two agree.
 pub fn zone_files_go_by_jiff()
-    ensures ahead { (zone : Tzif) (second : ℤ) →
+    ensures utc_offset { (zone : Tzif) (second : ℤ) →
         seconds_ahead (tzif_view zone) second ≡ (offset_at zone (nanos_of_seconds second)).seconds }
     ensures rule { (rule : TimeZone) (rows : List TransitionText) →
         Decides (goes_on (tz_view rule) rows) (FooterAgrees rows rule) }

@@ -45,9 +45,9 @@ fn write_label<const N: usize>(label: Label, out: &mut ArrayString<N>)
 {
     match label {
         Label::Utc => out.push_str("UTC"),
-        Label::Minutes(ahead) => {
-            push_ascii(if ahead < 0 { '-' } else { '+' }, out);
-            write_clock(ahead.unsigned_abs(), out);
+        Label::Minutes(utc_offset) => {
+            push_ascii(if utc_offset < 0 { '-' } else { '+' }, out);
+            write_clock(utc_offset.unsigned_abs(), out);
         }
     }
 }

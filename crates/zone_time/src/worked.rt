@@ -50,7 +50,7 @@ pub fn worked_readings()
 pub fn worked_locals()
     ensures universal { local_text (record { minute = pos 15791400; label = Label.Utc }) ≡ codes "2000-01-10 06:00 UTC" }
     ensures behind { local_text (record { minute = pos 15791100; label = Label.Minutes (negsuc 299) }) ≡ codes "2000-01-10 01:00 -05:00" }
-    ensures ahead { label_text (Label.Minutes (pos 345)) ≡ codes "+05:45" }
+    ensures utc_offset { label_text (Label.Minutes (pos 345)) ≡ codes "+05:45" }
     ensures level { label_text (Label.Minutes (pos 0)) ≡ codes "+00:00" }
     ensures half_hour_behind { label_text (Label.Minutes (negsuc 29)) ≡ codes "-00:30" }
     ensures far_behind { label_text (Label.Minutes (negsuc 1559)) ≡ codes "-26:00" }

@@ -56,9 +56,9 @@ impl<'a> ZoneClock<'a> {
                 minute,
                 label: Label::Utc,
             },
-            Zone::Fixed(ahead) => Local {
-                minute: minute + i64::from(*ahead),
-                label: Label::Minutes(*ahead),
+            Zone::Fixed(utc_offset) => Local {
+                minute: minute + i64::from(*utc_offset),
+                label: Label::Minutes(*utc_offset),
             },
             Zone::File(file) => file.local(minute),
         }

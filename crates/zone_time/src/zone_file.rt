@@ -46,12 +46,12 @@ impl ZoneFile {
         ensures exact { result ≡ local_at minute (clock_minute self.now minute) }
         ensures written { IsLocal result }
     {
-        local_showing(minute, minute_shown(minute, self.ahead(minute)))
+        local_showing(minute, minute_shown(minute, self.utc_offset(minute)))
     }
 
     /// Returns the seconds by which the file's clock is ahead of universal time at `minute`, since
     /// 1970-01-01T00:00Z.
-    fn ahead(&self, minute: i64) -> i32
+    fn utc_offset(&self, minute: i64) -> i32
         requires { InZoneYears minute }
         ensures value { result ≡ seconds_ahead self.now (minute *ℤ pos 60) }
         ensures within { IsWithin 93599 result }
@@ -71,14 +71,14 @@ fn instant(minute: i64) -> Timestamp
     }
 }
 
-/// Returns the minute shown at `minute` by a clock that is `ahead` seconds ahead.
-fn minute_shown(minute: i64, ahead: i32) -> i64
+/// Returns the minute shown at `minute` by a clock that is `utc_offset` seconds ahead.
+fn minute_shown(minute: i64, utc_offset: i32) -> i64
     requires minute { InZoneYears minute }
-    requires ahead { IsWithin 93599 ahead }
-    ensures value { result ≡ int_div_euclid ((minute *ℤ pos 60) +ℤ ahead) (pos 60) }
+    requires utc_offset { IsWithin 93599 utc_offset }
+    ensures value { result ≡ int_div_euclid ((minute *ℤ pos 60) +ℤ utc_offset) (pos 60) }
     ensures in_range { IsWithin 1560 (result -ℤ minute) }
 {
-    let second = minute * 60 + i64::from(ahead);
+    let second = minute * 60 + i64::from(utc_offset);
     second.div_euclid(60)
 }
 

@@ -1,7 +1,7 @@
 //! Reading zone files.
 
 ghost use Rattle.std.specs.Prelude.{IfOk};
-ghost use Rattle.decimal_text.specs.Expected.{ReturnsUnless};
+ghost use Rattle.decimal_text.specs.Expected.{EqualsUnlessNoMemory};
 ghost use Rattle.zone_time.specs.Zones.{IsZone, is_out_of_memory, zone_of};
 
 use crate::zone::Zone;
@@ -25,7 +25,7 @@ use std::alloc::Global;
 /// ```
 #[tactic(auto, unfolding(crate::specs::Zones::zone_of))]
 pub fn read_zone(alloc: Global, bytes: &[u8]) -> Result<Zone, ZoneFault>
-    ensures exact { ReturnsUnless is_out_of_memory (zone_of bytes.now) result }
+    ensures exact { EqualsUnlessNoMemory is_out_of_memory (zone_of bytes.now) result }
     ensures zone { IfOk result IsZone }
 {
     match Tzif::parse(alloc, None, bytes) {

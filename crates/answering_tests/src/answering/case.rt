@@ -21,7 +21,7 @@ pub struct Case {
     pub book: Book,
     pub table: OffsetTable,
     pub question: Question,
-    pub given: Given,
+    pub inputs: Given,
 }
 
 impl Case {
@@ -31,13 +31,13 @@ impl Case {
         requires question { IsAsked question }
         ensures book { IsBook result.book }
         ensures question { IsAsked result.question }
-        ensures given { IsGiven result.given }
+        ensures inputs { IsGiven result.inputs }
     {
         Case {
             book,
             table,
             question,
-            given: Given {
+            inputs: Given {
                 zone: Zone::Utc,
                 certificate: Bytes::from_vec(Vec::new(alloc)),
                 now: 15_791_220,
@@ -49,12 +49,12 @@ impl Case {
     pub fn send(&self, alloc: Global, sink: &mut MemorySink) -> Result<Option<u64>, AllocError>
         requires book { IsBook self.now.book }
         requires question { IsAsked self.now.question }
-        requires given { IsGiven self.now.given }
+        requires inputs { IsGiven self.now.inputs }
     {
         if !matches!(self.question.command, Command::Predict | Command::Certify) {
             return Err(AllocError);
         }
-        match prepare(alloc, &self.book, &self.table, &self.question, &self.given) {
+        match prepare(alloc, &self.book, &self.table, &self.question, &self.inputs) {
             Ok(ready) => written(&ready, sink),
             Err(_) => Err(AllocError),
         }

@@ -61,8 +61,8 @@ number_from most (Some digits) text = option_and_then negative (size_of most dig
 
 -- the number that a text of 1 to `most` decimal digits writes, with or without a minus sign before them,
 -- or None
-unfoldable pub number_of : ℕ → List ℕ → Option ℤ
-number_of most text = number_from most (after (codes "-") text) text
+unfoldable pub parse_number : ℕ → List ℕ → Option ℤ
+parse_number most text = number_from most (after (codes "-") text) text
 
 -- the version, 1 or 2, that the first line of a certificate has
 unfoldable pub version_of : List ℕ → Option ℕ
@@ -97,7 +97,7 @@ mark_within mark = if nat_le (unsigned_abs mark) 10000000000 then Some (Some mar
 unfoldable pub mark_of : List ℕ → Option (Option ℤ)
 mark_of line =
     if bytes_eq line (codes "mark none") then Some None
-    else option_and_then mark_within (option_and_then (number_of LEVEL_DIGITS) (after (codes "mark ") line))
+    else option_and_then mark_within (option_and_then (parse_number LEVEL_DIGITS) (after (codes "mark ") line))
 
 -- a quiet cell of n minutes, if n is from 2 to 1,024
 abbrev pub quiet_for : ℕ → Option Cell
@@ -110,7 +110,7 @@ quiet_of line = option_and_then quiet_for (option_and_then (size_of LEVEL_DIGITS
 -- the cell of a line with an event of this kind, such as `t low -1000000`
 unfoldable pub event_cell_of : Kind → List ℕ → Option Cell
 event_cell_of kind line =
-    option_map (λ level. cells.Turn kind level) (option_and_then (number_of LEVEL_DIGITS) (after (prefix_of kind) line))
+    option_map (λ level. cells.Turn kind level) (option_and_then (parse_number LEVEL_DIGITS) (after (prefix_of kind) line))
 
 -- the first of the two kinds of a track's events
 abbrev pub first_kind : TrackName → Kind

@@ -4,7 +4,7 @@ use Rattle.std.specs.Int.{int_rem_euclid}
 use Rattle.std.specs.Ordering.{int_eq}
 use Rattle.std.proofs.Common.{arith}
 use Rattle.std.proofs.lemmas.Int.{ints}
-use Rattle.curve_law.specs.Meaning.{IsMinute, IsApproximateValue, IsLawful}
+use Rattle.curve_law.specs.CurveSpec.{IsMinute, IsApproximateValue, IsLawful}
 use Rattle.curve_law.specs.Samples.{line, ripple}
 
 line-value : (start : ℤ) (falls : Bool) (rate m : ℤ) → unsigned_abs start ≤ 10 ^ 12 → IsMinute (line start falls rate) m

@@ -13,14 +13,14 @@ pub struct Line {
     start: i64,
     falls: bool,
     rate: i64,
-    asked: u64,
+    evaluated: u64,
     ghost in_range: { unsigned_abs start ≤ 10 ^ 12 },
     ghost at_least_one: { pos 1 ≤ℤ rate },
     ghost small: { rate ≤ℤ pos (10 ^ 12) },
 }
 
 impl Line {
-    ghost use Rattle.curve_law.specs.Samples.{line_facts};
+    ghost use Rattle.curve_law.specs.Samples.{line_model};
 
     /// Returns the line that has the value `start` at minute 0, and falls by 1 each minute if `falls`,
     /// and otherwise rises by 1. `rate` is the bound on its change in a minute. It is not yet
@@ -29,22 +29,22 @@ impl Line {
         requires in_range { unsigned_abs start ≤ 10 ^ 12 }
         requires at_least_one { pos 1 ≤ℤ rate }
         requires small { rate ≤ℤ pos (10 ^ 12) }
-        ensures { ⟦<Line as Curve>⟧.state result ≡ record { facts = line_facts start falls rate; count = 0 } }
+        ensures { ⟦<Line as Curve>⟧.state result ≡ record { curve_model = line_model start falls rate; count = 0 } }
     {
         Line {
             start,
             falls,
             rate,
-            asked: 0,
+            evaluated: 0,
         }
     }
 }
 
 impl Curve for Line {
-    ghost use Rattle.curve_law.specs.Samples.{line_facts};
+    ghost use Rattle.curve_law.specs.Samples.{line_model};
     ghost use Rattle.curve_law.specs.Workings.SampleLaws.{line-lawful, line-close, one_is_narrow};
 
-    ghost state = { λ l. record { facts = line_facts l.start l.falls l.rate; count = l.asked } };
+    ghost state = { λ l. record { curve_model = line_model l.start l.falls l.rate; count = l.evaluated } };
 
     ghost lawful = { λ l. line-lawful l.start l.falls l.rate l.in_range l.at_least_one l.small };
 
@@ -61,12 +61,12 @@ impl Curve for Line {
     }
 
     fn value(&mut self, m: i64) -> i128 {
-        self.asked += 1;
+        self.evaluated += 1;
         height(self.start, self.falls, m) as i128
     }
 
     fn approximate_value(&mut self, m: i64) -> i128 {
-        self.asked += 1;
+        self.evaluated += 1;
         height(self.start, self.falls, m) as i128 + 1
     }
 
@@ -95,7 +95,7 @@ impl Curve for Line {
     }
 
     fn evaluations(&self) -> u64 {
-        self.asked
+        self.evaluated
     }
 }
 

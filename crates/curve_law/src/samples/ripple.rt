@@ -10,25 +10,25 @@ use crate::kind::Kind;
 /// both included. It has no rate. Each approximate value is 0, which decides nothing.
 #[derive(Default, Drop)]
 pub struct Ripple {
-    asked: u64,
+    evaluated: u64,
 }
 
 impl Ripple {
-    ghost use Rattle.curve_law.specs.Samples.{ripple_facts};
+    ghost use Rattle.curve_law.specs.Samples.{ripple_model};
 
     /// Returns this curve, not yet evaluated.
     pub fn new() -> Ripple
-        ensures { ⟦<Ripple as Curve>⟧.state result ≡ record { facts = ripple_facts; count = 0 } }
+        ensures { ⟦<Ripple as Curve>⟧.state result ≡ record { curve_model = ripple_model; count = 0 } }
     {
-        Ripple { asked: 0 }
+        Ripple { evaluated: 0 }
     }
 }
 
 impl Curve for Ripple {
-    ghost use Rattle.curve_law.specs.Samples.{ripple_facts};
+    ghost use Rattle.curve_law.specs.Samples.{ripple_model};
     ghost use Rattle.curve_law.specs.Workings.SampleLaws.{ripple-lawful, ripple-close, one_is_narrow};
 
-    ghost state = { λ r. record { facts = ripple_facts; count = r.asked } };
+    ghost state = { λ r. record { curve_model = ripple_model; count = r.evaluated } };
 
     ghost lawful = { λ _. ripple-lawful };
 
@@ -45,12 +45,12 @@ impl Curve for Ripple {
     }
 
     fn value(&mut self, m: i64) -> i128 {
-        self.asked += 1;
+        self.evaluated += 1;
         wave(m)
     }
 
     fn approximate_value(&mut self, _m: i64) -> i128 {
-        self.asked += 1;
+        self.evaluated += 1;
         0
     }
 
@@ -79,7 +79,7 @@ impl Curve for Ripple {
     }
 
     fn evaluations(&self) -> u64 {
-        self.asked
+        self.evaluated
     }
 }
 

@@ -3,14 +3,14 @@ use Rattle.std.specs.Prelude.{◌≡◌, ℕ, ◌^◌, ◌<◌, ◌≤◌, ℤ, 
 use Rattle.std.specs.Int.{int_max}
 use Rattle.std.proofs.Common.{arith}
 use Rattle.std.proofs.lemmas.Int.{ints}
-use Rattle.curve_law.specs.Meaning.{IsApproximateValue, IsLawful}
-use Rattle.curve_law.specs.CurveStates.{CurveFacts}
+use Rattle.curve_law.specs.CurveSpec.{IsApproximateValue, IsLawful}
+use Rattle.curve_law.specs.CurveStates.{CurveModel}
 use Rattle.highest_water.specs.Samples.{hill, hills}
 
 -- the facts about the curve with two maxima: each approximate value is the value
-abbrev pub hills_facts : ℤ → ℤ → ℤ → ℤ → ℤ → CurveFacts
-hills_facts at top other_at other_top rate = record {
-  meaning = hills at top other_at other_top rate;
+abbrev pub hills_model : ℤ → ℤ → ℤ → ℤ → ℤ → CurveModel
+hills_model at top other_at other_top rate = record {
+  curve_spec = hills at top other_at other_top rate;
   approximate = (hills at top other_at other_top rate).track.value;
   error = 0;
 }

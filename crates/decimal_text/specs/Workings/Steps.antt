@@ -6,10 +6,10 @@ use Rattle.decimal_text.specs.declared.steps.Steps.{Steps}
 -- decimal place
 pub record DigitsInvariant (places count n : ℕ) (s : Steps) : Type 0 where
   pub extra : ℕ
-  pub counted : count + s.left ≡ places + extra
-  pub one_side : (extra ≡ 0) ⊎ (s.left ≡ 0)
+  pub counted : count + s.remaining ≡ places + extra
+  pub one_side : (extra ≡ 0) ⊎ (s.remaining ≡ 0)
   pub above : s.value * 10 ^ extra ≤ n
   pub exact : s.exact ≡ true → s.value * 10 ^ extra ≡ n
   pub fine : s.exact ≡ false → s.value * 10 ^ extra < n
   pub below : n + 1 ≤ (s.value + 1) * 10 ^ extra
-  pub small : (s.value + 1) * 10 ^ s.left ≤ 10 ^ 9
+  pub small : (s.value + 1) * 10 ^ s.remaining ≤ 10 ^ 9

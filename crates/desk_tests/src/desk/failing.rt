@@ -173,22 +173,22 @@ fn each_write_may_fail(rt: HostRuntime) -> Result<(), Fail> {
     Ok(())
 }
 
-/// A run with a line that is cut: `err` fails after ten times `taken` bytes of it.
+/// A run with a line that is cut: `err` fails after ten times `accepted` bytes of it.
 fn cut_line(
     &(words, out, status, err): &(&'static str, u64, u8, &'static str),
-    taken: u8,
+    accepted: u8,
 ) -> Case<'static> {
     Case {
         fails: Fails {
             out,
-            err: u64::from(taken) + 1,
+            err: u64::from(accepted) + 1,
             ..NONE
         },
         words,
         status,
         out: "",
         err,
-        most_err: usize::from(taken) * 10,
+        most_err: usize::from(accepted) * 10,
         ..ALL
     }
 }
@@ -197,8 +197,8 @@ fn cut_line(
 fn a_line_that_fails_changes_no_status(rt: HostRuntime) -> Result<(), Fail> {
     for row in LINES {
         // a line has at most 90 bytes
-        for taken in 0..10_u8 {
-            judge(&rt, rt.alloc(), &cut_line(row, taken))?;
+        for accepted in 0..10_u8 {
+            judge(&rt, rt.alloc(), &cut_line(row, accepted))?;
         }
     }
     Ok(())

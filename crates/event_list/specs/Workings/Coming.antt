@@ -7,30 +7,30 @@ use Rattle.interval_search.specs.Looking.{Looking}
 use Rattle.event_list.specs.declared.leading.Leading.{Leading}
 use Rattle.event_list.specs.declared.leading.Leading.TheVariants.{Turn, Slack, Mark}
 use Rattle.event_list.specs.Order.{comes_before, ordered}
-use Rattle.event_list.specs.Merging.{Merging, Waiting, minute_of, cells_of, waiting, searched, leads}
+use Rattle.event_list.specs.Merging.{Merging, Pending, minute_of, cells_of, pending, searched, leads}
 
 -- the events in the remaining cells of a search
 abbrev pub events_ahead : {C : Type 0} → Option (Looking C) → List Event
 events_ahead None = []
-events_ahead (Some search) = cell_events search.at search.left
+events_ahead (Some search) = cell_events search.at search.remaining
 
 -- the number of remaining cells of a search
 abbrev pub cells_ahead : {C : Type 0} → Option (Looking C) → ℕ
 cells_ahead search = length (cells_of search)
 
 -- the state of a search after it has run to its next event
-abbrev pub searched_by : {C : Type 0} → Option (Looking C) → Waiting
+abbrev pub searched_by : {C : Type 0} → Option (Looking C) → Pending
 searched_by search = searched (minute_of search) (cells_of search)
 
 -- the state of a search after a cell with these events was returned
-abbrev pub searched_past : {C : Type 0} → List Event → Option (Looking C) → Waiting
+abbrev pub searched_past : {C : Type 0} → List Event → Option (Looking C) → Pending
 searched_past [] search = searched_by search
-searched_past (event ∷ events) search = waiting (Some event) search
+searched_past (event ∷ events) search = pending (Some event) search
 
 -- a step returns the first of the remaining cells, or None if no cell remains
 abbrev pub FindsNext : {C : Type 0} → Option (Looking C) → Option Found → Option (Looking C) → Type 0
 FindsNext old None new =
-    (events_ahead old ≡ []) × (cells_ahead old ≡ 0) × (events_ahead new ≡ []) × (cells_ahead new ≡ 0) × (searched_by old ≡ waiting None new)
+    (events_ahead old ≡ []) × (cells_ahead old ≡ 0) × (events_ahead new ≡ []) × (cells_ahead new ≡ 0) × (searched_by old ≡ pending None new)
 FindsNext old (Some found) new =
     (events_ahead old ≡ event_in found.at found.cell ++ events_ahead new) × (cells_ahead old ≡ cells_ahead new + 1)
     × (searched_by old ≡ searched_past (event_in found.at found.cell) new)
@@ -59,26 +59,26 @@ IsAscending (e ∷ es) = All (λ d. comes_before d e ≡ false) es × IsAscendin
 -- one track of a merge: the remaining events, the state of its search, the number of cells that it has
 -- returned until now, and the number of all its cells
 pub record Strand : Type 0 where
-  pub left : List Event
-  pub waiting : Waiting
+  pub remaining : List Event
+  pub pending : Pending
   pub cells : ℕ
   pub all : ℕ
 
 -- the invariant of the three tracks of a merge
 pub record MergeInvariant (t s m : Strand) : Type 0 where
-  pub turn : IsAscending t.left
-  pub slack : IsAscending s.left
-  pub mark : IsAscending m.left
-  pub turn_counted : t.cells + length t.waiting.cells ≡ t.all
-  pub slack_counted : s.cells + length s.waiting.cells ≡ s.all
-  pub mark_counted : m.cells + length m.waiting.cells ≡ m.all
+  pub turn : IsAscending t.remaining
+  pub slack : IsAscending s.remaining
+  pub mark : IsAscending m.remaining
+  pub turn_counted : t.cells + length t.pending.cells ≡ t.all
+  pub slack_counted : s.cells + length s.pending.cells ≡ s.all
+  pub mark_counted : m.cells + length m.pending.cells ≡ m.all
   pub few : t.all + s.all + m.all < 2 ^ 64
 
 -- the merge of three tracks
 abbrev pub merging_of : Strand → Strand → Strand → Merging
 merging_of turn slack mark = record {
-  left = ordered (turn.left ++ (slack.left ++ mark.left));
-  waiting = record { turn = turn.waiting; slack = slack.waiting; mark = mark.waiting };
+  remaining = ordered (turn.remaining ++ (slack.remaining ++ mark.remaining));
+  pending = record { turn = turn.pending; slack = slack.pending; mark = mark.pending };
   cells = turn.cells + slack.cells + mark.cells;
   all = turn.all + slack.all + mark.all;
 }

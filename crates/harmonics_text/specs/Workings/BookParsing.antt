@@ -54,7 +54,7 @@ use Rattle.harmonics_text.specs.Rules.{
   constituent_of,
   first_year_of,
   named,
-  number_of,
+  parse_number,
   values_from,
   end_of,
   same_count_of,
@@ -87,10 +87,10 @@ pub record AreValues (least most : ℤ) (count years : ℕ) (values : List ℤ) 
 
 -- the values of the constituents before the index, and a part of those at it
 pub record IsTable (least most : ℤ) (count years : ℕ) (t : Table) : Type 0 where
-  pub before : t.left ≡ 0 → length t.values ≡ t.place * years
-  pub inside : 1 ≤ t.left → length t.values + t.left ≡ t.place * years + years
-  pub here : 1 ≤ t.left → t.place < count
-  pub place : t.place ≤ count
+  pub before : t.remaining ≡ 0 → length t.values ≡ t.index * years
+  pub inside : 1 ≤ t.remaining → length t.values + t.remaining ≡ t.index * years + years
+  pub here : 1 ≤ t.remaining → t.index < count
+  pub index : t.index ≤ count
   pub each : All (IsWithin least most) t.values
 
 -- a station being read: it has the amplitudes and epochs of some of `count` constituents, but not of
@@ -134,14 +134,14 @@ IsFactors h values = AreValues (pos 0) (pos 10000000) (length h.constituents) h.
 -- the invariant of a parser state
 abbrev pub IsBookParser : BookParser → Type 0
 IsBookParser parsing.Count = Unit {0}
-IsBookParser (parsing.Constituents left earlier) = (1 ≤ left) × (left + length earlier ≤ 500) × All IsConstituent earlier
+IsBookParser (parsing.Constituents remaining earlier) = (1 ≤ remaining) × (remaining + length earlier ≤ 500) × All IsConstituent earlier
 IsBookParser (parsing.FirstYear cs) = AreConstituents cs
 IsBookParser (parsing.Years cs year) = AreConstituents cs × IsWithin (pos 2) (pos 8800) year
-IsBookParser (parsing.Angles h t) = IsHeading h × (t.place < length h.constituents)
+IsBookParser (parsing.Angles h t) = IsHeading h × (t.index < length h.constituents)
     × IsTable (negsuc 7199999999) (pos 7200000000) (length h.constituents) h.years t
 IsBookParser (parsing.AnglesEnd h angles) = IsHeading h × IsAngles h angles
 IsBookParser (parsing.YearsAgain h angles) = IsHeading h × IsAngles h angles
-IsBookParser (parsing.Factors h angles t) = IsHeading h × IsAngles h angles × (t.place < length h.constituents)
+IsBookParser (parsing.Factors h angles t) = IsHeading h × IsAngles h angles × (t.index < length h.constituents)
     × IsTable (pos 0) (pos 10000000) (length h.constituents) h.years t
 IsBookParser (parsing.FactorsEnd h angles factors) = IsHeading h × IsAngles h angles × IsFactors h factors
 IsBookParser (parsing.Stations b r) = IsBook b × IsRecord b r
@@ -167,18 +167,18 @@ placed line (Bad why) = faults.At line why
 unfoldable pub after_count : List ℕ → Result BookParser Why
 after_count text = count_of text >>= λ n. Ok (parsing.Constituents n [])
 
--- the parser state after one more constituent, if `left` of them, this one included, were still to be
--- read
+-- the parser state after one more constituent, if `remaining` of them, this one included, were still to
+-- be read
 abbrev pub with_constituents : ℕ → List Constituent → BookParser
-with_constituents left cs = if nat_lt 1 left then parsing.Constituents (left - 1) cs else parsing.FirstYear cs
+with_constituents remaining cs = if nat_lt 1 remaining then parsing.Constituents (remaining - 1) cs else parsing.FirstYear cs
 
 -- the parser state after the line of a constituent
 unfoldable pub after_constituent : ℕ → List Constituent → List ℕ → Result BookParser Why
-after_constituent left earlier text = constituent_of earlier text >>= λ c. Ok (with_constituents left (earlier ++ c ∷ []))
+after_constituent remaining earlier text = constituent_of earlier text >>= λ c. Ok (with_constituents remaining (earlier ++ c ∷ []))
 
 -- a table of equilibrium arguments or node factors before any line of it was read
 abbrev pub new_table : Table
-new_table = record { place = 0; left = 0; values = [] }
+new_table = record { index = 0; remaining = 0; values = [] }
 
 -- the parser state after the line with the number of years of the first table
 unfoldable pub after_years : List Constituent → ℤ → List ℕ → Result BookParser Why
@@ -187,30 +187,30 @@ after_years cs year text = count_of text >>= λ n. Ok (parsing.Angles (record { 
 -- the values of a table, followed by the number that one more token writes, or the reason why the token
 -- is bad
 unfoldable pub pushed : Scale → List ℤ → List ℕ → Result (List ℤ) Why
-pushed s values token = number_of s token >>= λ n. Ok (values ++ n ∷ [])
+pushed s values token = parse_number s token >>= λ n. Ok (values ++ n ∷ [])
 
--- the constituent's index after a line that leaves `left` values to be read
+-- the constituent's index after a line that leaves `remaining` values to be read
 abbrev pub at_place : ℕ → ℕ → ℕ
-at_place left place = if left == 0 then place + 1 else place
+at_place remaining index = if remaining == 0 then index + 1 else index
 
 -- a table of equilibrium arguments or node factors after a line of values
 unfoldable pub after_values : Scale → Table → List ℕ → Result Table Why
-after_values s t text = values_from s t.left t.values (tokens text)
-    >>= λ v. Ok (record { place = at_place v.0 t.place; left = v.0; values = v.1 })
+after_values s t text = values_from s t.remaining t.values (tokens text)
+    >>= λ v. Ok (record { index = at_place v.0 t.index; remaining = v.0; values = v.1 })
 
 -- a table of equilibrium arguments or node factors after the line with a constituent's name
 unfoldable pub after_name : Table → ℕ → List ℕ → List ℕ → Result Table Why
-after_name t years name text = named name text >>= λ _. Ok (record { place = t.place; left = years; values = t.values })
+after_name t years name text = named name text >>= λ _. Ok (record { index = t.index; remaining = years; values = t.values })
 
 -- a table of equilibrium arguments or node factors after its next line: a constituent's name, or values
 unfoldable pub after_table_line : Scale → Heading → Table → List ℕ → Result Table Why
 after_table_line s h t text =
-    if nat_lt 0 t.left then after_values s t text
-    else after_name t h.years (slice_index_or h.constituents t.place (record { name = []; speed = pos 0 })).name text
+    if nat_lt 0 t.remaining then after_values s t text
+    else after_name t h.years (slice_index_or h.constituents t.index (record { name = []; speed = pos 0 })).name text
 
 -- the parser state with a table of equilibrium arguments, which may be complete
 abbrev pub with_angles : Heading → Table → BookParser
-with_angles h t = if nat_lt t.place (length h.constituents) then parsing.Angles h t else parsing.AnglesEnd h t.values
+with_angles h t = if nat_lt t.index (length h.constituents) then parsing.Angles h t else parsing.AnglesEnd h t.values
 
 -- the parser state after a line of the table of equilibrium arguments
 unfoldable pub after_angles : Heading → Table → List ℕ → Result BookParser Why
@@ -223,7 +223,7 @@ after_years_again h angles text = same_count_of h.years text >>= λ _. Ok (parsi
 -- the parser state with a table of node factors, which may be complete
 abbrev pub with_factors : Heading → List ℤ → Table → BookParser
 with_factors h angles t =
-    if nat_lt t.place (length h.constituents) then parsing.Factors h angles t else parsing.FactorsEnd h angles t.values
+    if nat_lt t.index (length h.constituents) then parsing.Factors h angles t else parsing.FactorsEnd h angles t.values
 
 -- the parser state after a line of the table of node factors
 unfoldable pub after_factors : Heading → List ℤ → Table → List ℕ → Result BookParser Why
@@ -263,7 +263,7 @@ after_record b (records.Constants c) text = after_pair b c text
 -- the parser state after a line that isn't skipped
 unfoldable pub after_text : BookParser → List ℕ → Result BookParser Why
 after_text parsing.Count text = after_count text
-after_text (parsing.Constituents left earlier) text = after_constituent left earlier text
+after_text (parsing.Constituents remaining earlier) text = after_constituent remaining earlier text
 after_text (parsing.FirstYear cs) text = first_year_of text >>= λ year. Ok (parsing.Years cs year)
 after_text (parsing.Years cs year) text = after_years cs year text
 after_text (parsing.Angles h t) text = after_angles h t text
@@ -293,7 +293,7 @@ book_at b (records.Constants c) = None
 -- the book of a state whose last part is complete
 abbrev pub book_in : BookParser → Option Book
 book_in parsing.Count = None
-book_in (parsing.Constituents left earlier) = None
+book_in (parsing.Constituents remaining earlier) = None
 book_in (parsing.FirstYear cs) = None
 book_in (parsing.Years cs year) = None
 book_in (parsing.Angles h t) = None

@@ -1,20 +1,20 @@
 -- Minutes that aren't higher than a point. No public clause cites this.
 use Rattle.std.specs.Prelude.{◌≡◌, ℤ, ◌≤ℤ◌, ◌<ℤ◌}
 use Rattle.curve_law.specs.declared.point.Point.{Point}
-use Rattle.curve_law.specs.Meaning.{Meaning}
+use Rattle.curve_law.specs.CurveSpec.{CurveSpec}
 
 -- no minute from `begin` up to but not including `end` is higher than the point
-pub record AreBelow (c : Meaning) (at value begin end : ℤ) : Type 0 where
+pub record AreBelow (c : CurveSpec) (at value begin end : ℤ) : Type 0 where
   pub greatest : (m : ℤ) → begin ≤ℤ m → m <ℤ end → c.track.value m ≤ℤ value
   pub first : (m : ℤ) → begin ≤ℤ m → m <ℤ end → m <ℤ at → c.track.value m <ℤ value
 
 -- a point of the curve within a span
-pub record IsPoint (c : Meaning) (begin end : ℤ) (point : Point) : Type 0 where
+pub record IsPoint (c : CurveSpec) (begin end : ℤ) (point : Point) : Type 0 where
   pub from : begin ≤ℤ point.minute
   pub before : point.minute <ℤ end
   pub value : point.value ≡ c.track.value point.minute
 
 -- a point of the curve within a span, and no minute from `begin` up to but not including `to` is higher
-pub record IsHighestSoFar (c : Meaning) (begin end to : ℤ) (highest : Point) : Type 0 where
+pub record IsHighestSoFar (c : CurveSpec) (begin end to : ℤ) (highest : Point) : Type 0 where
   pub point : IsPoint c begin end highest
   pub below : AreBelow c highest.minute highest.value begin to

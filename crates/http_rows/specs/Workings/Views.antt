@@ -3,7 +3,7 @@ use Rattle.std.specs.Prelude.{◌≤◌, length}
 use Rattle.http_rows.specs.Heads as heads
 use Rattle.http_rows.specs.Paths.{text_of}
 use Rattle.http_rows.specs.Rows as rows
-use Rattle.http_rows.specs.declared.asked.Asking.{Asking}
+use Rattle.http_rows.specs.declared.asking.Asking.{Asking}
 use Rattle.http_rows.specs.declared.head.Head.{Head}
 use Rattle.http_rows.specs.declared.head.Occurs.{Occurs}
 use Rattle.http_rows.specs.declared.reply_row.ReplyRow.{ReplyRow}
@@ -24,10 +24,10 @@ head_seen h = record {
 }
 
 abbrev pub asking_seen : Asking → rows.Asking
-asking_seen a = record { path = text_of a.path; query = a.query.now; body = a.body.now; bodiless = a.bodiless }
+asking_seen a = record { path = text_of a.path; query = a.query.now; body = a.body.now; is_head_request = a.is_head_request }
 
 abbrev pub row_seen : ReplyRow → rows.ReplyRow
-row_seen (Rejects rejection bodiless) = rows.rejects rejection bodiless
+row_seen (Rejects rejection is_head_request) = rows.rejects rejection is_head_request
 row_seen (Asks asking) = rows.asks (asking_seen asking)
 
 -- the body of a request that the predictor answers has at most MOST_BODY (4,194,304) bytes
@@ -36,5 +36,5 @@ IsAsking a = length a.body ≤ MOST_BODY
 
 -- the body of a row's request, if the predictor answers it, has at most MOST_BODY (4,194,304) bytes
 abbrev pub IsAskingRow : rows.ReplyRow → Type 0
-IsAskingRow (rows.rejects rejection bodiless) = Unit {0}
+IsAskingRow (rows.rejects rejection is_head_request) = Unit {0}
 IsAskingRow (rows.asks asking) = IsAsking asking

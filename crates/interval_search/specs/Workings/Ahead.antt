@@ -26,7 +26,7 @@ use Rattle.std.specs.Prelude.{
 }
 use Rattle.curve_law.specs.declared.point.Point.{Point}
 use Rattle.curve_law.specs.declared.quiet.TheConstants.{MOST_MINUTES}
-use Rattle.curve_law.specs.Meaning.{Meaning}
+use Rattle.curve_law.specs.CurveSpec.{CurveSpec}
 use Rattle.curve_law.specs.CurveStates.{CurveState}
 use Rattle.interval_search.specs.declared.front.Front.{Front}
 use Rattle.interval_search.specs.declared.piece.Piece.{Piece}
@@ -45,7 +45,7 @@ abbrev pub interval_of : Piece → Interval
 interval_of piece = interval piece.begin.minute piece.minutes
 
 -- a piece of at most 1,024 minutes, with these values of a curve at its ends
-pub record IsPiece (c : Meaning) (values : ℤ → ℤ) (piece : Piece) : Type 0 where
+pub record IsPiece (c : CurveSpec) (values : ℤ → ℤ) (piece : Piece) : Type 0 where
   pub first : c.first ≤ℤ piece.begin.minute
   pub last : (piece.begin.minute +ℤ pos piece.minutes) ≤ℤ c.last
   pub some : 1 ≤ piece.minutes
@@ -62,7 +62,7 @@ pieces_after test end a (p ∷ ps) = pieces_of_block test a (minutes_to a p.minu
 
 -- the pieces that a search has still to reach
 abbrev pub pieces_ahead : (ℤ → ℕ → Bool) → Front → List Interval
-pieces_ahead test front = pieces_after test front.end front.at.minute front.waiting
+pieces_ahead test front = pieces_after test front.end front.at.minute front.pending
 
 -- the points have these values, and each piece was halved at least once more than the one after it
 unfoldable pub ArePieces : (ℤ → ℤ) → ℤ → ℤ → List Point → Type 0
@@ -76,14 +76,14 @@ ArePieces values end a (p ∷ ps) =
 -- counts as one
 pub record SearchInvariant (values : ℤ → ℤ) (s : CurveState) (end : ℤ) (at : Point) (ahead : List Point) : Type 0 where
   pub value : at.value ≡ values at.minute
-  pub first : s.facts.meaning.first ≤ℤ at.minute
-  pub last : end ≤ℤ s.facts.meaning.last
+  pub first : s.curve_model.curve_spec.first ≤ℤ at.minute
+  pub last : end ≤ℤ s.curve_model.curve_spec.last
   pub pieces : ArePieces values end at.minute ahead
   pub few : s.count + minutes_to at.minute end ≤ length ahead + (2 ^ 62 + 2 ^ 61 + 2 ^ 60 + 1)
 
 -- the invariant of a search, for the state of a search
 abbrev pub IsFront : (ℤ → ℤ) → CurveState → Front → Type 0
-IsFront values s front = SearchInvariant values s front.end front.at front.waiting
+IsFront values s front = SearchInvariant values s front.end front.at front.pending
 
 -- the piece begins where the search is, isn't halved, and is the first of the pieces ahead; the search
 -- moves to the piece's end
@@ -95,5 +95,5 @@ pub record IsNext (test : ℤ → ℕ → Bool) (old : Front) (piece : Piece) (n
 
 -- a step of a search returns the next piece, or none at the end
 abbrev pub StepsTo : (ℤ → ℕ → Bool) → Front → Option Piece → Front → Type 0
-StepsTo test old None new = (new ≡ old) × (old.at.minute ≡ old.end) × (old.waiting ≡ []) × (pieces_ahead test old ≡ [])
+StepsTo test old None new = (new ≡ old) × (old.at.minute ≡ old.end) × (old.pending ≡ []) × (pieces_ahead test old ≡ [])
 StepsTo test old (Some piece) new = IsNext test old piece new

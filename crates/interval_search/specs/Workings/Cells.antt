@@ -1,7 +1,7 @@
 -- The cells of the pieces that a search has still to reach. No public clause cites this.
 use Rattle.std.specs.Prelude.{◌+◌, ◌-◌, List, length, map}
 use Rattle.curve_law.specs.declared.cell.Cell.{Cell}
-use Rattle.curve_law.specs.Meaning.{Meaning}
+use Rattle.curve_law.specs.CurveSpec.{CurveSpec}
 use Rattle.curve_law.specs.CurveStates.{CurveState}
 use Rattle.curve_law.specs.Cover.{is_quiet, cell_of}
 use Rattle.interval_search.specs.declared.front.Front.{Front}
@@ -9,7 +9,7 @@ use Rattle.interval_search.specs.Looking.{Looking}
 use Rattle.interval_search.specs.Workings.Ahead.{pieces_ahead}
 
 -- the cells of the pieces that a search has still to reach
-unfoldable pub cells_ahead : Meaning → Front → List Cell
+unfoldable pub cells_ahead : CurveSpec → Front → List Cell
 cells_ahead c front = map (cell_of c) (pieces_ahead (is_quiet c) front)
 
 -- the value in contracts of a search with this curve, count and state
@@ -17,6 +17,6 @@ abbrev pub looking_at : {C : Type 0} → C → CurveState → Front → Looking 
 looking_at curve s front = record {
   curve = curve;
   at = front.at.minute;
-  left = cells_ahead s.facts.meaning front;
-  most = (s.count + length (cells_ahead s.facts.meaning front)) - length front.waiting;
+  remaining = cells_ahead s.curve_model.curve_spec front;
+  most = (s.count + length (cells_ahead s.curve_model.curve_spec front)) - length front.pending;
 }

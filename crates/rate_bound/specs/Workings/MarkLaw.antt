@@ -3,7 +3,7 @@ use Rattle.std.proofs.Common.{◌≡◌, ℕ, zero, suc, ◌+◌, ◌-◌, ◌*�
 use Rattle.std.specs.Prelude.{unsigned_abs}
 use Rattle.std.proofs.lemmas.Int.{ints}
 use Rattle.std.proofs.lemmas.Nat.{mul-le}
-use Rattle.curve_law.specs.Meaning.{IsCell, IsRate, IsLawful}
+use Rattle.curve_law.specs.CurveSpec.{IsCell, IsRate, IsLawful}
 use Rattle.curve_law.specs.declared.quiet.TheConstants.{MOST_MINUTES}
 use Rattle.station_curve.specs.Waves.{amount_of}
 use Rattle.station_curve.specs.Sums.{near_of}
@@ -16,7 +16,7 @@ use Rattle.year_blend.proofs.StretchLemmas.{IsFound, stretch_of-found}
 use Rattle.rate_bound.specs.declared.version.Version.{Version}
 use Rattle.rate_bound.specs.declared.version.Version.TheVariants.{First, Second}
 use Rattle.rate_bound.specs.Rates.{level_rate_in, blended_level_rate, book_sums, predicted_level_rate}
-use Rattle.rate_bound.specs.Meanings.{over_mark, mark_meaning}
+use Rattle.rate_bound.specs.CurveSpecs.{over_mark, mark_spec}
 use Rattle.rate_bound.specs.Scale.{IsScale}
 use Rattle.station_curve.proofs.CellSteps.{level_bound, plain_level_gap, step_over, over_level_gap}
 use Rattle.station_curve.proofs.PlainSteps.{IsSpan, plain_step}
@@ -61,7 +61,7 @@ rate_within : (version : Version) (c : Prediction) (times plus mark : ℤ) (slac
     → IsPrediction c → IsScale times plus mark → IsSpan c.book a n
     → IsFound c.book.first_year c.book.years a n (Within year)
     → times *ℤ (pos total_weight *ℤ (book_sums c.book c.station year).near) ≡ rate
-    → IsRate (mark_meaning version c times plus mark slack) a n rate
+    → IsRate (mark_spec version c times plus mark slack) a n rate
 rate_within version c times plus mark slack a n year rate valid scale span found is =
     let near : near_of (waves_of c.book c.station year) ≤ 3 * 10 ^ 15 =
     (sums_within_limits c.book c.station year valid.limits (within_below c.book a n year span found)).near in
@@ -81,7 +81,7 @@ rate_across : (version : Version) (c : Prediction) (times plus mark : ℤ) (slac
     → IsPrediction c → IsScale times plus mark → IsSpan c.book a n
     → IsFound c.book.first_year c.book.years a n (Across year)
     → times *ℤ blended_level_rate (book_sums c.book c.station (year - 1)) (book_sums c.book c.station year) ≡ rate
-    → IsRate (mark_meaning version c times plus mark slack) a n rate
+    → IsRate (mark_spec version c times plus mark slack) a n rate
 rate_across version c times plus mark slack a n zero rate valid scale span found is = absurd (omega (arith, found.later))
 rate_across version c times plus mark slack a n (suc k) rate valid scale span found is =
     let before : suc k - 1 ≡ k = omega arith in
@@ -104,7 +104,7 @@ rate_across version c times plus mark slack a n (suc k) rate valid scale span fo
 rate_in : (version : Version) (c : Prediction) (times plus mark : ℤ) (slack : Bool) (a : ℤ) (n : ℕ) (rate : ℤ)
     (s : Stretch) → IsPrediction c → IsScale times plus mark → IsSpan c.book a n
     → IsFound c.book.first_year c.book.years a n s → level_rate_in version times (book_sums c.book c.station) s ≡ Some rate
-    → IsRate (mark_meaning version c times plus mark slack) a n rate
+    → IsRate (mark_spec version c times plus mark slack) a n rate
 rate_in version c times plus mark slack a n rate (Within year) valid scale span found is =
     rate_within version c times plus mark slack a n year rate valid scale span found (some-same _ rate is)
 rate_in First c times plus mark slack a n rate (Across year) valid scale span found is = cc
@@ -112,9 +112,9 @@ rate_in Second c times plus mark slack a n rate (Across year) valid scale span f
     rate_across Second c times plus mark slack a n year rate valid scale span found (some-same _ rate is)
 
 mark_rate : (version : Version) (c : Prediction) (times plus mark : ℤ) (slack : Bool) (a : ℤ) (n : ℕ) (rate : ℤ)
-    → IsPrediction c → IsScale times plus mark → IsCell (mark_meaning version c times plus mark slack) a n
+    → IsPrediction c → IsScale times plus mark → IsCell (mark_spec version c times plus mark slack) a n
     → predicted_level_rate version times c.book c.station a n ≡ Some rate
-    → IsRate (mark_meaning version c times plus mark slack) a n rate
+    → IsRate (mark_spec version c times plus mark slack) a n rate
 unfolding predicted_level_rate
 mark_rate version c times plus mark slack a n rate valid scale cell is =
     let first = cell.first in
@@ -147,7 +147,7 @@ mark_small times plus mark level scale small =
 
 -- the curve of the level less a mark meets the law of a curve
 pub mark_lawful : (version : Version) (c : Prediction) (times plus mark : ℤ) (slack : Bool) → IsPrediction c
-    → IsScale times plus mark → IsLawful (mark_meaning version c times plus mark slack)
+    → IsScale times plus mark → IsLawful (mark_spec version c times plus mark slack)
 mark_lawful version c times plus mark slack valid scale =
     let all = are_ends c.book.first_year c.book.years valid.limits.times.years in
     let begins = valid.begins in

@@ -2,14 +2,14 @@
 use Rattle.std.proofs.Common.{◌*◌, ◌^◌, ◌≤◌, ℕ, ℤ, pos, ◌-ℤ◌, ◌*ℤ◌, unsigned_abs, Bool, arith}
 use Rattle.std.proofs.lemmas.Int.{ints}
 use Rattle.std.proofs.lemmas.Nat.{mul-le}
-use Rattle.curve_law.specs.Meaning.{IsMinute, IsApproximateValue}
+use Rattle.curve_law.specs.CurveSpec.{IsMinute, IsApproximateValue}
 use Rattle.year_blend.specs.Weights.{total_weight}
 use Rattle.station_curve.specs.Approximate.{approximate_level_of, approximate_slope_of}
 use Rattle.station_curve.proofs.Gaps.{scaled_gap}
 use Rattle.station_curve.proofs.Approximating.{level_approximate, slope_approximate}
 use Rattle.station_curve.specs.Errors.{level_error_of, slope_error_of}
 use Rattle.rate_bound.specs.declared.version.Version.{Version}
-use Rattle.rate_bound.specs.Meanings.{over_mark, turn_meaning, mark_meaning}
+use Rattle.rate_bound.specs.CurveSpecs.{over_mark, turn_spec, mark_spec}
 use Rattle.rate_bound.specs.Scale.{IsScale}
 use Rattle.rate_bound.specs.Workings.MarkLaw.{same_mark}
 use Rattle.station_curve.specs.Curves.{IsPrediction, Prediction}
@@ -34,8 +34,8 @@ level_narrow c times plus mark valid scale =
     omega (arith, product)
 
 -- an approximate slope is within its error
-pub slope_close : (version : Version) (c : Prediction) (m : ℤ) → IsPrediction c → IsMinute (turn_meaning version c) m
-    → IsApproximateValue (turn_meaning version c) (slope_error_of c) m (approximate_slope_of c.book c.station m)
+pub slope_close : (version : Version) (c : Prediction) (m : ℤ) → IsPrediction c → IsMinute (turn_spec version c) m
+    → IsApproximateValue (turn_spec version c) (slope_error_of c) m (approximate_slope_of c.book c.station m)
 slope_close version c m valid at = slope_approximate c m valid (record { least = at.first; most = at.last })
 
 -- an approximate level, scaled and less a mark, is within the scaled error
@@ -48,8 +48,8 @@ approximate-mark times plus mark approximate level error close =
 
 -- an approximate level less a mark is within its error of the level less the mark
 pub level_close : (version : Version) (c : Prediction) (times plus mark : ℤ) (slack : Bool) (m : ℤ) → IsPrediction c
-    → IsMinute (mark_meaning version c times plus mark slack) m
-    → IsApproximateValue (mark_meaning version c times plus mark slack) (unsigned_abs times * level_error_of c) m
+    → IsMinute (mark_spec version c times plus mark slack) m
+    → IsApproximateValue (mark_spec version c times plus mark slack) (unsigned_abs times * level_error_of c) m
     (over_mark times plus mark (approximate_level_of c.book c.station m))
 level_close version c times plus mark slack m valid at =
     approximate-mark times plus mark (approximate_level_of c.book c.station m) (predicted_level c.book c.station m) (level_error_of c)

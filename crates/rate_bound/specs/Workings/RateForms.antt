@@ -26,7 +26,7 @@ use Rattle.std.proofs.Common.{
 use Rattle.std.specs.Int.{int_max}
 use Rattle.std.proofs.lemmas.Int.{ints, clamps}
 use Rattle.fixed_sine.specs.Circle.{radian}
-use Rattle.station_curve.specs.Waves.{Harmonic, amount_of, steepness_of}
+use Rattle.station_curve.specs.Waves.{WaveSpec, amount_of, steepness_of}
 use Rattle.station_curve.specs.Sums.{near_of, far_of, sums_of}
 use Rattle.year_blend.specs.Weights.{total_weight}
 use Rattle.rate_bound.specs.Rates.{blended_slope_rate, blended_level_rate, limited}
@@ -34,11 +34,11 @@ use Rattle.rate_bound.specs.Rates.{blended_slope_rate, blended_level_rate, limit
 pub int_max-pos : (a b : ℕ) → int_max (pos a) (pos b) ≡ pos (max a b)
 int_max-pos a b = omega (arith, ints, clamps)
 
-pub blended_level_rate-pos : (hs gs : List Harmonic) → blended_level_rate (sums_of hs) (sums_of gs)
+pub blended_level_rate-pos : (hs gs : List WaveSpec) → blended_level_rate (sums_of hs) (sums_of gs)
     ≡ pos (total_weight * max (near_of hs) (near_of gs) + 64800000 * (10 ^ 9 * (amount_of gs + amount_of hs)))
 blended_level_rate-pos hs gs = rw (int_max-pos (near_of hs) (near_of gs)) (ap pos (omega arith))
 
-pub blended_slope_rate-pos : (hs gs : List Harmonic) → blended_slope_rate (sums_of hs) (sums_of gs)
+pub blended_slope_rate-pos : (hs gs : List WaveSpec) → blended_slope_rate (sums_of hs) (sums_of gs)
     ≡ pos (total_weight * max (far_of hs) (far_of gs) + 64800000 * (10 ^ 9 * steepness_of gs + 10 ^ 9 * steepness_of hs)
     + (64800000 * radian * (near_of gs + near_of hs) + 1663000 * radian * (10 ^ 9 * (amount_of gs + amount_of hs))))
 blended_slope_rate-pos hs gs = rw (int_max-pos (far_of hs) (far_of gs)) (ap pos (omega arith))

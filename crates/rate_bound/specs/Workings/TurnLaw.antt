@@ -1,7 +1,7 @@
 -- The curve of the slope is lawful.
 use Rattle.std.proofs.Common.{◌<◌, ◌≡◌, ℕ, zero, suc, ◌-◌, ◌*◌, ◌^◌, ◌≤◌, Some, sym, ◌∙◌, arith, ℤ, pos, ◌+ℤ◌, ◌*ℤ◌, ◌≤ℤ◌, ◌<ℤ◌}
 use Rattle.std.proofs.lemmas.Int.{ints}
-use Rattle.curve_law.specs.Meaning.{IsCell, IsRate, IsLawful}
+use Rattle.curve_law.specs.CurveSpec.{IsCell, IsRate, IsLawful}
 use Rattle.curve_law.specs.declared.quiet.TheConstants.{MOST_MINUTES}
 use Rattle.station_curve.specs.Sums.{far_of}
 use Rattle.year_blend.specs.declared.parts.Stretch.{Stretch}
@@ -12,7 +12,7 @@ use Rattle.year_blend.proofs.StretchLemmas.{IsFound, stretch_of-found}
 use Rattle.rate_bound.specs.declared.version.Version.{Version}
 use Rattle.rate_bound.specs.declared.version.Version.TheVariants.{First, Second}
 use Rattle.rate_bound.specs.Rates.{slope_rate_in, blended_slope_rate, book_sums, limited, predicted_slope_rate}
-use Rattle.rate_bound.specs.Meanings.{turn_meaning}
+use Rattle.rate_bound.specs.CurveSpecs.{turn_spec}
 use Rattle.station_curve.proofs.CellSteps.{slope_bound, plain_slope_gap, step_over, over_slope_gap}
 use Rattle.station_curve.proofs.PlainSteps.{IsSpan, plain_step}
 use Rattle.rate_bound.specs.Workings.RateForms.{blended_slope_rate-pos, IsLimited, limited-some, some-same, step-within}
@@ -36,7 +36,7 @@ within_below b a n year span found =
 
 rate_within : (version : Version) (c : Prediction) (a : ℤ) (n year : ℕ) (rate : ℤ) → IsPrediction c → IsSpan c.book a n
     → IsFound c.book.first_year c.book.years a n (Within year)
-    → pos total_weight *ℤ (book_sums c.book c.station year).far ≡ rate → IsRate (turn_meaning version c) a n rate
+    → pos total_weight *ℤ (book_sums c.book c.station year).far ≡ rate → IsRate (turn_spec version c) a n rate
 rate_within version c a n year rate valid span found is = record {
   small = plain_small (far_of (waves_of c.book c.station year)) rate is
       (sums_within_limits c.book c.station year valid.limits (within_below c.book a n year span found)).far;
@@ -47,7 +47,7 @@ rate_within version c a n year rate valid span found is = record {
 rate_across : (version : Version) (c : Prediction) (a : ℤ) (n year : ℕ) (rate : ℤ) → IsPrediction c → IsSpan c.book a n
     → IsFound c.book.first_year c.book.years a n (Across year)
     → IsLimited rate (blended_slope_rate (book_sums c.book c.station (year - 1)) (book_sums c.book c.station year))
-    → IsRate (turn_meaning version c) a n rate
+    → IsRate (turn_spec version c) a n rate
 rate_across version c a n zero rate valid span found limited = absurd (omega (arith, found.later))
 rate_across version c a n (suc k) rate valid span found limited =
     let before : suc k - 1 ≡ k = omega arith in
@@ -61,7 +61,7 @@ rate_across version c a n (suc k) rate valid span found limited =
 
 rate_in : (version : Version) (c : Prediction) (a : ℤ) (n : ℕ) (rate : ℤ) (s : Stretch) → IsPrediction c
     → IsSpan c.book a n → IsFound c.book.first_year c.book.years a n s
-    → slope_rate_in version (book_sums c.book c.station) s ≡ Some rate → IsRate (turn_meaning version c) a n rate
+    → slope_rate_in version (book_sums c.book c.station) s ≡ Some rate → IsRate (turn_spec version c) a n rate
 rate_in version c a n rate (Within year) valid span found is =
     rate_within version c a n year rate valid span found (some-same _ rate is)
 rate_in First c a n rate (Across year) valid span found is = cc
@@ -69,8 +69,8 @@ rate_in Second c a n rate (Across year) valid span found is =
     rate_across Second c a n year rate valid span found (limited-some rate _ is)
 
 turn_rate : (version : Version) (c : Prediction) (a : ℤ) (n : ℕ) (rate : ℤ) → IsPrediction c
-    → IsCell (turn_meaning version c) a n → predicted_slope_rate version c.book c.station a n ≡ Some rate
-    → IsRate (turn_meaning version c) a n rate
+    → IsCell (turn_spec version c) a n → predicted_slope_rate version c.book c.station a n ≡ Some rate
+    → IsRate (turn_spec version c) a n rate
 unfolding predicted_slope_rate
 turn_rate version c a n rate valid cell is =
     let first = cell.first in
@@ -87,7 +87,7 @@ turn_rate version c a n rate valid cell is =
     (stretch_of-found c.book.first_year c.book.years a n span.times.years span.first span.last) is
 
 -- the curve of the slope meets the law of a curve
-pub turn_lawful : (version : Version) (c : Prediction) → IsPrediction c → IsLawful (turn_meaning version c)
+pub turn_lawful : (version : Version) (c : Prediction) → IsPrediction c → IsLawful (turn_spec version c)
 turn_lawful version c valid =
     let all = are_ends c.book.first_year c.book.years valid.limits.times.years in
     let begins = valid.begins in

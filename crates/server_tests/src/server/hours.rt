@@ -16,8 +16,8 @@ const HOURS: u64 = 24;
 /// An observable clock that advances by an hour at each reading, from 2000-01-10T03:00Z on.
 #[derive(Debug, Drop)]
 struct HourClock {
-    asked: u64,
-    given: Log<i64>,
+    readings: u64,
+    returned_minutes: Log<i64>,
 }
 
 impl Clock for HourClock {
@@ -27,16 +27,16 @@ impl Clock for HourClock {
     ghost state = { λ c. record {
       is_observable = true;
       minute_at = (λ n. pos (15791160 + 60 * min n 24));
-      given = c.given.items;
-      asked = c.asked;
+      returned_minutes = c.returned_minutes.items;
+      readings = c.readings;
       faults = 0;
     } };
 
     fn minute(&mut self) -> Result<i64, Failed> {
-        self.asked = self.asked.saturating_add(1);
-        let hours = self.asked.min(HOURS);
+        self.readings = self.readings.saturating_add(1);
+        let hours = self.readings.min(HOURS);
         let minute = 15_791_160 + 60 * hours as i64;
-        self.given = self.given.then(slice::from_ref(&minute));
+        self.returned_minutes = self.returned_minutes.then(slice::from_ref(&minute));
         Ok(minute)
     }
 }
@@ -66,8 +66,8 @@ fn each_request_is_answered_at_its_own_minute(rt: HostRuntime) -> Result<(), Fai
     let alloc = rt.alloc();
     let requests = [Coming::Whole(NOW), Coming::Whole(""), Coming::Whole(NOW)];
     let mut clock = HourClock {
-        asked: 0,
-        given: Log::new(),
+        readings: 0,
+        returned_minutes: Log::new(),
     };
     let outcome = serve_by(alloc, ASKED, &requests, 4096, NONE, &mut clock)?;
     assert_done(&rt, &outcome, ASKED);

@@ -73,32 +73,32 @@ fn err_of(alloc: Global, fails: u64) -> Result<MemorySink, AllocError> {
     MemorySink::new(alloc, 4096, 4096, [fails].to_vec(alloc)?)
 }
 
-/// Returns a port that receives the requests, with `room` bytes for all replies.
+/// Returns a port that receives the requests, with `capacity` bytes for all replies.
 fn door_of(
     alloc: Global,
     requests: &[Coming<'_>],
-    room: u64,
+    capacity: u64,
     fails: u64,
 ) -> Result<MemoryDoor, AllocError>
-    ensures { IfOk result (λ door. (held_by door).doorway.port ≡ None) }
+    ensures { IfOk result (λ door. (held_by door).listener_state.port ≡ None) }
 {
     let fails = [fails].to_vec(alloc)?;
-    MemoryDoor::new(alloc, requests_of(alloc, requests)?, room, fails)
+    MemoryDoor::new(alloc, requests_of(alloc, requests)?, capacity, fails)
 }
 
-/// Serves the requests, with `room` bytes for all replies.
+/// Serves the requests, with `capacity` bytes for all replies.
 pub(super) fn serve_by<K: Clock>(
     alloc: Global,
     line: &str,
     requests: &[Coming<'_>],
-    room: u64,
+    capacity: u64,
     fails: Fails,
     clock: &mut K,
 ) -> Result<Outcome, AllocError> {
     let words = words_of(alloc, line)?;
     let mut files = files_of(alloc, fails.files)?;
     let mut err = err_of(alloc, fails.err)?;
-    let mut door = door_of(alloc, requests, room, fails.door)?;
+    let mut door = door_of(alloc, requests, capacity, fails.door)?;
     let status = serve(alloc, &words, &mut files, &mut door, &mut err, clock);
     Ok(Outcome { status, door, err })
 }
@@ -108,11 +108,11 @@ pub(super) fn serve_over(
     alloc: Global,
     line: &str,
     requests: &[Coming<'_>],
-    room: u64,
+    capacity: u64,
     fails: Fails,
 ) -> Result<Outcome, AllocError> {
     let mut clock = FixedClock::new(15_791_220, [fails.clock].to_vec(alloc)?);
-    serve_by(alloc, line, requests, room, fails, &mut clock)
+    serve_by(alloc, line, requests, capacity, fails, &mut clock)
 }
 
 fn assert_reply(rt: &impl Abort, outcome: &Outcome, i: u64, expected: Option<&str>, case: &str) {

@@ -6,15 +6,15 @@ use Rattle.year_blend.specs.Places.{start_of}
 use Rattle.station_curve.specs.declared.years.Year.{Year}
 use Rattle.station_curve.specs.Curves.{waves_over, year_fault, first_fault}
 use Rattle.station_curve.specs.Schureman.{constituents_of}
-use Rattle.station_curve.specs.Waves.{Harmonic}
+use Rattle.station_curve.specs.Waves.{WaveSpec}
 use Rattle.station_curve.specs.Sums.{sums_of}
 
 -- a wave has an amplitude
-abbrev pub is_present : Harmonic → Bool
+abbrev pub is_present : WaveSpec → Bool
 is_present h = not (unsigned_abs h.amplitude == 0)
 
 -- the waves of a year that are stored: those with an amplitude
-abbrev pub stored_over : Book → Station → ℤ → ℤ → ℕ → List Harmonic
+abbrev pub stored_over : Book → Station → ℤ → ℤ → ℕ → List WaveSpec
 stored_over b s first last year = filter is_present (waves_over b s first last year)
 
 -- the station has an amplitude for constituent k

@@ -1,18 +1,18 @@
 -- The curves that are followed, at the minutes that are evaluated.
 use Rattle.std.specs.Prelude.{ℤ, pos, ◌≤ℤ◌, true, false, Option, option_map}
-use Rattle.curve_law.specs.Meaning.{Meaning, at_minutes}
+use Rattle.curve_law.specs.CurveSpec.{CurveSpec, at_minutes}
 use Rattle.event_list.specs.declared.span.Span.{Span}
 use Rattle.event_list.specs.Events.{Followed}
 use Rattle.harmonics_book.specs.declared.book.Book.{Book}
 use Rattle.rate_bound.specs.declared.version.Version.{Version}
-use Rattle.rate_bound.specs.Meanings.{mark_meaning, turn_meaning}
+use Rattle.rate_bound.specs.CurveSpecs.{mark_spec, turn_spec}
 use Rattle.station_curve.specs.Curves.{Prediction}
 use Rattle.station_table.specs.declared.basis.Basis.{Basis}
 use Rattle.station_span.specs.Following.{asks_slack, if_asked, slack_plus, slack_times}
 use Rattle.year_blend.specs.Places.{InDomain}
 
 -- a curve at the minutes of a prediction
-abbrev pub over : Prediction → Meaning → Meaning
+abbrev pub over : Prediction → CurveSpec → CurveSpec
 over p c = at_minutes p.first p.last c
 
 -- curves at the minutes of a prediction
@@ -20,18 +20,18 @@ abbrev pub all_over : Prediction → Followed → Followed
 all_over p f = record { turn = over p f.turn; slack = option_map (over p) f.slack; mark = option_map (over p) f.mark }
 
 -- the curve of the slacks, if they are listed
-abbrev pub slack_over : Version → Prediction → Basis → Option Meaning
+abbrev pub slack_over : Version → Prediction → Basis → Option CurveSpec
 slack_over version p basis =
-    if_asked (asks_slack p.station.units basis) (mark_meaning version p (slack_times basis) (slack_plus basis) (pos 0) true)
+    if_asked (asks_slack p.station.units basis) (mark_spec version p (slack_times basis) (slack_plus basis) (pos 0) true)
 
 -- the curve of the mark, if there is one
-abbrev pub mark_over : Version → Prediction → Basis → Option ℤ → Option Meaning
-mark_over version p basis mark = option_map (λ level. mark_meaning version p basis.high.times basis.high.plus level false) mark
+abbrev pub mark_over : Version → Prediction → Basis → Option ℤ → Option CurveSpec
+mark_over version p basis mark = option_map (λ level. mark_spec version p basis.high.times basis.high.plus level false) mark
 
 -- the curves that are followed
 abbrev pub followed_over : Version → Prediction → Basis → Option ℤ → Followed
 followed_over version p basis mark =
-    record { turn = turn_meaning version p; slack = slack_over version p basis; mark = mark_over version p basis mark }
+    record { turn = turn_spec version p; slack = slack_over version p basis; mark = mark_over version p basis mark }
 
 -- a span whose minutes a harmonics file has
 pub record HasMinutes (book : Book) (span : Span) : Type 0 where

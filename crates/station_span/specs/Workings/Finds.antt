@@ -8,12 +8,12 @@ use Rattle.harmonics_book.specs.declared.book.Book.{Book}
 use Rattle.rate_bound.specs.declared.version.Version.{Version}
 use Rattle.station_curve.specs.Curves.{IsPrediction, prediction_of}
 use Rattle.station_table.specs.Bases.{is_equal}
-use Rattle.station_span.specs.declared.asked.Asked.{Asked}
+use Rattle.station_span.specs.declared.span_request.SpanRequest.{SpanRequest}
 use Rattle.station_span.specs.declared.following.FoundEvents.{FoundEvents}
 use Rattle.station_span.specs.declared.found_station.FoundStation.{FoundStation}
 use Rattle.station_span.specs.declared.reference_station.ReferenceStation.{ReferenceStation}
-use Rattle.station_span.specs.declared.reach.Reach.{Reach}
-use Rattle.station_span.specs.declared.reach.Reach.TheVariants.{Highest}
+use Rattle.station_span.specs.declared.purpose.Purpose.{Purpose}
+use Rattle.station_span.specs.declared.purpose.Purpose.TheVariants.{Highest}
 use Rattle.station_span.specs.Following.{cells_of, events_of, followed_by, tracks_of}
 use Rattle.station_span.specs.Sites.{Site}
 use Rattle.station_span.specs.Workings.Spans.{HasLevels, site_with}
@@ -23,26 +23,26 @@ use Rattle.zone_time.specs.Zones.{InZoneYears}
 
 -- the station and the offsets of a station that was found
 abbrev pub site_of : FoundStation → Site
-site_of found = site_with found.basis found.curve.station
+site_of found_station = site_with found_station.basis found_station.curve.station
 
 -- the curves that are followed at a station that was found
 abbrev pub followed_at : Version → FoundStation → Followed
-followed_at version found = followed_by version found.curve.book (site_of found) found.asked.mark
+followed_at version found_station = followed_by version found_station.curve.book (site_of found_station) found_station.span_request.mark
 
 -- ---- a station that was found
 
 -- the found station is the expected one of the harmonics file, with the span of the request
-pub record IsFoundIn (reach_for : Reach) (book_read : Book) (asked_for : Asked) (expected : Result Site Refusal)
-    (found : FoundStation) : Type 0 where
-  pub site : expected ≡ Ok (site_of found)
-  pub reach : found.reach ≡ reach_for
-  pub book : found.curve.book ≡ book_read
-  pub asked : found.asked ≡ asked_for
+pub record IsFoundIn (reach_for : Purpose) (book_read : Book) (asked_for : SpanRequest) (expected : Result Site Refusal)
+    (found_station : FoundStation) : Type 0 where
+  pub site : expected ≡ Ok (site_of found_station)
+  pub purpose : found_station.purpose ≡ reach_for
+  pub book : found_station.curve.book ≡ book_read
+  pub span_request : found_station.span_request ≡ asked_for
 
 -- the expected station was found, or the expected refusal returned
-abbrev pub FindsIn : Reach → Book → Asked → Result Site Refusal → Result FoundStation Refusal → Type 0
-FindsIn reach book asked expected (Ok found) = IsFoundIn reach book asked expected found
-FindsIn reach book asked expected (Err refusal) = Excused (refusal_is_out_of_memory refusal) expected refusal
+abbrev pub FindsIn : Purpose → Book → SpanRequest → Result Site Refusal → Result FoundStation Refusal → Type 0
+FindsIn purpose book span_request expected (Ok found_station) = IsFoundIn purpose book span_request expected found_station
+FindsIn purpose book span_request expected (Err refusal) = Excused (refusal_is_out_of_memory refusal) expected refusal
 
 -- a station without a span was found, with a curve for all minutes
 pub record IsReferenceFound (book : Book) (expected : Result Site Refusal) (reference : ReferenceStation) : Type 0 where
@@ -61,38 +61,38 @@ FindsReference book expected (Err refusal) = Excused (refusal_is_out_of_memory r
 -- ---- levels
 
 -- the station's level at this minute is that of a minute of the reference that may be evaluated
-pub record IsLooked (found : FoundStation) (minute : ℤ) : Type 0 where
-  pub from : found.span.begin ≤ℤ (minute -ℤ found.basis.high.add)
-  pub until : (minute -ℤ found.basis.high.add) ≤ℤ found.span.end
+pub record IsEvaluable (found_station : FoundStation) (minute : ℤ) : Type 0 where
+  pub from : found_station.span.begin ≤ℤ (minute -ℤ found_station.basis.high.add)
+  pub until : (minute -ℤ found_station.basis.high.add) ≤ℤ found_station.span.end
 
 -- each minute of the requested span, its end included, has a level that may be evaluated
-abbrev pub AreLooked : FoundStation → Type 0
-AreLooked found = (minute : ℤ) → found.asked.begin ≤ℤ minute → minute ≤ℤ found.asked.end → IsLooked found minute
+abbrev pub AreEvaluable : FoundStation → Type 0
+AreEvaluable found_station = (minute : ℤ) → found_station.span_request.begin ≤ℤ minute → minute ≤ℤ found_station.span_request.end → IsEvaluable found_station minute
 
 -- a station that was found with a span that has a highest water: the span has a minute, and the
 -- station's high and low waters have the same offsets
-pub record HasPeak (found : FoundStation) : Type 0 where
-  pub reach : found.reach ≡ Highest
-  pub equal : IsTrue (is_equal found.basis)
+pub record HasPeak (found_station : FoundStation) : Type 0 where
+  pub purpose : found_station.purpose ≡ Highest
+  pub equal : IsTrue (is_equal found_station.basis)
 
 -- ---- events
 
 -- the list of a station's events; its span has a local time in every zone
-pub record IsSiteList (book : Book) (asked : Asked) (site : Site) (listed : FoundEvents) : Type 0 where
+pub record IsSiteList (book : Book) (span_request : SpanRequest) (site : Site) (listed : FoundEvents) : Type 0 where
   pub units : listed.units ≡ site.station.units
   pub levels : HasLevels listed.units
-  pub events : listed.events ≡ events_of book site asked
-  pub cells : listed.cells ≡ cells_of book site asked
+  pub events : listed.events ≡ events_of book site span_request
+  pub cells : listed.cells ≡ cells_of book site span_request
   pub lines : All (IsListed listed.units) listed.events
-  pub forward : asked.begin ≤ℤ asked.end
-  pub begins : InZoneYears asked.begin
-  pub ends : InZoneYears asked.end
+  pub forward : span_request.begin ≤ℤ span_request.end
+  pub begins : InZoneYears span_request.begin
+  pub ends : InZoneYears span_request.end
 
 -- the expected station's events were listed, or the expected refusal returned
-abbrev pub Lists : Book → Asked → Result Site Refusal → Result FoundEvents Refusal → Type 0
-Lists book asked expected (Ok listed) = (site : Site) × (expected ≡ Ok site) × IsSiteList book asked site listed
-Lists book asked expected (Err refusal) = Excused (refusal_is_out_of_memory refusal) expected refusal
+abbrev pub Lists : Book → SpanRequest → Result Site Refusal → Result FoundEvents Refusal → Type 0
+Lists book span_request expected (Ok listed) = (site : Site) × (expected ≡ Ok site) × IsSiteList book span_request site listed
+Lists book span_request expected (Err refusal) = Excused (refusal_is_out_of_memory refusal) expected refusal
 
 -- the events of the reference's curves over the evaluated minutes
 abbrev pub AreReferences : FoundStation → List Event → Type 0
-AreReferences found events = events ≡ merged_of found.span.begin (tracks_of found.curve.book (site_of found) found.asked)
+AreReferences found_station events = events ≡ merged_of found_station.span.begin (tracks_of found_station.curve.book (site_of found_station) found_station.span_request)

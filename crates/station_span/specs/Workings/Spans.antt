@@ -10,17 +10,17 @@ use Rattle.station_table.specs.declared.basis.Basis.{Basis}
 use Rattle.station_table.specs.Bases.{IsBasis, is_equal}
 use Rattle.year_blend.specs.Places.{InDomain}
 use Rattle.zone_time.specs.Moments.{IsMoment}
-use Rattle.station_span.specs.declared.asked.Asked.{Asked}
-use Rattle.station_span.specs.declared.reach.Reach.{Reach}
+use Rattle.station_span.specs.declared.span_request.SpanRequest.{SpanRequest}
+use Rattle.station_span.specs.declared.purpose.Purpose.{Purpose}
 use Rattle.station_span.specs.Sites.{Site, lacks_minute, reached, span_limit}
 use Rattle.harmonics_book.specs.declared.book.Station.{Station}
 
 -- a span and a mark in the range that a request, a certificate or a clock can name: minutes of at most
 -- 20,000,000,000 and a mark of at most 10,000,000,000 millionths in size
-pub record IsInRange (asked : Asked) : Type 0 where
-  pub begin : unsigned_abs asked.begin ≤ 20000000000
-  pub end : unsigned_abs asked.end ≤ 20000000000
-  pub mark : ForSome asked.mark (λ level. unsigned_abs level ≤ 10000000000)
+pub record IsInRange (span_request : SpanRequest) : Type 0 where
+  pub begin : unsigned_abs span_request.begin ≤ 20000000000
+  pub end : unsigned_abs span_request.end ≤ 20000000000
+  pub mark : ForSome span_request.mark (λ level. unsigned_abs level ≤ 10000000000)
 
 -- a span whose end isn't before its beginning, and whose begin and end are at most 100,000,000,000
 -- minutes in size
@@ -30,9 +30,9 @@ pub record IsSpanInRange (s : Span) : Type 0 where
   pub end : unsigned_abs s.end ≤ 100000000000
 
 -- a span whose ends have a text as moments
-pub record AreMoments (asked : Asked) : Type 0 where
-  pub begin : IsMoment asked.begin
-  pub end : IsMoment asked.end
+pub record AreMoments (span_request : SpanRequest) : Type 0 where
+  pub begin : IsMoment span_request.begin
+  pub end : IsMoment span_request.end
 
 -- each end of a span is at most a day from a given minute
 pub record IsBeside (begin end : ℤ) (s : Span) : Type 0 where
@@ -41,13 +41,13 @@ pub record IsBeside (begin end : ℤ) (s : Span) : Type 0 where
 
 -- a span whose end isn't before its beginning, and for which the harmonics file has the minutes that are
 -- needed
-pub record IsReached (reach : Reach) (book : Book) (basis : Basis) (begin end : ℤ) : Type 0 where
+pub record IsReached (purpose : Purpose) (book : Book) (basis : Basis) (begin end : ℤ) : Type 0 where
   pub forward : begin ≤ℤ end
-  pub begins : InDomain book.first_year book.years (reached reach basis begin end).begin
-  pub ends : InDomain book.first_year book.years (reached reach basis begin end).end
-  pub in_range : IsSpanInRange (reached reach basis begin end)
-  pub beside : IsBeside begin end (reached reach basis begin end)
-  pub some : lacks_minute reach begin end ≡ false
+  pub begins : InDomain book.first_year book.years (reached purpose basis begin end).begin
+  pub ends : InDomain book.first_year book.years (reached purpose basis begin end).end
+  pub in_range : IsSpanInRange (reached purpose basis begin end)
+  pub beside : IsBeside begin end (reached purpose basis begin end)
+  pub some : lacks_minute purpose begin end ≡ false
 
 -- a unit of levels: any but a hydraulic current's
 abbrev pub has_levels : Units → Bool
@@ -66,14 +66,14 @@ pub record IsFileMinute (minute : ℤ) : Type 0 where
   pub most : minute ≤ℤ pos 3855208320
 
 -- a station with a curve, for which the harmonics file has the minutes that are needed
-pub record IsFound (reach : Reach) (book : Book) (asked : Asked) (site : Site) : Type 0 where
+pub record IsFound (purpose : Purpose) (book : Book) (span_request : SpanRequest) (site : Site) : Type 0 where
   pub valid : IsBasis (length book.stations) site.basis
   pub levels : HasLevels site.station.units
   pub limits : IsWithinLimits book site.station
-  pub span : IsReached reach book site.basis asked.begin asked.end
-  pub few : (asked.end -ℤ asked.begin) ≤ℤ span_limit
-  pub mark : ForSome asked.mark (λ level. IsTrue (is_equal site.basis))
-  pub in_range : IsInRange asked
+  pub span : IsReached purpose book site.basis span_request.begin span_request.end
+  pub few : (span_request.end -ℤ span_request.begin) ≤ℤ span_limit
+  pub mark : ForSome span_request.mark (λ level. IsTrue (is_equal site.basis))
+  pub in_range : IsInRange span_request
 
 -- a station with the offsets from it
 abbrev pub site_with : Basis → Station → Site

@@ -7,25 +7,25 @@ use Rattle.event_list.specs.Shifts.{widened_of}
 use Rattle.harmonics_book.specs.declared.book.Book.{Book}
 use Rattle.station_table.specs.declared.offsets.Offsets.{Offsets}
 use Rattle.zone_time.specs.declared.zone.Zone.{Zone}
-use Rattle.station_span.specs.declared.asked.Asked.{Asked}
-use Rattle.station_span.specs.declared.reach.Reach.TheVariants.{Events}
+use Rattle.station_span.specs.declared.span_request.SpanRequest.{SpanRequest}
+use Rattle.station_span.specs.declared.purpose.Purpose.TheVariants.{Events}
 use Rattle.tide_fault.specs.declared.refusal.Refusal.{Refusal}
 use Rattle.station_cells.specs.declared.rejection.Rejection.{Rejection}
 use Rattle.tide_answer.specs.declared.text.Answer.{Answer}
 use Rattle.tide_answer.specs.Answers.{judged, version_of}
-use Rattle.tide_answer.specs.Asking.{asked_by_certificate}
+use Rattle.tide_answer.specs.Asking.{request_by_certificate}
 use Rattle.station_span.specs.Following.{followed_by}
 use Rattle.station_cells.specs.Rejections.{rejection_of}
 use Rattle.station_span.specs.Sites.{Site, site_in}
 
 -- the certificate of tracks, of version 2
-abbrev pub certificate_in : List ℕ → Asked → Tracks → Certificate
-certificate_in name asked tracks = record {
+abbrev pub certificate_in : List ℕ → SpanRequest → Tracks → Certificate
+certificate_in name span_request tracks = record {
   version = 2;
   station = name;
-  begin = asked.begin;
-  end = asked.end;
-  mark = asked.mark;
+  begin = span_request.begin;
+  end = span_request.end;
+  mark = span_request.mark;
   tracks = tracks;
 }
 
@@ -38,5 +38,5 @@ rejection_in book site cert =
 -- refusal
 unfoldable pub judged_in : Book → List Offsets → Certificate → Zone → Result Answer Refusal
 judged_in book table cert zone = do
-  site ← site_in Events book table cert.station (asked_by_certificate cert)
+  site ← site_in Events book table cert.station (request_by_certificate cert)
   Ok (judged book site cert zone (rejection_in book site cert))

@@ -5,20 +5,20 @@ use Rattle.harmonics_book.specs.declared.book.Book.{Book}
 use Rattle.peak_text.specs.declared.certificate.PeakCertificate.{PeakCertificate}
 use Rattle.highest_water.specs.declared.peak.Peak.{Peak}
 use Rattle.station_table.specs.declared.offsets.Offsets.{Offsets}
-use Rattle.station_span.specs.declared.asked.Asked.{Asked}
+use Rattle.station_span.specs.declared.span_request.SpanRequest.{SpanRequest}
 use Rattle.station_span.specs.Peaks.{highest_site, highest_verdict}
 use Rattle.tide_fault.specs.declared.refusal.Refusal.{Refusal}
 use Rattle.tide_answer.specs.declared.text.Answer.{Answer}
 use Rattle.tide_answer.specs.Answers.{peak_judged}
-use Rattle.tide_answer.specs.Asking.{asked_by_peak_certificate}
+use Rattle.tide_answer.specs.Asking.{request_by_peak_certificate}
 
 -- the certificate of a highest water
-abbrev pub peak_certificate_in : List ℕ → Asked → Peak → PeakCertificate
-peak_certificate_in name asked peak = record { station = name; begin = asked.begin; end = asked.end; peak = peak }
+abbrev pub peak_certificate_in : List ℕ → SpanRequest → Peak → PeakCertificate
+peak_certificate_in name span_request peak = record { station = name; begin = span_request.begin; end = span_request.end; peak = peak }
 
 -- the answer to the check of a certificate of a highest water that was read: it is accepted or rejected,
 -- or there is a refusal
 unfoldable pub peak_judged_in : Book → List Offsets → PeakCertificate → Result Answer Refusal
 peak_judged_in book table cert = do
-  site ← highest_site book table cert.station (asked_by_peak_certificate cert)
-  Ok (peak_judged book site cert (highest_verdict book site (asked_by_peak_certificate cert) cert.peak))
+  site ← highest_site book table cert.station (request_by_peak_certificate cert)
+  Ok (peak_judged book site cert (highest_verdict book site (request_by_peak_certificate cert) cert.peak))

@@ -5,11 +5,11 @@ use Rattle.question.specs.declared.question.Question.{Question}
 use Rattle.station_span.specs.Sites.{NamedSpan}
 use Rattle.tide_fault.specs.declared.refusal.Refusal.{Refusal}
 use Rattle.tide_answer.specs.Answers.{named_by}
-use Rattle.tide_answer.specs.Asking.{asked_by_question}
+use Rattle.tide_answer.specs.Asking.{request_by_question}
 
 -- the station, the span and the mark of a question, if it names a station and a span
 unfoldable pub named_span : Question → Result NamedSpan Refusal
 named_span question = do
   name ← named_by question.station
-  asked ← named_by (asked_by_question question)
-  Ok (record { name = name; asked = asked })
+  span_request ← named_by (request_by_question question)
+  Ok (record { name = name; span_request = span_request })

@@ -10,11 +10,11 @@ use Rattle.question.specs.declared.command.Command.TheVariants.{Certify}
 use Rattle.station_table.specs.Bases.{is_plain}
 use Rattle.zone_time.specs.declared.zone.Zone.{Zone}
 use Rattle.zone_time.specs.Zones.{IsZone}
-use Rattle.station_span.specs.declared.asked.Asked.{Asked}
+use Rattle.station_span.specs.declared.span_request.SpanRequest.{SpanRequest}
 use Rattle.tide_answer.specs.declared.form.Form.{Form}
 use Rattle.tide_answer.specs.declared.form.Form.TheVariants.{Listing, Certificate}
 use Rattle.station_span.specs.declared.found_station.FoundStation.{FoundStation}
-use Rattle.station_span.specs.declared.reach.Reach.TheVariants.{Events}
+use Rattle.station_span.specs.declared.purpose.Purpose.TheVariants.{Events}
 use Rattle.station_span.specs.Following.{cells_of, events_of}
 use Rattle.station_span.specs.Sites.{Site}
 use Rattle.station_span.specs.Workings.Finds.{site_of}
@@ -24,18 +24,18 @@ use Rattle.tide_answer.specs.declared.text.Answer.{Answer}
 use Rattle.station_span.specs.Workings.Spans.{AreMoments}
 
 -- the text of a streamed answer: a listing or a certificate, as the form says
-abbrev pub stream_text : Form → Book → Site → List ℕ → Asked → Zone → List ℕ
-stream_text Listing book site name asked zone = plain_events_of name site.station.units (events_of book site asked) zone
-stream_text Certificate book site name asked zone = certificate_text (certificate_by book site name asked)
+abbrev pub stream_text : Form → Book → Site → List ℕ → SpanRequest → Zone → List ℕ
+stream_text Listing book site name span_request zone = plain_events_of name site.station.units (events_of book site span_request) zone
+stream_text Certificate book site name span_request zone = certificate_text (certificate_by book site name span_request)
 
 -- a streamed answer for a station: a listing or a certificate, as the form says
-abbrev pub stream_answer : Form → Book → Site → List ℕ → Asked → Zone → Answer
-stream_answer form book site name asked zone =
-    record { text = stream_text form book site name asked zone; rejected = false; cells = cells_of book site asked }
+abbrev pub stream_answer : Form → Book → Site → List ℕ → SpanRequest → Zone → Answer
+stream_answer form book site name span_request zone =
+    record { text = stream_text form book site name span_request zone; rejected = false; cells = cells_of book site span_request }
 
 -- a streamed answer for a station that was found: a listing or a certificate, as the form says
 abbrev pub stream_of : Form → FoundStation → List ℕ → Zone → Answer
-stream_of form found name zone = stream_answer form found.curve.book (site_of found) name found.asked zone
+stream_of form found_station name zone = stream_answer form found_station.curve.book (site_of found_station) name found_station.span_request zone
 
 -- the form of the streamed answers of a command: a certificate for `certify`, else a listing
 abbrev pub form_of : Command → Form
@@ -43,20 +43,20 @@ form_of Certify = Certificate
 form_of _ = Listing
 
 -- what writing a streamed answer requires of the station, the name and the zone
-pub record IsStream (found : FoundStation) (name : List ℕ) (zone : Zone) : Type 0 where
-  pub reach : found.reach ≡ Events
-  pub moments : AreMoments found.asked
+pub record IsStream (found_station : FoundStation) (name : List ℕ) (zone : Zone) : Type 0 where
+  pub purpose : found_station.purpose ≡ Events
+  pub moments : AreMoments found_station.span_request
   pub named : IsStationName name
   pub clock : IsZone zone
-  pub plain : IsTrue (is_plain found.basis)
+  pub plain : IsTrue (is_plain found_station.basis)
 
 -- ---- the parts of a certificate
 
 -- the lines of a certificate before its tracks
-abbrev pub head_text : List ℕ → Asked → List ℕ
-head_text name asked =
+abbrev pub head_text : List ℕ → SpanRequest → List ℕ
+head_text name span_request =
     codes "tide certificate 2\nstation " ++ name ++ codes "\n"
-    ++ (ended (begin_line_of asked.begin) ++ ended (end_line_of asked.end) ++ ended (mark_line_of asked.mark))
+    ++ (ended (begin_line_of span_request.begin) ++ ended (end_line_of span_request.end) ++ ended (mark_line_of span_request.mark))
 
 -- the lines of a certificate's tracks
 abbrev pub tracks_text : Tracks → List ℕ

@@ -1,12 +1,12 @@
 -- Reasons other than out of memory and a fault of reading.
 use Rattle.std.specs.Prelude.{ℤ, IsTrue, Result, Ok, Err}
 use Rattle.tide_edge.specs.declared.failed.Failed.{Failed}
-use Rattle.named_files.specs.declared.no_answer.NoAnswer.{NoAnswer}
-use Rattle.named_files.specs.NoAnswers.{status_of}
+use Rattle.named_files.specs.declared.run_fault.RunFault.{RunFault}
+use Rattle.named_files.specs.RunFaults.{status_of}
 use Rattle.tide_desk.specs.Outcomes.{is_settled}
 
 -- a reason other than out of memory and a fault of reading
-abbrev pub IsSettled : NoAnswer → Type 0
+abbrev pub IsSettled : RunFault → Type 0
 IsSettled none = IsTrue (is_settled (status_of none))
 
 -- the result of reading the clock, from the result of the step that read it

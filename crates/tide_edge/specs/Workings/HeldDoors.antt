@@ -5,7 +5,7 @@ use mathlib.Core.Logic.{∥∥₁_elim}
 use Rattle.std.proofs.Props.{props}
 use Rattle.tide_edge.specs.Doors.{Connection, Connections, DoorState, connections_of, left_after}
 use Rattle.tide_edge.specs.DoorLaws.{AreOfRequests, IsOfRequest, IsOfRequests}
-use Rattle.tide_edge.specs.FileStates.{listed}
+use Rattle.tide_edge.specs.FileStates.{as_list}
 use Rattle.tide_edge.specs.Memory.{HeldDoor, door_state}
 
 -- the connection accepted last is of the current request, whose other pieces are unread; or none was
@@ -17,10 +17,10 @@ IsCurrent passed current (Some c) coming =
 
 -- All requests are those of the earlier connections, the current one and the waiting ones; the
 -- connections are of these, and the replies are the bytes sent over them.
-pub record IsTied (requests waiting : List (List (List ℕ))) (all : Connections) (coming replies : List (List ℕ)) : Type 0 where
+pub record IsTied (requests pending : List (List (List ℕ))) (all : Connections) (coming replies : List (List ℕ)) : Type 0 where
   pub passed : List (List (List ℕ))
   pub current : List (List (List ℕ))
-  pub parts : requests ≡ passed ++ current ++ waiting
+  pub parts : requests ≡ passed ++ current ++ pending
   pub many : length passed ≡ length all.earlier
   pub earlier : AreOfRequests true passed all.earlier
   pub latest : IsCurrent passed current all.latest coming
@@ -29,8 +29,8 @@ pub record IsTied (requests waiting : List (List (List ℕ))) (all : Connections
 -- the requests of a door in memory are tied to its connections, and none waits if there are no more
 -- connections
 abbrev pub IsTiedDoor : HeldDoor → Type 0
-IsTiedDoor held =
-    IsTied held.requests held.waiting held.connections held.coming held.replies × (IsTrue held.doorway.is_over → held.waiting ≡ [])
+IsTiedDoor contents =
+    IsTied contents.requests contents.pending contents.connections contents.coming contents.replies × (IsTrue contents.listener_state.is_over → contents.pending ≡ [])
 
 -- ---- Such a door is lawful
 
@@ -42,42 +42,42 @@ of_both (r ∷ a) b [] ds many first more = absurd (omega (arith, many))
 of_both [] b (c ∷ cs) ds many first more = absurd first
 of_both (r ∷ a) b (c ∷ cs) ds many first more = (first.0, of_both a b cs ds (omega (arith, many)) first.1 more)
 
-pub of_latest : (passed current waiting : List (List (List ℕ))) (latest : Option Connection) (coming : List (List ℕ))
-    → IsCurrent passed current latest coming → AreOfRequests true (current ++ waiting) (listed latest)
+pub of_latest : (passed current pending : List (List (List ℕ))) (latest : Option Connection) (coming : List (List ℕ))
+    → IsCurrent passed current latest coming → AreOfRequests true (current ++ pending) (as_list latest)
 unfolding AreOfRequests
-of_latest passed current waiting None coming is = tt
-of_latest passed current waiting (Some c) coming is =
-    subst (λ (rs : List (List (List ℕ))). AreOfRequests true (rs ++ waiting) (c ∷ [])) (sym is.1) (is.2, tt)
+of_latest passed current pending None coming is = tt
+of_latest passed current pending (Some c) coming is =
+    subst (λ (rs : List (List (List ℕ))). AreOfRequests true (rs ++ pending) (c ∷ [])) (sym is.1) (is.2, tt)
 
 pub as_many : (passed current : List (List (List ℕ))) (latest : Option Connection) (coming : List (List ℕ))
-    → IsCurrent passed current latest coming → length current ≡ length (listed latest)
+    → IsCurrent passed current latest coming → length current ≡ length (as_list latest)
 as_many passed current None coming is = ap length is.1
 as_many passed current (Some c) coming is = ap length is.1
 
-behind : (xs waiting : List (List (List ℕ))) → drop (length xs) (xs ++ waiting) ≡ waiting
-behind [] waiting = refl
-behind (x ∷ xs) waiting = behind xs waiting
+behind : (xs pending : List (List (List ℕ))) → drop (length xs) (xs ++ pending) ≡ pending
+behind [] pending = refl
+behind (x ∷ xs) pending = behind xs pending
 
 -- the number of requests that don't wait
-pub all_many : (requests waiting : List (List (List ℕ))) (all : Connections) (coming replies : List (List ℕ))
-    (t : IsTied requests waiting all coming replies) → length (t.passed ++ t.current) ≡ length (connections_of all)
-all_many requests waiting all coming replies t =
+pub all_many : (requests pending : List (List (List ℕ))) (all : Connections) (coming replies : List (List ℕ))
+    (t : IsTied requests pending all coming replies) → length (t.passed ++ t.current) ≡ length (connections_of all)
+all_many requests pending all coming replies t =
     length-append t.passed t.current
     ∙ ap (λ n. n + length t.current) t.many
     ∙ ap (λ n. length all.earlier + n) (as_many t.passed t.current all.latest coming t.latest)
-    ∙ sym (length-append all.earlier (listed all.latest))
+    ∙ sym (length-append all.earlier (as_list all.latest))
 
-lawful_of : (held : HeldDoor) → IsTiedDoor held → IsOfRequests (door_state held)
-lawful_of held (t, over) = record {
+lawful_of : (contents : HeldDoor) → IsTiedDoor contents → IsOfRequests (door_state contents)
+lawful_of contents (t, over) = record {
   connections =
-      subst (λ (rs : List (List (List ℕ))). AreOfRequests true rs (connections_of held.connections))
-      (sym (t.parts ∙ append_assoc t.passed t.current held.waiting))
-      (of_both t.passed (t.current ++ held.waiting) held.connections.earlier (listed held.connections.latest) t.many t.earlier
-      (of_latest t.passed t.current held.waiting held.connections.latest held.coming t.latest));
+      subst (λ (rs : List (List (List ℕ))). AreOfRequests true rs (connections_of contents.connections))
+      (sym (t.parts ∙ append_assoc t.passed t.current contents.pending))
+      (of_both t.passed (t.current ++ contents.pending) contents.connections.earlier (as_list contents.connections.latest) t.many t.earlier
+      (of_latest t.passed t.current contents.pending contents.connections.latest contents.coming t.latest));
   over = λ is.
-      ap (λ n. drop n held.requests) (sym (all_many held.requests held.waiting held.connections held.coming held.replies t))
+      ap (λ n. drop n contents.requests) (sym (all_many contents.requests contents.pending contents.connections contents.coming contents.replies t))
       ∙ ap (drop (length (t.passed ++ t.current))) t.parts
-      ∙ behind (t.passed ++ t.current) held.waiting
+      ∙ behind (t.passed ++ t.current) contents.pending
       ∙ over is;
 }
 
@@ -97,5 +97,5 @@ are_prop keeps_pieces (request ∷ requests) (c ∷ more) =
 one_law : (d : DoorState) → IsProp (IsOfRequests d)
 one_law d = hlevel (props, are_prop d.keeps_pieces d.requests (connections_of d.connections))
 
-pub lawful_by : (held : HeldDoor) → ∥ IsTiedDoor held ∥₁ → IsOfRequests (door_state held)
-lawful_by held tied = ∥∥₁_elim tied (one_law (door_state held)) (lawful_of held)
+pub lawful_by : (contents : HeldDoor) → ∥ IsTiedDoor contents ∥₁ → IsOfRequests (door_state contents)
+lawful_by contents tied = ∥∥₁_elim tied (one_law (door_state contents)) (lawful_of contents)

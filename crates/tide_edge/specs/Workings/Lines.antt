@@ -17,5 +17,5 @@ parts (start ∷ next ∷ more) bytes = drop start (take next bytes) ∷ parts (
 -- be begun
 pub record HeldReplies : Type 0 where
   pub replies : List (List ℕ)
-  pub room : ℕ
+  pub capacity : ℕ
   pub more : ℕ

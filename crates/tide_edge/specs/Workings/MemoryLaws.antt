@@ -6,8 +6,8 @@ use Rattle.std.proofs.lemmas.Bool.Decides.{Decides-eqb}
 use Rattle.std.proofs.lemmas.List.{nil_from_length}
 use Rattle.std.proofs.lemmas.List.Elements.{All-append, All-cons, All-nil}
 use Rattle.tide_edge.specs.declared.failed.Failed.{Failed}
-use Rattle.tide_edge.specs.Calls.{answer, is_to_fail}
-use Rattle.tide_edge.specs.FileStates.{FilesState, Opening, Store, begun, files_after_open, files_after_read, just_opened, listed, opening_after_failure, opening_after_read}
+use Rattle.tide_edge.specs.FaultSchedule.{answer, is_to_fail}
+use Rattle.tide_edge.specs.FileStates.{FilesState, Opening, FileContents, begun, files_after_open, files_after_read, just_opened, as_list, opening_after_failure, opening_after_read}
 use Rattle.tide_edge.specs.Memory.{FileCall, FilesNow, HeldFiles, Open, Read, after_file_call, before_calls, files_now, files_state, folder_of, open_result, read_result}
 use Rattle.tide_edge.specs.StoreLaws.{AreOfStore, IsLawful, IsOfStore, IsReadOf}
 
@@ -21,23 +21,23 @@ unobservable untrue = never untrue
 -- ---- One call keeps the law
 
 -- the latest opening as a list
-pub listed_read : (store : Store) (rest : List ℕ) (latest : Option Opening) → IfSome latest (λ o. IsReadOf store rest o)
-    → All (IsOfStore store) (listed latest)
-listed_read store rest None is = All-nil (IsOfStore store)
-listed_read store rest (Some o) is = All-cons (IsOfStore store) o [] (rest, is) (All-nil (IsOfStore store))
+pub listed_read : (file_contents : FileContents) (unread_bytes : List ℕ) (latest : Option Opening) → IfSome latest (λ o. IsReadOf file_contents unread_bytes o)
+    → All (IsOfStore file_contents) (as_list latest)
+listed_read file_contents unread_bytes None is = All-nil (IsOfStore file_contents)
+listed_read file_contents unread_bytes (Some o) is = All-cons (IsOfStore file_contents) o [] (unread_bytes, is) (All-nil (IsOfStore file_contents))
 
 -- an opening before any byte is read
-just_read : (store : Store) (name : List ℕ) (result : Result (Unit {0}) Failed) → OnOk result (IsSome (store.folder name))
-    → (IsTrue store.is_steady → OnErr result (store.folder name ≡ None))
-    → IsReadOf store (begun result (store.folder name)) (just_opened (is_ok result) name)
-just_read store name (Ok opened) found absent = record {
+just_read : (file_contents : FileContents) (name : List ℕ) (result : Result (Unit {0}) Failed) → OnOk result (IsSome (file_contents.folder name))
+    → (IsTrue file_contents.is_steady → OnErr result (file_contents.folder name ≡ None))
+    → IsReadOf file_contents (begun result (file_contents.folder name)) (just_opened (is_ok result) name)
+just_read file_contents name (Ok opened) found absent = record {
   prefix = refl;
   whole = λ some. absurd (omega (arith, some));
   exists = λ _. found;
   absent = λ steady untrue. never (sym untrue);
   steady = λ _. refl;
 }
-just_read store name (Err failed) found absent = record {
+just_read file_contents name (Err failed) found absent = record {
   prefix = refl;
   whole = λ some. absurd (omega (arith, some));
   exists = λ untrue. never untrue;
@@ -49,67 +49,67 @@ chosen : (b : Bool) (first second : List ℕ) → IsTrue b → (if b then first 
 chosen true first second t = refl
 chosen false first second t = never t
 
-pub open_keeps : (s : FilesState) (result : Result (Unit {0}) Failed) (name : List ℕ) → IsTrue s.store.is_observable
-    → OnOk result (IsSome (s.store.folder name))
-    → (IsTrue s.store.is_steady → OnErr result (s.store.folder name ≡ None))
+pub open_keeps : (s : FilesState) (result : Result (Unit {0}) Failed) (name : List ℕ) → IsTrue s.file_contents.is_observable
+    → OnOk result (IsSome (s.file_contents.folder name))
+    → (IsTrue s.file_contents.is_steady → OnErr result (s.file_contents.folder name ≡ None))
     → AreOfStore s → AreOfStore (files_after_open result name s)
 open_keeps s result name t found absent of = record {
-  earlier = All-append (IsOfStore s.store) s.openings.earlier (listed s.openings.latest) of.earlier
-      (listed_read s.store s.rest s.openings.latest of.latest);
-  latest = rw (chosen s.store.is_observable (begun result (s.store.folder name)) s.rest t) (just_read s.store name result found absent);
+  earlier = All-append (IsOfStore s.file_contents) s.open_log.earlier (as_list s.open_log.latest) of.earlier
+      (listed_read s.file_contents s.unread_bytes s.open_log.latest of.latest);
+  latest = rw (chosen s.file_contents.is_observable (begun result (s.file_contents.folder name)) s.unread_bytes t) (just_read s.file_contents name result found absent);
 }
 
 drop_none : (count : ℕ) → drop {A = ℕ} count [] ≡ []
 drop_none zero = refl
 drop_none (suc count) = refl
 
-ended_by : (count ends : ℕ) (is_zero : Bool) (rest : List ℕ) → (count == 0) ≡ is_zero → (count ≡ 0 → rest ≡ [])
-    → (0 < ends → rest ≡ []) → 0 < (if is_zero then ends + 1 else ends) → drop count rest ≡ []
-ended_by count ends true rest is at_zero ended some = rw (at_zero ((Decides-eqb count 0).0 is)) (drop_none count)
-ended_by count ends false rest is at_zero ended some = rw (ended some) (drop_none count)
+ended_by : (count ends : ℕ) (is_zero : Bool) (unread_bytes : List ℕ) → (count == 0) ≡ is_zero → (count ≡ 0 → unread_bytes ≡ [])
+    → (0 < ends → unread_bytes ≡ []) → 0 < (if is_zero then ends + 1 else ends) → drop count unread_bytes ≡ []
+ended_by count ends true unread_bytes is at_zero ended some = rw (at_zero ((Decides-eqb count 0).0 is)) (drop_none count)
+ended_by count ends false unread_bytes is at_zero ended some = rw (ended some) (drop_none count)
 
-read_on : (store : Store) (rest : List ℕ) (count : ℕ) (o : Opening) → (count ≡ 0 → rest ≡ []) → IsReadOf store rest o
-    → IsReadOf store (drop count rest) (opening_after_read count rest o)
-read_on store rest count o at_zero is = record {
-  prefix = is.prefix ∙ ap (λ l. o.bytes ++ l) (sym (take-append-drop count rest))
-      ∙ sym (append_assoc o.bytes (take count rest) (drop count rest));
-  whole = ended_by count o.ends (count == 0) rest refl at_zero is.whole;
+read_on : (file_contents : FileContents) (unread_bytes : List ℕ) (count : ℕ) (o : Opening) → (count ≡ 0 → unread_bytes ≡ []) → IsReadOf file_contents unread_bytes o
+    → IsReadOf file_contents (drop count unread_bytes) (opening_after_read count unread_bytes o)
+read_on file_contents unread_bytes count o at_zero is = record {
+  prefix = is.prefix ∙ ap (λ l. o.bytes ++ l) (sym (take-append-drop count unread_bytes))
+      ∙ sym (append_assoc o.bytes (take count unread_bytes) (drop count unread_bytes));
+  whole = ended_by count o.ends (count == 0) unread_bytes refl at_zero is.whole;
   exists = is.exists;
   absent = is.absent;
   steady = is.steady;
 }
 
-latest_read_on : (store : Store) (rest : List ℕ) (count : ℕ) (latest : Option Opening) → (count ≡ 0 → rest ≡ [])
-    → IfSome latest (λ o. IsReadOf store rest o)
-    → IfSome (option_map (opening_after_read count rest) latest) (λ o. IsReadOf store (drop count rest) o)
-latest_read_on store rest count None at_zero is = tt
-latest_read_on store rest count (Some o) at_zero is = read_on store rest count o at_zero is
+latest_read_on : (file_contents : FileContents) (unread_bytes : List ℕ) (count : ℕ) (latest : Option Opening) → (count ≡ 0 → unread_bytes ≡ [])
+    → IfSome latest (λ o. IsReadOf file_contents unread_bytes o)
+    → IfSome (option_map (opening_after_read count unread_bytes) latest) (λ o. IsReadOf file_contents (drop count unread_bytes) o)
+latest_read_on file_contents unread_bytes count None at_zero is = tt
+latest_read_on file_contents unread_bytes count (Some o) at_zero is = read_on file_contents unread_bytes count o at_zero is
 
-latest_failed : (store : Store) (rest : List ℕ) (latest : Option Opening) → (IsTrue store.is_steady → ⊥)
-    → IfSome latest (λ o. IsReadOf store rest o)
-    → IfSome (option_map opening_after_failure latest) (λ o. IsReadOf store rest o)
-latest_failed store rest None unsteady is = tt
-latest_failed store rest (Some o) unsteady is =
+latest_failed : (file_contents : FileContents) (unread_bytes : List ℕ) (latest : Option Opening) → (IsTrue file_contents.is_steady → ⊥)
+    → IfSome latest (λ o. IsReadOf file_contents unread_bytes o)
+    → IfSome (option_map opening_after_failure latest) (λ o. IsReadOf file_contents unread_bytes o)
+latest_failed file_contents unread_bytes None unsteady is = tt
+latest_failed file_contents unread_bytes (Some o) unsteady is =
     record { prefix = is.prefix; whole = is.whole; exists = is.exists; absent = is.absent; steady = λ s. absurd (unsteady s) }
 
-pub read_keeps : (s : FilesState) (result : Result ℕ Failed) → IsTrue s.store.is_observable
-    → IfOk result (λ count. count ≡ 0 → s.rest ≡ []) → (IsTrue s.store.is_steady → IsOk result)
-    → AreOfStore s → AreOfStore (files_after_read result s.rest s)
+pub read_keeps : (s : FilesState) (result : Result ℕ Failed) → IsTrue s.file_contents.is_observable
+    → IfOk result (λ count. count ≡ 0 → s.unread_bytes ≡ []) → (IsTrue s.file_contents.is_steady → IsOk result)
+    → AreOfStore s → AreOfStore (files_after_read result s.unread_bytes s)
 read_keeps s (Ok count) t end reads of = record {
   earlier = of.earlier;
-  latest = rw (chosen s.store.is_observable (drop count s.rest) s.rest t)
-      (latest_read_on s.store s.rest count s.openings.latest end of.latest);
+  latest = rw (chosen s.file_contents.is_observable (drop count s.unread_bytes) s.unread_bytes t)
+      (latest_read_on s.file_contents s.unread_bytes count s.open_log.latest end of.latest);
 }
 read_keeps s (Err failed) t end reads of =
-    record { earlier = of.earlier; latest = latest_failed s.store s.rest s.openings.latest (λ steady. never (reads steady)) of.latest }
+    record { earlier = of.earlier; latest = latest_failed s.file_contents s.unread_bytes s.open_log.latest (λ steady. never (reads steady)) of.latest }
 
 -- ---- The results of calls on files in memory
 
 -- no call is to fail if the files are steady
 abbrev IsSafe : FilesNow → Type 0
-IsSafe now = IsTrue now.state.store.is_steady → now.calls.fails ≡ []
+IsSafe now = IsTrue now.state.file_contents.is_steady → now.fault_schedule.fails ≡ []
 
-pub safe_call : (now : FilesNow) → IsSafe now → IsTrue now.state.store.is_steady → is_to_fail now.calls ≡ false
+pub safe_call : (now : FilesNow) → IsSafe now → IsTrue now.state.file_contents.is_steady → is_to_fail now.fault_schedule ≡ false
 safe_call now safe steady = rw (safe steady) refl
 
 found_by : (failed : Bool) (file : Option (List ℕ))
@@ -125,22 +125,22 @@ absent_by false None is = refl
 absent_by false (Some bytes) is = tt
 
 -- a file that is opened exists
-pub opened_exists : (now : FilesNow) (name : List ℕ) → OnOk (open_result now name) (IsSome (now.state.store.folder name))
-opened_exists now name = found_by (is_to_fail now.calls) (now.state.store.folder name)
+pub opened_exists : (now : FilesNow) (name : List ℕ) → OnOk (open_result now name) (IsSome (now.state.file_contents.folder name))
+opened_exists now name = found_by (is_to_fail now.fault_schedule) (now.state.file_contents.folder name)
 
 -- a file that couldn't be opened doesn't exist, if the files are steady
-pub unopened_absent : (now : FilesNow) (name : List ℕ) → IsSafe now → IsTrue now.state.store.is_steady
-    → OnErr (open_result now name) (now.state.store.folder name ≡ None)
-unopened_absent now name safe steady = absent_by (is_to_fail now.calls) (now.state.store.folder name) (safe_call now safe steady)
+pub unopened_absent : (now : FilesNow) (name : List ℕ) → IsSafe now → IsTrue now.state.file_contents.is_steady
+    → OnErr (open_result now name) (now.state.file_contents.folder name ≡ None)
+unopened_absent now name safe steady = absent_by (is_to_fail now.fault_schedule) (now.state.file_contents.folder name) (safe_call now safe steady)
 
-min_none : (more : ℕ) (rest : List ℕ) → min (more + 1) (length rest) ≡ 0 → rest ≡ []
+min_none : (more : ℕ) (unread_bytes : List ℕ) → min (more + 1) (length unread_bytes) ≡ 0 → unread_bytes ≡ []
 min_none more [] is = refl
-min_none more (byte ∷ rest) is = absurd (omega (arith, is))
+min_none more (byte ∷ unread_bytes) is = absurd (omega (arith, is))
 
-end_by : (failed : Bool) (more : ℕ) (rest : List ℕ)
-    → IfOk (answer failed (min (more + 1) (length rest))) (λ count. count ≡ 0 → rest ≡ [])
-end_by true more rest = tt
-end_by false more rest = min_none more rest
+end_by : (failed : Bool) (more : ℕ) (unread_bytes : List ℕ)
+    → IfOk (answer failed (min (more + 1) (length unread_bytes))) (λ count. count ≡ 0 → unread_bytes ≡ [])
+end_by true more unread_bytes = tt
+end_by false more unread_bytes = min_none more unread_bytes
 
 pub reads_by : (failed : Bool) (count : ℕ) → failed ≡ false → IsOk (answer failed count)
 reads_by true count is = never (sym is)
@@ -148,49 +148,49 @@ reads_by false count is = refl
 
 -- ---- All calls
 
-call_store : (result : Result ℕ Failed) (room : List ℕ) (s : FilesState) → (files_after_read result room s).store ≡ s.store
-call_store (Ok count) room s = refl
-call_store (Err failed) room s = refl
+call_store : (result : Result ℕ Failed) (buffer : List ℕ) (s : FilesState) → (files_after_read result buffer s).file_contents ≡ s.file_contents
+call_store (Ok count) buffer s = refl
+call_store (Err failed) buffer s = refl
 
 -- no call changes the contents, or which calls are to fail
-pub kept_store : (now : FilesNow) (calls : List FileCall) → (fold after_file_call now calls).state.store ≡ now.state.store
+pub kept_store : (now : FilesNow) (fault_schedule : List FileCall) → (fold after_file_call now fault_schedule).state.file_contents ≡ now.state.file_contents
 kept_store now [] = refl
 kept_store now (Open name ∷ more) = kept_store (after_file_call now (Open name)) more
 kept_store now (Read n ∷ more) =
-    kept_store (after_file_call now (Read n)) more ∙ call_store (read_result now (n + 1)) now.state.rest now.state
+    kept_store (after_file_call now (Read n)) more ∙ call_store (read_result now (n + 1)) now.state.unread_bytes now.state
 
-pub kept_fails : (now : FilesNow) (calls : List FileCall) → (fold after_file_call now calls).calls.fails ≡ now.calls.fails
+pub kept_fails : (now : FilesNow) (fault_schedule : List FileCall) → (fold after_file_call now fault_schedule).fault_schedule.fails ≡ now.fault_schedule.fails
 kept_fails now [] = refl
 kept_fails now (Open name ∷ more) = kept_fails (after_file_call now (Open name)) more
 kept_fails now (Read n ∷ more) = kept_fails (after_file_call now (Read n)) more
 
 -- the part that no call changes
-pub memory_store : (held : HeldFiles)
-    → (files_state held).store ≡ record { is_observable = true; folder = folder_of held.files; is_steady = length held.fails == 0 }
-memory_store held = kept_store (before_calls held) held.history
+pub memory_store : (contents : HeldFiles)
+    → (files_state contents).file_contents ≡ record { is_observable = true; folder = folder_of contents.files; is_steady = length contents.fails == 0 }
+memory_store contents = kept_store (before_calls contents) contents.history
 
 safe_by : (fails : List ℕ) → (length fails == 0) ≡ true → fails ≡ []
 safe_by fails is = nil_from_length fails ((Decides-eqb (length fails) 0).0 is)
 
-pub safe_now : (held : HeldFiles) → IsSafe (files_now held)
-safe_now held steady =
-    kept_fails (before_calls held) held.history
-    ∙ safe_by held.fails (rw (kept_store (before_calls held) held.history) at steady)
+pub safe_now : (contents : HeldFiles) → IsSafe (files_now contents)
+safe_now contents steady =
+    kept_fails (before_calls contents) contents.history
+    ∙ safe_by contents.fails (rw (kept_store (before_calls contents) contents.history) at steady)
 
-lawful_from : (now : FilesNow) (calls : List FileCall) → IsTrue now.state.store.is_observable → IsSafe now
-    → AreOfStore now.state → AreOfStore (fold after_file_call now calls).state
+lawful_from : (now : FilesNow) (fault_schedule : List FileCall) → IsTrue now.state.file_contents.is_observable → IsSafe now
+    → AreOfStore now.state → AreOfStore (fold after_file_call now fault_schedule).state
 lawful_from now [] t safe of = of
 lawful_from now (Open name ∷ more) t safe of =
     lawful_from (after_file_call now (Open name)) more t safe
     (open_keeps now.state (open_result now name) name t (opened_exists now name)
     (λ steady. unopened_absent now name safe steady) of)
 lawful_from now (Read n ∷ more) t safe of =
-    let same = call_store (read_result now (n + 1)) now.state.rest now.state in
+    let same = call_store (read_result now (n + 1)) now.state.unread_bytes now.state in
     lawful_from (after_file_call now (Read n)) more (rw same t) (λ steady. safe (rw same at steady))
-    (read_keeps now.state (read_result now (n + 1)) t (end_by (is_to_fail now.calls) n now.state.rest)
-    (λ steady. reads_by (is_to_fail now.calls) (min (n + 1) (length now.state.rest)) (safe_call now safe steady)) of)
+    (read_keeps now.state (read_result now (n + 1)) t (end_by (is_to_fail now.fault_schedule) n now.state.unread_bytes)
+    (λ steady. reads_by (is_to_fail now.fault_schedule) (min (n + 1) (length now.state.unread_bytes)) (safe_call now safe steady)) of)
 
-pub memory_lawful : (held : HeldFiles) → IsLawful (files_state held)
-memory_lawful held observable =
-    lawful_from (before_calls held) held.history refl (λ steady. safe_by held.fails steady)
-    (record { earlier = All-nil (IsOfStore (before_calls held).state.store); latest = tt })
+pub memory_lawful : (contents : HeldFiles) → IsLawful (files_state contents)
+memory_lawful contents observable =
+    lawful_from (before_calls contents) contents.history refl (λ steady. safe_by contents.fails steady)
+    (record { earlier = All-nil (IsOfStore (before_calls contents).state.file_contents); latest = tt })

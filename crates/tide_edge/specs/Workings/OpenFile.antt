@@ -3,20 +3,20 @@ use Rattle.std.specs.Prelude.{◌≡◌, ℕ, List, [], drop, Option, Some, None
 use Rattle.std.specs.List.{slice_get}
 use Rattle.std.specs.Option.{option_map_or}
 use Rattle.tide_edge.specs.declared.named_file.NamedFile.{NamedFile}
-use Rattle.tide_edge.specs.Calls.{HeldCalls}
+use Rattle.tide_edge.specs.FaultSchedule.{HeldCalls}
 use Rattle.tide_edge.specs.Memory.{HeldFiles, files_now}
 
--- the bytes of the file with index `place`, counted from 0; none if there is no such file
+-- the bytes of the file with index `index`, counted from 0; none if there is no such file
 abbrev pub bytes_at : List NamedFile → ℕ → List ℕ
-bytes_at files place = option_map_or (λ file. file.bytes) (slice_get files place) []
+bytes_at files index = option_map_or (λ file. file.bytes) (slice_get files index) []
 
 -- the unread bytes of the open file, which has this index, from byte `at` on; none if no file is open
 abbrev pub rest_of : List NamedFile → Option ℕ → ℕ → List ℕ
 rest_of files None at = []
-rest_of files (Some place) at = drop at (bytes_at files place)
+rest_of files (Some index) at = drop at (bytes_at files index)
 
 -- the open file of files in memory has this index and is read up to byte `at`; None if no file is open;
 -- and these are the calls
-pub record IsOpenAs (held : HeldFiles) (opened : Option ℕ) (at : ℕ) (calls : HeldCalls) : Type 0 where
-  pub rest : (files_now held).state.rest ≡ rest_of held.files opened at
-  pub made : (files_now held).calls ≡ calls
+pub record IsOpenAs (contents : HeldFiles) (opened : Option ℕ) (at : ℕ) (fault_schedule : HeldCalls) : Type 0 where
+  pub unread_bytes : (files_now contents).state.unread_bytes ≡ rest_of contents.files opened at
+  pub made : (files_now contents).fault_schedule ≡ fault_schedule

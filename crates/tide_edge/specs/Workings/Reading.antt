@@ -24,21 +24,21 @@ IsFresh o = (name : List ℕ) × (o.latest ≡ Some (just_opened true name))
 -- since an open file was fresh, these bytes of it were read, and not yet the end
 pub record IsSoFar (before now : FilesState) (bytes : List ℕ) : Type 0 where
   pub name : List ℕ
-  pub fresh : before.openings.latest ≡ Some (just_opened true name)
-  pub openings : now.openings ≡ record before.openings { latest = Some (still_open name bytes) }
-  pub store : now.store ≡ before.store
+  pub fresh : before.open_log.latest ≡ Some (just_opened true name)
+  pub open_log : now.open_log ≡ record before.open_log { latest = Some (still_open name bytes) }
+  pub file_contents : now.file_contents ≡ before.file_contents
   pub faults : now.faults ≡ before.faults
 
 -- the open file, of which no byte was read before, was read at most one piece past the limit and its end
 -- found at most once; the result is the one for any contents of it that agree with what was read
-pub record HasCome (limit : ℕ) (before after : FilesState) (taken : List ℕ) (result : Result (Unit {0}) ReadAllFault) : Type 0 where
+pub record HasCome (limit : ℕ) (before after : FilesState) (accepted : List ℕ) (result : Result (Unit {0}) ReadAllFault) : Type 0 where
   pub opening : Opening
-  pub fresh : before.openings.latest ≡ Some (just_opened true opening.name)
-  pub openings : after.openings ≡ record before.openings { latest = Some opening }
+  pub fresh : before.open_log.latest ≡ Some (just_opened true opening.name)
+  pub open_log : after.open_log ≡ record before.open_log { latest = Some opening }
   pub ends : opening.ends ≤ 1
   pub bytes : length opening.bytes ≤ limit + PIECE
-  pub store : after.store ≡ before.store
+  pub file_contents : after.file_contents ≡ before.file_contents
   pub faults : after.faults ≡ faults_after (is_outside_fault source_of result) before.faults
   pub too_long : (result ≡ Err TooLong) ↔ (limit < length opening.bytes)
   pub answer : (firm : Bool) (file : Option (List ℕ)) → Shows limit firm opening file
-      → Meets source_of (IsTrue firm) (whole limit file) (all_taken taken result)
+      → Meets source_of (IsTrue firm) (whole limit file) (all_taken accepted result)

@@ -6,7 +6,7 @@ use Rattle.tide_edge.specs.FileStates.{FilesState}
 use Rattle.tide_edge.specs.SinkStates.{SinkState, WroteBoth}
 use Rattle.tide_fault.specs.declared.status.Status.{Status}
 use Rattle.tide_fault.specs.declared.status.Status.TheVariants.{Done, ReadFault}
-use Rattle.named_files.specs.NoAnswers.{is_read_fault}
+use Rattle.named_files.specs.RunFaults.{is_read_fault}
 use Rattle.tide_server.specs.declared.served_data.ServedData.{ServedData}
 use Rattle.tide_server.specs.Conversations.{HasServed}
 use Rattle.tide_server.specs.Openings.{ServerStates, end_line, notice_at, server_states}
@@ -29,12 +29,12 @@ with_files files left = server_states files left.door left.err left.clock
 
 -- the end of a server that has data, by a failure of the port or of the clock or by none
 pub record Ended (served_data : ServedData) (status : Status) (before after : Unread) : Type 0 where
-  pub port : after.door.doorway.port ≡ Some served_data.port
+  pub port : after.door.listener_state.port ≡ Some served_data.port
   pub ends : (status ≡ Done) ⊎ (status ≡ ReadFault)
-  pub done : status ≡ Done → IsOver after.door.doorway
-  pub closed : after.door.doorway.is_open ≡ false
+  pub done : status ≡ Done → IsOver after.door.listener_state
+  pub closed : after.door.listener_state.is_open ≡ false
   pub passed : HasServed served_data (is_read_fault status) (exchange before.door before.clock) (exchange after.door after.clock)
-  pub wrote : WroteBoth before.err after.err (notice_at served_data.port after.door.doorway) (end_line status)
+  pub wrote : WroteBoth before.err after.err (notice_at served_data.port after.door.listener_state) (end_line status)
   pub clock_failed : Bool
   pub door_failed : Bool
   pub one : count_by (λ failed. failed) (clock_failed ∷ door_failed ∷ []) ≡ (if is_read_fault status then 1 else 0)

@@ -1,6 +1,6 @@
 -- One connection after the other, a step at a time.
 use Rattle.std.specs.Prelude.{◌≡◌, ℕ, ℤ, Bool, true, false, OnOk, List, Some, Result, Ok, Err, is_err}
-use Rattle.tide_edge.specs.Doors.{Connection, Doorway, DoorState, door_after_close, door_after_next}
+use Rattle.tide_edge.specs.Doors.{Connection, ListenerState, DoorState, door_after_close, door_after_next}
 use Rattle.tide_edge.specs.Faults.{counted, faults_after}
 use Rattle.tide_server.specs.declared.outage.Outage.{Outage}
 use Rattle.tide_server.specs.declared.outage.Outage.TheVariants as outages
@@ -48,9 +48,9 @@ StepBy (Err outages.Clock) served_data before after = Went true served_data (doo
 
 -- ---- Several steps
 
--- the port at which the server listens after it accepted `taken` connections, none of which is open
-abbrev pub serving : ℕ → ℕ → Doorway
-serving port taken = record { port = Some port; listens = true; taken = taken; is_open = false; is_over = false }
+-- the port at which the server listens after it accepted `accepted` connections, none of which is open
+abbrev pub serving : ℕ → ℕ → ListenerState
+serving port accepted = record { port = Some port; listens = true; accepted = accepted; is_open = false; is_over = false }
 
 -- what serving leaves unchanged: whether port and clock are observable, the requests, and the counts of
 -- faults except for the failures
@@ -59,15 +59,15 @@ pub record IsKept (door_failed clock_failed : Bool) (before after : Exchange) : 
   pub pieces : after.door.keeps_pieces ≡ before.door.keeps_pieces
   pub requests : after.door.requests ≡ before.door.requests
   pub faults : after.door.faults ≡ faults_after door_failed before.door.faults
-  pub given : List ℤ
-  pub asked : ℕ
-  pub clock : after.clock ≡ record before.clock { given = given; asked = asked; faults = faults_after clock_failed before.clock.faults }
+  pub returned_minutes : List ℤ
+  pub readings : ℕ
+  pub clock : after.clock ≡ record before.clock { returned_minutes = returned_minutes; readings = readings; faults = faults_after clock_failed before.clock.faults }
 
 -- the connections of a port that listens were served, until there were no more or until a failure
 pub record Serves (served_data : ServedData) (result : Result (Unit {0}) Outage) (before after : Exchange) : Type 0 where
-  pub port : after.door.doorway.port ≡ Some served_data.port
-  pub listens : after.door.doorway.listens ≡ true
-  pub closed : after.door.doorway.is_open ≡ false
-  pub over : OnOk result (IsOver after.door.doorway)
+  pub port : after.door.listener_state.port ≡ Some served_data.port
+  pub listens : after.door.listener_state.listens ≡ true
+  pub closed : after.door.listener_state.is_open ≡ false
+  pub over : OnOk result (IsOver after.door.listener_state)
   pub passed : HasServed served_data (is_err result) before after
   pub kept : IsKept (is_door_outage result) (is_clock_outage result) before after

@@ -17,8 +17,8 @@ returns-in_err-passed-clause-came g c =
     (loaded c.args.limit)
     c.args.limit
     c.args.name.now
-    (g.F.Files.state c.args.files.now).openings
-    (g.F.Files.state c.pass_file-passed.new.files).openings
+    (g.F.Files.state c.args.files.now).open_log
+    (g.F.Files.state c.pass_file-passed.new.files).open_log
     (Err c.in_err-passed.field-0.0)
     c.from_residual-in_err-passed.result
     (λ firm file meets. rw (p.1, p.2) (excuses_reading c.args.limit (IsTrue firm) file _ meets))
@@ -28,7 +28,7 @@ returns-in_err-passed-clause-came g c =
 pub returns-in_err-passed-clause-own : goal.returns-in_err-passed-clause-own
 returns-in_err-passed-clause-own g c =
     own_once source_of (loaded c.args.limit) c.args.limit c.args.name.now (g.F.Files.state c.args.files.now)
-    (g.F.Files.state c.pass_file-passed.new.files) c.from_residual-in_err-passed.result c.pass_file-passed.ensures.read.store
+    (g.F.Files.state c.pass_file-passed.new.files) c.from_residual-in_err-passed.result c.pass_file-passed.ensures.read.file_contents
     (g.met.F.Files.lawful c.pass_file-passed.new.files) (returns-in_err-passed-clause-came g c)
 
 pub returns-in_err-passed-clause-too_long : goal.returns-in_err-passed-clause-too_long
@@ -45,8 +45,8 @@ returns-in_err-book-clause-came g c =
     (loaded c.args.limit)
     c.args.limit
     c.args.name.now
-    (g.F.Files.state c.args.files.now).openings
-    (g.F.Files.state c.pass_file-passed.new.files).openings
+    (g.F.Files.state c.args.files.now).open_log
+    (g.F.Files.state c.pass_file-passed.new.files).open_log
     (Ok c.pass_file-passed.new.receiver.reader.bytes)
     c.from_residual-in_err-book.result
     (λ firm file meets. rw (p.1, p.2) (excuses_form c.args.limit (IsTrue firm) file _ _ meets c.in_err-book.ensures.exact))
@@ -56,7 +56,7 @@ returns-in_err-book-clause-came g c =
 pub returns-in_err-book-clause-own : goal.returns-in_err-book-clause-own
 returns-in_err-book-clause-own g c =
     own_once source_of (loaded c.args.limit) c.args.limit c.args.name.now (g.F.Files.state c.args.files.now)
-    (g.F.Files.state c.pass_file-passed.new.files) c.from_residual-in_err-book.result c.pass_file-passed.ensures.read.store
+    (g.F.Files.state c.pass_file-passed.new.files) c.from_residual-in_err-book.result c.pass_file-passed.ensures.read.file_contents
     (g.met.F.Files.lawful c.pass_file-passed.new.files) (returns-in_err-book-clause-came g c)
 
 pub returns-in_err-book-clause-too_long : goal.returns-in_err-book-clause-too_long
@@ -74,8 +74,8 @@ returns-clause-came g c =
     (loaded c.args.limit)
     c.args.limit
     c.args.name.now
-    (g.F.Files.state c.args.files.now).openings
-    (g.F.Files.state c.pass_file-passed.new.files).openings
+    (g.F.Files.state c.args.files.now).open_log
+    (g.F.Files.state c.pass_file-passed.new.files).open_log
     (Ok c.pass_file-passed.new.receiver.reader.bytes)
     (Ok c.in_ok-book.field-0)
     (λ firm file meets. loaded_whole c.args.limit file _ _ meets c.in_ok-book.ensures.exact)
@@ -85,5 +85,5 @@ returns-clause-came g c =
 pub returns-clause-own : goal.returns-clause-own
 returns-clause-own g c =
     own_once source_of (loaded c.args.limit) c.args.limit c.args.name.now (g.F.Files.state c.args.files.now)
-    (g.F.Files.state c.pass_file-passed.new.files) (Ok c.in_ok-book.field-0) c.pass_file-passed.ensures.read.store
+    (g.F.Files.state c.pass_file-passed.new.files) (Ok c.in_ok-book.field-0) c.pass_file-passed.ensures.read.file_contents
     (g.met.F.Files.lawful c.pass_file-passed.new.files) (returns-clause-came g c)

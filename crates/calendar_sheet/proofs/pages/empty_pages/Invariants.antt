@@ -3,5 +3,5 @@ use Rattle.calendar_sheet.specs.Calendars.{days_from}
 use Rattle.calendar_sheet.specs.Workings.Dates.{empty_page}
 use Rattle.calendar_sheet.proofs.pages.empty_pages.Given as goal
 
-abbrev pub invariant-loop-place : goal.invariant-loop-place
-invariant-loop-place l = l.pages.items ≡ map empty_page (days_from l.days.first l.place)
+abbrev pub invariant-loop-index : goal.invariant-loop-index
+invariant-loop-index l = l.pages.items ≡ map empty_page (days_from l.days.first l.index)

@@ -20,7 +20,7 @@ index_mut-requires c =
     All-get_or (IsAmong c.args.zone.now first last) c.args.events.now i blank c.loop-event-test.true c.requires.among in
     let many : length c.loop-event.pages.items ≡ unsigned_abs (last -ℤ first) + 1 =
     ap length c.loop-event.invariant ∙ length-pages_of c.args.zone.now (take i c.args.events.now) first last in
-    omega (arith, ints, among.least, among.most, many, c.place_of-place.ensures)
+    omega (arith, ints, among.least, among.most, many, c.day_index-index.ensures)
 
 pub loop-event-preserved : goal.loop-event-preserved
 loop-event-preserved c =
@@ -30,8 +30,8 @@ loop-event-preserved c =
     let last = c.args.days.last in
     let among = All-get_or (IsAmong c.args.zone.now first last) c.args.events.now i blank c.loop-event-test.true c.requires.among in
     rw (take_more c.args.events.now i blank c.loop-event-test.true)
-    (pages_of-push c.args.zone.now (take i c.args.events.now) event first last c.place_of-place.result c.loop-event.pages.items
-    c.index_mut.result.now c.push.new.self c.loop-event.invariant c.place_of-place.ensures among (sym c.index_mut.ensures.value)
+    (pages_of-push c.args.zone.now (take i c.args.events.now) event first last c.day_index-index.result c.loop-event.pages.items
+    c.index_mut.result.now c.push.new.self c.loop-event.invariant c.day_index-index.ensures among (sym c.index_mut.ensures.value)
     c.in_ok-push.ensures)
 
 pub returns-clause-days : goal.returns-clause-days

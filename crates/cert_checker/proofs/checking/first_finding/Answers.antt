@@ -1,6 +1,6 @@
 use Rattle.std.proofs.Common.{w64, FitsSigned, rules, arith, ◌∙◌}
 use Rattle.std.proofs.lemmas.Int.{to_z-of_z}
-use Rattle.curve_law.proofs.StateLemmas.{facts-after, count-after}
+use Rattle.curve_law.proofs.StateLemmas.{curve_model-after, count-after}
 use Rattle.cert_checker.proofs.FindingLemmas.{first-span, rest-span, first-found, rest-found, none-found}
 use Rattle.cert_checker.proofs.checking.first_finding.Goals as goal
 
@@ -27,7 +27,7 @@ loop-cell-preserved g c =
     let minute = rw (to_z-of_z w64 _ at) at c.end_of-end.ensures.minute in
     let right = rw (c.end_of-end.ensures.after, c.loop-cell.invariant.unchanged) at c.in-Accepted.ensures in
     record {
-      unchanged = facts-after _ _ c.end_of-end.ensures.after ∙ c.loop-cell.invariant.unchanged;
+      unchanged = curve_model-after _ _ c.end_of-end.ensures.after ∙ c.loop-cell.invariant.unchanged;
       numbered = omega (arith, c.loop-cell.invariant.numbered);
       counted = omega (arith, count-after _ _ c.end_of-end.ensures.after, c.loop-cell.invariant.counted);
       value = rw c.loop-cell.invariant.unchanged at c.end_of-end.ensures.value;

@@ -1,5 +1,5 @@
 use Rattle.std.proofs.Common.{◌≡◌, ◌+◌, drop}
-use Rattle.curve_law.specs.Meaning.{IsSpan}
+use Rattle.curve_law.specs.CurveSpec.{IsSpan}
 use Rattle.curve_law.specs.Cells.{all_minutes}
 use Rattle.curve_law.specs.Verdicts.{cells_verdict}
 use Rattle.cert_checker.proofs.checking.first_finding.Given as goal
@@ -7,12 +7,12 @@ use Rattle.cert_checker.proofs.checking.first_finding.Given as goal
 -- no fault so far, and the cells left begin here
 abbrev pub invariant-loop-cell : goal.invariant-loop-cell
 invariant-loop-cell g l =
-    let meaning = (g.C.Curve.state l.fn.curve).facts.meaning in
+    let curve_spec = (g.C.Curve.state l.fn.curve).curve_model.curve_spec in
     record {
-      unchanged : (g.C.Curve.state l.curve).facts ≡ (g.C.Curve.state l.fn.curve).facts;
+      unchanged : (g.C.Curve.state l.curve).curve_model ≡ (g.C.Curve.state l.fn.curve).curve_model;
       numbered : l.number ≡ l.cell-index;
       counted : (g.C.Curve.state l.curve).count ≡ (g.C.Curve.state l.fn.curve).count + l.cell-index + 1;
-      value : l.at.value ≡ (g.C.Curve.state l.fn.curve).facts.approximate l.at.minute;
-      span : IsSpan meaning l.at.minute (all_minutes (drop l.cell-index l.cells));
-      left : cells_verdict meaning l.begin 1 l.cells ≡ cells_verdict meaning l.at.minute (l.number + 1) (drop l.cell-index l.cells);
+      value : l.at.value ≡ (g.C.Curve.state l.fn.curve).curve_model.approximate l.at.minute;
+      span : IsSpan curve_spec l.at.minute (all_minutes (drop l.cell-index l.cells));
+      left : cells_verdict curve_spec l.begin 1 l.cells ≡ cells_verdict curve_spec l.at.minute (l.number + 1) (drop l.cell-index l.cells);
     }

@@ -17,7 +17,7 @@ use Rattle.cert_text.specs.Readings.{certificate_part}
 use Rattle.cert_text.proofs.ByLineLemmas.{text_reads}
 use Rattle.cert_text.proofs.ReadingLemmas.{reader, text_of-itself}
 use Rattle.decimal_text.specs.Digits.{digits_of}
-use Rattle.cert_text.specs.Workings.LineReading.{after, size_of, number_of, version_of, station_of, moment_after, mark_of, quiet_of, event_cell_of, cell_of}
+use Rattle.cert_text.specs.Workings.LineReading.{after, size_of, parse_number, version_of, station_of, moment_after, mark_of, quiet_of, event_cell_of, cell_of}
 use Rattle.cert_text.specs.Readings.{certificate_of}
 use Rattle.cert_text.proofs.worked.worked_readings.Goals as goal
 
@@ -43,7 +43,7 @@ unfolding digits two_digits date_text clock_text date_of date_from_year date_fro
 pier_text = refl
 
 pub returns : goal.returns
-unfolding encode chars is_utf8 moment_of has_form track_word kind_word heading_of last_line after digits_of size_of number_of
+unfolding encode chars is_utf8 moment_of has_form track_word kind_word heading_of last_line after digits_of size_of parse_number
     version_of station_of moment_after mark_of quiet_of event_cell_of cell_of certificate_of
 returns c = record {
   pier = sym (ap certificate_of pier_text)

@@ -7,7 +7,7 @@ use Rattle.event_text.specs.Lines.{text_of_unit}
 use Rattle.listing.specs.Abouts.{about_text_of}
 use Rattle.question.specs.declared.command.Command.TheVariants.{About}
 use Rattle.question.specs.declared.question.Question.{Question}
-use Rattle.question.specs.Forms.{some_text, number_of, mark_of, clock_of, offset_of, zone_of, sheets_of}
+use Rattle.question.specs.Forms.{some_text, parse_number, mark_of, clock_of, offset_of, zone_of, sheets_of}
 use Rattle.question.specs.Layouts.{layout_of}
 use Rattle.question.specs.Questions.{with_item, with_items, question_of}
 use Rattle.question.specs.Worked.{bare, is_space}
@@ -85,7 +85,7 @@ about_question = record (bare About) { file = Some (codes "p"); station = Some (
 
 about_asked : question_of_words [] (slice_split is_space (codes "about file=p station=Pier")) ≡ Ok about_question
 unfolding question_of_words missing_of has_form moment_of after_point made_of decimal_of scaled scaled_or_bad read_of
-    some_text number_of mark_of layout_of clock_of offset_of zone_of sheets_of with_item with_items question_of
+    some_text parse_number mark_of layout_of clock_of offset_of zone_of sheets_of with_item with_items question_of
     days_of_years days_of_months day_count days_from_civil
 about_asked = refl
 

@@ -6,7 +6,7 @@ use Rattle.question.specs.declared.command.Command.TheVariants.{Certify, Check, 
 use Rattle.question.specs.declared.question.Question.{Question}
 use Rattle.question.specs.Worked.{bare, is_space}
 use Rattle.tide_answer.specs.declared.text.Answer.{Answer}
-use Rattle.named_files.specs.declared.no_answer.NoAnswer.{NoAnswer}
+use Rattle.named_files.specs.declared.run_fault.RunFault.{RunFault}
 use Rattle.tide_answer.specs.Answers.{text_accepted}
 use Rattle.named_files.specs.Readings.{book_named, table_named}
 use Rattle.tide_desk.specs.Laws.{HoldsCertificate}
@@ -16,12 +16,12 @@ use Rattle.tide_desk.specs.Answers.{answer_of, answered_over_book, given_with, i
 use Rattle.report_sheets.specs.Pages.{missing_of, page_of, pages_of}
 use Rattle.zone_time.specs.Moments.{has_form, moment_of, moment_text}
 use Rattle.decimal_text.specs.Decimal.{after_point, made_of, decimal_of, scaled, scaled_or_bad, read_of}
-use Rattle.question.specs.Forms.{some_text, number_of, mark_of, clock_of, offset_of, zone_of, sheets_of}
+use Rattle.question.specs.Forms.{some_text, parse_number, mark_of, clock_of, offset_of, zone_of, sheets_of}
 use Rattle.question.specs.Layouts.{layout_of}
 use Rattle.question.specs.Questions.{with_item, with_items, question_of}
 use Rattle.jiff_core.specs.Calendar.{days_of_years, days_of_months, day_count, days_from_civil}
 use Rattle.tide_answer.specs.Answers.{predicted, certified, heights, rows_in, asks_span, listed, answered}
-use Rattle.tide_answer.specs.Asking.{asked_by_question}
+use Rattle.tide_answer.specs.Asking.{request_by_question}
 use Rattle.station_span.specs.Following.{followed_by, events_of, tracks_of, cells_of}
 use Rattle.station_span.specs.Sites.{lacks_minute, span_in, length_in, site_at, site_in}
 use Rattle.event_list.specs.Events.{station_events, cells_in, cell_count}
@@ -59,7 +59,7 @@ certified_asked : question_of_words ([])
     (slice_split is_space (codes "certify file=p station=Pier begin=2000-01-10T11:58Z end=2000-01-10T12:01Z"))
     ≡ Ok certified_question
 unfolding question_of_words missing_of has_form moment_of after_point made_of decimal_of scaled scaled_or_bad read_of
-    some_text number_of mark_of layout_of clock_of offset_of zone_of sheets_of with_item with_items question_of
+    some_text parse_number mark_of layout_of clock_of offset_of zone_of sheets_of with_item with_items question_of
     days_of_years days_of_months day_count days_from_civil
 certified_asked = refl
 
@@ -73,7 +73,7 @@ certified_answer = record {
 
 certified_text : answered_over_book (is_report certified_question.command) ([]) pier_book [] certified_question
     (given_with pier_read (minute_for certified_question.command (pos 0))) ≡ Ok certified_answer
-unfolding reported predicted certified heights rows_in asks_span listed answered asked_by_question followed_by events_of
+unfolding reported predicted certified heights rows_in asks_span listed answered request_by_question followed_by events_of
     tracks_of cells_of lacks_minute span_in length_in site_at site_in station_events cells_in cell_count with_event
     ordered keeps_side is_quiet unit_cell halves_within pieces_of_block blocks_within pieces_of cover minutes plain_list predicted_slope_rate
     predicted_level_rate waves_of curve_over year_fault first_fault curve_of predicted_year_level predicted_year_slope
@@ -99,7 +99,7 @@ listed_asked : question_of_words ([])
     (slice_split is_space (codes "predict file=p station=Pier begin=2000-01-10T11:58Z end=2000-01-10T12:01Z"))
     ≡ Ok listed_question
 unfolding question_of_words missing_of has_form moment_of after_point made_of decimal_of scaled scaled_or_bad read_of
-    some_text number_of mark_of layout_of clock_of offset_of zone_of sheets_of with_item with_items question_of
+    some_text parse_number mark_of layout_of clock_of offset_of zone_of sheets_of with_item with_items question_of
     days_of_years days_of_months day_count days_from_civil
 listed_asked = refl
 
@@ -108,7 +108,7 @@ listed_answer = record { text = codes "Pier\n2000-01-10 11:59 UTC       1.00 fee
 
 listed_text : answered_over_book (is_report listed_question.command) ([]) pier_book [] listed_question
     (given_with pier_read (minute_for listed_question.command (pos 0))) ≡ Ok listed_answer
-unfolding reported predicted certified heights rows_in asks_span listed answered asked_by_question followed_by events_of
+unfolding reported predicted certified heights rows_in asks_span listed answered request_by_question followed_by events_of
     tracks_of cells_of lacks_minute span_in length_in site_at site_in station_events cells_in cell_count with_event
     ordered keeps_side is_quiet unit_cell halves_within pieces_of_block blocks_within pieces_of cover minutes plain_list predicted_slope_rate
     predicted_level_rate waves_of curve_over year_fault first_fault curve_of predicted_year_level predicted_year_slope
@@ -138,7 +138,7 @@ check_question = record (bare Check) { file = Some (codes "p"); certificate = So
 
 check_asked : question_of_words [] check_words ≡ Ok check_question
 unfolding question_of_words missing_of has_form moment_of after_point made_of decimal_of scaled scaled_or_bad read_of
-    some_text number_of mark_of layout_of clock_of offset_of zone_of sheets_of with_item with_items question_of
+    some_text parse_number mark_of layout_of clock_of offset_of zone_of sheets_of with_item with_items question_of
     days_of_years days_of_months day_count days_from_civil
 check_asked = refl
 
@@ -154,8 +154,8 @@ listed_is : answer_of [] pier_with_certificate (pos 0) (codes "predict" ∷ argu
 listed_is = answers_over [] pier_with_certificate (codes "predict" ∷ arguments) listed_question listed_answer refl
     listed_asked (record { file = refl; offsets = refl; zone = refl; certificate = refl }) listed_text
 
-one_answer : (given : Result Answer NoAnswer) (answer same : Answer) → given ≡ Ok answer → given ≡ Ok same → answer ≡ same
-one_answer given answer same is also = cc
+one_answer : (inputs : Result Answer RunFault) (answer same : Answer) → inputs ≡ Ok answer → inputs ≡ Ok same → answer ≡ same
+one_answer inputs answer same is also = cc
 
 pub returns-clause-checked : goal.returns-clause-checked
 returns-clause-checked c =

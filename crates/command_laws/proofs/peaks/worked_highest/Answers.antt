@@ -15,12 +15,12 @@ use Rattle.station_curve.specs.Curves.{curve_of, first_fault, curve_over, waves_
 use Rattle.station_span.specs.Sites.{lacks_minute, length_in, site_at, site_in, span_in}
 use Rattle.station_table.specs.Bases.{basis_in, basis_of}
 use Rattle.tide_answer.specs.Answers.{answered, asks_span, highest}
-use Rattle.tide_answer.specs.Asking.{asked_by_question}
+use Rattle.tide_answer.specs.Asking.{request_by_question}
 use Rattle.station_span.specs.Peaks.{highest_site}
 use Rattle.command_laws.proofs.peaks.worked_highest.Goals as goal
 
 pub returns-clause-met : goal.returns-clause-met
-unfolding answered asks_span asked_by_question highest highest_site site_in site_at span_in lacks_minute length_in
+unfolding answered asks_span request_by_question highest highest_site site_in site_at span_in lacks_minute length_in
     basis_of basis_in curve_of first_fault year_fault curve_over waves_of rounded_of year_start_of days_from_civil
     day_count days_of_years days_of_months
 returns-clause-met c = refl

@@ -11,12 +11,12 @@ use Rattle.tide_desk.specs.Answers.{answered_over_book, given_with, is_report, m
 use Rattle.report_sheets.specs.Pages.{missing_of, page_of, pages_of}
 use Rattle.zone_time.specs.Moments.{has_form, moment_of, moment_text}
 use Rattle.decimal_text.specs.Decimal.{after_point, made_of, decimal_of, scaled, scaled_or_bad, read_of}
-use Rattle.question.specs.Forms.{some_text, number_of, mark_of, clock_of, offset_of, zone_of, sheets_of}
+use Rattle.question.specs.Forms.{some_text, parse_number, mark_of, clock_of, offset_of, zone_of, sheets_of}
 use Rattle.question.specs.Layouts.{layout_of}
 use Rattle.question.specs.Questions.{with_item, with_items, question_of}
 use Rattle.jiff_core.specs.Calendar.{days_of_years, days_of_months, day_count, days_from_civil}
 use Rattle.tide_answer.specs.Answers.{text_alone, predicted, certified, heights, rows_in, asks_span, listed, answered}
-use Rattle.tide_answer.specs.Asking.{asked_by_question}
+use Rattle.tide_answer.specs.Asking.{request_by_question}
 use Rattle.station_span.specs.Following.{followed_by, events_of, tracks_of, cells_of}
 use Rattle.station_span.specs.Sites.{lacks_minute, span_in, length_in, site_at, site_in}
 use Rattle.event_list.specs.Events.{station_events, cells_in, cell_count}
@@ -58,7 +58,7 @@ all_asked : question_of_words (first_sheet 10 ∷ []) (slice_split is_space
     (codes "report file=p station=Pier begin=2000-01-10T11:59Z end=2000-01-10T12:01Z mark=0.99998 sheets=first"))
     ≡ Ok all_question
 unfolding question_of_words missing_of has_form moment_of after_point made_of decimal_of scaled scaled_or_bad read_of
-    some_text number_of mark_of layout_of clock_of offset_of zone_of sheets_of with_item with_items question_of
+    some_text parse_number mark_of layout_of clock_of offset_of zone_of sheets_of with_item with_items question_of
     days_of_years days_of_months day_count days_from_civil
 all_asked = refl
 
@@ -68,7 +68,7 @@ all_answer = text_alone (codes
 
 all_text : answered_over_book (is_report all_question.command) (first_sheet 10 ∷ []) pier_book [] all_question
     (given_with pier_read (minute_for all_question.command (pos 0))) ≡ Ok all_answer
-unfolding reported predicted certified heights rows_in asks_span listed answered asked_by_question followed_by events_of
+unfolding reported predicted certified heights rows_in asks_span listed answered request_by_question followed_by events_of
     tracks_of cells_of lacks_minute span_in length_in site_at site_in station_events cells_in cell_count with_event
     ordered keeps_side is_quiet unit_cell halves_within pieces_of_block blocks_within pieces_of cover minutes plain_list predicted_slope_rate
     predicted_level_rate waves_of curve_over year_fault first_fault curve_of predicted_year_level predicted_year_slope
@@ -99,7 +99,7 @@ full_asked : question_of_words (first_sheet 1 ∷ []) (slice_split is_space
     (codes "report file=p station=Pier begin=2000-01-10T11:59Z end=2000-01-10T12:01Z mark=0.99998 sheets=first"))
     ≡ Ok full_question
 unfolding question_of_words missing_of has_form moment_of after_point made_of decimal_of scaled scaled_or_bad read_of
-    some_text number_of mark_of layout_of clock_of offset_of zone_of sheets_of with_item with_items question_of
+    some_text parse_number mark_of layout_of clock_of offset_of zone_of sheets_of with_item with_items question_of
     days_of_years days_of_months day_count days_from_civil
 full_asked = refl
 
@@ -108,7 +108,7 @@ full_answer = text_alone (codes "Pier\n2000-01-10 11:59 UTC       1.00 feet  Hig
 
 full_text : answered_over_book (is_report full_question.command) (first_sheet 1 ∷ []) pier_book [] full_question
     (given_with pier_read (minute_for full_question.command (pos 0))) ≡ Ok full_answer
-unfolding reported predicted certified heights rows_in asks_span listed answered asked_by_question followed_by events_of
+unfolding reported predicted certified heights rows_in asks_span listed answered request_by_question followed_by events_of
     tracks_of cells_of lacks_minute span_in length_in site_at site_in station_events cells_in cell_count with_event
     ordered keeps_side is_quiet unit_cell halves_within pieces_of_block blocks_within pieces_of cover minutes plain_list predicted_slope_rate
     predicted_level_rate waves_of curve_over year_fault first_fault curve_of predicted_year_level predicted_year_slope
@@ -138,7 +138,7 @@ listed_asked : question_of_words ([])
     (slice_split is_space (codes "predict file=p station=Pier begin=2000-01-10T11:59Z end=2000-01-10T12:01Z mark=0.99998"))
     ≡ Ok listed_question
 unfolding question_of_words missing_of has_form moment_of after_point made_of decimal_of scaled scaled_or_bad read_of
-    some_text number_of mark_of layout_of clock_of offset_of zone_of sheets_of with_item with_items question_of
+    some_text parse_number mark_of layout_of clock_of offset_of zone_of sheets_of with_item with_items question_of
     days_of_years days_of_months day_count days_from_civil
 listed_asked = refl
 
@@ -152,7 +152,7 @@ listed_answer = record {
 
 listed_text : answered_over_book (is_report listed_question.command) ([]) pier_book [] listed_question
     (given_with pier_read (minute_for listed_question.command (pos 0))) ≡ Ok listed_answer
-unfolding reported predicted certified heights rows_in asks_span listed answered asked_by_question followed_by events_of
+unfolding reported predicted certified heights rows_in asks_span listed answered request_by_question followed_by events_of
     tracks_of cells_of lacks_minute span_in length_in site_at site_in station_events cells_in cell_count with_event
     ordered keeps_side is_quiet unit_cell halves_within pieces_of_block blocks_within pieces_of cover minutes plain_list predicted_slope_rate
     predicted_level_rate waves_of curve_over year_fault first_fault curve_of predicted_year_level predicted_year_slope

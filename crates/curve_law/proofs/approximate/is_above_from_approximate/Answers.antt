@@ -7,11 +7,11 @@ use Rattle.curve_law.proofs.approximate.is_above_from_approximate.Goals as goal
 pub side_of-requires-clause-approximate : goal.side_of-requires-clause-approximate
 side_of-requires-clause-approximate g c =
     let curve = c.args.curve.now in
-    let facts = (g.C.Curve.state curve).facts in
-    let close = minute-close facts.meaning facts.approximate facts.error c.args.m c.args.approximate
+    let curve_model = (g.C.Curve.state curve).curve_model in
+    let close = minute-close curve_model.curve_spec curve_model.approximate curve_model.error c.args.m c.args.approximate
     (g.met.C.Curve.close curve) c.requires.minute c.requires.approximate in
     rw (to_z-of_z w128 c.args.approximate c.ranges.approximate)
-    (approximate-size c.args.approximate (facts.meaning.track.value c.args.m) facts.error
+    (approximate-size c.args.approximate (curve_model.curve_spec.track.value c.args.m) curve_model.error
     ((g.met.C.Curve.lawful curve).values c.args.m c.requires.minute) (g.met.C.Curve.narrow curve) close)
 
 pub side_of-requires-clause-least : goal.side_of-requires-clause-least
@@ -28,12 +28,12 @@ side_of-requires-clause-most g c =
 pub returns-in-Some : goal.returns-in-Some
 returns-in-Some g c =
     let curve = c.args.curve.now in
-    let facts = (g.C.Curve.state curve).facts in
-    let close = minute-close facts.meaning facts.approximate facts.error c.args.m c.args.approximate
+    let curve_model = (g.C.Curve.state curve).curve_model in
+    let close = minute-close curve_model.curve_spec curve_model.approximate curve_model.error c.args.m c.args.approximate
     (g.met.C.Curve.close curve) c.requires.minute c.requires.approximate in
     let error_fits : FitsSigned w128 c.error.result = search rules in
     let error = to_z-of_z w128 c.error.result error_fits in
     let approximate = to_z-of_z w128 c.args.approximate c.ranges.approximate in
     let decided = simp (approximate, error) at c.in-Some.ensures in
-    sym (decided-side c.args.approximate c.error.result (facts.meaning.track.value c.args.m) facts.error
+    sym (decided-side c.args.approximate c.error.result (curve_model.curve_spec.track.value c.args.m) curve_model.error
     c.in-Some.is_above c.error.ensures decided close)

@@ -9,4 +9,4 @@ returns-then-value-end_value g c =
     let value : FitsSigned w128 c.args.value = c.ranges.value in
     let end_value : FitsSigned w128 c.args.end_value = c.ranges.end_value in
     let other = simp to_z-of_z at c.if-value-end_value.true in
-    crossed-loud (g.C.Curve.state c.args.curve.now).facts.meaning c.args.a c.args.n (rw (c.requires.value, c.requires.end_value) at other)
+    crossed-loud (g.C.Curve.state c.args.curve.now).curve_model.curve_spec c.args.a c.args.n (rw (c.requires.value, c.requires.end_value) at other)

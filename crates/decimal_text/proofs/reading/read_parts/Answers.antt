@@ -26,7 +26,7 @@ returns-then-not-steps-clause-exact c =
 
 pub returns-then-negative-clause-exact : goal.returns-then-negative-clause-exact
 returns-then-negative-clause-exact c =
-    let size = c.args.value * 10 ^ c.args.places + c.in-Some.steps.value * 10 ^ c.in-Some.steps.left in
+    let size = c.args.value * 10 ^ c.args.places + c.in-Some.steps.value * 10 ^ c.in-Some.steps.remaining in
     let is : to_z w128 (of_z w128 (pos 0 -ℤ to_z w128 c.total_steps-size.result)) ≡ neg_ℤ (pos size) =
     omega (arith, ints, c.total_steps-size.ensures.exact, c.total_steps-size.ensures.small) in
     ap Ok (is ∙ sym (signed_true c.args.negative size c.if-negative.true))
@@ -36,7 +36,7 @@ returns-then-negative-clause-exact c =
 
 pub returns-else-negative-clause-exact : goal.returns-else-negative-clause-exact
 returns-else-negative-clause-exact c =
-    let size = c.args.value * 10 ^ c.args.places + c.in-Some.steps.value * 10 ^ c.in-Some.steps.left in
+    let size = c.args.value * 10 ^ c.args.places + c.in-Some.steps.value * 10 ^ c.in-Some.steps.remaining in
     let is : to_z w128 c.total_steps-size.result ≡ pos size =
     omega (arith, ints, c.total_steps-size.ensures.exact, c.total_steps-size.ensures.small) in
     ap Ok (is ∙ sym (signed_false c.args.negative size c.if-negative.false))

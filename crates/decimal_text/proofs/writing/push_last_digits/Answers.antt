@@ -2,14 +2,14 @@ use Rattle.std.proofs.Common.{◌≡◌, ◌-◌, length-append, ◌∙◌, arit
 use Rattle.decimal_text.proofs.WritingLemmas.{push_next, append_none}
 use Rattle.decimal_text.proofs.writing.push_last_digits.Goals as goal
 
-pub loop-place-preserved : goal.loop-place-preserved
-loop-place-preserved c = record {
-  written = rw c.push_digit.ensures.bytes (push_next c.loop-place.out.bytes c.loop-place.place c.args.size c.without_last.result
-      c.loop-place-test.true c.without_last.ensures ∙ c.loop-place.invariant.written);
+pub loop-exponent-preserved : goal.loop-exponent-preserved
+loop-exponent-preserved c = record {
+  written = rw c.push_digit.ensures.bytes (push_next c.loop-exponent.out.bytes c.loop-exponent.exponent c.args.size c.without_last.result
+      c.loop-exponent-test.true c.without_last.ensures ∙ c.loop-exponent.invariant.written);
   room = rw c.push_digit.ensures.bytes (simp length-append (omega arith));
 }
 
 pub returns : goal.returns
 returns c =
-    let none : c.loop-place.place ≡ 0 = omega arith in
-    append_none _ _ c.args.size none ∙ c.loop-place.invariant.written
+    let none : c.loop-exponent.exponent ≡ 0 = omega arith in
+    append_none _ _ c.args.size none ∙ c.loop-exponent.invariant.written

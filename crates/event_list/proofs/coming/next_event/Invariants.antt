@@ -7,7 +7,7 @@ abbrev pub invariant-loop-found : goal.invariant-loop-found
 invariant-loop-found g l = record {
   events : events_ahead l.search ≡ events_ahead l.fn.search;
   asked : searched_by l.search ≡ searched_by l.fn.search;
-  cells : l.given + cells_ahead l.search ≡ l.fn.given + cells_ahead l.fn.search;
+  cells : l.cells_given + cells_ahead l.search ≡ l.fn.cells_given + cells_ahead l.fn.search;
 }
 
 abbrev pub decreases-loop-found : goal.decreases-loop-found

@@ -5,8 +5,8 @@ use Rattle.event_list.proofs.turning.add_track_events.Given as goal
 -- the events so far and those of the cells left are all events
 abbrev pub invariant-loop-cell : goal.invariant-loop-cell
 invariant-loop-cell l =
-    let left = drop l.cell-index l.cell-items in
+    let remaining = drop l.cell-index l.cell-items in
     record {
-      minute : l.at +ℤ pos (all_minutes left) ≡ l.begin +ℤ pos (all_minutes l.cell-items);
-      events : l.events.items ++ cell_events l.at left ≡ l.fn.events.items ++ cell_events l.begin l.cell-items;
+      minute : l.at +ℤ pos (all_minutes remaining) ≡ l.begin +ℤ pos (all_minutes l.cell-items);
+      events : l.events.items ++ cell_events l.at remaining ≡ l.fn.events.items ++ cell_events l.begin l.cell-items;
     }

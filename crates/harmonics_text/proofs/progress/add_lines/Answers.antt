@@ -15,7 +15,7 @@ lines-preserved c = record {
   few = omega (arith, c.lines.invariant.few, c.in-Ok.ensures.shorter, c.in-Some.ensures.shorter);
   shorter = omega (arith, c.lines.invariant.shorter, c.in-Ok.ensures.shorter, c.in-Some.ensures.shorter);
   so_far =
-      line_on c.add_lines.new.self _ c.in-Ok.left.now c.in-Some.next.now c.in-Some.after.now _
+      line_on c.add_lines.new.self _ c.in-Ok.remaining.now c.in-Some.next.now c.in-Some.after.now _
       c.in-Some.ensures.exact (sym (c.in-Ok.ensures.read.same c.lines.number) ∙ c.lines.invariant.so_far);
 }
 
@@ -26,7 +26,7 @@ returns-in-Err-clause-exact c =
 
 pub returns-in-None-clause-exact : goal.returns-in-None-clause-exact
 returns-in-None-clause-exact c =
-    line_ends c.add_lines.new.self _ c.in-Ok.left.now _ c.in-None.ensures.exact
+    line_ends c.add_lines.new.self _ c.in-Ok.remaining.now _ c.in-None.ensures.exact
     (sym (c.in-Ok.ensures.read.same c.lines.number) ∙ c.lines.invariant.so_far)
 
 pub returns-in-None-clause-shorter : goal.returns-in-None-clause-shorter

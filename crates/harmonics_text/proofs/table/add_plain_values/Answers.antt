@@ -13,8 +13,8 @@ plain-preserved c =
     let h = c.in-Some.ensures in
     record {
       so_far =
-          values_goes_on c.args.scale c.args.table.now c.args.text.now c.plain.table.left c.plain.table.values c.push.new.self
+          values_goes_on c.args.scale c.args.table.now c.args.text.now c.plain.table.remaining c.plain.table.values c.push.new.self
           c.plain.rest.now h.token c.in-Some.after.now c.plain.invariant.so_far h.first (omega arith)
           (pushed_is c.args.scale c.plain.table.values h.token v c.push.new.self h.read e);
-      place = c.plain.invariant.place;
+      index = c.plain.invariant.index;
     }

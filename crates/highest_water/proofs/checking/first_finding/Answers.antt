@@ -2,20 +2,20 @@ use Rattle.std.proofs.Common.{w64, FitsSigned, rules, refl, arith, ◌∙◌}
 use Rattle.std.proofs.lemmas.Int.{to_z-of_z}
 use mir.Syntax.{w128}
 use Rattle.curve_law.proofs.QuietLemmas.{begin-minute}
-use Rattle.curve_law.proofs.StateLemmas.{facts-after, count-after}
+use Rattle.curve_law.proofs.StateLemmas.{curve_model-after, count-after}
 use Rattle.highest_water.proofs.JudgingLemmas.{first-span, rest-span, first-found, rest-found, none-found, few-counted, more-counted, all-counted, number-fits}
 use Rattle.highest_water.proofs.checking.first_finding.Goals as goal
 
 pub point_at-at-requires-clause-minute : goal.point_at-at-requires-clause-minute
 point_at-at-requires-clause-minute g c =
     rw (to_z-of_z w64 c.args.begin c.ranges.begin)
-    (begin-minute (g.C.Curve.state c.args.curve.now).facts.meaning c.args.begin _ c.requires.span)
+    (begin-minute (g.C.Curve.state c.args.curve.now).curve_model.curve_spec c.args.begin _ c.requires.span)
 
 pub loop-cell-init : goal.loop-cell-init
 loop-cell-init g c =
     let begun = c.point_at-at.ensures in
     record {
-      unchanged = facts-after _ _ begun.after;
+      unchanged = curve_model-after _ _ begun.after;
       numbered = refl;
       counted = omega (arith, count-after _ _ begun.after);
       value = rw begun.point refl;
@@ -70,7 +70,7 @@ loop-cell-preserved g c =
     let minute = rw (to_z-of_z w64 _ at) at c.end_of-end.ensures.minute in
     let right = rw (c.end_of-end.ensures.after, c.loop-cell.invariant.unchanged) at c.in-Accepted.ensures in
     record {
-      unchanged = facts-after _ _ c.end_of-end.ensures.after ∙ c.loop-cell.invariant.unchanged;
+      unchanged = curve_model-after _ _ c.end_of-end.ensures.after ∙ c.loop-cell.invariant.unchanged;
       numbered = omega (arith, c.loop-cell.invariant.numbered);
       counted = omega (arith, count-after _ _ c.end_of-end.ensures.after, c.loop-cell.invariant.counted);
       value = rw c.loop-cell.invariant.unchanged at c.end_of-end.ensures.value;

@@ -1,7 +1,7 @@
 use Rattle.std.proofs.Common.{w64, ◌∙◌}
 use Rattle.std.proofs.lemmas.Int.{to_z-of_z}
-use Rattle.curve_law.proofs.StateLemmas.{facts-after, count-after}
-use Rattle.highest_water.proofs.WalkLemmas.{waiting-few, first-counted, cell-fewer, cell-pushed, cell-counted, cells-all, counted-more, counted-all}
+use Rattle.curve_law.proofs.StateLemmas.{curve_model-after, count-after}
+use Rattle.highest_water.proofs.WalkLemmas.{pending-bound, first-counted, cell-fewer, cell-pushed, cell-counted, cells-all, counted-more, counted-all}
 use Rattle.highest_water.proofs.covering.cells_by.Goals as goal
 
 pub walk_from-front-requires-clause-forward : goal.walk_from-front-requires-clause-forward
@@ -12,7 +12,7 @@ pub loop-found-init : goal.loop-found-init
 loop-found-init g c =
     let walk = c.walk_from-front.ensures in
     record {
-      unchanged = facts-after _ _ walk.after;
+      unchanged = curve_model-after _ _ walk.after;
       walk_invariant = walk.walk_invariant;
       cells = rw c.new-cells.ensures.items (walk.cells c.args.highest);
       counted = first-counted _ _ _ _ (count-after _ _ walk.after);
@@ -45,7 +45,7 @@ returns-in_err-push-clause-count g c =
     let all = rw (to_z-of_z w64 c.args.begin c.ranges.begin, to_z-of_z w64 c.args.end c.ranges.end) at invariant.cells in
     let ahead = rw invariant.unchanged at next.found.1 in
     let walk_invariant = rw invariant.unchanged at next.walk_invariant in
-    let few = waiting-few (g.C.Curve.state c.args.curve.now).facts.meaning c.args.highest _ _ _ walk_invariant in
+    let few = pending-bound (g.C.Curve.state c.args.curve.now).curve_model.curve_spec c.args.highest _ _ _ walk_invariant in
     counted-more c.loop-found.cells.items _ _ _ _ _ _ _ _ _ all ahead few next.count invariant.counted
 
 pub returns-clause-cells : goal.returns-clause-cells

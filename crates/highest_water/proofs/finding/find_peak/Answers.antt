@@ -16,7 +16,7 @@ pub cells_by-requires-clause-size : goal.cells_by-requires-clause-size
 cells_by-requires-clause-size g c =
     let highest = rw (to_z-of_z w64 c.args.begin c.ranges.begin, to_z-of_z w64 c.args.end c.ranges.end)
     at c.highest_point-highest.ensures.highest in
-    highest-small (g.C.Curve.state c.args.curve.now).facts.meaning c.args.begin c.args.end _ _
+    highest-small (g.C.Curve.state c.args.curve.now).curve_model.curve_spec c.args.begin c.args.end _ _
     (g.met.C.Curve.lawful c.args.curve.now) c.requires.first c.requires.last highest
 
 pub cells_by-requires-clause-forward : goal.cells_by-requires-clause-forward
@@ -48,7 +48,7 @@ returns-clause-peak g c =
     let end = to_z-of_z w64 c.args.end c.ranges.end in
     let cells = rw (c.highest_point-highest.ensures.unchanged, begin, end) at c.in_ok-cells.ensures.cells in
     rw (to_z-of_z w64 _ at, to_z-of_z w128 _ value)
-    (highest-peak_of (g.C.Curve.state c.args.curve.now).facts.meaning c.args.begin c.args.end _ _ _ highest cells)
+    (highest-peak_of (g.C.Curve.state c.args.curve.now).curve_model.curve_spec c.args.begin c.args.end _ _ _ highest cells)
 
 pub returns-clause-count : goal.returns-clause-count
 returns-clause-count g c =
@@ -59,7 +59,7 @@ returns-clause-count g c =
     let value : FitsSigned w128 c.highest_point-highest.result.value = search rules in
     let found = rw (begin, end) at c.highest_point-highest.ensures.count in
     let after = rw (c.highest_point-highest.ensures.unchanged, begin, end) at c.cells_by.ensures.count in
-    values-counted (g.C.Curve.state c.args.curve.now).facts.meaning c.args.begin c.args.end _ _ _ _ _ highest found after
+    values-counted (g.C.Curve.state c.args.curve.now).curve_model.curve_spec c.args.begin c.args.end _ _ _ _ _ highest found after
 
 pub returns-in_err-cells-clause-count : goal.returns-in_err-cells-clause-count
 returns-in_err-cells-clause-count g c =
@@ -70,4 +70,4 @@ returns-in_err-cells-clause-count g c =
     let value : FitsSigned w128 c.highest_point-highest.result.value = search rules in
     let found = rw (begin, end) at c.highest_point-highest.ensures.count in
     let after = rw (c.highest_point-highest.ensures.unchanged, begin, end) at c.cells_by.ensures.count in
-    values-counted (g.C.Curve.state c.args.curve.now).facts.meaning c.args.begin c.args.end _ _ _ _ _ highest found after
+    values-counted (g.C.Curve.state c.args.curve.now).curve_model.curve_spec c.args.begin c.args.end _ _ _ _ _ highest found after

@@ -7,7 +7,7 @@ use Rattle.highest_water.proofs.UnderLemmas.{is_under-length, is_under-inside, i
 use Rattle.highest_water.proofs.under.is_under.Goals as goal
 
 pub returns-then-n-lt2 : goal.returns-then-n-lt2
-returns-then-n-lt2 g c = is_under-length (g.C.Curve.state c.args.curve.now).facts.meaning c.args.highest.minute
+returns-then-n-lt2 g c = is_under-length (g.C.Curve.state c.args.curve.now).curve_model.curve_spec c.args.highest.minute
     c.args.highest.value c.args.begin.minute c.args.n c.then-n-lt2.either
 
 pub holds-requires : goal.holds-requires
@@ -15,7 +15,7 @@ holds-requires g c =
     let begin : FitsSigned w64 c.args.begin.minute = search rules in
     record {
       in_range = rw (to_z-of_z w64 c.args.begin.minute begin)
-          (begin-range (g.C.Curve.state c.args.curve.now).facts.meaning c.args.begin.minute c.args.n
+          (begin-range (g.C.Curve.state c.args.curve.now).curve_model.curve_spec c.args.begin.minute c.args.n
           (g.met.C.Curve.lawful c.args.curve.now) c.requires.span);
     }
 
@@ -25,14 +25,14 @@ returns-then-holds g c =
     let at : FitsSigned w64 c.args.highest.minute = search rules in
     let holds = simp to_z-of_z at c.holds.ensures in
     let inside : is_inside c.args.highest.minute c.args.begin.minute c.args.n ≡ true = cc in
-    is_under-inside (g.C.Curve.state c.args.curve.now).facts.meaning c.args.highest.minute c.args.highest.value
+    is_under-inside (g.C.Curve.state c.args.curve.now).curve_model.curve_spec c.args.highest.minute c.args.highest.value
     c.args.begin.minute c.args.n inside
 
 pub rate-requires : goal.rate-requires
 rate-requires g c =
     let begin : FitsSigned w64 c.args.begin.minute = search rules in
     rw (to_z-of_z w64 c.args.begin.minute begin)
-    (quiet_cell (g.C.Curve.state c.args.curve.now).facts.meaning c.args.begin.minute c.args.n c.requires.span
+    (quiet_cell (g.C.Curve.state c.args.curve.now).curve_model.curve_spec c.args.begin.minute c.args.n c.requires.span
     c.if-n-lt2.false c.if-n-gt-MOST_MINUTES.false)
 
 pub twice_most-requires-clause-positive : goal.twice_most-requires-clause-positive
@@ -41,7 +41,7 @@ twice_most-requires-clause-positive g c =
     let rate : FitsSigned w128 c.in-Some.rate = search rules in
     let stated = simp to_z-of_z at c.in-Some.ensures in
     rw (to_z-of_z w128 c.in-Some.rate rate)
-    (rate-positive (g.C.Curve.state c.args.curve.now).facts.meaning c.args.begin.minute c.args.n c.in-Some.rate
+    (rate-positive (g.C.Curve.state c.args.curve.now).curve_model.curve_spec c.args.begin.minute c.args.n c.in-Some.rate
     (g.met.C.Curve.lawful c.args.curve.now) c.requires.span c.if-n-lt2.false c.if-n-gt-MOST_MINUTES.false stated)
 
 pub twice_most-requires-clause-rate : goal.twice_most-requires-clause-rate
@@ -50,7 +50,7 @@ twice_most-requires-clause-rate g c =
     let rate : FitsSigned w128 c.in-Some.rate = search rules in
     let stated = simp to_z-of_z at c.in-Some.ensures in
     rw (to_z-of_z w128 c.in-Some.rate rate)
-    (rate-small (g.C.Curve.state c.args.curve.now).facts.meaning c.args.begin.minute c.args.n c.in-Some.rate
+    (rate-small (g.C.Curve.state c.args.curve.now).curve_model.curve_spec c.args.begin.minute c.args.n c.in-Some.rate
     (g.met.C.Curve.lawful c.args.curve.now) c.requires.span c.if-n-lt2.false c.if-n-gt-MOST_MINUTES.false stated)
 
 pub twice_most-requires-clause-count_bound : goal.twice_most-requires-clause-count_bound
@@ -60,13 +60,13 @@ pub twice_most-requires-clause-value : goal.twice_most-requires-clause-value
 twice_most-requires-clause-value g c =
     let value : FitsSigned w128 c.args.begin.value = search rules in
     rw (to_z-of_z w128 c.args.begin.value value, c.requires.value)
-    (begin-small (g.C.Curve.state c.args.curve.now).facts.meaning c.args.begin.minute c.args.n
+    (begin-small (g.C.Curve.state c.args.curve.now).curve_model.curve_spec c.args.begin.minute c.args.n
     (g.met.C.Curve.lawful c.args.curve.now) c.requires.span)
 
 pub twice_most-requires-clause-end_value : goal.twice_most-requires-clause-end_value
 twice_most-requires-clause-end_value g c =
     rw (to_z-of_z w128 c.args.end_value c.ranges.end_value, c.requires.end_value)
-    (end-small (g.C.Curve.state c.args.curve.now).facts.meaning c.args.begin.minute c.args.n
+    (end-small (g.C.Curve.state c.args.curve.now).curve_model.curve_spec c.args.begin.minute c.args.n
     (g.met.C.Curve.lawful c.args.curve.now) c.requires.span)
 
 pub is_low-requires : goal.is_low-requires
@@ -88,7 +88,7 @@ returns-in-Some g c =
     let highest : FitsSigned w128 c.args.highest.value = search rules in
     let fits : FitsSigned w128 c.twice_most.result = search rules in
     let low = simp to_z-of_z at c.is_low.ensures in
-    low ∙ is_under-rate (g.C.Curve.state c.args.curve.now).facts.meaning c.args.highest.minute c.args.highest.value
+    low ∙ is_under-rate (g.C.Curve.state c.args.curve.now).curve_model.curve_spec c.args.highest.minute c.args.highest.value
     c.args.begin.minute c.twice_most.result c.in-Some.rate c.args.n c.if-n-lt2.false c.if-n-gt-MOST_MINUTES.false outside stated
     (rw (← c.requires.value, ← c.requires.end_value) most)
 
@@ -96,5 +96,5 @@ pub returns-in-None : goal.returns-in-None
 returns-in-None g c =
     let begin : FitsSigned w64 c.args.begin.minute = search rules in
     let stated = simp to_z-of_z at c.in-None.ensures in
-    is_under-unrated (g.C.Curve.state c.args.curve.now).facts.meaning c.args.highest.minute c.args.highest.value
+    is_under-unrated (g.C.Curve.state c.args.curve.now).curve_model.curve_spec c.args.highest.minute c.args.highest.value
     c.args.begin.minute c.args.n stated

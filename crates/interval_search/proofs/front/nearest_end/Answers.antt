@@ -11,9 +11,9 @@ returns-in-None-clause-search_invariant g c =
     let end = simp to_z-of_z at c.block_end.ensures in
     let point = simp to_z-of_z at c.evaluate.ensures.point in
     let empty = c.in-None.ensures in
-    begun-search_invariant (g.R.PieceRule.values (g.C.Curve.state c.args.curve.now).facts)
+    begun-search_invariant (g.R.PieceRule.values (g.C.Curve.state c.args.curve.now).curve_model)
     (g.C.Curve.state c.args.curve.now) (g.C.Curve.state c.evaluate.new.curve) c.args.end c.args.at c.block_end.result
-    c.evaluate.result c.args.waiting.now c.pop.new.self c.requires.onward end point c.evaluate.ensures.after empty.0
+    c.evaluate.result c.args.pending.now c.pop.new.self c.requires.onward end point c.evaluate.ensures.after empty.0
     empty.1 c.requires.search_invariant
 
 pub returns-in-None-clause-pieces : goal.returns-in-None-clause-pieces
@@ -24,6 +24,6 @@ returns-in-None-clause-pieces g c =
     let end = simp to_z-of_z at c.block_end.ensures in
     let point = simp to_z-of_z at c.evaluate.ensures.point in
     let empty = c.in-None.ensures in
-    λ test. begun-ahead test (g.R.PieceRule.values (g.C.Curve.state c.args.curve.now).facts) c.args.end
-    c.args.at.minute c.block_end.result c.evaluate.result c.args.waiting.now c.pop.new.self c.requires.onward end point
+    λ test. begun-ahead test (g.R.PieceRule.values (g.C.Curve.state c.args.curve.now).curve_model) c.args.end
+    c.args.at.minute c.block_end.result c.evaluate.result c.args.pending.now c.pop.new.self c.requires.onward end point
     empty.0 empty.1

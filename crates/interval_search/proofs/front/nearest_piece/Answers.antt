@@ -1,6 +1,6 @@
 use Rattle.std.proofs.Common.{length, w64, FitsSigned, rules, arith, sym, ap, ◌∙◌}
 use Rattle.std.proofs.lemmas.Int.{ints, to_z-of_z}
-use Rattle.curve_law.proofs.StateLemmas.{facts-after, count-after}
+use Rattle.curve_law.proofs.StateLemmas.{curve_model-after, count-after}
 use Rattle.interval_search.proofs.AheadLemmas.{piece-parts, piece-few, nearest-piece, pending-few, asked-few, middle-ahead, middle-search_invariant, middle-fewer}
 use Rattle.interval_search.proofs.front.nearest_piece.Goals as goal
 
@@ -51,22 +51,22 @@ evaluate-next_end-requires-clause-count_bound g c = asked-few _ _ _ _ _ _ c.loop
 
 pub loop-at-smaller : goal.loop-at-smaller
 loop-at-smaller g c =
-    let facts = (g.C.Curve.state c.args.curve.now).facts in
+    let curve_model = (g.C.Curve.state c.args.curve.now).curve_model in
     let invariant = c.loop-at.invariant in
     let piece = c.piece_between-piece.ensures in
     let half : FitsSigned w64 c.halfway.result = search rules in
     let middle = rw piece at c.halfway.ensures in
     let point = rw invariant.unchanged at (simp to_z-of_z at c.evaluate-next_end.ensures.point) in
     let halve = rw (piece, invariant.unchanged) at (sym c.stays_whole.ensures ∙ c.if-stays_whole.false) in
-    middle-fewer (g.R.PieceRule.whole c.args.rule.now facts.meaning) (g.R.PieceRule.values facts) c.args.at
+    middle-fewer (g.R.PieceRule.whole c.args.rule.now curve_model.curve_spec) (g.R.PieceRule.values curve_model) c.args.at
     c.evaluate-next_end.result c.loop-at.next_end c.halfway.result
     (piece-parts _ _ _ _ _ invariant.search_invariant.pieces).0 halve middle point
 
 pub loop-at-preserved : goal.loop-at-preserved
 loop-at-preserved g c =
-    let facts = (g.C.Curve.state c.args.curve.now).facts in
-    let test = g.R.PieceRule.whole c.args.rule.now facts.meaning in
-    let values = g.R.PieceRule.values facts in
+    let curve_model = (g.C.Curve.state c.args.curve.now).curve_model in
+    let test = g.R.PieceRule.whole c.args.rule.now curve_model.curve_spec in
+    let values = g.R.PieceRule.values curve_model in
     let state = g.C.Curve.state c.loop-at.curve in
     let invariant = c.loop-at.invariant in
     let piece = c.piece_between-piece.ensures in
@@ -75,11 +75,11 @@ loop-at-preserved g c =
     let point = rw invariant.unchanged at (simp to_z-of_z at c.evaluate-next_end.ensures.point) in
     let halve = rw (piece, invariant.unchanged) at (sym c.stays_whole.ensures ∙ c.if-stays_whole.false) in
     let search_invariant = middle-search_invariant test values state _ c.args.at c.evaluate-next_end.result
-    c.loop-at.next_end c.loop-at.waiting c.halfway.result invariant.search_invariant halve middle point in
+    c.loop-at.next_end c.loop-at.pending c.halfway.result invariant.search_invariant halve middle point in
     let ahead = middle-ahead test values _ c.args.at.minute c.evaluate-next_end.result c.loop-at.next_end
-    c.loop-at.waiting c.halfway.result (piece-parts _ _ _ _ _ invariant.search_invariant.pieces).0 halve middle point in
+    c.loop-at.pending c.halfway.result (piece-parts _ _ _ _ _ invariant.search_invariant.pieces).0 halve middle point in
     record {
-      unchanged = facts-after _ _ c.evaluate-next_end.ensures.after ∙ invariant.unchanged;
+      unchanged = curve_model-after _ _ c.evaluate-next_end.ensures.after ∙ invariant.unchanged;
       search_invariant = rw (c.push.ensures, c.evaluate-next_end.ensures.after) search_invariant;
       pieces = rw (c.push.ensures) (ahead ∙ invariant.pieces);
       counted = omega (arith, ap length c.push.ensures, count-after _ _ c.evaluate-next_end.ensures.after);

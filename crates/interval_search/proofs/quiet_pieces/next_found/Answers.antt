@@ -5,26 +5,26 @@ use Rattle.interval_search.proofs.quiet_pieces.next_found.Goals as goal
 
 pub returns-in-Some-clause-found : goal.returns-in-Some-clause-found
 returns-in-Some-clause-found g c =
-    let facts = (g.C.Curve.state c.args.curve.now).facts in
+    let curve_model = (g.C.Curve.state c.args.curve.now).curve_model in
     let next = c.in-Some.ensures in
     let cell = rw next.unchanged at c.cell_of.ensures in
     let at : FitsSigned w64 c.in-Some.piece.begin.minute = search rules in
-    let steps = found-steps facts.meaning facts.approximate c.args.front.now c.next_piece.new.front c.in-Some.piece
+    let steps = found-steps curve_model.curve_spec curve_model.approximate c.args.front.now c.next_piece.new.front c.in-Some.piece
     c.cell_of.result next.piece next.found cell in
     rw next.unchanged (to_z-of_z w64 c.in-Some.piece.begin.minute at ∙ steps.0, steps.1, steps.2)
 
 pub returns-in-Some-clause-most : goal.returns-in-Some-clause-most
 returns-in-Some-clause-most g c =
-    let facts = (g.C.Curve.state c.args.curve.now).facts in
+    let curve_model = (g.C.Curve.state c.args.curve.now).curve_model in
     let next = c.in-Some.ensures in
     let cell = rw next.unchanged at c.cell_of.ensures in
-    let steps = found-steps facts.meaning facts.approximate c.args.front.now c.next_piece.new.front c.in-Some.piece
+    let steps = found-steps curve_model.curve_spec curve_model.approximate c.args.front.now c.next_piece.new.front c.in-Some.piece
     c.cell_of.result next.piece next.found cell in
     rw next.unchanged (omega (arith, ap length steps.1, next.count))
 
 pub returns-in-None-clause-found : goal.returns-in-None-clause-found
 returns-in-None-clause-found g c =
-    let facts = (g.C.Curve.state c.args.curve.now).facts in
+    let curve_model = (g.C.Curve.state c.args.curve.now).curve_model in
     let next = c.in-None.ensures in
-    let none = done-cells facts.meaning c.args.front.now c.next_piece.new.front next.found in
+    let none = done-cells curve_model.curve_spec c.args.front.now c.next_piece.new.front next.found in
     rw (next.unchanged, next.found.0) (none, none, refl)

@@ -8,15 +8,15 @@ use Rattle.interval_search.proofs.span_cells.search.Given as goal
 -- the cells so far and those left are all cells
 abbrev pub invariant-loop-found : goal.invariant-loop-found
 invariant-loop-found g l =
-    let facts = (g.C.Curve.state l.fn.curve).facts in
-    let left = cells_ahead facts.meaning l.front in
+    let curve_model = (g.C.Curve.state l.fn.curve).curve_model in
+    let remaining = cells_ahead curve_model.curve_spec l.front in
     record {
-      unchanged : (g.C.Curve.state l.curve).facts ≡ facts;
-      search_invariant : IsFront facts.approximate (g.C.Curve.state l.curve) l.front;
-      cells : l.cells.items ++ left ≡ cover facts.meaning l.begin (unsigned_abs (l.end -ℤ l.begin));
-      most : (g.C.Curve.state l.curve).count + length left - length l.front.waiting
-          ≡ (g.C.Curve.state l.fn.curve).count + length (cover facts.meaning l.begin (unsigned_abs (l.end -ℤ l.begin))) + 1;
+      unchanged : (g.C.Curve.state l.curve).curve_model ≡ curve_model;
+      search_invariant : IsFront curve_model.approximate (g.C.Curve.state l.curve) l.front;
+      cells : l.cells.items ++ remaining ≡ cover curve_model.curve_spec l.begin (unsigned_abs (l.end -ℤ l.begin));
+      most : (g.C.Curve.state l.curve).count + length remaining - length l.front.pending
+          ≡ (g.C.Curve.state l.fn.curve).count + length (cover curve_model.curve_spec l.begin (unsigned_abs (l.end -ℤ l.begin))) + 1;
     }
 
 abbrev pub decreases-loop-found : goal.decreases-loop-found
-decreases-loop-found g l = length (cells_ahead (g.C.Curve.state l.fn.curve).facts.meaning l.front)
+decreases-loop-found g l = length (cells_ahead (g.C.Curve.state l.fn.curve).curve_model.curve_spec l.front)

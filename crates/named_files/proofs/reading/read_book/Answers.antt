@@ -8,8 +8,8 @@ unfolding named_from
 returns-in-Ok-clause-opened g c =
     opened_book
     c.args.name.now
-    (g.F.Files.state c.args.files.now).openings
-    (g.F.Files.state c.load_book.new.files).openings
+    (g.F.Files.state c.args.files.now).open_log
+    (g.F.Files.state c.load_book.new.files).open_log
     (Ok c.in-Ok.book)
     (rw c.limit_of.ensures at c.in-Ok.ensures.came)
 
@@ -19,7 +19,7 @@ returns-in-Err-clause-opened g c =
     rw c.from.ensures
     (opened_book
     c.args.name.now
-    (g.F.Files.state c.args.files.now).openings
-    (g.F.Files.state c.load_book.new.files).openings
+    (g.F.Files.state c.args.files.now).open_log
+    (g.F.Files.state c.load_book.new.files).open_log
     (Err c.in-Err.fault)
     (rw c.limit_of.ensures at c.in-Err.ensures.came))

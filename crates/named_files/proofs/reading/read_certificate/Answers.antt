@@ -12,5 +12,5 @@ pub returns-in-None-clause-opened : goal.returns-in-None-clause-opened
 unfolding certificate_named
 returns-in-None-clause-opened g c =
     rw c.in-None.is
-    (opened_none Certificate (λ folder. certificate_named folder None) (g.F.Files.state c.args.files.now).openings _
+    (opened_none Certificate (λ folder. certificate_named folder None) (g.F.Files.state c.args.files.now).open_log _
     (λ firm folder. rw (c.from_vec.ensures, c.new.ensures.items) refl))

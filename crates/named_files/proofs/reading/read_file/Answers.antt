@@ -7,8 +7,8 @@ returns-in-Ok-clause-opened g c =
     opened_bytes
     c.args.slot
     c.args.name.now
-    (g.F.Files.state c.args.files.now).openings
-    (g.F.Files.state c.read_all.new.files).openings
+    (g.F.Files.state c.args.files.now).open_log
+    (g.F.Files.state c.read_all.new.files).open_log
     (Ok c.in-Ok.bytes)
     (rw c.limit_of.ensures at c.in-Ok.ensures.came)
 
@@ -18,7 +18,7 @@ returns-in-Err-clause-opened g c =
     (opened_bytes
     c.args.slot
     c.args.name.now
-    (g.F.Files.state c.args.files.now).openings
-    (g.F.Files.state c.read_all.new.files).openings
+    (g.F.Files.state c.args.files.now).open_log
+    (g.F.Files.state c.read_all.new.files).open_log
     (Err c.in-Err.fault)
     (rw c.limit_of.ensures at c.in-Err.ensures.came))

@@ -9,8 +9,8 @@ returns-in_err-book-clause-opened g c =
     stopped_at_book
     c.args.question.now
     c.args.name.now
-    (g.F.Files.state c.args.files.now).openings
-    (g.F.Files.state c.read_book.new.files).openings
+    (g.F.Files.state c.args.files.now).open_log
+    (g.F.Files.state c.read_book.new.files).open_log
     _
     c.from_residual.result
     c.from_residual.ensures.1
@@ -23,9 +23,9 @@ returns-in_err-table-clause-opened g c =
     (stopped_at_table
     c.get-question.result.now
     c.args.name.now
-    (g.F.Files.state c.args.files.now).openings
-    (g.F.Files.state c.read_book.new.files).openings
-    (g.F.Files.state c.read_table.new.files).openings
+    (g.F.Files.state c.args.files.now).open_log
+    (g.F.Files.state c.read_book.new.files).open_log
+    (g.F.Files.state c.read_table.new.files).open_log
     c.in_ok-book.book
     _
     c.from_residual-in_err-table.result
@@ -40,10 +40,10 @@ returns-in_err-zone-clause-opened g c =
     (stopped_at_zone
     c.get-question.result.now
     c.args.name.now
-    (g.F.Files.state c.args.files.now).openings
-    (g.F.Files.state c.read_book.new.files).openings
-    (g.F.Files.state c.read_table.new.files).openings
-    (g.F.Files.state c.read_zone_named.new.files).openings
+    (g.F.Files.state c.args.files.now).open_log
+    (g.F.Files.state c.read_book.new.files).open_log
+    (g.F.Files.state c.read_table.new.files).open_log
+    (g.F.Files.state c.read_zone_named.new.files).open_log
     c.in_ok-book.book
     c.in_ok-table.table
     _
@@ -60,11 +60,11 @@ returns-in_err-certificate-clause-opened g c =
     (stopped_at_certificate
     c.get-question.result.now
     c.args.name.now
-    (g.F.Files.state c.args.files.now).openings
-    (g.F.Files.state c.read_book.new.files).openings
-    (g.F.Files.state c.read_table.new.files).openings
-    (g.F.Files.state c.read_zone_named.new.files).openings
-    (g.F.Files.state c.read_certificate.new.files).openings
+    (g.F.Files.state c.args.files.now).open_log
+    (g.F.Files.state c.read_book.new.files).open_log
+    (g.F.Files.state c.read_table.new.files).open_log
+    (g.F.Files.state c.read_zone_named.new.files).open_log
+    (g.F.Files.state c.read_certificate.new.files).open_log
     c.in_ok-book.book
     c.in_ok-table.table
     c.in_ok-zone.zone
@@ -83,11 +83,11 @@ returns-clause-opened g c =
     (all_opened
     c.get-question.result.now
     c.args.name.now
-    (g.F.Files.state c.args.files.now).openings
-    (g.F.Files.state c.read_book.new.files).openings
-    (g.F.Files.state c.read_table.new.files).openings
-    (g.F.Files.state c.read_zone_named.new.files).openings
-    (g.F.Files.state c.read_certificate.new.files).openings
+    (g.F.Files.state c.args.files.now).open_log
+    (g.F.Files.state c.read_book.new.files).open_log
+    (g.F.Files.state c.read_table.new.files).open_log
+    (g.F.Files.state c.read_zone_named.new.files).open_log
+    (g.F.Files.state c.read_certificate.new.files).open_log
     c.in_ok-book.book
     c.in_ok-table.table
     c.in_ok-zone.zone

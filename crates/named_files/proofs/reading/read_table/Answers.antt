@@ -15,7 +15,7 @@ returns-in_err-bytes-in-Some-clause-opened g c =
     (Some c.in-Some.name)
     (λ folder. bytes_of Offsets (folder c.in-Some.name))
     (λ folder. table_named folder (Some c.in-Some.name))
-    (g.F.Files.state c.args.files.now).openings
+    (g.F.Files.state c.args.files.now).open_log
     _
     (Err c.in_err-bytes-in-Some.field-0.0)
     c.from_residual.result
@@ -32,7 +32,7 @@ returns-in_ok-bytes-in-Some-clause-opened g c =
     (Some c.in-Some.name)
     (λ folder. bytes_of Offsets (folder c.in-Some.name))
     (λ folder. table_named folder (Some c.in-Some.name))
-    (g.F.Files.state c.args.files.now).openings
+    (g.F.Files.state c.args.files.now).open_log
     _
     (Ok c.in_ok-bytes-in-Some.bytes)
     c.table_from.result
@@ -45,5 +45,5 @@ pub returns-in-None-clause-opened : goal.returns-in-None-clause-opened
 unfolding table_named
 returns-in-None-clause-opened g c =
     rw c.in-None.is
-    (opened_none Offsets (λ folder. table_named folder None) (g.F.Files.state c.args.files.now).openings _
+    (opened_none Offsets (λ folder. table_named folder None) (g.F.Files.state c.args.files.now).open_log _
     (λ firm folder. rw c.new.ensures refl))

@@ -16,7 +16,7 @@ returns-in_err-bytes-in-Named-clause-opened g c =
     (Some c.in-Named.name)
     (λ folder. bytes_of Zone (folder c.in-Named.name))
     (λ folder. zone_named folder (words.Named c.in-Named.name))
-    (g.F.Files.state c.args.files.now).openings
+    (g.F.Files.state c.args.files.now).open_log
     _
     (Err c.in_err-bytes-in-Named.field-0.0)
     c.from_residual.result
@@ -33,7 +33,7 @@ returns-in_ok-bytes-in-Named-clause-opened g c =
     (Some c.in-Named.name)
     (λ folder. bytes_of Zone (folder c.in-Named.name))
     (λ folder. zone_named folder (words.Named c.in-Named.name))
-    (g.F.Files.state c.args.files.now).openings
+    (g.F.Files.state c.args.files.now).open_log
     _
     (Ok c.in_ok-bytes-in-Named.bytes)
     c.zone_from.result
@@ -46,14 +46,14 @@ pub returns-in-Utc-clause-opened : goal.returns-in-Utc-clause-opened
 unfolding zone_named
 returns-in-Utc-clause-opened g c =
     rw c.in-Utc.is (opened_none Zone (λ folder. zone_named folder words.Utc)
-    (g.F.Files.state c.args.files.now).openings _ (λ firm folder. refl))
+    (g.F.Files.state c.args.files.now).open_log _ (λ firm folder. refl))
 
 pub returns-in-Fixed-clause-opened : goal.returns-in-Fixed-clause-opened
 unfolding zone_named
 returns-in-Fixed-clause-opened g c =
     rw c.in-Fixed.is
     (opened_none Zone (λ folder. zone_named folder (words.Fixed c.in-Fixed.minutes))
-    (g.F.Files.state c.args.files.now).openings _ (λ firm folder. search rules))
+    (g.F.Files.state c.args.files.now).open_log _ (λ firm folder. search rules))
 
 pub returns-in-Utc-clause-unnamed : goal.returns-in-Utc-clause-unnamed
 unfolding zone_named

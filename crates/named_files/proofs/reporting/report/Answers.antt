@@ -1,5 +1,5 @@
 use Rattle.std.proofs.Common.{inl, inr, refl}
-use Rattle.named_files.specs.declared.no_answer.NoAnswer.TheVariants.{Faulty, Refused}
+use Rattle.named_files.specs.declared.run_fault.RunFault.TheVariants.{Faulty, Refused}
 use Rattle.named_files.proofs.ReportingLemmas.{reported_as_it_is}
 use Rattle.named_files.proofs.reporting.report.Goals as goal
 

@@ -2,7 +2,7 @@ use Rattle.std.proofs.Common.{Ok, Err, subst}
 use Rattle.cert_text.specs.ByLine.{Takes, place_at}
 use Rattle.cert_text.proofs.ByLineLemmas.{returned_by}
 use Rattle.peak_text.specs.PeakReadings.{peak_part, peak_of, is_out_of_memory}
-use Rattle.decimal_text.specs.Expected.{ReturnsUnless}
+use Rattle.decimal_text.specs.Expected.{EqualsUnlessNoMemory}
 use Rattle.peak_text.proofs.PeakReadingLemmas.{given_whole, given_fault, reported_fault, reads_given, valid_given}
 use Rattle.peak_text.proofs.reading.read_peak.Goals as goal
 
@@ -23,7 +23,7 @@ returns-in_err-read_lines-clause-exact c =
     let bytes = c.args.bytes.now in let fault = c.in_err-read_lines.field-0.0 in
     let read = returned_by peak_part (place_at 0 bytes) c.read_lines.new.lines (Err fault)
     (subst (λ here. Takes peak_part here c.read_lines.new.lines (Err fault)) c.new.ensures c.in_err-read_lines.ensures) in
-    subst (ReturnsUnless is_out_of_memory (peak_of bytes))
+    subst (EqualsUnlessNoMemory is_out_of_memory (peak_of bytes))
     (reported_fault c.from_residual.result fault c.from_residual.ensures.1) (given_fault bytes fault read)
 
 pub returns-in_err-read_lines-clause-reads : goal.returns-in_err-read_lines-clause-reads

@@ -12,7 +12,7 @@ use Rattle.zone_time.specs.Moments.{moment_of, moment_text, has_form}
 use Rattle.cert_text.specs.Certificates.{IsStationName}
 use Rattle.cert_text.specs.Lines.{station_line_of, begin_line_of, end_line_of, last_line}
 use Rattle.cert_text.specs.Texts.{joined}
-use Rattle.cert_text.specs.Workings.LineReading.{after, size_of, number_of, station_of, moment_after}
+use Rattle.cert_text.specs.Workings.LineReading.{after, size_of, parse_number, station_of, moment_after}
 use Rattle.cert_text.proofs.LineLemmas.{plain_name}
 use Rattle.highest_water.specs.declared.peak_cell.PeakCell.{PeakCell}
 use Rattle.highest_water.specs.declared.peak_cell.PeakCell.TheVariants.{Under, Single}
@@ -58,7 +58,7 @@ unfolding digits two_digits date_text clock_text date_of date_from_year date_fro
 pier_text = refl
 
 pub returns : goal.returns
-unfolding encode chars is_utf8 moment_of has_form last_line peak_title after digits_of size_of number_of station_of
+unfolding encode chars is_utf8 moment_of has_form last_line peak_title after digits_of size_of parse_number station_of
     moment_after value_of under_of cell_of peak_of
 returns c = record {
   pier = sym (ap peak_of pier_text) ∙ peak_of-text pier pier_is;

@@ -6,7 +6,7 @@ use Rattle.zone_time.proofs.ClosedLemmas.{days_from_civil-closed}
 use Rattle.question.specs.declared.command.Command.TheVariants as command
 use Rattle.question.specs.declared.layout.Layout.TheVariants.{Csv}
 use Rattle.question.specs.declared.question.ZoneWord.TheVariants.{Fixed}
-use Rattle.question.specs.Forms.{some_text, number_of, mark_of, clock_of, offset_of, zone_of}
+use Rattle.question.specs.Forms.{some_text, parse_number, mark_of, clock_of, offset_of, zone_of}
 use Rattle.question.specs.Layouts.{layout_of}
 use Rattle.question.specs.Questions.{question_of, with_items, with_item}
 use Rattle.question.specs.Worked.{bare}
@@ -34,7 +34,7 @@ returns-clause-predict c = ap₂ (λ (begin end : ℤ). Ok (record (bare command
 })) tenth_of_january eleventh_of_january
 
 pub returns-clause-calendar : goal.returns-clause-calendar
-unfolding question_of with_items with_item some_text moment_of has_form mark_of read_of decimal_of after_point made_of scaled_or_bad scaled zone_of offset_of clock_of number_of
+unfolding question_of with_items with_item some_text moment_of has_form mark_of read_of decimal_of after_point made_of scaled_or_bad scaled zone_of offset_of clock_of parse_number
 returns-clause-calendar c = ap₂ (λ (begin end : ℤ). Ok (record (bare command.Calendar) {
   file = Some (codes "a=b");
   offsets = Some (codes "o");
@@ -46,7 +46,7 @@ returns-clause-calendar c = ap₂ (λ (begin end : ℤ). Ok (record (bare comman
 })) before_zero zero
 
 pub returns-clause-heights_asked : goal.returns-clause-heights_asked
-unfolding question_of with_items with_item some_text moment_of has_form number_of layout_of
+unfolding question_of with_items with_item some_text moment_of has_form parse_number layout_of
 returns-clause-heights_asked c = ap (λ (moment : ℤ). Ok (record (bare command.Heights) {
   station = Some (codes "Pier");
   begin = Some moment;

@@ -5,5 +5,5 @@ use Rattle.report_sheets.proofs.tally.counts.Given as goal
 abbrev pub invariant-loop-event : goal.invariant-loop-event
 invariant-loop-event l = record {
   ten : length l.counts ≡ 10;
-  counted : (place : ℕ) → place < 10 → slice_index l.counts place ≡ count_at l.units (take l.event-index l.events) place;
+  counted : (index : ℕ) → index < 10 → slice_index l.counts index ≡ count_at l.units (take l.event-index l.events) index;
 }

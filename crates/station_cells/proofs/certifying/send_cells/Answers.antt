@@ -20,7 +20,7 @@ loop-found-init g c =
 
 pub put_cell-requires-clause-cell : goal.put_cell-requires-clause-cell
 put_cell-requires-clause-cell g c =
-    All-head IsCell c.in-Some.found.cell c.next.new.self.left (rw c.in-Some.ensures.found.1 at c.loop-found.invariant.cells)
+    All-head IsCell c.in-Some.found.cell c.next.new.self.remaining (rw c.in-Some.ensures.found.1 at c.loop-found.invariant.cells)
 
 pub put_cell-requires-clause-count_bound : goal.put_cell-requires-clause-count_bound
 put_cell-requires-clause-count_bound g c =
@@ -33,8 +33,8 @@ put_cell-requires-clause-count g c =
     let count = c.loop-found.invariant.sends.3 in
     let cells = c.loop-found.invariant.sends.4.1 in
     let all = c.requires.count in
-    let left : length c.loop-found.search.left ≡ suc (length c.next.new.self.left) = ap length c.in-Some.ensures.found.1 in
-    omega (arith, count, cells, all, left)
+    let remaining : length c.loop-found.search.remaining ≡ suc (length c.next.new.self.remaining) = ap length c.in-Some.ensures.found.1 in
+    omega (arith, count, cells, all, remaining)
 
 pub loop-found-preserved : goal.loop-found-preserved
 loop-found-preserved g c =
@@ -51,20 +51,20 @@ loop-found-preserved g c =
     let short = c.put_cell.ensures.length_bound in
     let few = so_far.few in
     let long = buffer_length held piece now put in
-    let left : length c.loop-found.search.left ≡ suc (length c.next.new.self.left) = ap length is in
+    let remaining : length c.loop-found.search.remaining ≡ suc (length c.next.new.self.remaining) = ap length is in
     record {
       sends = (
         text ++ gone_for held piece,
         n + 1,
-        buffer_step (λ (cells : List Cell). joined (map cell_line_of cells)) c.loop-found.search.left
-            c.next.new.self.left c.in-Some.found.cell _ text held piece now is refl put so_far.sends.2,
-        omega (arith, count, left),
+        buffer_step (λ (cells : List Cell). joined (map cell_line_of cells)) c.loop-found.search.remaining
+            c.next.new.self.remaining c.in-Some.found.cell _ text held piece now is refl put so_far.sends.2,
+        omega (arith, count, remaining),
         sends_then (g.S.Sink.state c.args.out.now) (g.S.Sink.state c.loop-found.out) (g.S.Sink.state c.put_cell.new.out)
             c.args.sent c.loop-found.so_far text (gone_for held piece) n 1
             (Ok c.in_ok-so_far.so_far) so_far.sends.4 c.in_ok-so_far.ensures.sends,
       );
-      few = omega (arith, bytes, short, few, long, left);
-      cells = All-tail IsCell c.in-Some.found.cell c.next.new.self.left (rw is at so_far.cells);
+      few = omega (arith, bytes, short, few, long, remaining);
+      cells = All-tail IsCell c.in-Some.found.cell c.next.new.self.remaining (rw is at so_far.cells);
     }
 
 pub returns-in_err-so_far-clause-sends : goal.returns-in_err-so_far-clause-sends
@@ -76,9 +76,9 @@ returns-in_err-so_far-clause-sends g c =
     let held = c.loop-found.buffer.text.bytes in
     let piece = ended (cell_line_of c.in-Some.found.cell) in
     let now = held_after held piece in
-    let rest = joined (map cell_line_of c.next.new.self.left) in
-    let whole = buffer_step (λ (cells : List Cell). joined (map cell_line_of cells)) c.loop-found.search.left
-    c.next.new.self.left c.in-Some.found.cell _ text held piece now c.in-Some.ensures.found.1 refl refl so_far.sends.2 in
+    let rest = joined (map cell_line_of c.next.new.self.remaining) in
+    let whole = buffer_step (λ (cells : List Cell). joined (map cell_line_of cells)) c.loop-found.search.remaining
+    c.next.new.self.remaining c.in-Some.found.cell _ text held piece now c.in-Some.ensures.found.1 refl refl so_far.sends.2 in
     rw (p.1, p.2, ← whole) (sends_cut (g.S.Sink.state c.args.out.now) (g.S.Sink.state c.put_cell.new.out) c.args.sent
     (text ++ gone_for held piece) (now ++ rest) (n + 1) 0 _
     (sends_then (g.S.Sink.state c.args.out.now) (g.S.Sink.state c.loop-found.out) (g.S.Sink.state c.put_cell.new.out)
@@ -98,16 +98,16 @@ returns-clause-sends g c =
     let held = c.loop-found.buffer.text.bytes in
     let none = c.in_default.ensures.found.0 in
     let count = so_far.sends.3 in
-    let left : length c.loop-found.search.left ≡ 0 = ap length none in
-    let all : n + 0 ≡ length c.args.search.left = omega (arith, count, left) in
-    let whole = buffer_done (λ (cells : List Cell). joined (map cell_line_of cells)) c.loop-found.search.left _ text
+    let remaining : length c.loop-found.search.remaining ≡ 0 = ap length none in
+    let all : n + 0 ≡ length c.args.search.remaining = omega (arith, count, remaining) in
+    let whole = buffer_done (λ (cells : List Cell). joined (map cell_line_of cells)) c.loop-found.search.remaining _ text
     held none refl so_far.sends.2 in
     rw (← whole) (sends_sum (g.S.Sink.state c.args.out.now) (g.S.Sink.state c.loop-found.out) (g.S.Sink.state c.end.new.out)
-    c.args.sent c.loop-found.so_far text held n 0 (length c.args.search.left) all c.end.result so_far.sends.4 c.end.ensures)
+    c.args.sent c.loop-found.so_far text held n 0 (length c.args.search.remaining) all c.end.result so_far.sends.4 c.end.ensures)
 
 pub returns-clause-length_bound : goal.returns-clause-length_bound
 returns-clause-length_bound g c =
     let few = c.loop-found.invariant.few in
     sent_below (g.S.Sink.state c.loop-found.out)
     (g.S.Sink.state c.end.new.out) c.loop-found.so_far c.loop-found.buffer.text.bytes 0
-    (c.args.sent.bytes + 24 * length c.args.search.left) c.end.result c.end.ensures (omega (arith, few))
+    (c.args.sent.bytes + 24 * length c.args.search.remaining) c.end.result c.end.ensures (omega (arith, few))

@@ -7,12 +7,12 @@ use Rattle.station_cells.proofs.certifying.send_cells.Given as goal
 abbrev pub invariant-loop-found : goal.invariant-loop-found
 invariant-loop-found g l = record {
   sends : (text : List ℕ) × (n : ℕ)
-      × (text ++ (l.buffer.text.bytes ++ joined (map cell_line_of l.search.left)) ≡ joined (map cell_line_of l.fn.search.left))
-      × (n + length l.search.left ≡ length l.fn.search.left)
+      × (text ++ (l.buffer.text.bytes ++ joined (map cell_line_of l.search.remaining)) ≡ joined (map cell_line_of l.fn.search.remaining))
+      × (n + length l.search.remaining ≡ length l.fn.search.remaining)
       × Sends (g.S.Sink.state l.fn.out) (g.S.Sink.state l.out) l.fn.sent text n (Ok l.so_far);
-  few : l.so_far.bytes + length l.buffer.text.bytes + 24 * length l.search.left ≤ l.fn.sent.bytes + 24 * length l.fn.search.left;
-  cells : All IsCell l.search.left;
+  few : l.so_far.bytes + length l.buffer.text.bytes + 24 * length l.search.remaining ≤ l.fn.sent.bytes + 24 * length l.fn.search.remaining;
+  cells : All IsCell l.search.remaining;
 }
 
 abbrev pub decreases-loop-found : goal.decreases-loop-found
-decreases-loop-found g l = length l.search.left
+decreases-loop-found g l = length l.search.remaining

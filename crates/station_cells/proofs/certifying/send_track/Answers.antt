@@ -12,7 +12,7 @@ returns-in_err-sent-clause-sends g c =
     let p = err_from_is_err_and c.from_residual.result c.from_residual.ensures.1 in
     let line = c.as_str.ensures.value ∙ c.heading_line.ensures in
     rw (p.1, p.2) (sends_cut (g.S.Sink.state c.args.out.now) (g.S.Sink.state c.send.new.out) c.args.sent
-    (ended (heading_of c.args.track)) (joined (map cell_line_of c.args.search.left)) 0 0 _ (rw line at c.in_err-sent.ensures))
+    (ended (heading_of c.args.track)) (joined (map cell_line_of c.args.search.remaining)) 0 0 _ (rw line at c.in_err-sent.ensures))
 
 pub send_cells-requires-clause-count_bound : goal.send_cells-requires-clause-count_bound
 send_cells-requires-clause-count_bound g c =
@@ -31,6 +31,6 @@ pub returns-clause-sends : goal.returns-clause-sends
 returns-clause-sends g c =
     let line = c.as_str.ensures.value ∙ c.heading_line.ensures in
     sends_sum (g.S.Sink.state c.args.out.now) (g.S.Sink.state c.send.new.out) (g.S.Sink.state c.send_cells.new.out)
-    c.args.sent c.in_ok-sent.sent (ended (heading_of c.args.track)) (joined (map cell_line_of c.args.search.left)) 0
-    (length c.args.search.left) (length c.args.search.left) (omega arith) c.send_cells.result
+    c.args.sent c.in_ok-sent.sent (ended (heading_of c.args.track)) (joined (map cell_line_of c.args.search.remaining)) 0
+    (length c.args.search.remaining) (length c.args.search.remaining) (omega arith) c.send_cells.result
     (rw line at c.in_ok-sent.ensures) c.send_cells.ensures.sends

@@ -2,7 +2,7 @@ use Rattle.std.proofs.Common.{◌≡◌, ◌^◌, List, take, ℤ, pos, ap, arit
 use Rattle.std.proofs.lemmas.List.{take_all}
 use mir.Syntax.{w128}
 use mir.Val.{to_z}
-use Rattle.station_curve.specs.Waves.{Harmonic, amount_of, steepness_of}
+use Rattle.station_curve.specs.Waves.{WaveSpec, amount_of, steepness_of}
 use Rattle.station_curve.specs.Sums.{height_rate_of, fall_rate_of, near_of, far_of, sums_of}
 use Rattle.station_curve.proofs.OneMore.{amplitude_size, steepness_size, IsSizeMore, one_more_size}
 use Rattle.station_curve.proofs.year_sums.sums_of_waves.Goals as goal
@@ -61,7 +61,7 @@ loop-wave-preserved c =
       far_size = (far c).bound;
     }
 
-sums_are : (a s n f : ℤ) (read hs : List Harmonic) → a ≡ pos (amount_of read) → s ≡ pos (steepness_of read)
+sums_are : (a s n f : ℤ) (read hs : List WaveSpec) → a ≡ pos (amount_of read) → s ≡ pos (steepness_of read)
     → n ≡ pos (near_of read) → f ≡ pos (far_of read) → read ≡ hs
     → record { amount = a; steep = s; near = n; far = f } ≡ sums_of hs
 sums_are a s n f read hs is_amount is_steep is_near is_far all = rw (is_amount, is_steep, is_near, is_far) (ap sums_of all)

@@ -6,8 +6,8 @@ use Rattle.station_span.proofs.curves.slack_curve.Goals as goal
 
 pub new-requires-clause-scale : goal.new-requires-clause-scale
 new-requires-clause-scale c =
-    let found = c.args.found.now in
+    let found_station = c.args.found_station.now in
     let times : FitsSigned w64 c.slack_times-times.result = search rules in
     let plus : FitsSigned w64 c.slack_plus-plus.result = search rules in
     simp to_z-of_z (rw (c.slack_times-times.ensures, c.slack_plus-plus.ensures)
-    (slack_scale found.basis.slack found.basis refl (has_offsets _ found.basis found.valid.valid)))
+    (slack_scale found_station.basis.slack found_station.basis refl (has_offsets _ found_station.basis found_station.valid.valid)))

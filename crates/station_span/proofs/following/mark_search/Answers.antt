@@ -10,12 +10,12 @@ use Rattle.station_span.proofs.following.mark_search.Goals as goal
 
 pub search_if-requires : goal.search_if-requires
 search_if-requires c =
-    fresh_mark c.args.found.now Second mark_state c.mark_curve.result c.mark_curve.ensures.meaning c.mark_curve.ensures.fresh
+    fresh_mark c.args.found_station.now Second mark_state c.mark_curve.result c.mark_curve.ensures.curve_spec c.mark_curve.ensures.fresh
 
-pub returns-clause-left : goal.returns-clause-left
-returns-clause-left c =
-    c.search_if.ensures.left
-    ∙ option_map-both (cover_over c.args.found.now.span)
-    (λ (x : MarkCurve). (mark_state x).facts.meaning) c.mark_curve.result
-    ∙ ap (option_map (cover_over c.args.found.now.span)) c.mark_curve.ensures.meaning
-    ∙ ap (λ (t : Tracks). t.mark) (tracks_for c.args.found.now c.requires)
+pub returns-clause-remaining : goal.returns-clause-remaining
+returns-clause-remaining c =
+    c.search_if.ensures.remaining
+    ∙ option_map-both (cover_over c.args.found_station.now.span)
+    (λ (x : MarkCurve). (mark_state x).curve_model.curve_spec) c.mark_curve.result
+    ∙ ap (option_map (cover_over c.args.found_station.now.span)) c.mark_curve.ensures.curve_spec
+    ∙ ap (λ (t : Tracks). t.mark) (tracks_for c.args.found_station.now c.requires)

@@ -10,12 +10,12 @@ use Rattle.station_span.proofs.following.slack_search.Goals as goal
 
 pub search_if-requires : goal.search_if-requires
 search_if-requires c =
-    fresh_slack c.args.found.now Second mark_state c.slack_curve.result c.slack_curve.ensures.meaning c.slack_curve.ensures.fresh
+    fresh_slack c.args.found_station.now Second mark_state c.slack_curve.result c.slack_curve.ensures.curve_spec c.slack_curve.ensures.fresh
 
-pub returns-clause-left : goal.returns-clause-left
-returns-clause-left c =
-    c.search_if.ensures.left
-    ∙ option_map-both (cover_over c.args.found.now.span)
-    (λ (x : MarkCurve). (mark_state x).facts.meaning) c.slack_curve.result
-    ∙ ap (option_map (cover_over c.args.found.now.span)) c.slack_curve.ensures.meaning
-    ∙ ap (λ (t : Tracks). t.slack) (tracks_for c.args.found.now c.requires)
+pub returns-clause-remaining : goal.returns-clause-remaining
+returns-clause-remaining c =
+    c.search_if.ensures.remaining
+    ∙ option_map-both (cover_over c.args.found_station.now.span)
+    (λ (x : MarkCurve). (mark_state x).curve_model.curve_spec) c.slack_curve.result
+    ∙ ap (option_map (cover_over c.args.found_station.now.span)) c.slack_curve.ensures.curve_spec
+    ∙ ap (λ (t : Tracks). t.slack) (tracks_for c.args.found_station.now c.requires)

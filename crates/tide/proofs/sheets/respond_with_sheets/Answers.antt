@@ -1,6 +1,6 @@
 use Rattle.std.proofs.Common.{refl, ◌∙◌}
 use denote.Param.Object.{read_made}
-use Rattle.report_sheets.specs.Sheets.{SheetMeaning}
+use Rattle.report_sheets.specs.Sheets.{SheetSpec}
 use Rattle.tide.proofs.sheets.respond_with_sheets.OwnLists as own
 use Rattle.tide.specs.Promises.{RespondsAs, program_sheets, world, world_states}
 use Rattle.tide.proofs.SheetLemmas.{four_sheets, over_sheets}
@@ -30,18 +30,18 @@ returns-clause-responds g c =
     c.in_ok-push-2.ensures.items
     c.in_ok-push-3.ensures.items
     c.in_ok-push-4.ensures.items
-    (read_made own.own-1 (own.own-1.entry own.at-1-1) own.at-1-1 refl SheetMeaning (λ j value. j.1.meaning value)
+    (read_made own.own-1 (own.own-1.entry own.at-1-1) own.at-1-1 refl SheetSpec (λ j value. j.1.sheet_spec value)
     c.into_dyn_box.result.vtable c.into_dyn_box.result.value c.in_ok-new.field-0.value c.into_dyn_box.ensures.1
-    ∙ rw c.in_ok-new.ensures.ok c.new.ensures.meaning)
-    (read_made own.own-1 (own.own-1.entry own.at-1-2) own.at-1-2 refl SheetMeaning
-    (λ j value. j.1.meaning value) c.into_dyn_box-in_ok-new-2.result.vtable c.into_dyn_box-in_ok-new-2.result.value
+    ∙ rw c.in_ok-new.ensures.ok c.new.ensures.sheet_spec)
+    (read_made own.own-1 (own.own-1.entry own.at-1-2) own.at-1-2 refl SheetSpec
+    (λ j value. j.1.sheet_spec value) c.into_dyn_box-in_ok-new-2.result.vtable c.into_dyn_box-in_ok-new-2.result.value
     c.in_ok-new-2.field-0.value c.into_dyn_box-in_ok-new-2.ensures.1
-    ∙ rw c.in_ok-new-2.ensures.ok c.new-3.ensures.meaning)
-    (read_made own.own-1 (own.own-1.entry own.at-1-3) own.at-1-3 refl SheetMeaning
-    (λ j value. j.1.meaning value) c.into_dyn_box-in_ok-new-3.result.vtable c.into_dyn_box-in_ok-new-3.result.value
+    ∙ rw c.in_ok-new-2.ensures.ok c.new-3.ensures.sheet_spec)
+    (read_made own.own-1 (own.own-1.entry own.at-1-3) own.at-1-3 refl SheetSpec
+    (λ j value. j.1.sheet_spec value) c.into_dyn_box-in_ok-new-3.result.vtable c.into_dyn_box-in_ok-new-3.result.value
     c.in_ok-new-3.field-0.value c.into_dyn_box-in_ok-new-3.ensures.1
-    ∙ rw c.in_ok-new-3.ensures.ok c.new-5.ensures.meaning)
-    (read_made own.own-1 (own.own-1.entry own.at-1-4) own.at-1-4 refl SheetMeaning
-    (λ j value. j.1.meaning value) c.into_dyn_box-in_ok-new-4.result.vtable c.into_dyn_box-in_ok-new-4.result.value
+    ∙ rw c.in_ok-new-3.ensures.ok c.new-5.ensures.sheet_spec)
+    (read_made own.own-1 (own.own-1.entry own.at-1-4) own.at-1-4 refl SheetSpec
+    (λ j value. j.1.sheet_spec value) c.into_dyn_box-in_ok-new-4.result.vtable c.into_dyn_box-in_ok-new-4.result.value
     c.in_ok-new-4.field-0.value c.into_dyn_box-in_ok-new-4.ensures.1
-    ∙ rw c.in_ok-new-4.ensures.ok c.new-7.ensures.meaning))
+    ∙ rw c.in_ok-new-4.ensures.ok c.new-7.ensures.sheet_spec))

@@ -9,8 +9,8 @@ returns-in_err-sent-clause-sends g c =
     let p = err_from_is_err_and c.from_residual.result c.from_residual.ensures.1 in
     rw (p.1, p.2) (sends_cut (g.S.Sink.state c.args.out.now) (g.S.Sink.state c.send_name.new.out)
     (record { bytes = 0; cells = 0 }) (codes "tide certificate 2\nstation " ++ c.args.name.now ++ codes "\n")
-    (ended (begin_line_of c.args.found.now.asked.begin) ++ ended (end_line_of c.args.found.now.asked.end)
-    ++ ended (mark_line_of c.args.found.now.asked.mark)) 0 0 _ c.in_err-sent.ensures)
+    (ended (begin_line_of c.args.found_station.now.span_request.begin) ++ ended (end_line_of c.args.found_station.now.span_request.end)
+    ++ ended (mark_line_of c.args.found_station.now.span_request.mark)) 0 0 _ c.in_err-sent.ensures)
 
 pub send-requires : goal.send-requires
 send-requires g c =
@@ -27,6 +27,6 @@ returns-clause-sends g c =
     let last = rw lines at c.send.ensures in
     sends_then (g.S.Sink.state c.args.out.now) (g.S.Sink.state c.send_name.new.out) (g.S.Sink.state c.send.new.out)
     (record { bytes = 0; cells = 0 }) c.in_ok-sent.sent (codes "tide certificate 2\nstation " ++ c.args.name.now ++ codes "\n")
-    (ended (begin_line_of c.args.found.now.asked.begin) ++ ended (end_line_of c.args.found.now.asked.end)
-    ++ ended (mark_line_of c.args.found.now.asked.mark)) 0 0 c.send.result
+    (ended (begin_line_of c.args.found_station.now.span_request.begin) ++ ended (end_line_of c.args.found_station.now.span_request.end)
+    ++ ended (mark_line_of c.args.found_station.now.span_request.mark)) 0 0 c.send.result
     c.in_ok-sent.ensures last

@@ -16,63 +16,63 @@ use Rattle.tide_answer.proofs.certificate_sending.send_tracks.Goals as goal
 
 pub send_track-requires-clause-cells : goal.send_track-requires-clause-cells
 send_track-requires-clause-cells g c =
-    let turn = c.turn_search.ensures.left in
+    let turn = c.turn_search.ensures.remaining in
     rw turn c.requires.cells.turn
 
 pub send_track-requires-clause-count_bound : goal.send_track-requires-clause-count_bound
 send_track-requires-clause-count_bound g c =
-    let turn = c.turn_search.ensures.left in
-    let few = turn_small c.args.found.now c.requires.reach in
+    let turn = c.turn_search.ensures.remaining in
+    let few = turn_small c.args.found_station.now c.requires.purpose in
     let small = c.requires.small in
     rw turn (omega (arith, few, small))
 
 pub send_track-requires-clause-count : goal.send_track-requires-clause-count
 send_track-requires-clause-count g c =
-    let turn = c.turn_search.ensures.left in
-    let few = turn_small c.args.found.now c.requires.reach in
+    let turn = c.turn_search.ensures.remaining in
+    let few = turn_small c.args.found_station.now c.requires.purpose in
     let first = c.requires.first in
     rw turn (omega (arith, few, first))
 
 pub send_if_followed-requires-clause-cells : goal.send_if_followed-requires-clause-cells
 send_if_followed-requires-clause-cells g c =
-    let slack = c.slack_search.ensures.left in
-    searched c.slack_search.result (tracks_of c.args.found.now.curve.book
-    (site_of c.args.found.now) c.args.found.now.asked).slack slack c.requires.cells.slack
+    let slack = c.slack_search.ensures.remaining in
+    searched c.slack_search.result (tracks_of c.args.found_station.now.curve.book
+    (site_of c.args.found_station.now) c.args.found_station.now.span_request).slack slack c.requires.cells.slack
 
 pub send_if_followed-requires-clause-count_bound : goal.send_if_followed-requires-clause-count_bound
 send_if_followed-requires-clause-count_bound g c =
-    let turn = c.turn_search.ensures.left in
-    let slack = c.slack_search.ensures.left in
-    let few = turn_small c.args.found.now c.requires.reach in
-    let more = slack_small c.args.found.now c.slack_search.result c.requires.reach slack in
+    let turn = c.turn_search.ensures.remaining in
+    let slack = c.slack_search.ensures.remaining in
+    let few = turn_small c.args.found_station.now c.requires.purpose in
+    let more = slack_small c.args.found_station.now c.slack_search.result c.requires.purpose slack in
     let short = rw turn at c.in_ok-sent.ensures.length_bound in
     let small = c.requires.small in
     omega (arith, few, more, short, small)
 
 pub send_if_followed-requires-clause-count : goal.send_if_followed-requires-clause-count
 send_if_followed-requires-clause-count g c =
-    let turn = c.turn_search.ensures.left in
-    let slack = c.slack_search.ensures.left in
-    let few = turn_small c.args.found.now c.requires.reach in
-    let more = slack_small c.args.found.now c.slack_search.result c.requires.reach slack in
+    let turn = c.turn_search.ensures.remaining in
+    let slack = c.slack_search.ensures.remaining in
+    let few = turn_small c.args.found_station.now c.requires.purpose in
+    let more = slack_small c.args.found_station.now c.slack_search.result c.requires.purpose slack in
     let cells = (rw turn at c.in_ok-sent.ensures.sends).1 in
     let first = c.requires.first in
     omega (arith, few, more, cells, first)
 
 pub send_if_followed-requires-2-clause-cells : goal.send_if_followed-requires-2-clause-cells
 send_if_followed-requires-2-clause-cells g c =
-    let mark = c.mark_search.ensures.left in
-    searched c.mark_search.result (tracks_of c.args.found.now.curve.book
-    (site_of c.args.found.now) c.args.found.now.asked).mark mark c.requires.cells.mark
+    let mark = c.mark_search.ensures.remaining in
+    searched c.mark_search.result (tracks_of c.args.found_station.now.curve.book
+    (site_of c.args.found_station.now) c.args.found_station.now.span_request).mark mark c.requires.cells.mark
 
 pub send_if_followed-requires-2-clause-count_bound : goal.send_if_followed-requires-2-clause-count_bound
 send_if_followed-requires-2-clause-count_bound g c =
-    let turn = c.turn_search.ensures.left in
-    let slack = c.slack_search.ensures.left in
-    let mark = c.mark_search.ensures.left in
-    let few = turn_small c.args.found.now c.requires.reach in
-    let more = slack_small c.args.found.now c.slack_search.result c.requires.reach slack in
-    let most = mark_small c.args.found.now c.mark_search.result c.requires.reach mark in
+    let turn = c.turn_search.ensures.remaining in
+    let slack = c.slack_search.ensures.remaining in
+    let mark = c.mark_search.ensures.remaining in
+    let few = turn_small c.args.found_station.now c.requires.purpose in
+    let more = slack_small c.args.found_station.now c.slack_search.result c.requires.purpose slack in
+    let most = mark_small c.args.found_station.now c.mark_search.result c.requires.purpose mark in
     let short = rw turn at c.in_ok-sent.ensures.length_bound in
     let shorter = c.in_ok-sent-2.ensures.length_bound in
     let small = c.requires.small in
@@ -80,12 +80,12 @@ send_if_followed-requires-2-clause-count_bound g c =
 
 pub send_if_followed-requires-2-clause-count : goal.send_if_followed-requires-2-clause-count
 send_if_followed-requires-2-clause-count g c =
-    let turn = c.turn_search.ensures.left in
-    let slack = c.slack_search.ensures.left in
-    let mark = c.mark_search.ensures.left in
-    let few = turn_small c.args.found.now c.requires.reach in
-    let more = slack_small c.args.found.now c.slack_search.result c.requires.reach slack in
-    let most = mark_small c.args.found.now c.mark_search.result c.requires.reach mark in
+    let turn = c.turn_search.ensures.remaining in
+    let slack = c.slack_search.ensures.remaining in
+    let mark = c.mark_search.ensures.remaining in
+    let few = turn_small c.args.found_station.now c.requires.purpose in
+    let more = slack_small c.args.found_station.now c.slack_search.result c.requires.purpose slack in
+    let most = mark_small c.args.found_station.now c.mark_search.result c.requires.purpose mark in
     let cells = (rw turn at c.in_ok-sent.ensures.sends).1 in
     let next = c.in_ok-sent-2.ensures.sends.1 in
     let first = c.requires.first in
@@ -94,8 +94,8 @@ send_if_followed-requires-2-clause-count g c =
 pub returns-in_err-sent-clause-sends : goal.returns-in_err-sent-clause-sends
 returns-in_err-sent-clause-sends g c =
     let p = err_from_is_err_and c.from_residual.result c.from_residual.ensures.1 in
-    let tracks = tracks_of c.args.found.now.curve.book (site_of c.args.found.now) c.args.found.now.asked in
-    let turn = c.turn_search.ensures.left in
+    let tracks = tracks_of c.args.found_station.now.curve.book (site_of c.args.found_station.now) c.args.found_station.now.span_request in
+    let turn = c.turn_search.ensures.remaining in
     let t = joined (track_lines_of Turn tracks.turn) in
     let s = joined (lines_if_there Slack tracks.slack) in
     rw (p.1, p.2) (sends_cut (g.S.Sink.state c.args.out.now) (g.S.Sink.state c.send_track.new.out) c.args.sent (t ++ s)
@@ -106,9 +106,9 @@ returns-in_err-sent-clause-sends g c =
 pub returns-in_err-sent-2-clause-sends : goal.returns-in_err-sent-2-clause-sends
 returns-in_err-sent-2-clause-sends g c =
     let p = err_from_is_err_and c.from_residual-in_err-sent-2.result c.from_residual-in_err-sent-2.ensures.1 in
-    let tracks = tracks_of c.args.found.now.curve.book (site_of c.args.found.now) c.args.found.now.asked in
-    let turn = c.turn_search.ensures.left in
-    let slack = c.slack_search.ensures.left in
+    let tracks = tracks_of c.args.found_station.now.curve.book (site_of c.args.found_station.now) c.args.found_station.now.span_request in
+    let turn = c.turn_search.ensures.remaining in
+    let slack = c.slack_search.ensures.remaining in
     let t = joined (track_lines_of Turn tracks.turn) in
     let s = joined (lines_if_there Slack tracks.slack) in
     let n = length tracks.turn in
@@ -120,33 +120,33 @@ returns-in_err-sent-2-clause-sends g c =
 
 pub returns-clause-sends : goal.returns-clause-sends
 returns-clause-sends g c =
-    let turn = c.turn_search.ensures.left in
-    let slack = c.slack_search.ensures.left in
-    let mark = c.mark_search.ensures.left in
-    let same = tracks_are c.args.found.now _ _ _ turn slack mark in
-    let n = length c.turn_search.result.left in
+    let turn = c.turn_search.ensures.remaining in
+    let slack = c.slack_search.ensures.remaining in
+    let mark = c.mark_search.ensures.remaining in
+    let same = tracks_are c.args.found_station.now _ _ _ turn slack mark in
+    let n = length c.turn_search.result.remaining in
     let k = left_count c.slack_search.result in
-    let total = all_counted c.turn_search.result.left c.slack_search.result c.mark_search.result ∙ ap cells_in same
-    ∙ cells_for c.args.found.now in
-    let t = joined (track_lines_of Turn c.turn_search.result.left) in
+    let total = all_counted c.turn_search.result.remaining c.slack_search.result c.mark_search.result ∙ ap cells_in same
+    ∙ cells_for c.args.found_station.now in
+    let t = joined (track_lines_of Turn c.turn_search.result.remaining) in
     let s = joined (lines_if_there Slack (cells_left c.slack_search.result)) in
     let m = joined (lines_if_there Mark (cells_left c.mark_search.result)) in
     let both = sends_then (g.S.Sink.state c.args.out.now) (g.S.Sink.state c.send_track.new.out) (g.S.Sink.state c.send_if_followed.new.out)
     c.args.sent c.in_ok-sent.sent t s n k (Ok c.in_ok-sent-2.sent) c.in_ok-sent.ensures.sends c.in_ok-sent-2.ensures.sends in
     subst (λ (x : Tracks). Sends (g.S.Sink.state c.args.out.now) (g.S.Sink.state c.send_if_followed-2.new.out) c.args.sent (tracks_text x)
-    (cells_of c.args.found.now.curve.book (site_of c.args.found.now) c.args.found.now.asked) c.send_if_followed-2.result) same
+    (cells_of c.args.found_station.now.curve.book (site_of c.args.found_station.now) c.args.found_station.now.span_request) c.send_if_followed-2.result) same
     (sends_sum (g.S.Sink.state c.args.out.now) (g.S.Sink.state c.send_if_followed.new.out) (g.S.Sink.state c.send_if_followed-2.new.out)
     c.args.sent c.in_ok-sent-2.sent (t ++ s) m (n + k) (left_count c.mark_search.result) _ total c.send_if_followed-2.result
     both c.send_if_followed-2.ensures.sends)
 
 pub returns-clause-length_bound : goal.returns-clause-length_bound
 returns-clause-length_bound g c =
-    let turn = c.turn_search.ensures.left in
-    let slack = c.slack_search.ensures.left in
-    let mark = c.mark_search.ensures.left in
-    let few = turn_small c.args.found.now c.requires.reach in
-    let more = slack_small c.args.found.now c.slack_search.result c.requires.reach slack in
-    let most = mark_small c.args.found.now c.mark_search.result c.requires.reach mark in
+    let turn = c.turn_search.ensures.remaining in
+    let slack = c.slack_search.ensures.remaining in
+    let mark = c.mark_search.ensures.remaining in
+    let few = turn_small c.args.found_station.now c.requires.purpose in
+    let more = slack_small c.args.found_station.now c.slack_search.result c.requires.purpose slack in
+    let most = mark_small c.args.found_station.now c.mark_search.result c.requires.purpose mark in
     let short = rw turn at c.in_ok-sent.ensures.length_bound in
     let shorter = c.in_ok-sent-2.ensures.length_bound in
     let small = c.requires.small in

@@ -1,7 +1,7 @@
 use Rattle.tide_answer.proofs.check.accept.Goals as goal
 
 pub push_plain_events-requires-clause-listed : goal.push_plain_events-requires-clause-listed
-push_plain_events-requires-clause-listed c = rw c.args.found.now.unit c.in_ok-events.ensures.listed
+push_plain_events-requires-clause-listed c = rw c.args.found_station.now.unit c.in_ok-events.ensures.listed
 
 pub returns : goal.returns
 returns c =
@@ -10,6 +10,6 @@ returns c =
       c.in_ok-push_plain_events.ensures,
       c.in_ok-text.ensures,
       c.in_ok-events.ensures.exact,
-      c.args.found.now.unit,
+      c.args.found_station.now.unit,
       c.zone.ensures.exact,
     ) at c.text_alone.ensures

@@ -6,19 +6,19 @@ use Rattle.tide_answer.proofs.heights.rows_of.Goals as goal
 pub row_at-requires-clause-level : goal.row_at-requires-clause-level
 row_at-requires-clause-level c =
     let step : FitsSigned w64 c.args.step = search rules in
-    let count = simp to_z-of_z at c.row_count-place-end.ensures.exact in
+    let count = simp to_z-of_z at c.row_count-index-end.ensures.exact in
     simp to_z-of_z
-    (row_level c.args.found.now c.args.step c.loop-place.place c.requires.levels c.requires.step (rw count at c.loop-place-test.true))
+    (row_level c.args.found_station.now c.args.step c.loop-index.index c.requires.levels c.requires.step (rw count at c.loop-index-test.true))
 
-pub loop-place-preserved : goal.loop-place-preserved
-loop-place-preserved c =
+pub loop-index-preserved : goal.loop-index-preserved
+loop-index-preserved c =
     let step : FitsSigned w64 c.args.step = search rules in
-    let count = simp to_z-of_z at c.row_count-place-end.ensures.exact in
+    let count = simp to_z-of_z at c.row_count-index-end.ensures.exact in
     let row = simp to_z-of_z at c.row_at.ensures in
-    let before = simp to_z-of_z at c.loop-place.invariant in
+    let before = simp to_z-of_z at c.loop-index.invariant in
     simp to_z-of_z
-    (row_added c.args.found.now c.args.step c.loop-place.place c.loop-place.rows.items _ _ c.requires.levels
-    c.requires.step (rw count at c.loop-place-test.true) before row c.in_ok-push.ensures.items)
+    (row_added c.args.found_station.now c.args.step c.loop-index.index c.loop-index.rows.items _ _ c.requires.levels
+    c.requires.step (rw count at c.loop-index-test.true) before row c.in_ok-push.ensures.items)
 
 pub returns-clause-listed : goal.returns-clause-listed
-returns-clause-listed c = rw c.from_vec.ensures c.loop-place.invariant.listed
+returns-clause-listed c = rw c.from_vec.ensures c.loop-index.invariant.listed

@@ -12,7 +12,7 @@ pub returns : goal.returns
 unfolding highest
 returns c =
     let at : FitsSigned w64 c.highest_minute-at.result = search rules in
-    let is = c.in_ok-found.ensures.exact in
-    let same = rw (is.book, is.asked) at c.highest_minute-at.ensures.exact in
+    let is = c.in_ok-found_station.ensures.exact in
+    let same = rw (is.book, is.span_request) at c.highest_minute-at.ensures.exact in
     let text = rw (c.name.ensures, is.book, same) at (simp to_z-of_z at c.in_ok-text.ensures) in
     rw (c.text_alone.ensures, text, is.site) refl

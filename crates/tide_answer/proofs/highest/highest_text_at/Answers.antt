@@ -6,7 +6,7 @@ use Rattle.tide_answer.proofs.highest.highest_text_at.Goals as goal
 pub highest_text-requires-clause-minute : goal.highest_text-requires-clause-minute
 highest_text-requires-clause-minute c =
     let minute : FitsSigned w64 c.moved_minute-minute.result = search rules in
-    simp to_z-of_z (looked_zone c.args.found.now _ c.moved_minute-minute.ensures.level)
+    simp to_z-of_z (looked_zone c.args.found_station.now _ c.moved_minute-minute.ensures.level)
 
 pub returns : goal.returns
 returns c =
@@ -15,4 +15,4 @@ returns c =
     let shown : FitsSigned w64 c.level_at-level.result = search rules in
     let minute = simp to_z-of_z at c.moved_minute-minute.ensures.exact in
     let level = simp to_z-of_z at c.level_at-level.ensures in
-    rw (c.zone.ensures.exact, level, minute, c.args.found.now.unit) at (simp to_z-of_z at c.highest_text.ensures)
+    rw (c.zone.ensures.exact, level, minute, c.args.found_station.now.unit) at (simp to_z-of_z at c.highest_text.ensures)

@@ -10,17 +10,17 @@ returns-in_err-request-clause-exact c =
     let missing = rw c.new-question.ensures at c.in_err-request.ensures.exact in
     rw (p.1, p.2) (excused_by _ _ _ (listed_missing c.args.book.now c.args.table.now c.args.question.now _ (sym missing)))
 
-pub returns-in_err-found-clause-exact : goal.returns-in_err-found-clause-exact
-returns-in_err-found-clause-exact c =
-    let p = err_from_is_err_and c.from_residual-in_err-found.result c.from_residual-in_err-found.ensures.1 in
-    let exact = rw c.new-stations.ensures at c.in_err-found.ensures.exact in
+pub returns-in_err-found_station-clause-exact : goal.returns-in_err-found_station-clause-exact
+returns-in_err-found_station-clause-exact c =
+    let p = err_from_is_err_and c.from_residual-in_err-found_station.result c.from_residual-in_err-found_station.ensures.1 in
+    let exact = rw c.new-stations.ensures at c.in_err-found_station.ensures.exact in
     let named = rw c.new-question.ensures at c.in_ok-request.ensures.exact in
     rw (p.1, p.2) (listed_refused _ c.args.book.now c.args.table.now c.args.question.now c.in_ok-request.request _ (sym named) exact)
 
 pub returns-clause-exact : goal.returns-clause-exact
 returns-clause-exact c =
-    let exact = rw c.new-stations.ensures at c.in_ok-found.ensures.exact in
+    let exact = rw c.new-stations.ensures at c.in_ok-found_station.ensures.exact in
     let named = rw c.new-question.ensures at c.in_ok-request.ensures.exact in
     rw (c.in_ok-copy.ensures, c.name.ensures)
-    (listed_whole c.args.book.now c.args.table.now c.args.question.now c.in_ok-request.request exact.0 c.in_ok-found.found
+    (listed_whole c.args.book.now c.args.table.now c.args.question.now c.in_ok-request.request exact.0 c.in_ok-found_station.found_station
     (sym named) exact.1 exact.2)

@@ -21,7 +21,7 @@ loop-event-init g c =
 
 pub line_of-line-requires : goal.line_of-line-requires
 line_of-line-requires g c = record {
-  listed = All-head (IsListed c.args.units) c.in-Some.event c.next.new.self.left
+  listed = All-head (IsListed c.args.units) c.in-Some.event c.next.new.self.remaining
       (rw c.in-Some.ensures.next at c.loop-event.invariant.listed);
 }
 
@@ -45,18 +45,18 @@ loop-event-preserved g c =
     let fits = c.as_str.ensures.fits in
     let few = so_far.few in
     let long = buffer_length held piece now put in
-    let count : length c.loop-event.merge.left ≡ suc (length c.next.new.self.left) = ap length is in
+    let count : length c.loop-event.merge.remaining ≡ suc (length c.next.new.self.remaining) = ap length is in
     record {
       sends = (
         text ++ gone_for held piece,
-        buffer_step (flat_map (event_line_in c.args.zone.now c.args.units)) c.loop-event.merge.left c.next.new.self.left
+        buffer_step (flat_map (event_line_in c.args.zone.now c.args.units)) c.loop-event.merge.remaining c.next.new.self.remaining
             c.in-Some.event _ text held piece now is (rw line refl) put so_far.sends.1,
         sends_then (g.S.Sink.state c.args.out.now) (g.S.Sink.state c.loop-event.out) (g.S.Sink.state c.put.new.out)
             c.args.sent c.loop-event.so_far text (gone_for held piece) 0 0
             (Ok c.in_ok-so_far.so_far) so_far.sends.2 c.in_ok-so_far.ensures.sends,
       );
       few = omega (arith, bytes, fits, few, long, count);
-      listed = All-tail (IsListed c.args.units) c.in-Some.event c.next.new.self.left (rw is at so_far.listed);
+      listed = All-tail (IsListed c.args.units) c.in-Some.event c.next.new.self.remaining (rw is at so_far.listed);
       all = c.next.ensures.all ∙ so_far.all;
     }
 
@@ -68,10 +68,10 @@ returns-in_err-so_far-clause-sends g c =
     let held = c.loop-event.buffer.text.bytes in
     let piece = c.as_str.result.now in
     let now = held_after held piece in
-    let rest = flat_map (event_line_in c.args.zone.now c.args.units) c.next.new.self.left in
+    let rest = flat_map (event_line_in c.args.zone.now c.args.units) c.next.new.self.remaining in
     let line = c.as_str.ensures.value ∙ c.line_of-line.ensures in
     let whole =
-    buffer_step (flat_map (event_line_in c.args.zone.now c.args.units)) c.loop-event.merge.left c.next.new.self.left
+    buffer_step (flat_map (event_line_in c.args.zone.now c.args.units)) c.loop-event.merge.remaining c.next.new.self.remaining
     c.in-Some.event _ text held piece now c.in-Some.ensures.next (rw line refl) refl so_far.sends.1 in
     rw (p.1, p.2, ← whole) (sends_cut (g.S.Sink.state c.args.out.now) (g.S.Sink.state c.put.new.out) c.args.sent
     (text ++ gone_for held piece) (now ++ rest) 0 0 _
@@ -86,7 +86,7 @@ returns-clause-sends g c =
     let so_far = c.loop-event.invariant in
     let text = so_far.sends.0 in
     let held = c.loop-event.buffer.text.bytes in
-    let whole = buffer_done (flat_map (event_line_in c.args.zone.now c.args.units)) c.loop-event.merge.left _ text held
+    let whole = buffer_done (flat_map (event_line_in c.args.zone.now c.args.units)) c.loop-event.merge.remaining _ text held
     c.in_default.ensures.next.0 refl so_far.sends.1 in
     rw (← whole) (sends_then (g.S.Sink.state c.args.out.now) (g.S.Sink.state c.loop-event.out) (g.S.Sink.state c.end.new.out)
     c.args.sent c.loop-event.so_far text held 0 0 c.end.result so_far.sends.2 c.end.ensures)

@@ -12,7 +12,7 @@ returns-in_err-sent-clause-sends g c =
     let p = err_from_is_err_and c.from_residual.result c.from_residual.ensures.1 in
     rw (p.1, p.2) (sends_cut (g.S.Sink.state c.args.out.now) (g.S.Sink.state c.send_name.new.out)
     (record { bytes = 0; cells = 0 }) (c.args.name.now ++ 10 ∷ [])
-    (flat_map (event_line_in c.args.zone.now c.args.units) c.args.merge.now.left) 0 0 _ c.in_err-sent.ensures)
+    (flat_map (event_line_in c.args.zone.now c.args.units) c.args.merge.now.remaining) 0 0 _ c.in_err-sent.ensures)
 
 pub send_events-requires-clause-count_bound : goal.send_events-requires-clause-count_bound
 send_events-requires-clause-count_bound g c =
@@ -27,5 +27,5 @@ unfolding plain_events_of
 returns-clause-sends g c =
     sends_then (g.S.Sink.state c.args.out.now) (g.S.Sink.state c.send_name.new.out) (g.S.Sink.state c.send_events.new.out)
     (record { bytes = 0; cells = 0 }) c.in_ok-sent.sent (c.args.name.now ++ 10 ∷ [])
-    (flat_map (event_line_in c.args.zone.now c.args.units) c.args.merge.now.left) 0 0 c.send_events.result
+    (flat_map (event_line_in c.args.zone.now c.args.units) c.args.merge.now.remaining) 0 0 c.send_events.result
     c.in_ok-sent.ensures c.send_events.ensures.sends

@@ -11,34 +11,34 @@ pub returns-in_err-request : goal.returns-in_err-request
 returns-in_err-request c =
     let p = err_from_is_err_and c.from_residual.result c.from_residual.ensures.1 in
     rw (p.1, p.2) (excused_by _ _ _ (refused_request c.args.question.now.command c.args.stations.now.book c.args.stations.now.table
-    c.args.question.now (given_seen c.args.given) _ refl c.requires.command (sym c.in_err-request.ensures.exact)))
+    c.args.question.now (given_seen c.args.inputs) _ refl c.requires.command (sym c.in_err-request.ensures.exact)))
 
-pub returns-in_err-found : goal.returns-in_err-found
-returns-in_err-found c =
+pub returns-in_err-found_station : goal.returns-in_err-found_station
+returns-in_err-found_station c =
     let parts = named_parts c.args.question.now c.in_ok-request.request (sym c.in_ok-request.ensures.exact) in
-    let p = err_from_is_err_and c.from_residual-in_err-found.result c.from_residual-in_err-found.ensures.1 in
+    let p = err_from_is_err_and c.from_residual-in_err-found_station.result c.from_residual-in_err-found_station.ensures.1 in
     rw (p.1, p.2) (refused_site c.args.question.now.command _ c.args.stations.now.book c.args.stations.now.table c.args.question.now
-    (given_seen c.args.given) c.in_ok-request.request.name c.in_ok-request.request.asked _ refl c.requires.command parts.0 parts.1
-    c.in_err-found.ensures.exact)
+    (given_seen c.args.inputs) c.in_ok-request.request.name c.in_ok-request.request.span_request _ refl c.requires.command parts.0 parts.1
+    c.in_err-found_station.ensures.exact)
 
 pub new-stream-requires : goal.new-stream-requires
 new-stream-requires c =
-    let is = c.in_ok-found.ensures.exact in
-    let zone = zone_some _ c.in-Some.zone c.args.given.zone.now
+    let is = c.in_ok-found_station.ensures.exact in
+    let zone = zone_some _ c.in-Some.zone c.args.inputs.zone.now
     (sym c.in-Some.is ∙ rw c.get-question.ensures.exact at c.streamed_zone.ensures) in
     rw (c.in_ok-copy-in-Some.ensures, c.name.ensures, zone.1) (record {
-      reach = is.reach;
-      moments = rw is.asked c.in_ok-request.ensures.moments;
-      named = c.in_ok-found.ensures.named;
-      clock = c.requires.given.zone;
-      plain = plain_if _ c.in_ok-found.found.basis c.args.given.zone.now zone.0;
+      purpose = is.purpose;
+      moments = rw is.span_request c.in_ok-request.ensures.moments;
+      named = c.in_ok-found_station.ensures.named;
+      clock = c.requires.inputs.zone;
+      plain = plain_if _ c.in_ok-found_station.found_station.basis c.args.inputs.zone.now zone.0;
     })
 
 pub returns-in_ok-copy-in-Some : goal.returns-in_ok-copy-in-Some
 returns-in_ok-copy-in-Some c =
     let parts = named_parts c.args.question.now c.in_ok-request.request (sym c.in_ok-request.ensures.exact) in
-    let is = c.in_ok-found.ensures.exact in
-    let zone = zone_some _ c.in-Some.zone c.args.given.zone.now
+    let is = c.in_ok-found_station.ensures.exact in
+    let zone = zone_some _ c.in-Some.zone c.args.inputs.zone.now
     (sym c.in-Some.is ∙ rw c.get-question.ensures.exact at c.streamed_zone.ensures) in
     rw (
       c.new-stream.ensures,
@@ -48,16 +48,16 @@ returns-in_ok-copy-in-Some c =
       c.name.ensures,
       zone.1,
       is.book,
-      is.asked,
+      is.span_request,
     ) (ready_some c.args.question.now.command c.args.question.now.layout c.args.stations.now.book c.args.stations.now.table
-    c.args.question.now (given_seen c.args.given) c.in_ok-request.request.name c.in_ok-request.request.asked (site_of c.in_ok-found.found)
+    c.args.question.now (given_seen c.args.inputs) c.in_ok-request.request.name c.in_ok-request.request.span_request (site_of c.in_ok-found_station.found_station)
     refl refl c.requires.command parts.0 parts.1 is.site zone.0)
 
 pub returns-in-None : goal.returns-in-None
 returns-in-None c =
     let parts = named_parts c.args.question.now c.in_ok-request.request (sym c.in_ok-request.ensures.exact) in
-    let is = c.in_ok-found.ensures.exact in
-    let none = zone_none _ c.args.given.zone.now (sym c.in-None.is ∙ rw c.get-question.ensures.exact at c.streamed_zone.ensures) in
-    ready_none c.args.question.now.command c.args.stations.now.book c.args.stations.now.table c.args.question.now (given_seen c.args.given)
-    c.in_ok-request.request.name c.in_ok-request.request.asked (site_of c.in_ok-found.found)
+    let is = c.in_ok-found_station.ensures.exact in
+    let none = zone_none _ c.args.inputs.zone.now (sym c.in-None.is ∙ rw c.get-question.ensures.exact at c.streamed_zone.ensures) in
+    ready_none c.args.question.now.command c.args.stations.now.book c.args.stations.now.table c.args.question.now (given_seen c.args.inputs)
+    c.in_ok-request.request.name c.in_ok-request.request.span_request (site_of c.in_ok-found_station.found_station)
     refl c.requires.command parts.0 parts.1 is.site none

@@ -7,20 +7,20 @@ use Rattle.tide_answer.proofs.streaming.write_listing.Goals as goal
 
 pub send_listing-requires-clause-listed : goal.send_listing-requires-clause-listed
 send_listing-requires-clause-listed g c =
-    rw (c.merge_of-merge.ensures.plain c.requires.plain, c.args.found.now.unit) (event_lines c.args.found.now c.requires.reach)
+    rw (c.merge_of-merge.ensures.plain c.requires.plain, c.args.found_station.now.unit) (event_lines c.args.found_station.now c.requires.purpose)
 
 pub send_listing-requires-clause-count_bound : goal.send_listing-requires-clause-count_bound
-send_listing-requires-clause-count_bound g c = events_small c.args.found.now _ c.requires.reach c.merge_of-merge.ensures.left
+send_listing-requires-clause-count_bound g c = events_small c.args.found_station.now _ c.requires.purpose c.merge_of-merge.ensures.remaining
 
 pub returns-in_err-send_listing : goal.returns-in_err-send_listing
 returns-in_err-send_listing g c =
     let p = err_from_is_err_and c.from_residual.result c.from_residual.ensures.1 in
     let whole = c.merge_of-merge.ensures.plain c.requires.plain in
     rw (p.1, p.2) (from_first (g.S.Sink.state c.args.out.now) (g.S.Sink.state c.send_listing.new.out) _ 0 _
-    (rw (whole, c.clock.ensures, c.args.found.now.unit) at c.in_err-send_listing.ensures.sends))
+    (rw (whole, c.clock.ensures, c.args.found_station.now.unit) at c.in_err-send_listing.ensures.sends))
 
 pub returns : goal.returns
 returns g c =
     let whole = c.merge_of-merge.ensures.plain c.requires.plain in
-    let sends = rw (whole, c.clock.ensures, c.args.found.now.unit) at c.in_ok-send_listing.ensures.sends in
+    let sends = rw (whole, c.clock.ensures, c.args.found_station.now.unit) at c.in_ok-send_listing.ensures.sends in
     (c.cells.ensures.value ∙ c.in_ok-send_listing.ensures.cells ∙ c.merge_of-merge.ensures.all, sends.2)

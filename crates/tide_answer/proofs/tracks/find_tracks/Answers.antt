@@ -1,7 +1,7 @@
 use Rattle.std.proofs.Common.{◌≡◌, IfOk, rules}
 use Rattle.rate_bound.specs.declared.version.Version.TheVariants.{Second}
 use Rattle.rate_bound.specs.CurveStates.{mark_state}
-use Rattle.rate_bound.specs.Meanings.{predicted_turn}
+use Rattle.rate_bound.specs.CurveSpecs.{predicted_turn}
 use Rattle.station_span.specs.Workings.Curves.{followed_over}
 use Rattle.station_span.proofs.FreshLemmas.{fresh_mark, fresh_slack, fresh_turn}
 use Rattle.station_span.proofs.HeldLemmas.{tracks_for}
@@ -11,23 +11,23 @@ use Rattle.tide_answer.proofs.tracks.find_tracks.Goals as goal
 
 pub tracks_over-requires-clause-turn : goal.tracks_over-requires-clause-turn
 tracks_over-requires-clause-turn c =
-    let found = c.args.found.now in
-    fresh_turn found _ (predicted_turn Second found.curve.book found.curve.station)
-    c.turn_curve-turn.ensures.meaning c.turn_curve-turn.ensures.fresh
+    let found_station = c.args.found_station.now in
+    fresh_turn found_station _ (predicted_turn Second found_station.curve.book found_station.curve.station)
+    c.turn_curve-turn.ensures.curve_spec c.turn_curve-turn.ensures.fresh
 
 pub tracks_over-requires-clause-slack : goal.tracks_over-requires-clause-slack
 tracks_over-requires-clause-slack c =
-    fresh_slack c.args.found.now Second mark_state c.slack_curve-slack.result
-    c.slack_curve-slack.ensures.meaning c.slack_curve-slack.ensures.fresh
+    fresh_slack c.args.found_station.now Second mark_state c.slack_curve-slack.result
+    c.slack_curve-slack.ensures.curve_spec c.slack_curve-slack.ensures.fresh
 
 pub tracks_over-requires-clause-mark : goal.tracks_over-requires-clause-mark
 tracks_over-requires-clause-mark c =
-    fresh_mark c.args.found.now Second mark_state c.mark_curve-mark.result
-    c.mark_curve-mark.ensures.meaning c.mark_curve-mark.ensures.fresh
+    fresh_mark c.args.found_station.now Second mark_state c.mark_curve-mark.result
+    c.mark_curve-mark.ensures.curve_spec c.mark_curve-mark.ensures.fresh
 
 pub returns : goal.returns
 returns c =
-    let found = c.args.found.now in
+    let found_station = c.args.found_station.now in
     let cells : IfOk c.tracks_over.result
-    (λ t. t ≡ covers_of (followed_over Second found.curve found.basis found.asked.mark) found.span) = search rules in
-    ok_same _ _ c.tracks_over.result _ _ (tracks_for found c.requires) cells
+    (λ t. t ≡ covers_of (followed_over Second found_station.curve found_station.basis found_station.span_request.mark) found_station.span) = search rules in
+    ok_same _ _ c.tracks_over.result _ _ (tracks_for found_station c.requires) cells

@@ -1,5 +1,5 @@
 use Rattle.std.proofs.Common.{◌≡◌, ◌∙◌, true, false, Err, refl, sym, rules, w64, FitsSigned}
-use Rattle.named_files.specs.declared.no_answer.NoAnswer.TheVariants.{Unread}
+use Rattle.named_files.specs.declared.run_fault.RunFault.TheVariants.{Unread}
 use Rattle.std.specs.Bool.{IsTrue}
 use Rattle.std.specs.Prelude.{pos}
 use Rattle.std.proofs.lemmas.Int.{to_z-of_z}
@@ -14,8 +14,8 @@ use Rattle.tide_desk.proofs.answering.answer_over.Goals as goal
 pub returns-in_err-read-clause-shown : goal.returns-in_err-read-clause-shown
 returns-in_err-read-clause-shown g c =
     shown_unread _ _ c.args.question.now c.args.name.now
-    (g.F.Files.state c.args.files.now).openings
-    (g.F.Files.state c.read_files.new.files).openings
+    (g.F.Files.state c.args.files.now).open_log
+    (g.F.Files.state c.read_files.new.files).open_log
     _ c.from_residual.result c.from_residual.ensures.1 c.in_err-read.ensures.opened
 
 pub returns-in_err-read-clause-reads : goal.returns-in_err-read-clause-reads
@@ -35,8 +35,8 @@ returns-in-Err-clause-shown g c =
     let given = rw c.in-Err.ensures.unread at c.in-Err.ensures.given in
     rw c.in-Err.ensures.unread
     (shown_read _ _ c.args.question.now c.args.name.now
-    (g.F.Files.state c.args.files.now).openings
-    (g.F.Files.state c.read_files.new.files).openings
+    (g.F.Files.state c.args.files.now).open_log
+    (g.F.Files.state c.read_files.new.files).open_log
     c.in_ok-read.read (Err Unread) refl (λ firm. rw given (λ f. refl)) c.in_ok-read.ensures.opened)
 
 pub returns-in-Err-clause-reads : goal.returns-in-Err-clause-reads
@@ -64,8 +64,8 @@ returns-in-Ok-clause-shown g c =
     let fits : FitsSigned w64 c.in-Ok.now = search rules in
     let exact = simp to_z-of_z at c.answer_with.ensures.exact in
     shown_read _ _ c.args.question.now c.args.name.now
-    (g.F.Files.state c.args.files.now).openings
-    (g.F.Files.state c.read_files.new.files).openings
+    (g.F.Files.state c.args.files.now).open_log
+    (g.F.Files.state c.read_files.new.files).open_log
     c.in_ok-read.read c.answer_with.result c.answer_with.ensures.of_no_file
     (λ firm. rw c.in-Ok.ensures.given (meets_inside (IsTrue firm) _ c.answer_with.result exact)) c.in_ok-read.ensures.opened
 

@@ -1,5 +1,5 @@
 use Rattle.std.proofs.Common.{refl}
-use Rattle.named_files.specs.NoAnswers.{reading_failed}
+use Rattle.named_files.specs.RunFaults.{reading_failed}
 use Rattle.named_files.proofs.ReadingLemmas.{failed_at}
 use Rattle.tide_desk.specs.Outcomes.{sources}
 use Rattle.tide_desk.proofs.AnsweringLemmas.{last_named, last_unopened, names_file, shown_alone, shown_named, shown_unasked, shown_unopened, went_by_words, went_nowhere}
@@ -10,8 +10,8 @@ use Rattle.tide_desk.proofs.answering.answer_words.Goals as goal
 pub returns-in_err-question-clause-shown : goal.returns-in_err-question-clause-shown
 returns-in_err-question-clause-shown g c =
     shown_unopened _ _ _
-    (g.F.Files.state c.args.files.now).openings
-    (g.F.Files.state c.args.files.now).openings
+    (g.F.Files.state c.args.files.now).open_log
+    (g.F.Files.state c.args.files.now).open_log
     c.from_residual.result refl
     (λ firm folders. shown_unasked _ _ c.args.words.now _ c.from_residual.result firm folders c.from_residual.ensures.1
     c.in_err-question.ensures.exact)
@@ -31,8 +31,8 @@ returns-in_err-question-clause-last g c =
 pub returns-in-Some-clause-shown : goal.returns-in-Some-clause-shown
 returns-in-Some-clause-shown g c =
     shown_named _ _ c.args.words.now c.in_ok-question.question c.in-Some.name
-    (g.F.Files.state c.args.files.now).openings
-    (g.F.Files.state c.answer_over-answered.new.files).openings
+    (g.F.Files.state c.args.files.now).open_log
+    (g.F.Files.state c.answer_over-answered.new.files).open_log
     c.answer_over-answered.result c.in_ok-question.ensures.exact c.in-Some.is (rw c.new-valid.ensures at c.answer_over-answered.ensures.shown)
 
 pub returns-in-Some-clause-reads : goal.returns-in-Some-clause-reads
@@ -60,8 +60,8 @@ returns-in-Some-clause-last g c =
 pub returns-in-None-clause-shown : goal.returns-in-None-clause-shown
 returns-in-None-clause-shown g c =
     shown_unopened _ _ _
-    (g.F.Files.state c.args.files.now).openings
-    (g.F.Files.state c.args.files.now).openings
+    (g.F.Files.state c.args.files.now).open_log
+    (g.F.Files.state c.args.files.now).open_log
     c.answer_without-answered.result refl
     (λ firm folders. shown_alone _ _ c.args.words.now c.in_ok-question.question c.answer_without-answered.result firm folders
     c.in_ok-question.ensures.exact c.in-None.is

@@ -12,14 +12,14 @@ returns-in-Ok g c =
     let before = sources (g.F.Files.state c.args.files.now) (g.K.Clock.state c.args.clock.now) in
     let after = sources (g.F.Files.state c.answer_words.new.files) (g.K.Clock.state c.answer_words.new.clock) in
     let law = g.met.F.Files.lawful c.answer_words.new.files in
-    let store = c.in-Ok.ensures.reads.read.store in
+    let file_contents = c.in-Ok.ensures.reads.read.file_contents in
     record {
       shown = shown_answered _ c.args.words.now before after c.in-Ok.reply c.write_reply-status.result
           (outputs (g.O.Sink.state c.args.out.now) (g.E.Sink.state c.args.err.now))
           (outputs (g.O.Sink.state c.write_reply-status.new.out) (g.E.Sink.state c.write_reply-status.new.err))
           c.in-Ok.ensures.shown (λ expected is. rw is c.write_reply-status.ensures.ends);
       own_files = λ t k either.
-          rw (own_answer _ c.args.words.now before after (Ok c.in-Ok.reply) _ law store c.in-Ok.ensures.shown c.in-Ok.ensures.last t k)
+          rw (own_answer _ c.args.words.now before after (Ok c.in-Ok.reply) _ law file_contents c.in-Ok.ensures.shown c.in-Ok.ensures.last t k)
           c.write_reply-status.ensures.ends;
       reads = rw c.write_reply-status.ensures.read c.in-Ok.ensures.reads;
       unwritten = c.write_reply-status.ensures.unwritten;
@@ -27,9 +27,9 @@ returns-in-Ok g c =
       unopened = c.in-Ok.ensures.unopened;
       unread = c.in-Ok.ensures.clock_unread;
       read_last = λ t no.
-          own_last _ c.args.words.now before after (Ok c.in-Ok.reply) _ law store c.in-Ok.ensures.shown c.in-Ok.ensures.last t no;
+          own_last _ c.args.words.now before after (Ok c.in-Ok.reply) _ law file_contents c.in-Ok.ensures.shown c.in-Ok.ensures.last t no;
       read_once = λ t asks has settled.
-          own_once _ c.args.words.now before after (Ok c.in-Ok.reply) _ law store c.in-Ok.ensures.shown c.in-Ok.ensures.last t asks has tt;
+          own_once _ c.args.words.now before after (Ok c.in-Ok.reply) _ law file_contents c.in-Ok.ensures.shown c.in-Ok.ensures.last t asks has tt;
     }
 
 pub returns-in-Err : goal.returns-in-Err
@@ -40,13 +40,13 @@ returns-in-Err g c =
     let before = sources (g.F.Files.state c.args.files.now) (g.K.Clock.state c.args.clock.now) in
     let after = sources (g.F.Files.state c.answer_words.new.files) (g.K.Clock.state c.answer_words.new.clock) in
     let law = g.met.F.Files.lawful c.answer_words.new.files in
-    let store = c.in-Err.ensures.reads.read.store in
+    let file_contents = c.in-Err.ensures.reads.read.file_contents in
     record {
       shown = shown_refused _ c.args.words.now before after
           c.in-Err.none c.report.result unwritten written c.in-Err.ensures.shown quiet c.report.ensures.reported;
       own_files = λ t k either.
           ends_own _ _ c.in-Err.none c.report.result unwritten written
-          (own_answer _ c.args.words.now before after (Err c.in-Err.none) _ law store c.in-Err.ensures.shown c.in-Err.ensures.last t k)
+          (own_answer _ c.args.words.now before after (Err c.in-Err.none) _ law file_contents c.in-Err.ensures.shown c.in-Err.ensures.last t k)
           either quiet c.report.ensures.reported;
       reads = rw c.report.ensures.read c.in-Err.ensures.reads;
       unwritten = untouched c.report.result c.args.out.now;
@@ -54,8 +54,8 @@ returns-in-Err g c =
       unopened = c.in-Err.ensures.unopened;
       unread = c.in-Err.ensures.clock_unread;
       read_last = λ t no.
-          own_last _ c.args.words.now before after (Err c.in-Err.none) _ law store c.in-Err.ensures.shown c.in-Err.ensures.last t no;
+          own_last _ c.args.words.now before after (Err c.in-Err.none) _ law file_contents c.in-Err.ensures.shown c.in-Err.ensures.last t no;
       read_once = λ t asks has settled.
-          own_once _ c.args.words.now before after (Err c.in-Err.none) _ law store c.in-Err.ensures.shown c.in-Err.ensures.last t asks has
+          own_once _ c.args.words.now before after (Err c.in-Err.none) _ law file_contents c.in-Err.ensures.shown c.in-Err.ensures.last t asks has
           (settled_reported c.in-Err.none c.report.result _ _ c.report.ensures.reported settled);
     }

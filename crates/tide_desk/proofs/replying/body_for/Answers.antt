@@ -7,7 +7,7 @@ use Rattle.tide_desk.proofs.replying.body_for.Goals as goal
 pub returns-in_err-ready-clause-exact : goal.returns-in_err-ready-clause-exact
 returns-in_err-ready-clause-exact c =
     let p = err_from_is_err_and c.from_residual.result c.from_residual.ensures.1 in
-    let says = prepared_says c.args.stations.now.book c.args.stations.now.table c.args.question.now c.args.given.now
+    let says = prepared_says c.args.stations.now.book c.args.stations.now.table c.args.question.now c.args.inputs.now
     (first_holds (can_stream c.args.question.now.command) _
     (sym (rw c.get.ensures.exact at c.may_stream.ensures) ∙ c.if-may_stream.true)) in
     let exact = rw c.view-seen.ensures at c.in_err-ready.ensures in
@@ -15,7 +15,7 @@ returns-in_err-ready-clause-exact c =
 
 pub returns-then-streams-clause-exact : goal.returns-then-streams-clause-exact
 returns-then-streams-clause-exact c =
-    let says = prepared_says c.args.stations.now.book c.args.stations.now.table c.args.question.now c.args.given.now
+    let says = prepared_says c.args.stations.now.book c.args.stations.now.table c.args.question.now c.args.inputs.now
     (first_holds (can_stream c.args.question.now.command) _
     (sym (rw c.get.ensures.exact at c.may_stream.ensures) ∙ c.if-may_stream.true)) in
     let some = rw c.streams.ensures at c.if-streams.true in

@@ -3,7 +3,7 @@ use Rattle.tide_edge.proofs.ReadingLemmas.{opened_long, opened_once, opened_with
 use Rattle.tide_edge.proofs.reading.pass_file.Goals as goal
 
 pub pass_rest-requires-clause-fresh : goal.pass_rest-requires-clause-fresh
-pass_rest-requires-clause-fresh g c = (c.args.name.now, ap (λ s. s.openings.latest) c.in-Ok.ensures.after)
+pass_rest-requires-clause-fresh g c = (c.args.name.now, ap (λ s. s.open_log.latest) c.in-Ok.ensures.after)
 
 pub returns-in-Ok-clause-came : goal.returns-in-Ok-clause-came
 returns-in-Ok-clause-came g c =

@@ -6,8 +6,8 @@ abbrev pub invariant-loop-count : goal.invariant-loop-count
 invariant-loop-count g l = record {
   within : l.passed ≤ l.limit;
   most : g.R.Receiver.most l.receiver ≡ g.R.Receiver.most l.initial.receiver;
-  counted : l.passed ≡ length (g.R.Receiver.taken l.receiver);
-  so_far : IsSoFar (g.F.Files.state l.initial.files) (g.F.Files.state l.files) (g.R.Receiver.taken l.receiver);
+  counted : l.passed ≡ length (g.R.Receiver.accepted l.receiver);
+  so_far : IsSoFar (g.F.Files.state l.initial.files) (g.F.Files.state l.files) (g.R.Receiver.accepted l.receiver);
 }
 
 abbrev pub decreases-loop-count : goal.decreases-loop-count

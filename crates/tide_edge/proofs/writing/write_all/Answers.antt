@@ -13,5 +13,5 @@ loop-sent-preserved g c = record {
       (g.S.Sink.state c.loop-sent.sink)
       (g.S.Sink.state c.write.new.self)
       c.loop-sent.invariant.sent
-      (rw c.rest_from.ensures.rest at c.in-Ok.ensures.after);
+      (rw c.rest_from.ensures.unread_bytes at c.in-Ok.ensures.after);
 }

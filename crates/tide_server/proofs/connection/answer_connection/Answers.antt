@@ -34,7 +34,7 @@ returns-then-is_empty g c =
     let after = g.D.Door.state c.read_more.new.door in
     let more : OneMore now c.loop-count.request c.read_more.new.self c.in-Ok.count after =
     record {
-      room = c.in-Ok.ensures.after.0;
+      buffer = c.in-Ok.ensures.after.0;
       door = c.in-Ok.ensures.after.1;
       came = c.in-Ok.ensures.after.2;
       longer = c.in-Ok.ensures.longer;
@@ -53,7 +53,7 @@ answer_row-requires-clause-is_open g c =
     let now = g.D.Door.state c.loop-count.door in
     let more : OneMore now c.loop-count.request c.read_more.new.self c.in-Ok.count (g.D.Door.state c.read_more.new.door) =
     record {
-      room = c.in-Ok.ensures.after.0;
+      buffer = c.in-Ok.ensures.after.0;
       door = c.in-Ok.ensures.after.1;
       came = c.in-Ok.ensures.after.2;
       longer = c.in-Ok.ensures.longer;
@@ -71,7 +71,7 @@ returns-then-ends_reading g c =
     let row = row_seen c.row_for-row.result in
     let more : OneMore now c.loop-count.request c.read_more.new.self c.in-Ok.count after =
     record {
-      room = c.in-Ok.ensures.after.0;
+      buffer = c.in-Ok.ensures.after.0;
       door = c.in-Ok.ensures.after.1;
       came = c.in-Ok.ensures.after.2;
       longer = c.in-Ok.ensures.longer;
@@ -102,7 +102,7 @@ loop-count-preserved g c =
           goes_on (g.D.Door.state c.args.door.now) (g.D.Door.state c.loop-count.door) (g.D.Door.state c.read_more.new.door)
           c.loop-count.request c.read_more.new.self (is_settled row) c.in-Ok.count c.loop-count.invariant.read
           (record {
-            room = c.in-Ok.ensures.after.0;
+            buffer = c.in-Ok.ensures.after.0;
             door = c.in-Ok.ensures.after.1;
             came = c.in-Ok.ensures.after.2;
             longer = c.in-Ok.ensures.longer;

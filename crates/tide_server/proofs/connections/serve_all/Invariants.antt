@@ -4,9 +4,9 @@ use Rattle.tide_server.specs.Workings.Steps.{IsKept, serving}
 use Rattle.tide_server.specs.Serving.{exchange}
 use Rattle.tide_server.proofs.connections.serve_all.Given as goal
 
-abbrev pub invariant-loop-taken : goal.invariant-loop-taken
-invariant-loop-taken g l = record {
-  doorway : (g.D.Door.state l.door).doorway ≡ serving l.served_data.port l._taken;
+abbrev pub invariant-loop-accepted : goal.invariant-loop-accepted
+invariant-loop-accepted g l = record {
+  listener_state : (g.D.Door.state l.door).listener_state ≡ serving l.served_data.port l._taken;
   kept : IsKept false false (exchange (g.D.Door.state l.initial.door) (g.K.Clock.state l.initial.clock))
       (exchange (g.D.Door.state l.door) (g.K.Clock.state l.clock));
   passed : HasServed l.served_data false (exchange (g.D.Door.state l.initial.door) (g.K.Clock.state l.initial.clock))

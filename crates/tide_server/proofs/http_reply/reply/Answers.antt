@@ -7,7 +7,7 @@ use Rattle.tide_server.proofs.http_reply.reply.Goals as goal
 
 pub returns-in-Rejects : goal.returns-in-Rejects
 returns-in-Rejects c =
-    row_replies c.args.book.now c.args.table.now c.args.now c.args.request.now (rejects c.in-Rejects.rejection c.in-Rejects.bodiless)
+    row_replies c.args.book.now c.args.table.now c.args.now c.args.request.now (rejects c.in-Rejects.rejection c.in-Rejects.is_head_request)
     c.rejection_reply.result c.in-Rejects.ensures.row c.rejection_reply.ensures
 
 pub returns-in-Asks : goal.returns-in-Asks

@@ -1,6 +1,6 @@
 use Rattle.std.proofs.Common.{◌∙◌, inl, inr, Ok, Err, false, refl, sym, true}
 use Rattle.std.specs.Bool.{IsTrue}
-use Rattle.named_files.specs.NoAnswers.{is_unread}
+use Rattle.named_files.specs.RunFaults.{is_unread}
 use Rattle.tide_edge.proofs.ReadingLemmas.{read_none}
 use Rattle.tide_server.specs.Openings.{files_asked, server_states, service_of}
 use Rattle.tide_server.specs.Workings.Ends.{unread}
@@ -41,7 +41,7 @@ returns-in-Err g c =
     let reported = c.report.ensures.reported in record {
       shown = shown_refused c.args.words.now c.in-Err.none c.report.result before after c.in-Err.ensures.shown refl refl reported;
       own_files = λ t. inl (refused_for _ _ c.in-Err.none c.report.result before after
-          (own_data c.args.words.now before.files after.files (Err c.in-Err.none) c.in-Err.ensures.shown c.in-Err.ensures.read.store
+          (own_data c.args.words.now before.files after.files (Err c.in-Err.none) c.in-Err.ensures.shown c.in-Err.ensures.read.file_contents
           (g.met.F.Files.lawful c.read_served_data.new.files) t) refl refl reported);
       another = λ is. absurd (not_another _ _ c.names_another.ensures c.if-names_another.false is);
       done = λ is. absurd (never_done c.in-Err.none c.report.result _ _ reported is);
@@ -92,7 +92,7 @@ returns-in-Ok-new g c =
           (λ expected is. inr (_, is, listened));
       own_files = λ t. inr (
         _,
-        own_data c.args.words.now files left (Ok _) c.in-Ok.ensures.shown c.in-Ok.ensures.read.store
+        own_data c.args.words.now files left (Ok _) c.in-Ok.ensures.shown c.in-Ok.ensures.read.file_contents
             (g.met.F.Files.lawful c.read_served_data.new.files) t,
         listened,
       );

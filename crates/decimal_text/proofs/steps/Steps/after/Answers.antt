@@ -19,7 +19,7 @@ returns c places count n h =
     rw e (more_within places count n c.args.digit c.args.self (omega arith) c.requires.one h)
 
 pub overflow_mul-result : goal.overflow_mul-result
-overflow_mul-result c = omega (arith, small_value c.args.self.value c.args.self.left c.requires.room)
+overflow_mul-result c = omega (arith, small_value c.args.self.value c.args.self.remaining c.requires.room)
 
 pub overflow_add-result : goal.overflow_add-result
-overflow_add-result c = omega (arith, small_value c.args.self.value c.args.self.left c.requires.room)
+overflow_add-result c = omega (arith, small_value c.args.self.value c.args.self.remaining c.requires.room)

@@ -4,20 +4,20 @@ use Rattle.event_list.proofs.merge.Merge.next.Goals as goal
 
 pub invariant_of-self : goal.invariant_of-self
 invariant_of-self g c =
-    let turn : Looks c.self.inside.turn c.peek-turn.new.self c.self.inside.turn.left = record {
-      left = c.peek-turn.ensures.unchanged;
+    let turn : Looks c.self.inside.turn c.peek-turn.new.self c.self.inside.turn.remaining = record {
+      remaining = c.peek-turn.ensures.unchanged;
       all = c.peek-turn.ensures.all;
       counted = c.peek-turn.ensures.counted;
       done = c.peek-turn.ensures.done;
     } in
-    let slack : Looks c.self.inside.slack c.peek-slack.new.self c.self.inside.slack.left = record {
-      left = c.peek-slack.ensures.unchanged;
+    let slack : Looks c.self.inside.slack c.peek-slack.new.self c.self.inside.slack.remaining = record {
+      remaining = c.peek-slack.ensures.unchanged;
       all = c.peek-slack.ensures.all;
       counted = c.peek-slack.ensures.counted;
       done = c.peek-slack.ensures.done;
     } in
-    let mark : Looks c.self.inside.mark c.peek-mark.new.self c.self.inside.mark.left = record {
-      left = c.peek-mark.ensures.unchanged;
+    let mark : Looks c.self.inside.mark c.peek-mark.new.self c.self.inside.mark.remaining = record {
+      remaining = c.peek-mark.ensures.unchanged;
       all = c.peek-mark.ensures.all;
       counted = c.peek-mark.ensures.counted;
       done = c.peek-mark.ensures.done;
@@ -25,26 +25,26 @@ invariant_of-self g c =
     let taken = looks-taken c.self.inside.turn c.peek-turn.new.self c.next.new.self turn c.next.ensures.rest
     c.next.ensures.all c.next.ensures.counted c.next.ensures.done in
     merge_invariant-after c.self.inside.turn c.self.inside.slack c.self.inside.mark c.next.new.self
-    c.peek-slack.new.self c.peek-mark.new.self (drop 1 c.self.inside.turn.left) c.self.inside.slack.left
-    c.self.inside.mark.left c.self.invariant (drop-ascending c.self.inside.turn.left c.self.invariant.turn)
+    c.peek-slack.new.self c.peek-mark.new.self (drop 1 c.self.inside.turn.remaining) c.self.inside.slack.remaining
+    c.self.inside.mark.remaining c.self.invariant (drop-ascending c.self.inside.turn.remaining c.self.invariant.turn)
     c.self.invariant.slack c.self.invariant.mark taken slack mark
 
 pub returns-in-Turn-clause-next : goal.returns-in-Turn-clause-next
 returns-in-Turn-clause-next g c =
-    let turn : Looks c.self.inside.turn c.peek-turn.new.self c.self.inside.turn.left = record {
-      left = c.peek-turn.ensures.unchanged;
+    let turn : Looks c.self.inside.turn c.peek-turn.new.self c.self.inside.turn.remaining = record {
+      remaining = c.peek-turn.ensures.unchanged;
       all = c.peek-turn.ensures.all;
       counted = c.peek-turn.ensures.counted;
       done = c.peek-turn.ensures.done;
     } in
-    let slack : Looks c.self.inside.slack c.peek-slack.new.self c.self.inside.slack.left = record {
-      left = c.peek-slack.ensures.unchanged;
+    let slack : Looks c.self.inside.slack c.peek-slack.new.self c.self.inside.slack.remaining = record {
+      remaining = c.peek-slack.ensures.unchanged;
       all = c.peek-slack.ensures.all;
       counted = c.peek-slack.ensures.counted;
       done = c.peek-slack.ensures.done;
     } in
-    let mark : Looks c.self.inside.mark c.peek-mark.new.self c.self.inside.mark.left = record {
-      left = c.peek-mark.ensures.unchanged;
+    let mark : Looks c.self.inside.mark c.peek-mark.new.self c.self.inside.mark.remaining = record {
+      remaining = c.peek-mark.ensures.unchanged;
       all = c.peek-mark.ensures.all;
       counted = c.peek-mark.ensures.counted;
       done = c.peek-mark.ensures.done;
@@ -58,20 +58,20 @@ returns-in-Turn-clause-next g c =
 
 pub invariant_of-self-in-Slack : goal.invariant_of-self-in-Slack
 invariant_of-self-in-Slack g c =
-    let turn : Looks c.self.inside.turn c.peek-turn.new.self c.self.inside.turn.left = record {
-      left = c.peek-turn.ensures.unchanged;
+    let turn : Looks c.self.inside.turn c.peek-turn.new.self c.self.inside.turn.remaining = record {
+      remaining = c.peek-turn.ensures.unchanged;
       all = c.peek-turn.ensures.all;
       counted = c.peek-turn.ensures.counted;
       done = c.peek-turn.ensures.done;
     } in
-    let slack : Looks c.self.inside.slack c.peek-slack.new.self c.self.inside.slack.left = record {
-      left = c.peek-slack.ensures.unchanged;
+    let slack : Looks c.self.inside.slack c.peek-slack.new.self c.self.inside.slack.remaining = record {
+      remaining = c.peek-slack.ensures.unchanged;
       all = c.peek-slack.ensures.all;
       counted = c.peek-slack.ensures.counted;
       done = c.peek-slack.ensures.done;
     } in
-    let mark : Looks c.self.inside.mark c.peek-mark.new.self c.self.inside.mark.left = record {
-      left = c.peek-mark.ensures.unchanged;
+    let mark : Looks c.self.inside.mark c.peek-mark.new.self c.self.inside.mark.remaining = record {
+      remaining = c.peek-mark.ensures.unchanged;
       all = c.peek-mark.ensures.all;
       counted = c.peek-mark.ensures.counted;
       done = c.peek-mark.ensures.done;
@@ -79,26 +79,26 @@ invariant_of-self-in-Slack g c =
     let taken = looks-taken c.self.inside.slack c.peek-slack.new.self c.next-in-Slack.new.self slack
     c.next-in-Slack.ensures.rest c.next-in-Slack.ensures.all c.next-in-Slack.ensures.counted c.next-in-Slack.ensures.done in
     merge_invariant-after c.self.inside.turn c.self.inside.slack c.self.inside.mark c.peek-turn.new.self
-    c.next-in-Slack.new.self c.peek-mark.new.self c.self.inside.turn.left
-    (drop 1 c.self.inside.slack.left) c.self.inside.mark.left c.self.invariant c.self.invariant.turn
-    (drop-ascending c.self.inside.slack.left c.self.invariant.slack) c.self.invariant.mark turn taken mark
+    c.next-in-Slack.new.self c.peek-mark.new.self c.self.inside.turn.remaining
+    (drop 1 c.self.inside.slack.remaining) c.self.inside.mark.remaining c.self.invariant c.self.invariant.turn
+    (drop-ascending c.self.inside.slack.remaining c.self.invariant.slack) c.self.invariant.mark turn taken mark
 
 pub returns-in-Slack-clause-next : goal.returns-in-Slack-clause-next
 returns-in-Slack-clause-next g c =
-    let turn : Looks c.self.inside.turn c.peek-turn.new.self c.self.inside.turn.left = record {
-      left = c.peek-turn.ensures.unchanged;
+    let turn : Looks c.self.inside.turn c.peek-turn.new.self c.self.inside.turn.remaining = record {
+      remaining = c.peek-turn.ensures.unchanged;
       all = c.peek-turn.ensures.all;
       counted = c.peek-turn.ensures.counted;
       done = c.peek-turn.ensures.done;
     } in
-    let slack : Looks c.self.inside.slack c.peek-slack.new.self c.self.inside.slack.left = record {
-      left = c.peek-slack.ensures.unchanged;
+    let slack : Looks c.self.inside.slack c.peek-slack.new.self c.self.inside.slack.remaining = record {
+      remaining = c.peek-slack.ensures.unchanged;
       all = c.peek-slack.ensures.all;
       counted = c.peek-slack.ensures.counted;
       done = c.peek-slack.ensures.done;
     } in
-    let mark : Looks c.self.inside.mark c.peek-mark.new.self c.self.inside.mark.left = record {
-      left = c.peek-mark.ensures.unchanged;
+    let mark : Looks c.self.inside.mark c.peek-mark.new.self c.self.inside.mark.remaining = record {
+      remaining = c.peek-mark.ensures.unchanged;
       all = c.peek-mark.ensures.all;
       counted = c.peek-mark.ensures.counted;
       done = c.peek-mark.ensures.done;
@@ -112,20 +112,20 @@ returns-in-Slack-clause-next g c =
 
 pub invariant_of-self-in-Mark : goal.invariant_of-self-in-Mark
 invariant_of-self-in-Mark g c =
-    let turn : Looks c.self.inside.turn c.peek-turn.new.self c.self.inside.turn.left = record {
-      left = c.peek-turn.ensures.unchanged;
+    let turn : Looks c.self.inside.turn c.peek-turn.new.self c.self.inside.turn.remaining = record {
+      remaining = c.peek-turn.ensures.unchanged;
       all = c.peek-turn.ensures.all;
       counted = c.peek-turn.ensures.counted;
       done = c.peek-turn.ensures.done;
     } in
-    let slack : Looks c.self.inside.slack c.peek-slack.new.self c.self.inside.slack.left = record {
-      left = c.peek-slack.ensures.unchanged;
+    let slack : Looks c.self.inside.slack c.peek-slack.new.self c.self.inside.slack.remaining = record {
+      remaining = c.peek-slack.ensures.unchanged;
       all = c.peek-slack.ensures.all;
       counted = c.peek-slack.ensures.counted;
       done = c.peek-slack.ensures.done;
     } in
-    let mark : Looks c.self.inside.mark c.peek-mark.new.self c.self.inside.mark.left = record {
-      left = c.peek-mark.ensures.unchanged;
+    let mark : Looks c.self.inside.mark c.peek-mark.new.self c.self.inside.mark.remaining = record {
+      remaining = c.peek-mark.ensures.unchanged;
       all = c.peek-mark.ensures.all;
       counted = c.peek-mark.ensures.counted;
       done = c.peek-mark.ensures.done;
@@ -134,26 +134,26 @@ invariant_of-self-in-Mark g c =
     looks-taken c.self.inside.mark c.peek-mark.new.self c.next-in-Mark.new.self mark c.next-in-Mark.ensures.rest
     c.next-in-Mark.ensures.all c.next-in-Mark.ensures.counted c.next-in-Mark.ensures.done in
     merge_invariant-after c.self.inside.turn c.self.inside.slack c.self.inside.mark c.peek-turn.new.self
-    c.peek-slack.new.self c.next-in-Mark.new.self c.self.inside.turn.left c.self.inside.slack.left
-    (drop 1 c.self.inside.mark.left) c.self.invariant c.self.invariant.turn c.self.invariant.slack
-    (drop-ascending c.self.inside.mark.left c.self.invariant.mark) turn slack taken
+    c.peek-slack.new.self c.next-in-Mark.new.self c.self.inside.turn.remaining c.self.inside.slack.remaining
+    (drop 1 c.self.inside.mark.remaining) c.self.invariant c.self.invariant.turn c.self.invariant.slack
+    (drop-ascending c.self.inside.mark.remaining c.self.invariant.mark) turn slack taken
 
 pub returns-in-Mark-clause-next : goal.returns-in-Mark-clause-next
 returns-in-Mark-clause-next g c =
-    let turn : Looks c.self.inside.turn c.peek-turn.new.self c.self.inside.turn.left = record {
-      left = c.peek-turn.ensures.unchanged;
+    let turn : Looks c.self.inside.turn c.peek-turn.new.self c.self.inside.turn.remaining = record {
+      remaining = c.peek-turn.ensures.unchanged;
       all = c.peek-turn.ensures.all;
       counted = c.peek-turn.ensures.counted;
       done = c.peek-turn.ensures.done;
     } in
-    let slack : Looks c.self.inside.slack c.peek-slack.new.self c.self.inside.slack.left = record {
-      left = c.peek-slack.ensures.unchanged;
+    let slack : Looks c.self.inside.slack c.peek-slack.new.self c.self.inside.slack.remaining = record {
+      remaining = c.peek-slack.ensures.unchanged;
       all = c.peek-slack.ensures.all;
       counted = c.peek-slack.ensures.counted;
       done = c.peek-slack.ensures.done;
     } in
-    let mark : Looks c.self.inside.mark c.peek-mark.new.self c.self.inside.mark.left = record {
-      left = c.peek-mark.ensures.unchanged;
+    let mark : Looks c.self.inside.mark c.peek-mark.new.self c.self.inside.mark.remaining = record {
+      remaining = c.peek-mark.ensures.unchanged;
       all = c.peek-mark.ensures.all;
       counted = c.peek-mark.ensures.counted;
       done = c.peek-mark.ensures.done;
@@ -174,7 +174,7 @@ returns-in-Turn-clause-asked g c =
       c.peek-turn.ensures.asked,
       c.peek-slack.ensures.asked,
       c.peek-mark.ensures.asked,
-      looked-again c.self.inside.turn.waiting,
+      looked-again c.self.inside.turn.pending,
       ← c.peek-turn.ensures.found,
       ← c.peek-slack.ensures.found,
       ← c.peek-mark.ensures.found,
@@ -190,7 +190,7 @@ returns-in-Slack-clause-asked g c =
       c.peek-turn.ensures.asked,
       c.peek-slack.ensures.asked,
       c.peek-mark.ensures.asked,
-      looked-again c.self.inside.slack.waiting,
+      looked-again c.self.inside.slack.pending,
       ← c.peek-turn.ensures.found,
       ← c.peek-slack.ensures.found,
       ← c.peek-mark.ensures.found,
@@ -206,7 +206,7 @@ returns-in-Mark-clause-asked g c =
       c.peek-turn.ensures.asked,
       c.peek-slack.ensures.asked,
       c.peek-mark.ensures.asked,
-      looked-again c.self.inside.mark.waiting,
+      looked-again c.self.inside.mark.pending,
       ← c.peek-turn.ensures.found,
       ← c.peek-slack.ensures.found,
       ← c.peek-mark.ensures.found,

@@ -4,7 +4,7 @@ use mir.Syntax.{w64, w128}
 use mir.Val.{to_z, of_z}
 use Rattle.year_blend.specs.Weights.{total_weight}
 use Rattle.station_curve.proofs.Products.{cast_small}
-use Rattle.rate_bound.specs.Meanings.{over_mark}
+use Rattle.rate_bound.specs.CurveSpecs.{over_mark}
 use Rattle.rate_bound.proofs.mark.MarkCurveCurve.approximate_value.Goals as goal
 use Rattle.rate_bound.proofs.mark.MarkCurveCurve.approximate_value.Goals.{After-over_mark}
 

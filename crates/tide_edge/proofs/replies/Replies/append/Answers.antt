@@ -9,4 +9,4 @@ returns c =
     let joined : c.extend_from_slice.new.self.items ≡ c.self.inside.bytes.items ++ c.args.piece.now = grind (arith, common_steps) in
     let within : All (λ start. start ≤ length c.self.inside.bytes.items) c.self.inside.starts.items = c.self.invariant.2 in
     append_view c.self.inside.starts.items c.extend_from_slice.new.self.items c.self.inside.bytes.items c.args.piece.now
-    c.self.inside.room c.self.inside.more c.args.self.now c.self.view_is joined within
+    c.self.inside.capacity c.self.inside.more c.args.self.now c.self.view_is joined within

@@ -7,40 +7,40 @@ use Rattle.zone_time.specs.Locals.{IsLocal}
 use Rattle.zone_time.specs.Zones.{InZoneYears}
 use Rattle.zone_time.proofs.zone_clock.ZoneClock.local.Goals as goal
 
-narrow : (ahead : ℤ) → unsigned_abs ahead ≤ 1560 → SFits w32 ahead
-narrow ahead short = omega (arith, signed_arith, short)
+narrow : (utc_offset : ℤ) → unsigned_abs utc_offset ≤ 1560 → SFits w32 utc_offset
+narrow utc_offset short = omega (arith, signed_arith, short)
 
-sum_is : (minute ahead converted : ℤ) → SFits w64 minute → InZoneYears minute → unsigned_abs ahead ≤ 1560
-    → converted ≡ to_z w32 (of_z w32 ahead)
-    → to_z w64 (of_z w64 (to_z w64 (of_z w64 minute) +ℤ to_z w64 (of_z w64 converted))) ≡ minute +ℤ ahead
-sum_is minute ahead converted fits within short is =
-    let same : converted ≡ ahead = is ∙ to_z-of_z w32 ahead (narrow ahead short) in
+sum_is : (minute utc_offset converted : ℤ) → SFits w64 minute → InZoneYears minute → unsigned_abs utc_offset ≤ 1560
+    → converted ≡ to_z w32 (of_z w32 utc_offset)
+    → to_z w64 (of_z w64 (to_z w64 (of_z w64 minute) +ℤ to_z w64 (of_z w64 converted))) ≡ minute +ℤ utc_offset
+sum_is minute utc_offset converted fits within short is =
+    let same : converted ≡ utc_offset = is ∙ to_z-of_z w32 utc_offset (narrow utc_offset short) in
     rw (
       to_z-of_z w64 minute fits,
       same,
-      to_z-of_z w64 ahead (omega (arith, signed_arith, short)),
-      to_z-of_z w64 (minute +ℤ ahead) (omega (arith, signed_arith, within, short)),
+      to_z-of_z w64 utc_offset (omega (arith, signed_arith, short)),
+      to_z-of_z w64 (minute +ℤ utc_offset) (omega (arith, signed_arith, within, short)),
     )
 
-fixed_written : (minute ahead : ℤ) → InZoneYears minute → unsigned_abs ahead ≤ 1560
-    → IsLocal (record { minute = minute +ℤ ahead; label = Minutes ahead })
-fixed_written minute ahead within short = record {
+fixed_written : (minute utc_offset : ℤ) → InZoneYears minute → unsigned_abs utc_offset ≤ 1560
+    → IsLocal (record { minute = minute +ℤ utc_offset; label = Minutes utc_offset })
+fixed_written minute utc_offset within short = record {
   minute = record { first = omega (arith, signed_arith, within, short); last = omega (arith, signed_arith, within, short) };
   label = short;
 }
 
 pub returns-in-Fixed-clause-exact : goal.returns-in-Fixed-clause-exact
 returns-in-Fixed-clause-exact c =
-    let ahead = c.in-Fixed.ahead in let short = rw c.in-Fixed.is at c.self.invariant in
+    let utc_offset = c.in-Fixed.utc_offset in let short = rw c.in-Fixed.is at c.self.invariant in
     rw (
       ← c.self.view_is,
       c.in-Fixed.is,
-      sum_is c.args.minute ahead c.from.result c.ranges.minute c.requires short c.from.ensures,
-      to_z-of_z w32 ahead (narrow ahead short),
+      sum_is c.args.minute utc_offset c.from.result c.ranges.minute c.requires short c.from.ensures,
+      to_z-of_z w32 utc_offset (narrow utc_offset short),
     )
 
 pub returns-in-Fixed-clause-written : goal.returns-in-Fixed-clause-written
 returns-in-Fixed-clause-written c =
-    let ahead = c.in-Fixed.ahead in let short = rw c.in-Fixed.is at c.self.invariant in
-    rw (sum_is c.args.minute ahead c.from.result c.ranges.minute c.requires short c.from.ensures, to_z-of_z w32 ahead (narrow ahead short))
-    (fixed_written c.args.minute ahead c.requires short)
+    let utc_offset = c.in-Fixed.utc_offset in let short = rw c.in-Fixed.is at c.self.invariant in
+    rw (sum_is c.args.minute utc_offset c.from.result c.ranges.minute c.requires short c.from.ensures, to_z-of_z w32 utc_offset (narrow utc_offset short))
+    (fixed_written c.args.minute utc_offset c.requires short)

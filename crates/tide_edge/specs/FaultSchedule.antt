@@ -13,14 +13,14 @@ pub record HeldCalls : Type 0 where
 
 -- the next call is one of those that are to fail; calls are counted from 1
 abbrev pub is_to_fail : HeldCalls → Bool
-is_to_fail calls = list_any (λ n. n == counted calls.made) calls.fails
+is_to_fail fault_schedule = list_any (λ n. n == counted fault_schedule.made) fault_schedule.fails
 
 -- the calls with another one counted; the Bool says whether it failed
 abbrev pub after_call : Bool → HeldCalls → HeldCalls
-after_call failed calls = record {
-  fails = calls.fails;
-  made = counted calls.made;
-  faults = faults_after failed calls.faults;
+after_call failed fault_schedule = record {
+  fails = fault_schedule.fails;
+  made = counted fault_schedule.made;
+  faults = faults_after failed fault_schedule.faults;
 }
 
 -- the result of a call: a failure if the first argument is true, else the value

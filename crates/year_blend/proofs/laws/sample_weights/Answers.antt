@@ -1,5 +1,5 @@
 use Rattle.year_blend.proofs.YearLemmas.{year_start_of-1970, year_start_of-2000}
-use Rattle.year_blend.proofs.laws.worked_rows.Goals as goal
+use Rattle.year_blend.proofs.laws.sample_weights.Goals as goal
 
 pub returns-clause-epoch : goal.returns-clause-epoch
 returns-clause-epoch c = year_start_of-1970

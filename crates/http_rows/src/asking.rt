@@ -20,7 +20,7 @@ pub struct Asking<'a> {
     pub query: &'a [u8],
     pub body: &'a [u8],
     /// True if the reply must have no body, because the method is HEAD.
-    pub bodiless: bool,
+    pub is_head_request: bool,
 }
 
 fn is_get_or_head(head: &Head<'_>) -> bool
@@ -62,7 +62,10 @@ fn is_path(target: &[u8]) -> bool
 ///
 /// # Errors
 /// The first [`RequestRejection`], in the order of the table of HTTP statuses, that applies.
-pub(crate) fn asked<'a>(head: &Head<'a>, rest: &'a [u8]) -> Result<Asking<'a>, RequestRejection>
+pub(crate) fn check_request<'a>(
+    head: &Head<'a>,
+    rest: &'a [u8],
+) -> Result<Asking<'a>, RequestRejection>
     ensures asks { IfOk result (λ a. (first_row (field_rows (head_seen head.now) ++ body_rows (head_seen head.now) rest.now) ≡ None)
         × (asking_seen a ≡ asking (head_seen head.now) rest.now)) }
     ensures rejects { IfErr result (λ r.
@@ -105,13 +108,13 @@ fn asking_for<'a>(head: &Head<'a>, path: Path, body: &'a [u8]) -> Asking<'a>
       path = path_of head.now.target.now;
       query = query_of head.now.target.now;
       body = body.now;
-      bodiless = is_head (head_seen head.now);
+      is_head_request = is_head (head_seen head.now);
     } }
 {
     Asking {
         path,
         query: query_of(head.target),
         body,
-        bodiless: is_head(head),
+        is_head_request: is_head(head),
     }
 }

@@ -4,7 +4,7 @@ ghost use Rattle.std.specs.Prelude.{◌≡◌, ◌+◌, ◌-◌, ◌<◌, ◌^�
 
 /// Returns the bytes from index `at` on: none if `at` is past the end.
 pub(crate) fn rest_from(bytes: &[u8], at: usize) -> &[u8]
-    ensures rest { result.now ≡ drop at bytes.now }
+    ensures unread_bytes { result.now ≡ drop at bytes.now }
     ensures count { length result.now ≡ length bytes.now - at }
     ensures fits { at + length result.now < 2 ^ 64 }
 {

@@ -8,52 +8,52 @@ use std::marker::Model;
 /// The port that a door was to listen on, whether it listens, the number of connections accepted, and
 /// whether one is open.
 #[derive(Drop)]
-pub(crate) struct Doorway {
+pub(crate) struct ListenerState {
     port: Option<u16>,
     listens: bool,
-    taken: u64,
+    accepted: u64,
     is_open: bool,
     is_over: bool,
 }
 
-impl Model for Doorway {
+impl Model for ListenerState {
     ghost use Rattle.tide_edge.specs.Doors as spec;
 
-    ghost Value = { spec.Doorway };
+    ghost Value = { spec.ListenerState };
 
     ghost view = { λ d. record {
       port = d.port;
       listens = d.listens;
-      taken = d.taken;
+      accepted = d.accepted;
       is_open = d.is_open;
       is_over = d.is_over;
     } };
 }
 
-impl Doorway {
-    ghost use Rattle.tide_edge.specs.Doors.{not_listening, asked, after_next, closed};
+impl ListenerState {
+    ghost use Rattle.tide_edge.specs.Doors.{not_listening, listen_requested, after_next, closed};
 
     /// Returns the state before `listen` is called.
-    pub(crate) fn not_listening() -> Doorway
+    pub(crate) fn not_listening() -> ListenerState
         ensures { result ≡ not_listening }
     {
-        Doorway {
+        ListenerState {
             port: None,
             listens: false,
-            taken: 0,
+            accepted: 0,
             is_open: false,
             is_over: false,
         }
     }
 
     /// Returns the state after a call of `listen` with `port`; `listens` is true if the call succeeded.
-    pub(crate) fn asked(port: u16, listens: bool) -> Doorway
-        ensures { result ≡ asked port listens }
+    pub(crate) fn listen_requested(port: u16, listens: bool) -> ListenerState
+        ensures { result ≡ listen_requested port listens }
     {
-        Doorway {
+        ListenerState {
             port: Some(port),
             listens,
-            taken: 0,
+            accepted: 0,
             is_open: false,
             is_over: false,
         }
@@ -63,7 +63,7 @@ impl Doorway {
     pub(crate) fn open(&mut self)
         ensures { self.new ≡ after_next (Ok true) self.old }
     {
-        self.taken = one_more(self.taken);
+        self.accepted = one_more(self.accepted);
         self.is_open = true;
     }
 

@@ -5,7 +5,7 @@ use tide_fault::{Fault, Refusal};
 
 /// The reason why a command line has no answer.
 #[derive(Drop)]
-pub enum NoAnswer {
+pub enum RunFault {
     /// A file couldn't be opened or read, or the clock couldn't be read.
     Unread,
     /// The command line isn't a request, a file is too long or isn't in its format, or a request that
@@ -16,13 +16,13 @@ pub enum NoAnswer {
     Refused(Refusal, OffsetTable),
 }
 
-impl From<Fault> for NoAnswer {
+impl From<Fault> for RunFault {
     ghost use Rattle.std.specs.Prelude.{◌≡◌};
-    ghost use Rattle.named_files.specs.declared.no_answer.NoAnswer.TheVariants.{Faulty};
+    ghost use Rattle.named_files.specs.declared.run_fault.RunFault.TheVariants.{Faulty};
 
     ghost from_gives = { λ fault none. none ≡ Faulty fault };
 
-    fn from(fault: Fault) -> NoAnswer {
-        NoAnswer::Faulty(fault)
+    fn from(fault: Fault) -> RunFault {
+        RunFault::Faulty(fault)
     }
 }

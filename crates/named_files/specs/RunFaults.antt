@@ -17,40 +17,40 @@ use Rattle.tide_fault.specs.Faults.{
   refusal_is_out_of_memory,
 }
 use Rattle.decimal_text.specs.Expected.{Source, memory, outside, given}
-use Rattle.named_files.specs.declared.no_answer.NoAnswer.{NoAnswer}
-use Rattle.named_files.specs.declared.no_answer.NoAnswer.TheVariants.{Unread, Faulty, Refused}
+use Rattle.named_files.specs.declared.run_fault.RunFault.{RunFault}
+use Rattle.named_files.specs.declared.run_fault.RunFault.TheVariants.{Unread, Faulty, Refused}
 
 -- the result of a step that reads no file and no clock, with its fault as the reason why there is no
 -- answer
-abbrev pub faulty : {A : Type 0} → Result A Fault → Result A NoAnswer
+abbrev pub faulty : {A : Type 0} → Result A Fault → Result A RunFault
 faulty (Ok value) = Ok value
 faulty (Err fault) = Err (Faulty fault)
 
 -- the result of a step with a table; the reason after a refusal has the table's rows
-abbrev pub refused_over : {A : Type 0} → List Offsets → Result A Refusal → Result A NoAnswer
+abbrev pub refused_over : {A : Type 0} → List Offsets → Result A Refusal → Result A RunFault
 refused_over rows (Ok value) = Ok value
 refused_over rows (Err refusal) = Err (Refused refusal rows)
 
 -- the exit status for a reason why there is no answer
-abbrev pub status_of : NoAnswer → Status
+abbrev pub status_of : RunFault → Status
 status_of Unread = status.ReadFault
 status_of (Faulty fault) = status_of_fault fault
 status_of (Refused refusal rows) = status_of_refusal refusal
 
 -- the line for a reason why there is no answer
-abbrev pub line_of : NoAnswer → List ℕ
+abbrev pub line_of : RunFault → List ℕ
 line_of Unread = codes "read fault\n"
 line_of (Faulty fault) = line_of_fault [] fault
 line_of (Refused refusal rows) = line_of_fault rows (faults.Refused refusal)
 
 -- the reason why there is no answer is that memory ran out
-abbrev pub is_out_of_memory : NoAnswer → Bool
+abbrev pub is_out_of_memory : RunFault → Bool
 is_out_of_memory Unread = false
 is_out_of_memory (Faulty fault) = fault_is_out_of_memory fault
 is_out_of_memory (Refused refusal rows) = refusal_is_out_of_memory refusal
 
 -- the cause of a reason: a file or the clock, memory, or the request and the contents of the files
-abbrev pub source_of : NoAnswer → Source
+abbrev pub source_of : RunFault → Source
 source_of Unread = outside
 source_of (Faulty fault) = if fault_is_out_of_memory fault then memory else given
 source_of (Refused refusal rows) = if refusal_is_out_of_memory refusal then memory else given
@@ -61,13 +61,13 @@ is_read_fault status.ReadFault = true
 is_read_fault _ = false
 
 -- the reason why there is no answer is that a file or the clock couldn't be read
-abbrev pub is_unread : NoAnswer → Bool
+abbrev pub is_unread : RunFault → Bool
 is_unread Unread = true
 is_unread (Faulty fault) = false
 is_unread (Refused refusal rows) = false
 
 -- the result is that a file or the clock couldn't be read
-abbrev pub reading_failed : {A : Type 0} → Result A NoAnswer → Bool
+abbrev pub reading_failed : {A : Type 0} → Result A RunFault → Bool
 reading_failed (Ok value) = false
 reading_failed (Err none) = is_unread none
 
@@ -83,11 +83,11 @@ file_of_fault (faults.Refused refusal) = None
 
 -- the file that is too long or isn't in its format, if this is the reason why there is no answer; else
 -- None
-abbrev pub file_of : NoAnswer → Option Slot
+abbrev pub file_of : RunFault → Option Slot
 file_of Unread = None
 file_of (Faulty fault) = file_of_fault fault
 file_of (Refused refusal rows) = None
 
 -- if a file is the reason why there is no answer, it is this one
-abbrev pub IsOf : Slot → NoAnswer → Type 0
+abbrev pub IsOf : Slot → RunFault → Type 0
 IsOf slot none = ForSome (file_of none) (λ other. other ≡ slot)

@@ -52,13 +52,13 @@ impl Openings {
         self.latest = Some(OneOpening::new(name, is_open));
     }
 
-    /// Records a call of `read` that put `count` bytes into the first bytes of `room`.
-    pub(crate) fn read(&mut self, room: &[u8], count: usize)
-        requires { count ≤ length room.now }
-        ensures { self.new ≡ openings_after_read count room.now self.old }
+    /// Records a call of `read` that put `count` bytes into the first bytes of `buffer`.
+    pub(crate) fn read(&mut self, buffer: &[u8], count: usize)
+        requires { count ≤ length buffer.now }
+        ensures { self.new ≡ openings_after_read count buffer.now self.old }
     {
         if let Some(latest) = &mut self.latest {
-            latest.read(room, count);
+            latest.read(buffer, count);
         }
     }
 

@@ -2,7 +2,7 @@
 
 /// The span and the optional mark of a request about a station.
 #[derive(Clone, Copy)]
-pub struct Asked {
+pub struct SpanRequest {
     /// The first minute of the span, in minutes since 1970-01-01T00:00Z.
     pub begin: i64,
     /// The end of the span, in minutes since 1970-01-01T00:00Z. It isn't part of the span.

@@ -1,8 +1,8 @@
 use Rattle.std.proofs.Common.{◌≡◌, Some, None, ap, sym, ◌∙◌, codes, arith, rules}
 use Rattle.std.proofs.lemmas.Int.{ints}
-use Rattle.cert_text.specs.Workings.LineReading.{after, size_of, number_of}
+use Rattle.cert_text.specs.Workings.LineReading.{after, size_of, parse_number}
 use Rattle.cert_text.proofs.NumberLemmas.{within}
-use Rattle.cert_text.proofs.numbers.number_of.Goals as goal
+use Rattle.cert_text.proofs.numbers.parse_number.Goals as goal
 
 pub negative-requires : goal.negative-requires
 negative-requires c = within c.args.most _ c.requires c.in_ok-size_of-in-Some.ensures.small
@@ -13,7 +13,7 @@ overflow_cast-result c =
     search (rules, small)
 
 pub returns-in_ok-size_of-in-None-clause-value : goal.returns-in_ok-size_of-in-None-clause-value
-unfolding number_of
+unfolding parse_number
 returns-in_ok-size_of-in-None-clause-value c =
     let small = within c.args.most _ c.requires c.in_ok-size_of-in-None.ensures.small in
     let none : after (codes "-") c.args.text.now ≡ None =

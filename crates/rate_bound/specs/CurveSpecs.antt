@@ -2,7 +2,7 @@
 -- its level less a mark.
 use Rattle.std.specs.Prelude.{◌*◌, ◌^◌, Bool, if◌then◌else◌, ℤ, pos, ◌+ℤ◌, ◌-ℤ◌, ◌*ℤ◌}
 use Rattle.curve_law.specs.declared.kind.Kind.TheVariants.{High, Low, FloodBegins, EbbBegins, MarkRising, MarkFalling}
-use Rattle.curve_law.specs.Meaning.{Meaning}
+use Rattle.curve_law.specs.CurveSpec.{CurveSpec}
 use Rattle.harmonics_book.specs.declared.book.Station.{Station}
 use Rattle.harmonics_book.specs.declared.book.Book.{Book}
 use Rattle.station_curve.specs.Curves.{Prediction}
@@ -16,7 +16,7 @@ use Rattle.rate_bound.specs.Rates.{predicted_slope_rate, predicted_level_rate}
 -- times 34,377,467,708 (the units of angle in a radian) and 4,147,200,000 (the total weight of a
 -- blend), by every constituent of the book: the slope rises past 0 at a low water, and falls to 0 or
 -- below at a high water
-abbrev pub predicted_turn : Version → Book → Station → Meaning
+abbrev pub predicted_turn : Version → Book → Station → CurveSpec
 predicted_turn version b s = record {
   first = year_start_of b.first_year;
   last = year_start_of (b.first_year +ℤ pos b.years);
@@ -34,7 +34,7 @@ over_mark times plus mark level =
 -- the curve whose value is the level times `times` millionths, plus `plus` less the mark, both in
 -- millionths of the unit, by every constituent of the book: it changes sign at each crossing of the
 -- mark; for slacks (if the Bool is true) the mark is 0
-abbrev pub predicted_mark : Version → Book → Station → ℤ → ℤ → ℤ → Bool → Meaning
+abbrev pub predicted_mark : Version → Book → Station → ℤ → ℤ → ℤ → Bool → CurveSpec
 predicted_mark version b s times plus mark slack = record {
   first = year_start_of b.first_year;
   last = year_start_of (b.first_year +ℤ pos b.years);
@@ -48,10 +48,10 @@ predicted_mark version b s times plus mark slack = record {
 }
 
 -- the curve of the slope, at the minutes of a prediction
-abbrev pub turn_meaning : Version → Prediction → Meaning
-turn_meaning version c = record (predicted_turn version c.book c.station) { first = c.first; last = c.last }
+abbrev pub turn_spec : Version → Prediction → CurveSpec
+turn_spec version c = record (predicted_turn version c.book c.station) { first = c.first; last = c.last }
 
 -- the curve of the level less a mark, at the minutes of a prediction
-abbrev pub mark_meaning : Version → Prediction → ℤ → ℤ → ℤ → Bool → Meaning
-mark_meaning version c times plus mark slack =
+abbrev pub mark_spec : Version → Prediction → ℤ → ℤ → ℤ → Bool → CurveSpec
+mark_spec version c times plus mark slack =
     record (predicted_mark version c.book c.station times plus mark slack) { first = c.first; last = c.last }

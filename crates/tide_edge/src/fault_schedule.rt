@@ -9,30 +9,30 @@ use std::marker::Model;
 /// The number of calls made, the numbers of the calls that fail on purpose, and the number of calls that
 /// have failed. Both counts saturate at the greatest `u64`.
 #[derive(Drop)]
-pub(crate) struct Calls {
+pub(crate) struct FaultSchedule {
     fails: Vec<u64>,
     made: u64,
     faults: u64,
 }
 
-impl Model for Calls {
-    ghost use Rattle.tide_edge.specs.Calls.{HeldCalls};
+impl Model for FaultSchedule {
+    ghost use Rattle.tide_edge.specs.FaultSchedule.{HeldCalls};
 
     ghost Value = { HeldCalls };
 
     ghost view = { λ c. record { fails = c.fails.items; made = c.made; faults = c.faults } };
 }
 
-impl Calls {
-    ghost use Rattle.tide_edge.specs.Calls.{answer, is_to_fail, after_call};
+impl FaultSchedule {
+    ghost use Rattle.tide_edge.specs.FaultSchedule.{answer, is_to_fail, after_call};
     ghost use Rattle.tide_edge.specs.Faults.{counted};
 
     /// Returns the counts before any call. `fails` has the numbers of the calls that are to fail, counted
     /// from 1.
-    pub(crate) fn new(fails: Vec<u64>) -> Calls
+    pub(crate) fn new(fails: Vec<u64>) -> FaultSchedule
         ensures { result ≡ record { fails = fails.items; made = 0; faults = 0 } }
     {
-        Calls {
+        FaultSchedule {
             fails,
             made: 0,
             faults: 0,

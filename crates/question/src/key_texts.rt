@@ -3,7 +3,7 @@
 ghost use Rattle.std.specs.Prelude.{◌≡◌, is_some};
 ghost use Rattle.std.specs.Option.{option_copied};
 ghost use Rattle.question.specs.Questions.{missing_key};
-ghost use Rattle.question.specs.Workings.Said.{said_by};
+ghost use Rattle.question.specs.Workings.KeyTexts.{key_texts_of};
 
 use crate::command::Command;
 use crate::key::{KEYS, Key, is_needed};
@@ -13,7 +13,7 @@ use crate::pairs::Item;
 /// Returns the text that `items` give to `key`: the value of the last item with this key, or `None` if
 /// there isn't one.
 pub fn text_for<'a>(items: &'a [Item], key: Key) -> Option<&'a str>
-    ensures { option_copied result ≡ said_by items.now key }
+    ensures { option_copied result ≡ key_texts_of items.now key }
 {
     let mut text = None;
     for item in items {
@@ -35,8 +35,8 @@ pub fn text_of<'a>(item: &'a Item) -> Option<&'a str>
 }
 
 /// Returns true if an item has the key and a value.
-pub fn is_said(items: &[Item], key: Key) -> bool
-    ensures { result ≡ is_some (said_by items.now key) }
+pub fn has_key_text(items: &[Item], key: Key) -> bool
+    ensures { result ≡ is_some (key_texts_of items.now key) }
 {
     text_for(items, key).is_some()
 }
@@ -44,7 +44,7 @@ pub fn is_said(items: &[Item], key: Key) -> bool
 /// Returns the first key of the table that the command requires and no item has, or `None` if none is
 /// missing.
 pub fn missing_key(origin: Origin, command: Command, items: &[Item]) -> Option<Key>
-    ensures { result ≡ missing_key origin command (said_by items.now) }
+    ensures { result ≡ missing_key origin command (key_texts_of items.now) }
 {
-    KEYS.iter().copied().find(|key| is_needed(origin, command, *key) && !is_said(items, *key))
+    KEYS.iter().copied().find(|key| is_needed(origin, command, *key) && !has_key_text(items, *key))
 }

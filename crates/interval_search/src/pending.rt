@@ -9,11 +9,11 @@ use std::marker::Model;
 /// A stack of at most sixteen points. In contracts its value is the list of the points, the last one
 /// pushed first.
 #[derive(Drop)]
-pub struct Waiting {
+pub struct Pending {
     points: ArrayVec<Point, 16>,
 }
 
-impl Model for Waiting {
+impl Model for Pending {
     ghost use Rattle.std.specs.Prelude.{List, reverse};
     ghost use Rattle.curve_law.specs.declared.point.Point.{Point};
 
@@ -22,12 +22,12 @@ impl Model for Waiting {
     ghost view = { λ w. reverse w.points.items };
 }
 
-impl Waiting {
+impl Pending {
     /// Returns the empty stack.
-    pub fn new() -> Waiting
+    pub fn new() -> Pending
         ensures { result ≡ [] }
     {
-        Waiting {
+        Pending {
             points: ArrayVec::new(),
         }
     }

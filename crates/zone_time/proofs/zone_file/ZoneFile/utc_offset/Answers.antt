@@ -4,7 +4,7 @@ use Rattle.jiff_core.proofs.SignedLemmas.{signed_arith}
 use Rattle.jiff_tz.specs.Tzif.{offset_at}
 use Rattle.zone_time.specs.ZoneFiles.{seconds_ahead}
 use Rattle.zone_time.proofs.ZoneFileLemmas.{seconds_ahead-offset_at}
-use Rattle.zone_time.proofs.zone_file.ZoneFile.ahead.Goals as goal
+use Rattle.zone_time.proofs.zone_file.ZoneFile.utc_offset.Goals as goal
 
 pub returns-clause-value : goal.returns-clause-value
 returns-clause-value c =

@@ -2,7 +2,7 @@
 
 /// The purpose of a request, which determines the minutes of the reference station that it needs.
 #[derive(Clone, Copy)]
-pub enum Reach {
+pub enum Purpose {
     /// Events: the minutes of the reference whose events the station's offsets can move into the span.
     Events,
     /// Levels: the minutes of the reference that the station's offset moves to minutes of the span.

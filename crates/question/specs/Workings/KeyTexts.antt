@@ -9,7 +9,7 @@ use Rattle.question.specs.declared.origin.Origin.{Origin}
 use Rattle.question.specs.declared.pairs.Item.{Item}
 use Rattle.question.specs.declared.question.Question.{Question}
 use Rattle.question.specs.Keys.{name_of, Field, row_of}
-use Rattle.question.specs.Questions.{Said, is_out_of_memory}
+use Rattle.question.specs.Questions.{KeyTexts, is_out_of_memory}
 
 -- the text that items give to a key after an earlier one: the last item with the key counts
 abbrev pub text_after : List Item → Key → Option (List ℕ) → Option (List ℕ)
@@ -17,8 +17,8 @@ text_after [] k earlier = earlier
 text_after (item ∷ items) k earlier = text_after items k (if bytes_eq (name_of k) item.key then item.value else earlier)
 
 -- the texts that items give to keys
-abbrev pub said_by : List Item → Said
-said_by items k = text_after items k None
+abbrev pub key_texts_of : List Item → KeyTexts
+key_texts_of items k = text_after items k None
 
 -- the field of a question for a key with a text: the value, or the key's default if the text isn't in
 -- the form of the key's values

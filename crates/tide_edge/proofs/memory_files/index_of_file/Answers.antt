@@ -2,7 +2,7 @@ use Rattle.std.proofs.Common.{◌∙◌, ap, sym}
 use Rattle.std.specs.Option.{option_map}
 use Rattle.tide_edge.specs.Workings.OpenFile.{bytes_at}
 use Rattle.tide_edge.proofs.PlaceLemmas.{folder_at_place}
-use Rattle.tide_edge.proofs.memory_files.place_of.Goals as goal
+use Rattle.tide_edge.proofs.memory_files.index_of_file.Goals as goal
 
 pub returns : goal.returns
 returns c =

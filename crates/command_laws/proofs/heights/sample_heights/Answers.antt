@@ -10,12 +10,12 @@ use Rattle.tide_desk.specs.Answers.{answered_over_book, given_with, is_report, m
 use Rattle.report_sheets.specs.Pages.{missing_of, page_of, pages_of}
 use Rattle.zone_time.specs.Moments.{has_form, moment_of, moment_text}
 use Rattle.decimal_text.specs.Decimal.{after_point, made_of, decimal_of, scaled, scaled_or_bad, read_of}
-use Rattle.question.specs.Forms.{some_text, number_of, mark_of, clock_of, offset_of, zone_of, sheets_of}
+use Rattle.question.specs.Forms.{some_text, parse_number, mark_of, clock_of, offset_of, zone_of, sheets_of}
 use Rattle.question.specs.Layouts.{layout_of}
 use Rattle.question.specs.Questions.{with_item, with_items, question_of}
 use Rattle.jiff_core.specs.Calendar.{days_of_years, days_of_months, day_count, days_from_civil}
 use Rattle.tide_answer.specs.Answers.{text_alone, predicted, certified, heights, rows_in, asks_span, listed, answered}
-use Rattle.tide_answer.specs.Asking.{asked_by_question}
+use Rattle.tide_answer.specs.Asking.{request_by_question}
 use Rattle.station_span.specs.Following.{followed_by, events_of, tracks_of, cells_of}
 use Rattle.station_span.specs.Sites.{lacks_minute, span_in, length_in, site_at, site_in}
 use Rattle.event_list.specs.Events.{station_events, cells_in, cell_count}
@@ -41,7 +41,7 @@ use Rattle.decimal_text.specs.Rounding.{rounded_of}
 use Rattle.decimal_text.specs.Writing.{last_digits, write_of}
 use Rattle.std.specs.Fmt.{digits}
 use Rattle.command_laws.proofs.WorkedLemmas.{pier_answers, pier_read}
-use Rattle.command_laws.proofs.heights.worked_rows.Goals as goal
+use Rattle.command_laws.proofs.heights.sample_heights.Goals as goal
 
 abbrev passed_question : Question
 passed_question = record (bare Heights) {
@@ -56,7 +56,7 @@ passed_asked : question_of_words ([])
     (slice_split is_space (codes "heights file=p station=Pier begin=2000-01-10T12:00Z end=2000-01-10T15:59Z step=120"))
     ≡ Ok passed_question
 unfolding question_of_words missing_of has_form moment_of after_point made_of decimal_of scaled scaled_or_bad read_of
-    some_text number_of mark_of layout_of clock_of offset_of zone_of sheets_of with_item with_items question_of
+    some_text parse_number mark_of layout_of clock_of offset_of zone_of sheets_of with_item with_items question_of
     days_of_years days_of_months day_count days_from_civil
 passed_asked = refl
 
@@ -65,7 +65,7 @@ passed_answer = text_alone (codes "Pier\n2000-01-10 12:00 UTC       1.00 feet\n2
 
 passed_text : answered_over_book (is_report passed_question.command) ([]) pier_book [] passed_question
     (given_with pier_read (minute_for passed_question.command (pos 0))) ≡ Ok passed_answer
-unfolding reported predicted certified heights rows_in asks_span listed answered asked_by_question followed_by events_of
+unfolding reported predicted certified heights rows_in asks_span listed answered request_by_question followed_by events_of
     tracks_of cells_of lacks_minute span_in length_in site_at site_in station_events cells_in cell_count with_event
     ordered keeps_side is_quiet unit_cell halves_within pieces_of_block blocks_within pieces_of cover minutes plain_list predicted_slope_rate
     predicted_level_rate waves_of curve_over year_fault first_fault curve_of predicted_year_level predicted_year_slope
@@ -95,7 +95,7 @@ met_asked : question_of_words ([])
     (slice_split is_space (codes "heights file=p station=Pier begin=2000-01-10T12:00Z end=2000-01-10T14:00Z step=120"))
     ≡ Ok met_question
 unfolding question_of_words missing_of has_form moment_of after_point made_of decimal_of scaled scaled_or_bad read_of
-    some_text number_of mark_of layout_of clock_of offset_of zone_of sheets_of with_item with_items question_of
+    some_text parse_number mark_of layout_of clock_of offset_of zone_of sheets_of with_item with_items question_of
     days_of_years days_of_months day_count days_from_civil
 met_asked = refl
 
@@ -104,7 +104,7 @@ met_answer = text_alone (codes "Pier\n2000-01-10 12:00 UTC       1.00 feet\n2000
 
 met_text : answered_over_book (is_report met_question.command) ([]) pier_book [] met_question
     (given_with pier_read (minute_for met_question.command (pos 0))) ≡ Ok met_answer
-unfolding reported predicted certified heights rows_in asks_span listed answered asked_by_question followed_by events_of
+unfolding reported predicted certified heights rows_in asks_span listed answered request_by_question followed_by events_of
     tracks_of cells_of lacks_minute span_in length_in site_at site_in station_events cells_in cell_count with_event
     ordered keeps_side is_quiet unit_cell halves_within pieces_of_block blocks_within pieces_of cover minutes plain_list predicted_slope_rate
     predicted_level_rate waves_of curve_over year_fault first_fault curve_of predicted_year_level predicted_year_slope
