@@ -1,4 +1,4 @@
--- The arguments of a certificate are those of a prediction.
+-- The arguments of `certify` are also arguments of `predict`.
 use Rattle.std.proofs.Common.{◌≡◌, ◌⊎◌, ℕ, ◌+◌, Bool, true, false, cond, not, ◌&&◌, List, [], ◌∷◌, Option, Some, None, is_some, Ok, inl, inr, refl, subst, sym, ap, ◌∙◌}
 use Rattle.std.specs.Prelude.{codes, option_and_then, unwrap_or}
 use Rattle.std.specs.List.{find}

@@ -1,4 +1,4 @@
--- The answer of `clock`, and those of `predict` and `heights`.
+-- The answers of `clock`, `predict` and `heights`.
 use Rattle.std.proofs.Common.{◌≡◌, ℕ, zero, suc, ℤ, pos, negsuc, ◌+ℤ◌, ◌-ℤ◌, ◌*ℤ◌, ◌≤ℤ◌, int_lt, true, false, List, [], ◌∷◌, ◌++◌, codes, append-nil, Some, None, Ok, refl, sym, ap, ◌∙◌, arith}
 use Rattle.std.specs.Prelude.{IsTrue}
 use Rattle.std.specs.List.{flat_map}
@@ -34,7 +34,7 @@ use Rattle.command_laws.proofs.QuestionLemmas.{answers_heights, answers_predict,
 use Rattle.command_laws.proofs.SiteLemmas.{has_passed, reaches_span, some_of}
 use Rattle.command_laws.proofs.TurnLemmas.{adds, first_turn}
 
--- ---- the level of a minute alone
+-- ---- the level of a single minute
 
 -- a minute of the file's years
 minute_between : (book : Book) (begin minute end : ℤ) → has_minute book begin ≡ true → has_minute book end ≡ true

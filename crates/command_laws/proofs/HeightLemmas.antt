@@ -1,4 +1,4 @@
--- The rows of `heights` are those of the law over any level.
+-- The rows of `heights` are the rows of the law over any level.
 use Rattle.std.proofs.Common.{◌≡◌, ℕ, ℤ, pos, ◌≤ℤ◌, List, Ok, refl, ap}
 use Rattle.std.specs.Prelude.{slice_get}
 use Rattle.harmonics_book.specs.declared.book.Book.{Book}

@@ -1,4 +1,5 @@
--- The levels of a station's events: those of the station at their minutes, if highs and lows have one offset.
+-- The levels of a station's events are the station's levels at their minutes, if highs and lows have
+-- the same offset.
 use Rattle.std.proofs.Common.{◌≡◌, ℕ, ℤ, ◌+ℤ◌, ◌-ℤ◌, ◌≤ℤ◌, ◌<ℤ◌, Bool, true, false, ◌&&◌, List, [], ◌∷◌, ◌++◌, Option, Some, None, refl, sym, ap, subst, ◌∙◌, arith}
 use Rattle.std.specs.Prelude.{All, IsTrue, flat_map, option_map, option_to_list, is_some}
 use Rattle.std.proofs.lemmas.Bool.Decides.{Decides-int_eq}
@@ -50,7 +51,7 @@ same-is o p is =
 pub equal-is : (b : Basis) → IsTrue (is_equal b) → b.low ≡ b.high
 equal-is b equal = sym (same-is b.high b.low equal)
 
--- an event whose kind has no offset of its own is moved as the highs
+-- an event of a kind without a separate offset is moved like the highs
 slack_alone : (slack : Option Slack) → is_some slack ≡ false → slack ≡ None
 slack_alone None none = refl
 slack_alone (Some slack) none = absurd cc

@@ -73,7 +73,7 @@ lists-events book table question predict there listing name span_request site le
       below = events-below book site over level has.equal has.most;
     }
 
--- the levels of a request's list are those of the station that its name finds
+-- the levels in a request's list are the levels of the station that its name finds
 record WereListed (book : Book) (table : List Offsets) (name : List ℕ) (span_request : SpanRequest) (step : ℤ) (layout : Layout)
     (zone : Zone) (answer : Answer) : Type 0 where
   pub site : Site

@@ -44,14 +44,14 @@ pub record WasAsked (sheets : List SheetSpec) (pairs : Pairs) (question : Questi
   pub is : question_from pairs.origin command said ≡ question
   pub known : found_in (wanted_by question) (missing_of sheets (wanted_by question)) ≡ Ok tt
 
-ask_ok : (span_request : Result Question AskFault) (question : Question) → ask_from span_request ≡ Ok question → span_request ≡ Ok question
+ask_ok : (asked : Result Question AskFault) (question : Question) → ask_from asked ≡ Ok question → asked ≡ Ok question
 ask_ok (Ok found) question ok = cc
 ask_ok (Err fault) question ok = absurd cc
 
-unserved : (serves : Bool) (span_request : Result Question AskFault) (question : Question)
-    → cond serves (Err UnknownCommand) span_request ≡ Ok question → span_request ≡ Ok question
-unserved true span_request question ok = absurd cc
-unserved false span_request question ok = ok
+unserved : (serves : Bool) (asked : Result Question AskFault) (question : Question)
+    → cond serves (Err UnknownCommand) asked ≡ Ok question → asked ≡ Ok question
+unserved true asked question ok = absurd cc
+unserved false asked question ok = ok
 
 pairs_ask : (sheets : List SheetSpec) (pairs : Pairs) (question : Question) → question_of pairs ≡ Ok question
     → found_in (wanted_by question) (missing_of sheets (wanted_by question)) ≡ Ok tt → WasAsked sheets pairs question

@@ -1,5 +1,5 @@
--- The turns of a station: those of its reference's slope, moved into the span; the kind of the first is
--- determined by the slope at the begin.
+-- The turns of a station are its reference's turns, moved into the span; the slope at the beginning
+-- determines the kind of the first one.
 use Rattle.std.proofs.Common.{◌≡◌, ℕ, zero, suc, ◌+◌, ◌-◌, ℤ, pos, ◌+ℤ◌, ◌-ℤ◌, ◌≤ℤ◌, ◌<ℤ◌, unsigned_abs, Bool, true, false, cond, not, List, [], ◌∷◌, ◌++◌, map, Option, Some, None, append-nil, refl, sym, ap, subst, ◌∙◌, arith}
 use Rattle.std.specs.Prelude.{All, IsTrue, filter, flat_map, option_map, option_to_list, slice_get}
 use Rattle.std.specs.Option.{ForSome}

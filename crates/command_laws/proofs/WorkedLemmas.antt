@@ -24,7 +24,7 @@ pier_folder = λ name. Some (file_of pier_lines)
 abbrev pub pier_read : Materials
 pier_read = record { book = pier_book; table = []; zone = zones.Utc; certificate = [] }
 
--- a request that names the file alone
+-- a request that names only the file
 pub record NamesPier (question : Question) : Type 0 where
   pub file : question.file ≡ Some (codes "p")
   pub offsets : question.offsets ≡ None

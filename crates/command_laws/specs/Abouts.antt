@@ -29,60 +29,63 @@ use Rattle.tide_edge.specs.FileStates.{Folder}
 use Rattle.year_blend.specs.Weights.{total_weight}
 use Rattle.zone_time.specs.declared.zone.Zone.{Zone}
 
--- the number that `about` prints for a bound of one unit of the station's levels a minute,
+-- the number that `about` prints for a bound of one of the station's units a minute:
 -- 142,570,234,078,617,600,000,000,000,000,000,000
 abbrev pub unit_of_bound : ℕ
 unit_of_bound = radian * (total_weight * 10 ^ 15)
 
--- the rise of the level from minute `m` to the next one, in units of which `unit_of_bound`, about 1.4257
--- * 10^35, are one unit of the station's levels
+-- the rise of the level of `station` from minute `m` to `m + 1`, in units of which `unit_of_bound`
+-- (about 1.4257 * 10^35) are one of the station's units
 abbrev pub rise_in : Book → Station → ℤ → ℤ
 rise_in book station m =
     pos radian *ℤ (predicted_level book station (m +ℤ pos 1) -ℤ predicted_level book station m)
 
--- minute `m` and the next one are in one year, outside the hours around a new year
+-- minutes `m` and `m + 1` are in one year, and neither is less than an hour from a new year between two
+-- of the book's years
 abbrev pub IsOutsideBlends : Book → ℤ → Type 0
 IsOutsideBlends book m = (year : ℕ) × IsPlainMinute book.first_year book.years m year
 
--- the level rises by at most `bound` from minute `m` to the next one, if both are outside the hours
--- around a new year
+-- the level rises by at most `bound` from minute `m` to `m + 1`, unless one of them is less than an hour
+-- from a new year
 abbrev pub RisesAtMost : Book → Station → ℤ → ℤ → Type 0
 RisesAtMost book station bound m = IsOutsideBlends book m → rise_in book station m ≤ℤ bound
 
--- the level falls by at most `bound` from minute `m` to the next one, if both are outside the hours
--- around a new year
+-- the level falls by at most `bound` from minute `m` to `m + 1`, unless one of them is less than an hour
+-- from a new year
 abbrev pub FallsAtMost : Book → Station → ℤ → ℤ → Type 0
 FallsAtMost book station bound m = IsOutsideBlends book m → neg_ℤ bound ≤ℤ rise_in book station m
 
--- A high water is between minute `m` and the next one. The level rises by at most `bound` in this minute
--- and in the next one, and falls by at most `bound` in this minute.
+-- A high water is between minutes `m` and `m + 1`: from `m` to `m + 1` the level rises or falls by at
+-- most `bound`, and from `m + 1` to `m + 2` it rises by at most `bound`.
 pub record IsBoundedHigh (book : Book) (station : Station) (bound m : ℤ) : Type 0 where
   pub rises : RisesAtMost book station bound m
   pub rises_later : RisesAtMost book station bound (m +ℤ pos 1)
   pub falls : FallsAtMost book station bound m
 
--- A low water is between minute `m` and the next one. The level falls by at most `bound` in this minute
--- and in the next one, and rises by at most `bound` in this minute.
+-- A low water is between minutes `m` and `m + 1`: from `m` to `m + 1` the level rises or falls by at
+-- most `bound`, and from `m + 1` to `m + 2` it falls by at most `bound`.
 pub record IsBoundedLow (book : Book) (station : Station) (bound m : ℤ) : Type 0 where
   pub falls : FallsAtMost book station bound m
   pub falls_later : FallsAtMost book station bound (m +ℤ pos 1)
   pub rises : RisesAtMost book station bound m
 
--- the level after minute `m` changes by at most `bound` a minute at an event of this kind; slacks and
--- crossings of a mark aren't turns of the level, and nothing is said about them
+-- for a high or low water between minutes `m` and `m + 1`, the level changes by at most `bound` a minute
+-- as far as `IsBoundedHigh` or `IsBoundedLow` says; for any other kind of event nothing is said
 abbrev pub IsBoundedTurn : Book → Station → ℤ → Kind → ℤ → Type 0
 IsBoundedTurn book station bound High m = IsBoundedHigh book station bound m
 IsBoundedTurn book station bound Low m = IsBoundedLow book station bound m
 IsBoundedTurn book station bound _ m = Unit {0}
 
--- the reference's level changes by at most `bound` a minute after the minute of the reference's event
--- that corresponds to `event`; for a reference station this is the event's minute
+-- the level of the reference station changes by at most `bound` a minute after a high or low water;
+-- `event` is the station's event, and the reference station's minute is its minute less the offset's
+-- minutes
 abbrev pub IsBounded : Book → Site → ℤ → Event → Type 0
 IsBounded book site bound event =
     IsBoundedTurn book site.station bound event.kind (event.minute -ℤ (offset_of site.basis event.kind).add)
 
--- for one station `about` prints a bound on the change of the level in a minute, and `predict` prints
--- turns that all meet it
+-- the answer `facts` of `about` prints `bound`, the answer `listing` of `predict` prints `events`, both
+-- for one station, and around each high and low water of `events` the level changes by at most `bound` a
+-- minute
 pub record BoundsTurns (folder : Folder) (predict : Question) (facts listing : Answer) : Type 0 where
   pub book : Book
   pub table : List Offsets
@@ -102,7 +105,8 @@ pub record BoundsTurns (folder : Folder) (predict : Question) (facts listing : A
   pub listed : listing.text ≡ events_text predict.layout name site.station.units events zone
   pub each : All (IsBounded book site bound) events
 
--- the law for runs of `about` and `predict` that request one station, with the same files
+-- for one station and the same files, `about` prints a bound on the change of the level in a minute,
+-- which holds at each high and low water that `predict` prints
 abbrev pub AboutBoundsTurns : Type 0
 AboutBoundsTurns = (sheets : List SheetSpec) (folder : Folder) (minute later : ℤ) (words more : List (List ℕ))
     (about predict : Question) (facts listing : Answer) →

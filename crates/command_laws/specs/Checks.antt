@@ -14,13 +14,13 @@ use Rattle.tide_desk.specs.Laws.{Asks, AsksListing, HoldsCertificate, NameSameFi
 use Rattle.tide_edge.specs.FileStates.{Folder}
 use Rattle.zone_time.specs.declared.zone.Zone.{Zone}
 
--- `predict` has an answer, and `check` prints `Accepted` and then its text
+-- the answer of `predict` is a listing, and the answer of `check` is `Accepted` and then this listing
 abbrev pub PrintsAccepted : Result Answer RunFault → Result Answer RunFault → Type 0
 PrintsAccepted predicted checked = (listing : Answer) × (predicted ≡ Ok listing) × (checked ≡ Ok (text_accepted listing.text))
 
--- For the text that `certify` returned, `check` prints `Accepted`, and then what `predict` prints for
--- the certificate's station, span and mark, with the files of the check and in its zone. The certificate
--- may be checked in another folder.
+-- For a text that `certify` returned, `check` prints `Accepted`, and then what `predict` prints for the
+-- certificate's station, span and mark, with the files and in the zone of the check. The folder of the
+-- check may be another one with the same harmonic constants and table.
 abbrev pub CheckShowsPredict : Type 0
 CheckShowsPredict = (sheets : List SheetSpec) (before after : Folder) (minute later last : ℤ) (words more others : List (List ℕ))
     (certify check predict : Question) (certificate : Answer) (zone : Zone) →
@@ -30,15 +30,16 @@ CheckShowsPredict = (sheets : List SheetSpec) (before after : Folder) (minute la
     Asks sheets others Predict predict → AsksListing check (subject_of certify) predict →
     PrintsAccepted (answer_of sheets after last others) (answer_of sheets after later more)
 
--- with the command `predict`, the arguments of a `certify` are a request for the same station, span,
--- mark and files, in universal time and as text
+-- if the command line `certify` followed by `arguments` is a request, then `predict` followed by these
+-- arguments is one too, for the same station, span, mark and files, in universal time and with the
+-- layout `plain`
 abbrev pub TakesItsArguments : Type 0
 TakesItsArguments = (sheets : List SheetSpec) (arguments : List (List ℕ)) (certify : Question) →
     question_of_words sheets (codes "certify" ∷ arguments) ≡ Ok certify →
     question_of_words sheets (codes "predict" ∷ arguments) ≡ Ok (record certify { command = Predict; zone = Utc; layout = Plain })
 
--- For the text that `certify` returned, `check` prints `Accepted`, and then what `predict` prints with
--- the arguments of `certify`, if the check names the same files and universal time.
+-- For a text that `certify` returned, `check` prints `Accepted`, and then what `predict` prints with the
+-- arguments of `certify`, if the check names the same files, in universal time.
 abbrev pub CheckShowsSameArguments : Type 0
 CheckShowsSameArguments = (sheets : List SheetSpec) (before after : Folder) (minute later last : ℤ) (arguments more : List (List ℕ))
     (certify check : Question) (certificate : Answer) →

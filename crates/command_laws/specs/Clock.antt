@@ -38,7 +38,8 @@ use Rattle.tide_answer.specs.Answers.{answered, listed, text_alone}
 
 -- ---- the requests
 
--- a request to `predict` about the station of another request, from a minute on for 1,440 minutes, as text
+-- `predict` is a request to list, as lines of text, the events of the station of the request `clock`
+-- over the 1,440 minutes from `now` on
 pub record AsksDay (clock : Question) (now : ℤ) (predict : Question) : Type 0 where
   pub command : predict.command ≡ Predict
   pub station : predict.station ≡ clock.station
@@ -47,7 +48,8 @@ pub record AsksDay (clock : Question) (now : ℤ) (predict : Question) : Type 0 
   pub no_mark : predict.mark ≡ None
   pub layout : predict.layout ≡ Plain
 
--- a request to `heights` for this station at only this minute; the step may be any
+-- `heights` is a request for the level of the station of the request `clock` at the minute `now` only;
+-- the step may be any
 pub record AsksLevel (clock : Question) (now : ℤ) (heights : Question) : Type 0 where
   pub command : heights.command ≡ Heights
   pub station : heights.station ≡ clock.station
@@ -59,22 +61,24 @@ pub record AsksLevel (clock : Question) (now : ℤ) (heights : Question) : Type 
 
 -- ---- the texts
 
--- a high or a low water; of a current a maximum or a minimum flood or ebb
+-- Bool: whether a kind of event is a high or a low water (for a current, a maximum or minimum flood or
+-- ebb)
 abbrev pub is_turn : Kind → Bool
 is_turn High = true
 is_turn Low = true
 is_turn _ = false
 
--- the turns among events: high and low waters, and of a current maximum and minimum floods and ebbs
+-- the high and low waters among the events (for a current, the maximum and minimum floods and ebbs)
 abbrev pub turns_in : List Event → List Event
 turns_in events = filter (λ event. is_turn event.kind) events
 
--- the kind of the next turn: a high water if the level rises, else a low water
+-- the kind of the next high or low water: High if `rising`, whether the level rises, is true, else Low
 abbrev pub next_turn : Bool → Kind
 next_turn rising = if rising then High else Low
 
--- the answer of `clock`: `line` is the line that `heights` prints for the level, and `lines` are the
--- lines that `predict` prints for the events
+-- `answer` of `clock` has `line`, which `heights` prints for the level at the present minute, and
+-- `lines`, which `predict` prints for the events of the next 1,440 minutes; the first high or low water
+-- among these fits the printed direction
 pub record IsClock (book : Book) (table : List Offsets) (clock : Question) (inputs : Given) (answer : Answer) : Type 0 where
   pub name : List ℕ
   pub line : List ℕ
@@ -94,7 +98,7 @@ pub record IsClock (book : Book) (table : List Offsets) (clock : Question) (inpu
   pub first_turn : ForSome (slice_get (turns_in events) 0) (λ turn. turn.kind ≡ next_turn rising)
 
 -- each answer of `clock` has the line that `heights` prints for the present minute, and the lines that
--- `predict` prints for the 1,440 minutes from there on
+-- `predict` prints for the 1,440 minutes from then on
 abbrev pub ShowsThePresentAndTheNextDay : Type 0
 ShowsThePresentAndTheNextDay = (book : Book) (table : List Offsets) (clock : Question) (inputs : Given) (answer : Answer) →
     clock.command ≡ Clock → answered book table clock inputs ≡ Ok answer → IsClock book table clock inputs answer

@@ -21,13 +21,14 @@ use Rattle.tide_desk.specs.Laws.{Asks}
 use Rattle.tide_edge.specs.FileStates.{Folder}
 use Rattle.zone_time.specs.declared.zone.Zone.{Zone}
 
--- the rows of a station: at each index the level that many steps of `step` minutes after `begin`, up to
--- and including `end`, and no other row
+-- the row with each index, counted from 0, has the station's level that many steps of `step` minutes
+-- after `begin`, up to and including `end`, and there is no other row
 abbrev pub AreLevels : Book → Site → ℤ → ℤ → ℤ → List Row → Type 0
 AreLevels book site begin end step rows =
     (index : ℕ) → slice_get rows index ≡ row_until (level_at book site) begin end step index
 
--- the text of the rows of the station and the span of a request, by the contents of its files
+-- `answer` has the levels, one a step, of the station and over the span of the request `question`, with
+-- the contents of its files
 pub record PrintsLevels (folder : Folder) (question : Question) (answer : Answer) : Type 0 where
   pub book : Book
   pub table : List Offsets
@@ -45,7 +46,7 @@ pub record PrintsLevels (folder : Folder) (question : Question) (answer : Answer
   pub printed : answer ≡ text_alone (heights_text question.layout name site.station.units rows zone)
   pub levels : AreLevels book site span_request.begin span_request.end question.step rows
 
--- each answer of `heights` is the text of the levels of its station and span
+-- each answer of the command `heights` has the levels, one a step, of the requested station and span
 abbrev pub HeightsAreLevels : Type 0
 HeightsAreLevels = (sheets : List SheetSpec) (folder : Folder) (minute : ℤ) (words : List (List ℕ))
     (question : Question) (answer : Answer) →

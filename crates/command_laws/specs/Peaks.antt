@@ -24,39 +24,42 @@ use Rattle.tide_answer.specs.declared.text.Answer.{Answer}
 use Rattle.listing.specs.ByLayout.{events_text, heights_text}
 use Rattle.tide_answer.specs.Answers.{answered, rows_of}
 
--- two requests about one station and one span
+-- both requests are about the same station and the same span
 pub record AskOneSpan (question other : Question) : Type 0 where
   pub station : other.station ≡ question.station
   pub begin : other.begin ≡ question.begin
   pub end : other.end ≡ question.end
 
--- a slack with a separate offset: it has the level of the reference, not of the station
+-- Bool: whether an event of this kind is a slack water for which the station has separate offsets; it
+-- has the level of the reference station, not of the station
 abbrev pub has_own_time : Basis → Kind → Bool
 has_own_time basis kind = is_slack kind && is_some basis.slack
 
--- an event with a level of at most `level`; slacks with separate offsets are excluded
+-- the level of the event is at most `level`, unless the event is a slack water with separate offsets
 abbrev pub IsEventBelow : Basis → ℤ → Event → Type 0
 IsEventBelow basis level event = has_own_time basis event.kind ≡ false → event.level ≤ℤ level
 
--- a row with a level of at most `level`, if its minute is before `end`
+-- the level of the row is at most `level`, if its minute is before `end`
 abbrev pub IsRowBelow : ℤ → ℤ → Row → Type 0
 IsRowBelow end level row = row.minute <ℤ end → row.level ≤ℤ level
 
--- a listing of `predict` has these events, and none of them is above `level`, slacks with separate
--- offsets excluded
+-- the answer `listing` of `predict` prints `events`, and each of them, except slack waters with separate
+-- offsets, has a level of at most `level`
 pub record ListsEventsBelow (predict : Question) (there : Given) (name : List ℕ) (site : Site) (level : ℤ)
     (events : List Event) (listing : Answer) : Type 0 where
   pub text : listing.text ≡ events_text predict.layout name site.station.units events there.zone
   pub below : All (IsEventBelow site.basis level) events
 
--- a listing of `heights` has these rows, and none of them before `end` is above `level`
+-- the answer `listing` of `heights` prints `rows`, and each of them before `end` has a level of at most
+-- `level`
 pub record ListsRowsBelow (heights : Question) (there : Given) (name : List ℕ) (site : Site) (end level : ℤ)
     (rows : List Row) (listing : Answer) : Type 0 where
   pub text : listing.text ≡ heights_text heights.layout name site.station.units rows there.zone
   pub below : All (IsRowBelow end level) rows
 
--- the answer of `highest`, with its minute and the level there, and the answers of `predict` and
--- `heights` about the same station and span
+-- `answer` of `highest` prints a minute and its level, and no event of `predict` and no row of `heights`
+-- before `end`, for the same station and span, has a greater level; slack waters with separate offsets
+-- are excepted
 pub record IsAboveAll (book : Book) (table : List Offsets) (highest : Question) (inputs : Given) (answer : Answer) : Type 0 where
   pub name : List ℕ
   pub begin : ℤ
@@ -76,7 +79,8 @@ pub record IsAboveAll (book : Book) (table : List Offsets) (highest : Question) 
       heights.command ≡ Heights → AskOneSpan highest heights → pos 1 ≤ℤ heights.step → answered book table heights there ≡ Ok listing →
       ListsRowsBelow heights there name site end (level_at book site minute) (rows_of book site begin end heights.step) listing
 
--- no event and no level of the span is above the highest water
+-- no event and no row before the end of the span has a level above the one that `highest` prints; slack
+-- waters with separate offsets are excepted
 abbrev pub NothingIsHigher : Type 0
 NothingIsHigher = (book : Book) (table : List Offsets) (highest : Question) (inputs : Given) (answer : Answer) →
     IsTable table → highest.command ≡ Highest → answered book table highest inputs ≡ Ok answer →
@@ -84,8 +88,8 @@ NothingIsHigher = (book : Book) (table : List Offsets) (highest : Question) (inp
 
 -- ---- a small station
 
--- a current with levels 10 knots below its reference's, and with separate offsets for slacks, which
--- leave them at the reference's minutes
+-- an example: a current with levels 10 knots below its reference's, and with separate offsets of 0
+-- minutes for slack waters
 abbrev pub sill : Site
 sill =
     let lower : Offset = record { add = pos 0; times = pos 1000000; plus = negsuc 9999999 } in

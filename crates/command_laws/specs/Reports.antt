@@ -16,24 +16,24 @@ use Rattle.tide_desk.specs.Laws.{Asks, NameSameFiles, subject_of}
 use Rattle.tide_edge.specs.FileStates.{Folder}
 use Rattle.zone_time.specs.declared.zone.Zone.{Zone}
 
--- a sheet, and the events that its page shows
+-- a page of a report: its sheet, and the events that it shows
 pub record ReportPage : Type 0 where
   pub sheet : SheetSpec
   pub events : List Event
 
--- the text of a page
+-- the text of a page of a report under its head (station, unit and present minute)
 abbrev pub text_of : Head → ReportPage → List ℕ
 text_of head page = page.sheet.layout head page.events
 
--- a page shows the first events of a list, at most as many as its sheet's limit; unless it is full, it
--- shows all of them
+-- the page shows all of `events`, or, if there are more than its sheet's limit, the first of them, as
+-- many as the limit
 pub record IsPage (events : List Event) (page : ReportPage) : Type 0 where
   pub first : (rest : List Event) × (events ≡ page.events ++ rest)
   pub within : length page.events ≤ page.sheet.limit
   pub complete : length page.events < page.sheet.limit → page.events ≡ events
 
--- the text of a report: a page of each requested sheet, one after the other in the order of `sheets`,
--- not of the request
+-- `text` is a report: one page for each requested sheet, in the order of `sheets`, whatever the order of
+-- the request, and each requested word has its page
 pub record IsReport (sheets : List SheetSpec) (wanted : List (List ℕ)) (head : Head) (events : List Event) (text : List ℕ) : Type 0 where
   pub pages : List ReportPage
   pub text_is : text ≡ flat_map (text_of head) pages
@@ -41,8 +41,8 @@ pub record IsReport (sheets : List SheetSpec) (wanted : List (List ℕ)) (head :
   pub none_missing : All (Contains (map (λ page. page.sheet.word) pages)) wanted
   pub each : All (IsPage events) pages
 
--- a report and a listing show one list of events: the listing prints all of them, and the pages of the
--- report show them
+-- the answer `listing` of `predict` prints a list of events, and the answer `pages` of `report` has
+-- pages that show the same list
 pub record ShowOneList (sheets : List SheetSpec) (report predict : Question) (now : ℤ) (zone : Zone)
     (pages listing : Answer) : Type 0 where
   pub listed : Listed

@@ -48,8 +48,8 @@ use Rattle.command_laws.specs.Clock.{turns_in}
 
 -- ---- the two requests
 
--- a request to `predict`, from one minute to another, about a station found by its name as this row of
--- the table
+-- `question` is a request to `predict`, from `begin` to `end`, about a subordinate station, which is
+-- this row of the table with this basis (reference station and offsets)
 pub record AsksSubordinate (book : Book) (table : List Offsets) (row : Offsets) (basis : Basis) (begin end : ℤ)
     (question : Question) : Type 0 where
   pub name : List ℕ
@@ -62,17 +62,17 @@ pub record AsksSubordinate (book : Book) (table : List Offsets) (row : Offsets) 
   pub is_row : basis.row ≡ Some index
   pub at : slice_get table index ≡ Some row
 
--- a request to `predict` about the reference of the row, over the span from `begin` to `end` as its
--- offsets widen it
+-- `question` is a request to `predict` about the reference station of the table's row, over the span
+-- whose events the offsets can move into the span from `begin` to `end`
 pub record AsksReference (row : Offsets) (basis : Basis) (begin end : ℤ) (question : Question) : Type 0 where
   pub command : question.command ≡ Predict
   pub named : question.station ≡ Some row.reference
   pub begins : question.begin ≡ Some (widened_of basis begin end).begin
   pub ends : question.end ≡ Some (widened_of basis begin end).end
 
--- the station's level, which is the reference's times the factor of the high-water offset plus its added
--- level, crosses the station's mark at the same minutes as the reference's level crosses the reference's
--- mark
+-- the station's mark (first Option) corresponds to its reference's (second Option): the station's level,
+-- which is the reference's times the factor of the high-water offset plus its height, is at the one
+-- exactly when the reference's level is at the other; or there is neither mark
 abbrev pub MeansOneMark : Basis → Option ℤ → Option ℤ → Type 0
 MeansOneMark basis None None = Unit {0}
 MeansOneMark basis None (Some there) = ⊥
@@ -81,22 +81,24 @@ MeansOneMark basis (Some mark) (Some there) = there *ℤ basis.high.times ≡ (m
 
 -- ---- the two lists
 
--- an event of the reference that the station also has: any, but a slack only if the station lists slacks
+-- Bool: whether the station also has this event of its reference: it has any event except slack waters,
+-- and those only if its slack waters are listed
 abbrev pub has_too : Units → Basis → Event → Bool
 has_too units basis event = asks_slack units basis || not (is_slack event.kind)
 
--- the station's slacks are at minutes where its level crosses 0, and the reference's level crosses 0 at
--- other minutes
+-- Bool: whether the station's slack waters aren't its reference's: they are listed, have no separate
+-- offsets, and the station's level is the reference's plus a height other than 0
 abbrev pub has_own_slack : Units → Basis → Bool
 has_own_slack units basis = asks_slack units basis && is_none basis.slack && not (int_eq basis.high.plus (pos 0))
 
--- the second step: the events of the reference, each moved and scaled by the offset of its kind; the
--- events within the span are kept, in the order of their minutes
+-- the events of the reference station, each moved and scaled by the offset of its kind; of these the
+-- events within the span from `begin` to `end`, in the order of listing
 abbrev pub second_step : Units → Basis → ℤ → ℤ → List Event → List Event
 second_step units basis begin end events = ordered (moved_within basis begin end (filter (has_too units basis) events))
 
--- the answers to both requests: the station's turns are the reference's, moved and scaled; and so are
--- all its events, if both marks mean one and the station has no slacks at minutes of its own
+-- the answers to both requests: the station's high and low waters are its reference's, moved and scaled;
+-- so are all its events, if both marks correspond (`MeansOneMark`) and the station's slack waters are
+-- the reference's (`has_own_slack` is false)
 pub record AreTwoSteps (book : Book) (table : List Offsets) (question reference : Question) (inputs there : Given)
     (row : Offsets) (basis : Basis) (begin end : ℤ) (answer first : Answer) : Type 0 where
   pub name : List ℕ
@@ -112,7 +114,8 @@ pub record AreTwoSteps (book : Book) (table : List Offsets) (question reference 
   pub all : has_own_slack units basis ≡ false → MeansOneMark basis question.mark reference.mark →
       events ≡ second_step units basis begin end of_reference
 
--- the list of a subordinate station is the list of its reference, moved and scaled
+-- the events of a subordinate station are the events of its reference station, moved and scaled by its
+-- offsets, as far as `AreTwoSteps` says
 abbrev pub ListsInTwoSteps : Type 0
 ListsInTwoSteps = (book : Book) (table : List Offsets) (question reference : Question) (inputs there : Given) →
     (row : Offsets) (basis : Basis) (begin end : ℤ) (answer first : Answer) →
@@ -120,8 +123,8 @@ ListsInTwoSteps = (book : Book) (table : List Offsets) (question reference : Que
     answered book table question inputs ≡ Ok answer → answered book table reference there ≡ Ok first →
     AreTwoSteps book table question reference inputs there row basis begin end answer first
 
--- the request about the reference has an answer if the one about the station has, and the widened span
--- isn't too long
+-- the request about the reference station has an answer if the request about the subordinate station has
+-- one and the reference's span isn't too long
 abbrev pub ReferenceIsAnswered : Type 0
 ReferenceIsAnswered = (book : Book) (table : List Offsets) (question reference : Question) (inputs there : Given) →
     (row : Offsets) (basis : Basis) (begin end : ℤ) (answer : Answer) →
@@ -132,7 +135,8 @@ ReferenceIsAnswered = (book : Book) (table : List Offsets) (question reference :
 
 -- ---- a small station
 
--- a current with levels 0.5 knots above its reference's, and without separate offsets for slacks
+-- an example: a current with levels 0.5 knots above its reference's, and without separate offsets for
+-- slack waters
 abbrev pub stream : Site
 stream =
     let higher : Offset = record { add = pos 0; times = pos 1000000; plus = pos 500000 } in

@@ -10,16 +10,17 @@ use Rattle.tide_answer.specs.declared.text.Answer.{Answer}
 use Rattle.tide_desk.specs.Answers.{answer_of}
 use Rattle.tide_edge.specs.FileStates.{Folder}
 
--- the answer to arguments separated by spaces, with a folder that has the pier's constants under each
--- name, at minute 0
+-- the answer to the arguments in `words`, separated by spaces, at the minute 0, with files that all have
+-- the harmonic constants of an example
 abbrev pub pier_answer : List SheetSpec → List ℕ → Result Answer RunFault
 pier_answer sheets words = answer_of sheets (λ name. Some (file_of pier_lines)) (pos 0) (slice_split is_space words)
 
--- a certificate of three minutes at the pier
+-- the text of a certificate of three minutes at the example's station
 abbrev pub pier_certificate : List ℕ
 pier_certificate =
     codes "tide certificate 2\nstation Pier\nbegin 2000-01-10T11:58Z\nend 2000-01-10T12:01Z\nmark none\ntrack turn\ns\nt high 999962\ns\ndone\n"
 
--- the pier's folder with the certificate under the name `c`
+-- a folder in which the file `c` is the certificate `pier_certificate`, and each other file has the
+-- harmonic constants of an example
 abbrev pub pier_with_certificate : Folder
 pier_with_certificate name = Some (if bytes_eq name (codes "c") then pier_certificate else file_of pier_lines)

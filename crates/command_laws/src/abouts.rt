@@ -9,19 +9,19 @@ ghost use Rattle.command_laws.specs.Worked.{pier_answer};
 
 use slope_agreement::predicted_agreements;
 
-/// Proves that in the minute after the minute of a high water that `predict` lists, and in the next one,
-/// the level rises by at most the bound that `about` prints as `agreement`, and that after a low water
-/// it falls by at most the bound. This holds outside the hours around a new year.
+/// Proves that the level rises by at most the bound that `about` prints as `agreement`, in the minute
+/// that begins at the listed minute of a high water of `predict` and in the next one; and that in the
+/// two minutes from a low water's minute on it falls by at most this bound. The hours around a new year
+/// are excepted.
 pub fn about_bounds_the_printed_turns()
     ensures { AboutBoundsTurns }
 {
     predicted_agreements();
 }
 
-/// Proves an example of a half-daily tide: the minutes around a high water, and what `about` prints. The
-/// level rises in the minute before the high water and falls in the minute after it, each time by about
-/// half of the bound that `about` prints as `agreement`, in units of which about 1.4257 * 10^35 are a
-/// foot.
+/// Proves, for a half-daily tide as an example, that the level rises in the minute before a high water
+/// and falls in the minute after it, each time by about half of the bound that `about` prints as
+/// `agreement`. The bound is in units of which about 1.4257 * 10^35 are a foot a minute.
 pub fn worked_turns()
     ensures unit { unit_of_bound ≡ 142570234078617600000000000000000000 }
     ensures bound { predicted_agreement pier_book pier ≡ pos 10982486704628157235200000000000 }

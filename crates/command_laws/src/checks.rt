@@ -8,8 +8,8 @@ ghost use Rattle.command_laws.specs.Worked.{pier_answer, pier_with_certificate};
 
 use tide_desk::what_certify_answers_is_accepted;
 
-/// Proves that `check`, given the text that `certify` returned, prints `Accepted` and then what `predict`
-/// prints with the station, span and mark that `certify` had.
+/// Proves that `check`, given the text that `certify` returned, prints `Accepted` and then what
+/// `predict` prints for the station, span and mark of the `certify` request.
 pub fn check_shows_predict()
     ensures any_words { CheckShowsPredict }
     ensures arguments { TakesItsArguments }
@@ -18,8 +18,8 @@ pub fn check_shows_predict()
     what_certify_answers_is_accepted();
 }
 
-/// Proves an example of a certificate of three minutes around a high water, with what `predict` prints
-/// for its arguments and what `check` prints for it.
+/// Proves an example: the certificate of three minutes around a high water, what `predict` prints for
+/// the same arguments, and what `check` prints for the certificate.
 pub fn worked_checks()
     ensures certified { pier_answer [] (codes "certify file=p station=Pier begin=2000-01-10T11:58Z end=2000-01-10T12:01Z")
         ≡ Ok (record {

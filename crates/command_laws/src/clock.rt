@@ -14,16 +14,16 @@ ghost use Rattle.tide_answer.specs.Answers.{answered};
 ghost use Rattle.zone_time.specs.declared.zone.Zone.{Zone};
 ghost use Rattle.command_laws.specs.Clock.{ShowsThePresentAndTheNextDay};
 
-/// Proves that `clock` prints the line that `heights` has for the present minute, and then the lines
-/// that `predict` has for the 1,440 minutes from there on. Both requests have an answer if `clock` has
-/// one. If there is a high or low water among the events, the first is a high water exactly if the
-/// printed direction is rising.
+/// Proves that `clock` prints the line that `heights` prints for the present minute, and then the lines
+/// that `predict` prints for the next 1,440 minutes; if `clock` has an answer, these requests have one
+/// too. Also proves that the first high or low water listed, if any, is a high water exactly if `clock`
+/// prints that the level is rising.
 pub fn clock_shows_the_present_and_the_next_day()
     ensures { ShowsThePresentAndTheNextDay }
 {}
 
-/// Proves an example of a command `clock` that has an answer. It is asked at the minute before the one
-/// of a high water: the printed direction is rising, and the next high or low water is this high water.
+/// Proves an example of the command `clock`: it has an answer, at the minute before a high water; the
+/// level is rising then, and the next high or low water is this high water.
 pub fn worked_clock()
     ensures met { IsOk (answered pier_file [] (record (bare Command.Clock) { station = Some (codes "Pier") })
         (record { zone = Zone.Utc; certificate = []; now = pos 15791759 })) }

@@ -14,18 +14,19 @@ ghost use Rattle.command_laws.specs.Peaks.{sill, NothingIsHigher};
 
 use tide_answer::highest_is_reported;
 
-/// Proves that no event that `predict` lists over the same span, and no row of `heights` before its end,
-/// has a greater level than the one that `highest` prints. The law excludes slacks with separate
-/// offsets: such a slack has its reference's level, which can be above all levels of the station.
+/// Proves that no event that `predict` lists over the same span, and no row of `heights` before the end
+/// of the span, has a level greater than the level that `highest` prints. Slack waters with their own
+/// offsets are excepted, since they have the level of the reference station, which can be above all
+/// levels of the station.
 pub fn no_event_is_above_the_highest_water()
     ensures { NothingIsHigher }
 {
     highest_is_reported();
 }
 
-/// Proves two examples. `highest` has an answer for a span of two minutes. A station with separate
-/// offsets for its slacks has in a span of one minute a slack with the reference's level, which is above
-/// the station's only level in the span.
+/// Proves two examples: `highest` has an answer for a span of two minutes; and a station with separate
+/// offsets for slack waters has one, in a span of one minute, that has its reference station's level,
+/// which is above the station's only level in the span.
 pub fn worked_highest()
     ensures met { IsOk (answered pier_file []
         (record (bare Command.Highest) { station = Some (codes "Pier"); begin = Some (pos 15791759); end = Some (pos 15791761) })

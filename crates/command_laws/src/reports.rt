@@ -6,15 +6,15 @@ ghost use Rattle.tide_answer.specs.Answers.{text_alone};
 ghost use Rattle.command_laws.specs.Reports.{ReportsAreComplete};
 ghost use Rattle.command_laws.specs.Worked.{pier_answer};
 
-/// Proves that a page of a report that isn't full shows every event that `predict` lists for the same
-/// station, span, mark and files, and that a full page shows the first of them, as many as its sheet's
-/// limit. Each requested sheet has its page.
+/// Proves that each page of a report shows every event that `predict` lists for the same station, span,
+/// mark and files, or, if there are more events than its sheet's limit, the first of them, as many as
+/// the limit. Also proves that each requested sheet has a page.
 pub fn reports_are_complete()
     ensures { ReportsAreComplete }
 {}
 
-/// Proves an example: the events of two minutes as `predict` lists them, on a sheet with a limit of ten
-/// events, and on a sheet with a limit of one, which is full.
+/// Proves an example: the events of two minutes, which `predict` lists, on a page with a limit of ten
+/// events, and on a page with a limit of one, which is full.
 pub fn worked_reports()
     ensures all { pier_answer (first_sheet 10 ∷ [])
         (codes "report file=p station=Pier begin=2000-01-10T11:59Z end=2000-01-10T12:01Z mark=0.99998 sheets=first")

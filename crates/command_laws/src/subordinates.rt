@@ -16,19 +16,20 @@ ghost use Rattle.tide_answer.specs.Answers.{answered};
 ghost use Rattle.zone_time.specs.declared.zone.Zone.{Zone};
 ghost use Rattle.command_laws.specs.Subordinates.{second_step, stream, ListsInTwoSteps, ReferenceIsAnswered};
 
-/// Proves that the list of a subordinate station is made in two steps: the list of its reference over
-/// the widened span is made; then each event is moved and scaled by the offset of its kind, and the
-/// events within the span are kept and sorted. This holds for high and low waters always. It holds for
-/// all events except crossings of a mark, which aren't the reference's events, and slacks of a current
-/// whose offset adds to the level and that has no separate offsets for slacks: there the station's level
-/// crosses 0 at other minutes.
+/// Proves that the list of a subordinate station can be made in two steps: list the events of its
+/// reference station over the span whose events the offsets can move into the requested span; then move
+/// and scale each event by the offset of its kind, and keep and sort the events within the span. This
+/// always holds for high and low waters. It holds for all events except crossings of a mark, which
+/// differ at the reference station, and except slack waters of a current with an added level and no
+/// separate offsets for them, since its level crosses 0 at other minutes.
 pub fn subordinates_list_in_two_steps()
     ensures steps { ListsInTwoSteps }
     ensures answered { ReferenceIsAnswered }
 {}
 
-/// Proves an example: the high water of a pier, and the one of a harbour 30 minutes later at twice the
-/// level and 0.5 feet more; and that two requests about them have an answer.
+/// Proves an example: the high water of a reference station, and the high water of a subordinate station
+/// 30 minutes later, at twice the level plus 0.5 feet. Also proves that requests about both have an
+/// answer.
 pub fn worked_steps()
     ensures widened { widened_of harbour (pos 15791789) (pos 15791790) ≡ record { begin = pos 15791759; end = pos 15791760 } }
     ensures first { events_of pier_book (record { basis = reference_basis 0; station = pier })
@@ -49,8 +50,8 @@ pub fn worked_steps()
         (record { zone = Zone.Utc; certificate = []; now = pos 0 })) }
 {}
 
-/// Proves an example: a current whose level is its reference's plus 0.5 knots has a slack at a minute
-/// where its level crosses 0, and its reference has none there.
+/// Proves an example: a current with a level 0.5 knots above its reference station's has a slack water
+/// at a minute when its own level crosses 0, and its reference station has no slack water then.
 pub fn worked_own_slack()
     ensures own { events_of pier_book stream (record { begin = pos 15791999; end = pos 15792000; mark = None })
         ≡ record { minute = pos 15791999; kind = Kind.EbbBegins; level = pos 7576 } ∷ [] }

@@ -234,7 +234,7 @@ said_at question slot None failed before after is read = within_all question (So
 said_at question slot (Some other) failed before after is read =
     subst (λ (s : Slot). ReadWithin (allowed_to question (Some s)) failed before after) (sym (is other refl)) read
 
--- the returned fault is that of the step that read the file
+-- the returned fault is the fault of the step that read the file
 pub last_at : {A : Type 0} (question : Question) (slot : Slot) (result : Result A RunFault) (none : RunFault) (before after : FilesState)
     → IsErrAnd result (λ e. e ≡ none) → IsOf slot none → ReadWithin (allowed_to question (Some slot)) (is_unread none) before after
     → IfErr result (λ e. ReadWithin (allowed_to question (file_of e)) (is_unread e) before after)

@@ -1,4 +1,4 @@
--- A fault whose status isn't that of out of memory is the expected one.
+-- A fault with a status other than out of memory is the expected one.
 use Rattle.std.proofs.Common.{◌≡◌, ◌∙◌, true, Result, Err, inl, inr, refl}
 use Rattle.std.specs.Bool.{IsTrue}
 use Rattle.decimal_text.specs.Expected.{Excuses}

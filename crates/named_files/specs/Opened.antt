@@ -13,12 +13,13 @@ use Rattle.named_files.specs.Readings.{Folders, files_in, limit_of, zone_file}
 
 -- ---- The names, in the order of reading
 
--- the names of all files of a request, in the order of reading: the harmonics file, which has this name,
--- the table, the zone's file and the certificate; one that isn't named is left out
+-- the names of the files of a request, in the order of reading: the harmonics file, called `name`, then
+-- the table, the zone file and the certificate, as far as the request names them
 abbrev pub names_of : List ℕ → Question → List (List ℕ)
 names_of name question = name ∷ (as_list question.offsets ++ (as_list (zone_file question.zone) ++ as_list question.certificate))
 
--- the names of files up to the file that is the reason why there is no answer, or all names if none is
+-- the names of the files of a request, in the order of reading, up to the file that is the reason why
+-- there is no answer; all names if the Option is None
 abbrev pub names_to : List ℕ → Question → Option Slot → List (List ℕ)
 names_to name question None = names_of name question
 names_to name question (Some slots.File) = name ∷ []
@@ -26,48 +27,53 @@ names_to name question (Some slots.Offsets) = name ∷ as_list question.offsets
 names_to name question (Some slots.Zone) = name ∷ (as_list question.offsets ++ as_list (zone_file question.zone))
 names_to name question (Some slots.Certificate) = names_of name question
 
--- the file that is the reason why a result has no value, or None if no file is
+-- the kind of the file that is the reason why a result is an error, or None if there is no error or no
+-- file is the reason
 abbrev pub failing_file : {T : Type 0} → Result T RunFault → Option Slot
 failing_file (Ok value) = None
 failing_file (Err none) = file_of none
 
 -- ---- The bytes that were read
 
--- the contents of a file as a call of `open` and the reads after it show them; None without a call
+-- the contents of a file of this kind, from the record of its opening and of the bytes read; None if it
+-- wasn't opened
 abbrev pub shown : Slot → Option Opening → Option (List ℕ)
 shown slot None = None
 shown slot (Some opening) = as_came (limit_of slot) opening
 
--- the index of a file, by its purpose, among the openings of a request, if the request names it
+-- the index, counted from 0, of the file of this kind in the list of a request's opened files, if the
+-- request names such a file
 abbrev pub index_of : Question → Slot → ℕ
 index_of question slots.File = 0
 index_of question slots.Offsets = 1
 index_of question slots.Zone = 1 + length (as_list question.offsets)
 index_of question slots.Certificate = 1 + (length (as_list question.offsets) + length (as_list (zone_file question.zone)))
 
--- the contents of a request's files as its openings show them, whatever their names
+-- the contents of a request's files by their kind, as `open_log`, the record of opened files, shows
+-- them; the names don't matter
 abbrev pub folders_shown : Question → List Opening → Folders
 folders_shown question open_log = λ slot name. shown slot (slice_get open_log (index_of question slot))
 
--- contents of files agree with what the openings of a request show of them; the contents of a file
--- without an opening are arbitrary
+-- the contents `folders` agree with the bytes that were read of a request's files, as `open_log` records
+-- them; the contents of a file that wasn't opened are arbitrary
 abbrev pub AreShown : Question → Bool → List Opening → Folders → Type 0
 AreShown question firm open_log folders =
     (slot : Slot) → IfSome (slice_get open_log (index_of question slot)) (λ o. Shows (limit_of slot) firm o (folders slot o.name))
 
--- contents of files agree with what the openings of a command line show of them
+-- the contents `folders` agree with the bytes that were read of a command line's files, as `open_log`
+-- records them; nothing is said if the command line isn't a request
 abbrev pub AreShownFor : {E : Type 0} → Result Question E → Bool → List Opening → Folders → Type 0
 AreShownFor (Ok question) firm open_log folders = AreShown question firm open_log folders
 AreShownFor (Err fault) firm open_log folders = Unit {0}
 
--- the contents of one file agree with what its opening shows of them; without an opening they are
--- arbitrary
+-- the contents of the file that was opened first agree with the bytes that were read of it, as
+-- `open_log` records them; nothing is said if no file was opened
 abbrev pub IsShown : Slot → Bool → List Opening → Folder → Type 0
 IsShown slot firm [] folder = Unit {0}
 IsShown slot firm (opening ∷ more) folder = Shows (limit_of slot) firm opening (folder opening.name)
 
--- one file was opened, if it is named and memory sufficed, and the result is the expected one for any
--- contents that agree with what was read of it
+-- the file called `name`, if there is a name, was opened once, unless memory ran out before; and the
+-- result is the expected one for any contents that agree with the bytes that were read
 pub record Opened {T : Type 0} (slot : Slot) (name : Option (List ℕ)) (expected : Folder → Result T RunFault)
     (before after : Openings) (result : Result T RunFault) : Type 0 where
   pub open_log : List Opening
@@ -77,9 +83,9 @@ pub record Opened {T : Type 0} (slot : Slot) (name : Option (List ℕ)) (expecte
   pub whole : OnOk result (unopened ≡ [])
   pub answer : (firm : Bool) (folder : Folder) → IsShown slot firm open_log folder → Meets source_of (IsTrue firm) (expected folder) result
 
--- the files that were opened are the first of the names, each once, and none after the one that is the
--- reason why there is no answer; and the result is the expected one for any contents that agree with
--- what was read of them
+-- files were opened in the order of the wanted names, each once, and none after the file that is the
+-- reason why there is no answer; and the result is the expected one for any contents that agree with the
+-- bytes that were read
 pub record IsResultOf {T : Type 0} (wanted : Option Slot → List (List ℕ)) (shows : Bool → List Opening → Folders → Type 0)
     (expected : Folders → Result T RunFault) (before after : Openings) (result : Result T RunFault) : Type 0 where
   pub open_log : List Opening
@@ -88,9 +94,9 @@ pub record IsResultOf {T : Type 0} (wanted : Option Slot → List (List ℕ)) (s
   pub names : wanted (failing_file result) ≡ map (λ o. o.name) open_log ++ unopened
   pub answer : (firm : Bool) (folders : Folders) → shows firm open_log folders → Meets source_of (IsTrue firm) (expected folders) result
 
--- the files of a request were opened in the order of reading, each once, and none after the one that is
--- the reason why there is no answer, or all if none is; and the result is the one for any contents that
--- agree with what was read of them
+-- the files of a request were opened in the order of reading, each once, and none after the file that is
+-- the reason why there is no answer; and the result is the one for any contents that agree with the
+-- bytes that were read
 pub record AreOpened (question : Question) (name : List ℕ) (before after : Openings) (result : Result Materials RunFault) : Type 0 where
   pub open_log : List Opening
   pub unopened : List (List ℕ)

@@ -33,30 +33,32 @@ use Rattle.decimal_text.specs.declared.limits.TheConstants.{MOST_BYTES}
 
 -- ---- The bytes of a file
 
--- the greatest number of bytes of a file, by its purpose: 67,108,864 for harmonic constants and for a
--- table, 1,048,576 for a zone, and 400,000,000 for a certificate
+-- the greatest number of bytes of a file of this kind: 67,108,864 for harmonic constants and for a table
+-- of offsets, 1,048,576 for a zone, and 400,000,000 for a certificate
 abbrev pub limit_of : Slot → ℕ
 limit_of slots.File = 67108864
 limit_of slots.Offsets = 67108864
 limit_of slots.Zone = 1048576
 limit_of slots.Certificate = MOST_BYTES
 
--- the reason why a file couldn't be read
+-- the reason why there is no answer, for a fault in reading a file of this kind to its end
 abbrev pub fault_of_reading : Slot → ReadAllFault → RunFault
 fault_of_reading slot reading.Failed = Unread
 fault_of_reading slot reading.TooLong = Faulty (TooLong slot)
 fault_of_reading slot reading.NoMemory = Faulty (Refused NoMemory)
 
--- the bytes of a file, or the reason why it couldn't be read
+-- the same bytes of a file of this kind, or the reason why there is no answer
 abbrev pub bytes_from : Slot → Result (List ℕ) ReadAllFault → Result (List ℕ) RunFault
 bytes_from slot (Ok bytes) = Ok bytes
 bytes_from slot (Err fault) = Err (fault_of_reading slot fault)
 
--- the bytes of a file with these contents, or the reason why it can't be read
+-- the bytes of a file of this kind, or the reason why there is no answer: the file doesn't exist (None),
+-- or it has more bytes than its limit
 abbrev pub bytes_of : Slot → Option (List ℕ) → Result (List ℕ) RunFault
 bytes_of slot file = bytes_from slot (whole (limit_of slot) file)
 
--- the reason why a harmonics file, which is parsed while it is read, couldn't be loaded
+-- the reason why there is no answer, for a fault in loading a harmonics file, which is parsed while it
+-- is read
 abbrev pub fault_of_loading : LoadFault → RunFault
 fault_of_loading load.Failed = Unread
 fault_of_loading load.TooLong = Faulty (TooLong slots.File)
@@ -64,17 +66,17 @@ fault_of_loading (load.Book fault) = Faulty (Book fault)
 
 -- ---- The contents
 
--- the harmonic constants of a file, or the reason why there are none
+-- the same harmonic constants, or the reason why there is no answer, with the first bad line
 abbrev pub book_from : Result TheBook At → Result TheBook RunFault
 book_from (Ok book) = Ok book
 book_from (Err at) = Err (Faulty (Book (form.At at.line at.why)))
 
--- the rows of a table's file, or the reason why there are none
+-- the same rows of a table of offsets, or the reason why there is no answer
 abbrev pub table_from : Result (List TableRow) OffsetFault → Result (List TableRow) RunFault
 table_from (Ok rows) = Ok rows
 table_from (Err fault) = Err (Faulty (Offsets fault))
 
--- the zone of a file, or the reason why there is none
+-- the same zone, or the reason why there is no answer
 abbrev pub zone_from : Result Zone ZoneFault → Result Zone RunFault
 zone_from (Ok zone) = Ok zone
 zone_from (Err zones.BadZone) = Err (Faulty BadZone)
@@ -82,20 +84,22 @@ zone_from (Err zones.NoMemory) = Err (Faulty (Refused NoMemory))
 
 -- ---- By the names of a request
 
--- the harmonic constants in the file with a name, or the reason why there are none
+-- the harmonic constants in the file called `name`, or the reason why there is no answer
 unfoldable pub book_named : Folder → List ℕ → Result TheBook RunFault
 book_named folder name = do
   bytes ← bytes_of slots.File (folder name)
   book_from (book_of bytes)
 
--- the rows in the file with a name; no rows if no table is named
+-- the rows of the table of offsets in the file called `name`, or the reason why there is no answer; no
+-- rows if no table is named (None)
 unfoldable pub table_named : Folder → Option (List ℕ) → Result (List TableRow) RunFault
 table_named folder None = Ok []
 table_named folder (Some name) = do
   bytes ← bytes_of slots.Offsets (folder name)
   table_from (table_of bytes)
 
--- the zone of a request, which may name a file
+-- the zone that a request names, which is read from a zone file if it is `Named`; or the reason why
+-- there is no answer
 unfoldable pub zone_named : Folder → ZoneWord → Result Zone RunFault
 zone_named folder words.Utc = Ok Utc
 zone_named folder (words.Fixed minutes) = Ok (Fixed minutes)
@@ -103,18 +107,18 @@ zone_named folder (words.Named name) = do
   bytes ← bytes_of slots.Zone (folder name)
   zone_from (zone_of bytes)
 
--- the text of the certificate in the file with a name; no bytes if no certificate is named; its format
--- is checked when the request is answered
+-- the text of the certificate in the file called `name`, or the reason why there is no answer; no bytes
+-- if no certificate is named (None); the format isn't checked here
 unfoldable pub certificate_named : Folder → Option (List ℕ) → Result (List ℕ) RunFault
 certificate_named folder None = Ok []
 certificate_named folder (Some name) = bytes_of slots.Certificate (folder name)
 
--- the contents of files, separately for each purpose of a file, since a file that is read twice may
--- change in between
+-- a folder for each kind of file, since a file that is read twice, as two kinds, may change in between
 abbrev pub Folders : Type 0
 Folders = Slot → Folder
 
--- the contents of all files of a request in the order of reading; its harmonics file has this name
+-- the contents of all files of a request, whose harmonics file is called `name`; or the first reason, in
+-- the order of reading, why there is no answer
 unfoldable pub files_in : Folders → Question → List ℕ → Result Materials RunFault
 files_in folders question name = do
   book ← book_named (folders slots.File) name
@@ -125,26 +129,27 @@ files_in folders question name = do
 
 -- ---- The bytes that may be read
 
--- the name of a zone's file, or None for universal time and for a fixed offset
+-- the name of a zone file, or None for universal time and for a fixed offset from it
 abbrev pub zone_file : ZoneWord → Option (List ℕ)
 zone_file words.Utc = None
 zone_file (words.Fixed minutes) = None
 zone_file (words.Named name) = Some name
 
--- the allowance for a file, if it is named: how many files may be opened and how many bytes read
+-- the number of files that may be opened, and of bytes that may be read, for a file of this kind; both 0
+-- if it isn't named (None)
 abbrev pub allowed_for : Slot → Option (List ℕ) → Allowance
 allowed_for slot None = no_file
 allowed_for slot (Some name) = one_file (limit_of slot)
 
--- the allowance for all files of a request: how many may be opened and how many bytes read
+-- the number of files that may be opened, and of bytes that may be read, for all files of a request
 abbrev pub files_allowed : Question → Allowance
 files_allowed question =
     both (one_file (limit_of slots.File))
     (both (allowed_for slots.Offsets question.offsets)
     (both (allowed_for slots.Zone (zone_file question.zone)) (allowed_for slots.Certificate question.certificate)))
 
--- the allowance for the files up to the one that is the reason why there is no answer, or for all if
--- none is
+-- the number of files that may be opened, and of bytes that may be read, for the files of a request up
+-- to the file that is the reason why there is no answer; for all files if the Option is None
 abbrev pub allowed_to : Question → Option Slot → Allowance
 allowed_to question None = files_allowed question
 allowed_to question (Some slots.File) = one_file (limit_of slots.File)

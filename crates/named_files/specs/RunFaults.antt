@@ -20,13 +20,14 @@ use Rattle.decimal_text.specs.Expected.{Source, memory, outside, given}
 use Rattle.named_files.specs.declared.run_fault.RunFault.{RunFault}
 use Rattle.named_files.specs.declared.run_fault.RunFault.TheVariants.{Unread, Faulty, Refused}
 
--- the result of a step that reads no file and no clock, with its fault as the reason why there is no
--- answer
+-- the same result of a step that reads neither a file nor the clock, with an error as the reason why
+-- there is no answer
 abbrev pub faulty : {A : Type 0} → Result A Fault → Result A RunFault
 faulty (Ok value) = Ok value
 faulty (Err fault) = Err (Faulty fault)
 
--- the result of a step with a table; the reason after a refusal has the table's rows
+-- the same result of a step, with a refusal as the reason why there is no answer; `rows`, the table of
+-- offsets, is kept for the line that reports it
 abbrev pub refused_over : {A : Type 0} → List Offsets → Result A Refusal → Result A RunFault
 refused_over rows (Ok value) = Ok value
 refused_over rows (Err refusal) = Err (Refused refusal rows)
@@ -37,41 +38,42 @@ status_of Unread = status.ReadFault
 status_of (Faulty fault) = status_of_fault fault
 status_of (Refused refusal rows) = status_of_refusal refusal
 
--- the line for a reason why there is no answer
+-- the line that reports a reason why there is no answer
 abbrev pub line_of : RunFault → List ℕ
 line_of Unread = codes "read fault\n"
 line_of (Faulty fault) = line_of_fault [] fault
 line_of (Refused refusal rows) = line_of_fault rows (faults.Refused refusal)
 
--- the reason why there is no answer is that memory ran out
+-- Bool: whether the reason why there is no answer is that memory ran out
 abbrev pub is_out_of_memory : RunFault → Bool
 is_out_of_memory Unread = false
 is_out_of_memory (Faulty fault) = fault_is_out_of_memory fault
 is_out_of_memory (Refused refusal rows) = refusal_is_out_of_memory refusal
 
--- the cause of a reason: a file or the clock, memory, or the request and the contents of the files
+-- where the reason why there is no answer lies: `outside` for a file or the clock that couldn't be read,
+-- `memory` if memory ran out, and `given` for the request and the contents of the files
 abbrev pub source_of : RunFault → Source
 source_of Unread = outside
 source_of (Faulty fault) = if fault_is_out_of_memory fault then memory else given
 source_of (Refused refusal rows) = if refusal_is_out_of_memory refusal then memory else given
 
--- an exit status is the one for a file or a clock that couldn't be read
+-- Bool: whether an exit status says that a file or the clock couldn't be read
 abbrev pub is_read_fault : Status → Bool
 is_read_fault status.ReadFault = true
 is_read_fault _ = false
 
--- the reason why there is no answer is that a file or the clock couldn't be read
+-- Bool: whether the reason why there is no answer is that a file or the clock couldn't be read
 abbrev pub is_unread : RunFault → Bool
 is_unread Unread = true
 is_unread (Faulty fault) = false
 is_unread (Refused refusal rows) = false
 
--- the result is that a file or the clock couldn't be read
+-- Bool: whether a result is the error that a file or the clock couldn't be read
 abbrev pub reading_failed : {A : Type 0} → Result A RunFault → Bool
 reading_failed (Ok value) = false
 reading_failed (Err none) = is_unread none
 
--- the file that is too long or isn't in its format, if this is the fault; else None
+-- the kind of the file that is too long or isn't in its format, or None for any other fault
 abbrev pub file_of_fault : Fault → Option Slot
 file_of_fault (faults.TooLong slot) = Some slot
 file_of_fault (faults.Book form) = Some slots.File
@@ -81,13 +83,14 @@ file_of_fault (faults.Ask ask) = None
 file_of_fault (faults.NoSheet word) = None
 file_of_fault (faults.Refused refusal) = None
 
--- the file that is too long or isn't in its format, if this is the reason why there is no answer; else
--- None
+-- the kind of the file that is too long or isn't in its format, if this is the reason why there is no
+-- answer; None for any other reason
 abbrev pub file_of : RunFault → Option Slot
 file_of Unread = None
 file_of (Faulty fault) = file_of_fault fault
 file_of (Refused refusal rows) = None
 
--- if a file is the reason why there is no answer, it is this one
+-- if a file that is too long or isn't in its format is the reason why there is no answer, it is of this
+-- kind
 abbrev pub IsOf : Slot → RunFault → Type 0
 IsOf slot none = ForSome (file_of none) (λ other. other ≡ slot)

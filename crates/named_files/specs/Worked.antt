@@ -4,8 +4,8 @@ use Rattle.harmonics_text.specs.Worked.{file_of, pier_lines}
 use Rattle.tide_fault.specs.declared.slot.Slot.TheVariants.{File, Offsets, Zone, Certificate}
 use Rattle.named_files.specs.Readings.{Folders}
 
--- the contents of files by their purpose: as the harmonics file each name has the pier's constants, and
--- there are no other files
+-- folders in which the harmonics file, under any name, has the harmonic constants of an example, and in
+-- which there are no other files
 abbrev pub pier_alone : Folders
 pier_alone File name = Some (file_of pier_lines)
 pier_alone Offsets name = None

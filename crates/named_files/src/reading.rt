@@ -37,13 +37,13 @@ use tide_edge::{Files, ReadAllFault, read_all};
 use tide_fault::{Fault, Refusal, Slot};
 use zone_time::{Zone, ZoneFault, read_zone};
 
-/// Reads the files of `question` in this order: the harmonic constants, which are in the file `name`,
-/// the table, the zone, the certificate. Each is read and its contents checked before the next is
-/// opened; none is opened after a fault, and none twice.
+/// Returns the contents of the files that `question` names. They are read in this order: the harmonic
+/// constants, in the file `name`, the table, the zone and the certificate. Each file is opened once, and
+/// its contents are checked before the next is opened; after a fault none is opened.
 ///
 /// # Errors
-/// The first fault: [`RunFault::Unread`] if a file couldn't be opened or read, and [`RunFault::Faulty`]
-/// if a file is too long or isn't in its format, or if memory ran out.
+/// [`RunFault::Unread`] if a file can't be opened or read, and [`RunFault::Faulty`] if a file is too
+/// long or isn't in its format, or if memory runs out: the first of these faults.
 pub fn read_files<F: Files>(
     alloc: Global,
     files: &mut F,
@@ -70,11 +70,12 @@ pub fn read_files<F: Files>(
     })
 }
 
-/// Reads the harmonic constants in the file `name`. A file that is too long isn't read to its end.
+/// Returns the harmonic constants in the file `name`. A file that is longer than 67,108,864 bytes isn't
+/// read to its end.
 ///
 /// # Errors
-/// [`RunFault::Unread`] if the file couldn't be opened or read, and [`RunFault::Faulty`] if it is too
-/// long or has a bad line, or if memory ran out.
+/// [`RunFault::Unread`] if the file can't be opened or read, and [`RunFault::Faulty`] if it is too long
+/// or has a bad line, or if memory runs out.
 pub fn read_book<F: Files>(alloc: Global, files: &mut F, name: &Text) -> Result<Book, RunFault>
     ensures opened { Opened Slot.File (Some name.now) (λ folder. book_named folder name.now)
         (F.state files.old).open_log (F.state files.new).open_log result }
@@ -88,12 +89,12 @@ pub fn read_book<F: Files>(alloc: Global, files: &mut F, name: &Text) -> Result<
     }
 }
 
-/// Reads the table of subordinate stations in the file `name`, or returns a table without rows if there
-/// is no name.
+/// Returns the table of subordinate stations in the file `name`, or a table without rows if `name` is
+/// `None`.
 ///
 /// # Errors
-/// [`RunFault::Unread`] if the file couldn't be opened or read, and [`RunFault::Faulty`] if it is too
-/// long or has a bad row, or if memory ran out.
+/// [`RunFault::Unread`] if the file can't be opened or read, and [`RunFault::Faulty`] if it is longer
+/// than 67,108,864 bytes or has a bad row, or if memory runs out.
 pub fn read_table<F: Files>(
     alloc: Global,
     files: &mut F,

@@ -12,8 +12,9 @@ use std::alloc::Global;
 use tide_edge::{Sink, write_all};
 use tide_fault::{Fault, Status, fault_line, fault_status};
 
-/// Writes the line for `none`, the reason why there is no answer, to `err`. Returns the exit status for
-/// it, even if the write fails.
+/// Writes to `err` the line that reports `none`, the reason why there is no answer, and returns the exit
+/// status for this reason, even if the write fails. If memory runs out for the line, that is reported in
+/// its place, except for [`RunFault::Unread`].
 pub fn report<E: Sink>(alloc: Global, none: RunFault, err: &mut E) -> Status
     ensures reported { Reports none result (E.state err.old) (E.state err.new) }
     ensures read { is_read_fault result ≡ is_unread none }
@@ -40,8 +41,8 @@ fn report_fault<E: Sink>(alloc: Global, fault: &Fault, table: &OffsetTable, err:
     }
 }
 
-/// Writes `line` to `err`, and returns `status`, even if the write fails. A failed write isn't tried
-/// again.
+/// Writes `line` to `err`, and returns `status` unchanged, even if the write fails. A failed write isn't
+/// tried again.
 pub fn refuse<E: Sink>(err: &mut E, status: Status, line: &[u8]) -> Status
     ensures same { result ≡ status }
     ensures line { (failed : Bool) × Wrote (E.state err.old) (E.state err.new) failed line.now }

@@ -6,13 +6,13 @@ use tide_fault::{Fault, Refusal};
 /// The reason why a command line has no answer.
 #[derive(Drop)]
 pub enum RunFault {
-    /// A file couldn't be opened or read, or the clock couldn't be read.
+    /// A file couldn't be opened or read to its end, or the clock couldn't be read.
     Unread,
     /// The command line isn't a request, a file is too long or isn't in its format, or a request that
     /// names no file has no answer.
     Faulty(Fault),
-    /// The request has no answer with the files that were read. The table is the table of offsets that
-    /// was read.
+    /// The request is refused with the files that were read. The table, which is the table of offsets
+    /// that was read, has the names for the line that reports the refusal.
     Refused(Refusal, OffsetTable),
 }
 

@@ -18,8 +18,9 @@ ghost use Rattle.named_files.specs.Worked.{pier_alone};
 
 use crate::run_fault::RunFault;
 
-/// Proves examples of the contents of a request's files: an empty file under each name, and the pier's
-/// constants as the harmonics file only.
+/// Proves examples of reading a request's files: with an empty file under each name the first fault is
+/// the harmonics file's, and with a harmonics file only, a request that names another file ends with a
+/// read fault.
 pub fn worked_files()
     ensures form_before_table { files_in (λ slot name. Some [])
         (record (bare Command.Stations) { offsets = Some (codes "o.csv") }) (codes "pier.txt")
@@ -34,7 +35,8 @@ pub fn worked_files()
         (codes "pier.txt") ≡ Err RunFault.Unread }
 {}
 
-/// Proves examples of the lines and the exit statuses for reasons why there is no answer.
+/// Proves examples of reasons why there is no answer, with the line that reports each and the exit
+/// status.
 #[tactic(auto, unfolding(tide_fault::specs::Faults::line_of, tide_fault::specs::Faults::refusal_line))]
 pub fn worked_faults()
     ensures reference { line_of (RunFault.Refused (Refusal.NoReference 2) dock_rows) ≡ codes "refused: no reference Nowhere\n" }

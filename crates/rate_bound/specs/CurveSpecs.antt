@@ -12,10 +12,10 @@ use Rattle.year_blend.specs.Years.{year_start_of}
 use Rattle.rate_bound.specs.declared.version.Version.{Version}
 use Rattle.rate_bound.specs.Rates.{predicted_slope_rate, predicted_level_rate}
 
--- the curve whose value is the slope, in billionths of a millionth of the station's unit a minute,
--- times 34,377,467,708 (the units of angle in a radian) and 4,147,200,000 (the total weight of a
--- blend), by every constituent of the book: the slope rises past 0 at a low water, and falls to 0 or
--- below at a high water
+-- the curve whose value is the slope of a station, by every constituent of the book: it rises past 0 at
+-- a low water, and falls to 0 or below at a high water; in billionths of a millionth of the station's
+-- unit a minute, times 34,377,467,708 (the units of angle in a radian) and 4,147,200,000 (the total
+-- weight of a blend)
 abbrev pub predicted_turn : Version → Book → Station → CurveSpec
 predicted_turn version b s = record {
   first = year_start_of b.first_year;
@@ -24,16 +24,16 @@ predicted_turn version b s = record {
   rate = predicted_slope_rate version b s;
 }
 
--- the level times `times` millionths, plus `plus` less `mark`, both in millionths of the station's
--- unit; the level is in billionths of a millionth of the station's unit, times 4,147,200,000 (the total
--- weight of a blend), and the result in millionths of that unit
+-- `level` times `times` millionths, plus `plus` less `mark`; `plus` and `mark` are in millionths of the
+-- station's unit, `level` in billionths of a millionth of that unit, times 4,147,200,000 (the total
+-- weight of a blend), and the result in millionths of the unit of `level`
 abbrev pub over_mark : ℤ → ℤ → ℤ → ℤ → ℤ
 over_mark times plus mark level =
     (times *ℤ level) +ℤ (pos (10 ^ 6 * total_weight * 10 ^ 9) *ℤ (plus -ℤ mark))
 
--- the curve whose value is the level times `times` millionths, plus `plus` less the mark, both in
--- millionths of the unit, by every constituent of the book: it changes sign at each crossing of the
--- mark; for slacks (if the Bool is true) the mark is 0
+-- the curve whose value is the level times `times` millionths, plus `plus` less `mark` (in millionths of
+-- the station's unit), by every constituent of the book: it changes sign at each crossing of the mark;
+-- if `slack` is true, the crossings are slack waters and the mark is 0
 abbrev pub predicted_mark : Version → Book → Station → ℤ → ℤ → ℤ → Bool → CurveSpec
 predicted_mark version b s times plus mark slack = record {
   first = year_start_of b.first_year;
@@ -47,11 +47,12 @@ predicted_mark version b s times plus mark slack = record {
   rate = predicted_level_rate version times b s;
 }
 
--- the curve of the slope, at the minutes of a prediction
+-- the curve whose value is the slope of a station, at the minutes of the prediction `c`
 abbrev pub turn_spec : Version → Prediction → CurveSpec
 turn_spec version c = record (predicted_turn version c.book c.station) { first = c.first; last = c.last }
 
--- the curve of the level less a mark, at the minutes of a prediction
+-- the curve whose value is the level times `times` millionths, plus `plus` less `mark`, at the minutes
+-- of the prediction `c`; if `slack` is true, its changes of sign are slack waters
 abbrev pub mark_spec : Version → Prediction → ℤ → ℤ → ℤ → Bool → CurveSpec
 mark_spec version c times plus mark slack =
     record (predicted_mark version c.book c.station times plus mark slack) { first = c.first; last = c.last }

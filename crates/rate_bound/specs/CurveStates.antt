@@ -7,7 +7,8 @@ use Rattle.rate_bound.specs.declared.mark.MarkCurve.{MarkCurve}
 use Rattle.rate_bound.specs.declared.turn.TurnCurve.{TurnCurve}
 use Rattle.rate_bound.specs.CurveSpecs.{over_mark, mark_spec, turn_spec}
 
--- the state of the slope's curve: its facts, and the number of its evaluations until now
+-- the state of a curve of a station's slope: its definition with approximate values and their error, and
+-- the number of its evaluations so far
 abbrev pub turn_state : TurnCurve → CurveState
 turn_state c = record {
   curve_model = record {
@@ -18,8 +19,8 @@ turn_state c = record {
   count = c.evaluations;
 }
 
--- the state of the curve of the level less a mark: its facts, and the number of its evaluations until
--- now
+-- the state of a curve of a station's level less a mark: its definition with approximate values and
+-- their error, and the number of its evaluations so far
 abbrev pub mark_state : MarkCurve → CurveState
 mark_state c = record {
   curve_model = record {

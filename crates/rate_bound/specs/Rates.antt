@@ -16,28 +16,31 @@ use Rattle.year_blend.specs.Weights.{total_weight}
 use Rattle.rate_bound.specs.declared.version.Version.{Version}
 use Rattle.rate_bound.specs.declared.version.Version.TheVariants.{First, Second}
 
--- the most that the weight of the later year in a blend, of 4,147,200,000 in all, changes in a minute
+-- a bound on the change in a minute of the later year's weight in a blend, which grows from 0 to
+-- 4,147,200,000
 abbrev pub most_rise : ℕ
 most_rise = 64800000
 
--- the most that the slope of the weight, the change of the weight per minute, changes in a minute
+-- a bound on the change in a minute of the slope of the later year's weight in a blend, per minute
 abbrev pub most_bend : ℕ
 most_bend = 1663000
 
--- the bound on the change of the slope in a minute outside the blends at new years, from the year's
--- sums; the slope is in billionths of a millionth of the station's unit a minute, times 34,377,467,708
--- (the units of angle in a radian) and 4,147,200,000 (the total weight of a blend)
+-- a bound on the change of the slope in a minute outside the blends at new years, from `year`, the sums
+-- over the waves in that year; the slope is in billionths of a millionth of the station's unit a minute,
+-- times 34,377,467,708 (the units of angle in a radian) and 4,147,200,000 (the total weight of a blend)
 abbrev pub plain_slope_rate : Sums → ℤ
 plain_slope_rate year = pos total_weight *ℤ year.far
 
--- the bound on the change of the level in a minute outside the blends at new years, from the year's
--- sums; the level is in billionths of a millionth of the station's unit, times 4,147,200,000 (the total
--- weight of a blend)
+-- a bound on the change of the level in a minute outside the blends at new years, from `year`, the sums
+-- over the waves in that year; the level is in billionths of a millionth of the station's unit, times
+-- 4,147,200,000 (the total weight of a blend)
 abbrev pub plain_level_rate : Sums → ℤ
 plain_level_rate year = pos total_weight *ℤ year.near
 
--- the bound on the change of the slope in a minute across the new year between two years: the greater of
--- both years' bounds, and the part that is due to the changing weight
+-- a bound on the change of the slope in a minute in the blend at a new year, from the sums over the
+-- waves in the earlier and the later year: the greater of both years' bounds, plus what the changing
+-- weight adds; the slope is in billionths of a millionth of the station's unit a minute, times
+-- 34,377,467,708 (the units of angle in a radian) and 4,147,200,000 (the total weight of a blend)
 abbrev pub blended_slope_rate : Sums → Sums → ℤ
 blended_slope_rate earlier later =
     (pos total_weight *ℤ int_max earlier.far later.far)
@@ -45,45 +48,48 @@ blended_slope_rate earlier later =
     +ℤ (pos (most_rise * radian) *ℤ (earlier.near +ℤ later.near))
     +ℤ (pos (most_bend * radian * 10 ^ 9) *ℤ (earlier.amount +ℤ later.amount))
 
--- the bound on the change of the level in a minute across the new year between two years, from the sums
--- of both; the level is in billionths of a millionth of the station's unit, times 4,147,200,000 (the
--- total weight of a blend)
+-- a bound on the change of the level in a minute in the blend at a new year, from the sums over the
+-- waves in the earlier and the later year; the level is in billionths of a millionth of the station's
+-- unit, times 4,147,200,000 (the total weight of a blend)
 abbrev pub blended_level_rate : Sums → Sums → ℤ
 blended_level_rate earlier later =
     (pos total_weight *ℤ int_max earlier.near later.near)
     +ℤ (pos (most_rise * 10 ^ 9) *ℤ (earlier.amount +ℤ later.amount))
 
--- a rate, or None if it exceeds 4 * 10^34, which is too great for a cell of 1,024 minutes
+-- Some rate (a bound on a curve's change in a minute), or None if it exceeds 4 * 10^34, which is too
+-- great for a cell of 1,024 minutes
 abbrev pub limited : ℤ → Option ℤ
 limited rate = if int_le rate (pos (4 * 10 ^ 34)) then Some rate else None
 
--- the rate of the slope over a stretch, a bound on its change in a minute; by the first version there
--- is none (None) if a minute is in the blend at a new year
+-- a bound on the change of the slope in a minute, over minutes of one year (Within) or with some in the
+-- blend at a new year (Across); None if there is no bound: by the first version there is none across a
+-- new year
 abbrev pub slope_rate_in : Version → (ℕ → Sums) → Stretch → Option ℤ
 slope_rate_in version sums (Within year) = Some (plain_slope_rate (sums year))
 slope_rate_in First sums (Across year) = None
 slope_rate_in Second sums (Across year) = limited (blended_slope_rate (sums (year - 1)) (sums year))
 
--- the rate of `times` times the level over a stretch, a bound on its change in a minute; by the first
--- version there is none (None) if a minute is in the blend at a new year
+-- a bound on the change in a minute of `times` times the level, over minutes of one year (Within) or
+-- with some in the blend at a new year (Across); None if there is no bound: by the first version there
+-- is none across a new year
 abbrev pub level_rate_in : Version → ℤ → (ℕ → Sums) → Stretch → Option ℤ
 level_rate_in version times sums (Within year) = Some (times *ℤ plain_level_rate (sums year))
 level_rate_in First times sums (Across year) = None
 level_rate_in Second times sums (Across year) = Some (times *ℤ blended_level_rate (sums (year - 1)) (sums year))
 
--- the four sums of a year, counted from 0, over the waves of a station, of every constituent of the
--- book
+-- the four sums, over the waves of a station, of every constituent of the book, in the year with the
+-- index `year`, counted from 0
 abbrev pub book_sums : Book → Station → ℕ → Sums
 book_sums b s year = sums_of (waves_of b s year)
 
--- the rate of the slope, a bound on its change in a minute, over the cell of the n minutes from `a` on,
--- by every constituent of the book; None if there is no rate
+-- a bound on the change of a station's slope in a minute, over the `n` minutes from `a` on, by every
+-- constituent of the book; None if there is no bound
 unfoldable pub predicted_slope_rate : Version → Book → Station → ℤ → ℕ → Option ℤ
 predicted_slope_rate version b s a n =
     slope_rate_in version (book_sums b s) (stretch_of b.first_year b.years a n)
 
--- the rate of `times` times the level, a bound on its change in a minute, over the cell of the n
--- minutes from `a` on, by every constituent of the book; None if there is no rate
+-- a bound on the change in a minute of `times` times a station's level, over the `n` minutes from `a`
+-- on, by every constituent of the book; None if there is no bound
 unfoldable pub predicted_level_rate : Version → ℤ → Book → Station → ℤ → ℕ → Option ℤ
 predicted_level_rate version times b s a n =
     level_rate_in version times (book_sums b s) (stretch_of b.first_year b.years a n)

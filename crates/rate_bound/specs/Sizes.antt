@@ -2,17 +2,16 @@
 use Rattle.std.specs.Prelude.{ℕ, ◌*◌, ◌^◌, ◌<◌, ℤ, unsigned_abs}
 use Rattle.curve_law.specs.CurveSpec.{CurveSpec, IsMinute}
 
--- the limit, not included, on the size of a slope, in billionths of a millionth of the station's unit a
--- minute, times 34,377,467,708 (the units of angle in a radian) and 4,147,200,000 (the total weight of
--- a blend)
+-- the size of each slope is less than this; in billionths of a millionth of the station's unit a minute,
+-- times 34,377,467,708 (the units of angle in a radian) and 4,147,200,000 (the total weight of a blend)
 abbrev pub slope_limit : ℕ
 slope_limit = 10 ^ 37
 
--- the limit, not included, on the size of a level less a mark, in millionths of the level's unit, which
--- is billionths of a millionth of the station's unit, times 4,147,200,000 (the total weight of a blend)
+-- the size of each level less a mark is less than this; in millionths of a level's unit, which is
+-- billionths of a millionth of the station's unit, times 4,147,200,000 (the total weight of a blend)
 abbrev pub mark_limit : ℕ
 mark_limit = 5 * 10 ^ 36
 
--- at each minute of a curve its value is below `most` in size
+-- the value of the curve `c` is less than `most` in size at each of its minutes
 abbrev pub IsBelow : ℕ → CurveSpec → Type 0
 IsBelow most c = (m : ℤ) → IsMinute c m → unsigned_abs (c.track.value m) < most

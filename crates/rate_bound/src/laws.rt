@@ -11,20 +11,20 @@ ghost use Rattle.rate_bound.specs.Scale.{IsScale};
 ghost use Rattle.rate_bound.specs.Sizes.{slope_limit, mark_limit, IsBelow};
 ghost use Rattle.rate_bound.specs.CurveSpecs.{turn_spec, mark_spec, predicted_turn, predicted_mark};
 
-/// Proves that both curves of a station, its slope and its level less a mark, are lawful: in each
-/// minute of a cell, the value changes by at most the cell's rate. The station's constants are within
-/// the limits of a curve: in each year the sizes of its amplitudes sum to at most 1,000,000,000
-/// millionths of its unit and, times the speeds in units of 1/600,000,000 degree a minute, to at most
-/// 10^17.
+/// Proves that the curves of a station, its slope and its level less a mark, keep the law of a curve: in
+/// each minute of a cell (a stretch of minutes) that has a rate, the value changes by at most this rate.
+/// The station's constants must be within the limits: in each year the sizes of its amplitudes sum to at
+/// most 1,000,000,000 millionths of its unit and, times the speeds in units of 1/600,000,000 degree a
+/// minute, to at most 10^17.
 pub fn curves_are_lawful()
     ensures turn { (version : Version) (c : Prediction) → IsPrediction c → IsLawful (turn_spec version c) }
     ensures mark { (version : Version) (c : Prediction) (times plus mark : ℤ) (slack : Bool) →
         IsPrediction c → IsScale times plus mark → IsLawful (mark_spec version c times plus mark slack) }
 {}
 
-/// Proves that from the first minute to the last, both included, each slope is below 10^37 in size, and
-/// each level less a mark below 5 * 10^36. It says this of a curve and of a station that has a curve.
-/// The units are those of the values of `turn_spec` and `mark_spec`.
+/// Proves that the values of a station's curves are small: at each minute that a curve covers, its slope
+/// is below 10^37 in size, and its level less a mark below 5 * 10^36. The units are the ones of
+/// `turn_spec` and `mark_spec`.
 pub fn values_are_small()
     ensures turn { (version : Version) (c : Prediction) → IsPrediction c → IsBelow slope_limit (turn_spec version c) }
     ensures mark { (version : Version) (c : Prediction) (times plus mark : ℤ) (slack : Bool) →

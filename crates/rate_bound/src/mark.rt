@@ -15,9 +15,9 @@ use curve_law::{Curve, Kind};
 use station_curve::StationCurve;
 use year_blend::Stretch;
 
-/// The curve of a station's level less a mark. The station's level is the reference's times `times`
-/// millionths, plus `plus` millionths of the unit. The value changes sign at each crossing of the mark.
-/// No call allocates.
+/// The curve of a station's level less a mark; the value changes sign at each crossing of the mark. The
+/// station's level is the reference station's times `times` millionths, plus `plus` millionths of the
+/// unit. No call allocates.
 #[derive(Drop)]
 pub struct MarkCurve<'a> {
     station: &'a StationCurve,
@@ -36,12 +36,13 @@ pub struct MarkCurve<'a> {
 impl<'a> MarkCurve<'a> {
     ghost use Rattle.rate_bound.specs.CurveSpecs.{mark_spec};
 
-    /// Returns the curve of the reference's level times `times` millionths, plus `plus` less `mark`,
-    /// with rates only outside the blends at new years. `times` is from 1 to 100,000,000, and `plus` and
-    /// `mark` are from -10,000,000,000 to 10,000,000,000 millionths of the unit. If `slack`, `mark` is 0,
-    /// and the changes of sign are a current's slacks; otherwise they are the passages of the mark.
+    /// Returns the curve of the level of the reference `station` times `times` millionths, plus `plus`,
+    /// less `mark`. The curve's change is bounded only outside the blends at new years. `times` is from
+    /// 1 to 100,000,000, and `plus` and `mark` are from -10,000,000,000 to 10,000,000,000 millionths of
+    /// the unit. If `slack` is true, `mark` is 0, and the changes of sign are a current's slack waters;
+    /// otherwise they are crossings of the mark.
     ///
-    /// The program doesn't call it: it names the version in [`new`](MarkCurve::new).
+    /// The program doesn't call it: it calls [`new`](MarkCurve::new), which has a version.
     pub fn over(station: &'a StationCurve, times: i64, plus: i64, mark: i64, slack: bool) -> Self
         requires scale { IsScale times plus mark }
         requires slack { OnTrue slack (mark ≡ pos 0) }
@@ -52,10 +53,11 @@ impl<'a> MarkCurve<'a> {
         MarkCurve::new(station, Version::First, times, plus, mark, slack)
     }
 
-    /// Returns the curve of the reference's level times `times` millionths, plus `plus` less `mark`,
-    /// with rates also across a new year. `times` is from 1 to 100,000,000, and `plus` and `mark` are from
-    /// -10,000,000,000 to 10,000,000,000 millionths of the unit. If `slack`, `mark` is 0, and the changes of
-    /// sign are a current's slacks; otherwise they are the passages of the mark.
+    /// Returns the curve of the level of the reference `station` times `times` millionths, plus `plus`,
+    /// less `mark`. The curve's change is bounded across new years too. `times` is from 1 to
+    /// 100,000,000, and `plus` and `mark` are from -10,000,000,000 to 10,000,000,000 millionths of the
+    /// unit. If `slack` is true, `mark` is 0, and the changes of sign are a current's slack waters;
+    /// otherwise they are crossings of the mark.
     pub fn blended(station: &'a StationCurve, times: i64, plus: i64, mark: i64, slack: bool) -> Self
         requires scale { IsScale times plus mark }
         requires slack { OnTrue slack (mark ≡ pos 0) }
@@ -66,10 +68,11 @@ impl<'a> MarkCurve<'a> {
         MarkCurve::new(station, Version::Second, times, plus, mark, slack)
     }
 
-    /// Returns the curve of the reference's level times `times` millionths, plus `plus` less `mark`,
-    /// with the rates of `version`. `times` is from 1 to 100,000,000, and `plus` and `mark` are from
-    /// -10,000,000,000 to 10,000,000,000 millionths of the unit. If `slack`, `mark` is 0, and the
-    /// changes of sign are a current's slacks. The curve is not yet evaluated.
+    /// Returns the curve, not yet evaluated, of the level of the reference `station` times `times`
+    /// millionths, plus `plus`, less `mark`. `version` says where the curve's change is bounded. `times`
+    /// is from 1 to 100,000,000, and `plus` and `mark` are from -10,000,000,000 to 10,000,000,000
+    /// millionths of the unit. If `slack` is true, `mark` is 0, and the changes of sign are a current's
+    /// slack waters; otherwise they are crossings of the mark.
     pub fn new(
         station: &'a StationCurve,
         version: Version,

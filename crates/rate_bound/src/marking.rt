@@ -9,9 +9,9 @@ use year_blend::TOTAL_WEIGHT;
 /// A millionth in the unit of a curve of millionths times the level: the total weight times 10^15.
 const MILLIONTH: i128 = TOTAL_WEIGHT as i128 * 1_000_000_000_000_000;
 
-/// Returns `level` times `times` millionths, plus `plus` less `mark`, both in millionths of the
-/// station's unit. `level` is in billionths of a millionth of the station's unit, times 4,147,200,000
-/// (the total weight of a blend); the result is in millionths of that unit.
+/// Returns `level` times `times` millionths, plus `plus` less `mark`. `plus` and `mark` are in
+/// millionths of the station's unit, `level` is in billionths of a millionth of that unit, times
+/// 4,147,200,000 (the total weight of a blend), and the result is in millionths of the unit of `level`.
 pub fn over_mark(times: i64, plus: i64, mark: i64, level: i128) -> i128
     requires times { unsigned_abs times ≤ 10 ^ 8 }
     requires plus { unsigned_abs plus ≤ 10 ^ 10 }
@@ -22,7 +22,8 @@ pub fn over_mark(times: i64, plus: i64, mark: i64, level: i128) -> i128
     scaled(times, level) + raised(plus - mark)
 }
 
-/// Returns `times * level`, for a level or for its rate; it can't overflow.
+/// Returns `times * level`, which can't overflow. `level` is a level, or a bound on a level's change in
+/// a minute, of at most 10^29 in size; `times` is at most 10^8 in size.
 pub fn scaled(times: i64, level: i128) -> i128
     requires times { unsigned_abs times ≤ 10 ^ 8 }
     requires level { unsigned_abs level ≤ 10 ^ 29 }
@@ -32,7 +33,7 @@ pub fn scaled(times: i64, level: i128) -> i128
     i128::from(times) * level
 }
 
-/// Returns `millionths`, in millionths of the station's unit, in the unit of the curve of a level less
+/// Converts `millionths`, in millionths of the station's unit, to the unit of the curve of a level less
 /// a mark: 10^-21 of the station's unit, times 4,147,200,000 (the total weight of a blend).
 fn raised(millionths: i64) -> i128
     requires { unsigned_abs millionths ≤ 2 * 10 ^ 10 }

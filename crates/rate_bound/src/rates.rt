@@ -22,10 +22,10 @@ use year_blend::TOTAL_WEIGHT;
 /// The total weight.
 const WEIGHT: i128 = TOTAL_WEIGHT as i128;
 
-/// The most that the weight changes in a minute.
+/// The greatest change of the weight in a minute.
 const MOST_RISE: i128 = 64_800_000;
 
-/// The most that the change of the weight changes in a minute.
+/// The greatest change in a minute of the weight's slope, which is its change per minute.
 const MOST_BEND: i128 = 1_663_000;
 
 /// The ratio of a millionth to a billionth of a millionth.
@@ -34,9 +34,10 @@ const BILLION: i128 = 1_000_000_000;
 /// The greatest rate of a slope across a new year.
 const MOST_RATE: i128 = 40_000_000_000_000_000_000_000_000_000_000_000;
 
-/// Returns the most that the slope changes in a minute outside the blends at new years, from the sums
-/// of the year. The slope is in billionths of a millionth of the station's unit a minute, times
-/// 34,377,467,708 (the units of angle in a radian) and 4,147,200,000 (the total weight of a blend).
+/// Returns a bound on the change of the slope in a minute outside the blends at new years, from `year`,
+/// the sums over the waves in that year. The slope is in billionths of a millionth of the station's unit
+/// a minute, times 34,377,467,708 (the units of angle in a radian) and 4,147,200,000 (the total weight
+/// of a blend).
 pub fn plain_slope_rate(year: &Sums) -> i128
     requires { AreWithinLimits year.now }
     ensures value { result ≡ plain_slope_rate year.now }
@@ -44,9 +45,9 @@ pub fn plain_slope_rate(year: &Sums) -> i128
     WEIGHT * year.far
 }
 
-/// Returns the most that the level changes in a minute outside the blends at new years, from the sums
-/// of the year. The level is in billionths of a millionth of the station's unit, times 4,147,200,000
-/// (the total weight of a blend).
+/// Returns a bound on the change of the level in a minute outside the blends at new years, from `year`,
+/// the sums over the waves in that year. The level is in billionths of a millionth of the station's
+/// unit, times 4,147,200,000 (the total weight of a blend).
 pub fn plain_level_rate(year: &Sums) -> i128
     requires { AreWithinLimits year.now }
     ensures value { result ≡ plain_level_rate year.now }
@@ -55,9 +56,10 @@ pub fn plain_level_rate(year: &Sums) -> i128
     WEIGHT * year.near
 }
 
-/// Returns the most that the slope changes in a minute across the new year between two years, from the
-/// sums of both. The slope is in billionths of a millionth of the station's unit a minute, times
-/// 34,377,467,708 (the units of angle in a radian) and 4,147,200,000 (the total weight of a blend).
+/// Returns a bound on the change of the slope in a minute in the blend at a new year, from the sums over
+/// the waves in the `earlier` and in the `later` year. The slope is in billionths of a millionth of the
+/// station's unit a minute, times 34,377,467,708 (the units of angle in a radian) and 4,147,200,000 (the
+/// total weight of a blend).
 #[cold]
 #[inline(never)]
 pub fn blended_slope_rate(earlier: &Sums, later: &Sums) -> i128
@@ -71,9 +73,9 @@ pub fn blended_slope_rate(earlier: &Sums, later: &Sums) -> i128
         + MOST_BEND * RADIAN as i128 * BILLION * (earlier.amount + later.amount)
 }
 
-/// Returns the most that the level changes in a minute across the new year between two years, from the
-/// sums of both. The level is in billionths of a millionth of the station's unit, times 4,147,200,000
-/// (the total weight of a blend).
+/// Returns a bound on the change of the level in a minute in the blend at a new year, from the sums over
+/// the waves in the `earlier` and in the `later` year. The level is in billionths of a millionth of the
+/// station's unit, times 4,147,200,000 (the total weight of a blend).
 #[cold]
 #[inline(never)]
 pub fn blended_level_rate(earlier: &Sums, later: &Sums) -> i128
@@ -85,8 +87,8 @@ pub fn blended_level_rate(earlier: &Sums, later: &Sums) -> i128
     WEIGHT * earlier.near.max(later.near) + MOST_RISE * BILLION * (earlier.amount + later.amount)
 }
 
-/// Returns `rate`, or `None` if it exceeds 4 * 10^34, which is too great for a curve. It is a rate of a
-/// slope or of a level, in its unit per minute.
+/// Returns `Some(rate)`, or `None` if `rate` exceeds 4 * 10^34, which is too great for a cell of 1,024
+/// minutes. `rate` is a bound on a curve's change in a minute, in the unit of the curve's values.
 pub fn limited(rate: i128) -> Option<i128>
     ensures { result ≡ limited rate }
 {

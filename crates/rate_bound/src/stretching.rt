@@ -9,9 +9,10 @@ ghost use Rattle.rate_bound.specs.Workings.Cells.{AreNeeded};
 use station_curve::StationCurve;
 use year_blend::Stretch;
 
-/// Returns which years' constants the minutes from `a` to `a + n`, both included, of a station use. It
-/// is one year if none of them is less than an hour from a new year between two of the book's years,
-/// and otherwise the two years around that new year. `n` is at most `LONGEST_SPAN`.
+/// Returns the year, or the two years, of the constants that `station` uses for the minutes from `a` to
+/// `a + n`, both included: one year if none of these minutes is less than an hour from a new year
+/// between two of the book's years, and otherwise the two years around that new year. `n` is at most
+/// `LONGEST_SPAN`.
 #[inline(always)]
 pub fn stretch_of(station: &StationCurve, a: i64, n: u32) -> Stretch
     requires first { IsPredicted station.now a }

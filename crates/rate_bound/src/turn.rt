@@ -12,7 +12,7 @@ use curve_law::{Curve, Kind};
 use station_curve::StationCurve;
 use year_blend::Stretch;
 
-/// The curve of a station's slope. The slope rises past 0 at a low water, and falls to 0 or below at a
+/// The curve of a station's slope: the value rises past 0 at a low water, and falls to 0 or below at a
 /// high water. No call allocates.
 #[derive(Drop)]
 pub struct TurnCurve<'a> {
@@ -27,10 +27,10 @@ pub struct TurnCurve<'a> {
 impl<'a> TurnCurve<'a> {
     ghost use Rattle.rate_bound.specs.CurveSpecs.{turn_spec};
 
-    /// Returns the curve of the slope of `station` with rates only outside the blends at new years. It
-    /// is not yet evaluated.
+    /// Returns the curve, not yet evaluated, of the slope of `station`. The curve's change is bounded
+    /// only outside the blends at new years.
     ///
-    /// The program doesn't call it: it names the version in [`new`](TurnCurve::new).
+    /// The program doesn't call it: it calls [`new`](TurnCurve::new), which has a version.
     pub fn over(station: &'a StationCurve) -> TurnCurve<'a>
         ensures curve_spec { (⟦<TurnCurve<'a> as Curve>⟧.state result).curve_model.curve_spec ≡ turn_spec First station.now }
         ensures count { (⟦<TurnCurve<'a> as Curve>⟧.state result).count ≡ 0 }
@@ -38,10 +38,10 @@ impl<'a> TurnCurve<'a> {
         TurnCurve::new(station, Version::First)
     }
 
-    /// Returns the curve of the slope of `station` with rates also across a new year. It is not yet
-    /// evaluated.
+    /// Returns the curve, not yet evaluated, of the slope of `station`. The curve's change is bounded
+    /// across new years too.
     ///
-    /// The program doesn't call it: it names the version in [`new`](TurnCurve::new).
+    /// The program doesn't call it: it calls [`new`](TurnCurve::new), which has a version.
     pub fn blended(station: &'a StationCurve) -> TurnCurve<'a>
         ensures curve_spec { (⟦<TurnCurve<'a> as Curve>⟧.state result).curve_model.curve_spec ≡ turn_spec Second station.now }
         ensures count { (⟦<TurnCurve<'a> as Curve>⟧.state result).count ≡ 0 }
@@ -49,7 +49,8 @@ impl<'a> TurnCurve<'a> {
         TurnCurve::new(station, Version::Second)
     }
 
-    /// Returns the curve of the slope of `station` with the rates of `version`. It is not yet evaluated.
+    /// Returns the curve, not yet evaluated, of the slope of `station`. `version` says where the curve's
+    /// change is bounded.
     pub fn new(station: &'a StationCurve, version: Version) -> TurnCurve<'a>
         ensures curve_spec { (⟦<TurnCurve<'a> as Curve>⟧.state result).curve_model.curve_spec ≡ turn_spec version station.now }
         ensures count { (⟦<TurnCurve<'a> as Curve>⟧.state result).count ≡ 0 }

@@ -1,11 +1,11 @@
 //! The versions of the rates.
 
-/// The version of the rates, that is, of the bounds on a curve's change. It determines which cells have
-/// a rate; a certificate names the version of its cells.
+/// The version of the rule that bounds how much a curve changes in a minute; the bound over a cell (a
+/// stretch of minutes) is the cell's rate. A certificate names the version of its cells.
 #[derive(Clone, Copy, PartialEq, Eq)]
 pub enum Version {
-    /// Only cells in which each minute is outside the blends at new years have a rate.
+    /// A cell has a rate only if each of its minutes is outside the blends at new years.
     First,
-    /// Cells with minutes in the blend at a new year have a rate too, if it is at most 4 * 10^34.
+    /// A cell with minutes in the blend at a new year has a rate too, if the rate is at most 4 * 10^34.
     Second,
 }

@@ -14,12 +14,12 @@ ghost use Rattle.rate_bound.specs.declared.version.Version.{Version};
 ghost use Rattle.rate_bound.specs.Rates.{predicted_slope_rate, predicted_level_rate};
 ghost use Rattle.rate_bound.specs.CurveSpecs.{predicted_turn, predicted_mark};
 
-/// Proves the rates of slopes, and of levels times a factor in millionths, over eight minutes in the
-/// middle of a year and over four minutes from an hour before a new year on. The steepest tide has no
-/// rate of the slope there. A slope is in billionths of a millionth of the station's unit a minute,
-/// times 34,377,467,708 (the units of angle in a radian) and 4,147,200,000 (the total weight of a
-/// blend). A level is in billionths of a millionth of the station's unit, times 4,147,200,000 (the
-/// total weight of a blend).
+/// Proves examples of bounds on the change in a minute of slopes, and of levels times a factor in
+/// millionths, over eight minutes in the middle of a year and over four minutes from an hour before a
+/// new year on; the steepest tide has no bound on its slope there. A slope is in billionths of a
+/// millionth of the station's unit a minute, times 34,377,467,708 (the units of angle in a radian) and
+/// 4,147,200,000 (the total weight of a blend). A level is in billionths of a millionth of the station's
+/// unit, times 4,147,200,000.
 pub fn worked_rates()
     ensures plain { predicted_slope_rate Version.First pier_book pier (pos 15791040) 8
         ≡ Some (pos 10857785564160000000000000000000) }
@@ -38,9 +38,10 @@ pub fn worked_rates()
         ≡ Some (pos (2000000 * 165792618547200000000000)) }
 {}
 
-/// Proves cells of the pier's slope. From midnight on the slope falls from 0, and its rate is 0.04 per cent
-/// too great for one quiet cell of eight minutes. A cell across a new year is quiet by the rates of the
-/// second version, and not by those of the first.
+/// Proves examples of the cells of a slope, for a tide of 12 hours with high water at midnight. From
+/// midnight on the slope falls from 0, and its rate is 0.04 per cent too great for one cell of eight
+/// minutes without an event. A cell across a new year is proved to have no event by the rates of the
+/// second version, but not by the rates of the first.
 pub fn worked_turns()
     ensures from_midnight { cover (predicted_turn Version.First pier_book pier) (pos 15791040) 8
         ≡ Cell.Still ∷ Cell.Still ∷ Cell.Quiet 2 ∷ Cell.Quiet 4 ∷ [] }
@@ -67,8 +68,9 @@ pub fn worked_turns()
         (Cell.Quiet 1024 ∷ []) ≡ Verdict.NotQuiet 1 }
 {}
 
-/// Proves values and cells of the pier's level less a mark, and of a slack. At two o'clock the level is
-/// half the unit, and so twice the level plus half the unit is one and a half.
+/// Proves examples of values and cells of the level less a mark, also for slack waters, for a tide of 12
+/// hours with an amplitude of 1 and high water at midnight. At two o'clock the level is one half, and so
+/// twice the level plus one half is one and a half.
 pub fn worked_marks()
     ensures highest { (predicted_mark Version.Second pier_book pier (pos 1000000) (pos 0) (pos 0) true).track.value (pos 15791040)
         ≡ pos 4147200000000000000000000000000 }

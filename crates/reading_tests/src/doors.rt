@@ -61,7 +61,7 @@ fn has_reply(door: &MemoryDoor, i: u64, text: &str) -> bool {
     door.reply(i).is_some_and(|reply| reply == text.as_bytes())
 }
 
-/// The room for replies, the call that fails, the outcomes of three connections, and the first
+/// The capacity for replies, the call that fails, the outcomes of three connections, and the first
 /// reply.
 static DOORS: &[(u64, u64, [Result<bool, Failed>; 3], &str)] = &[
     (4, 0, [Ok(true), Ok(true), Ok(false)], "pier"),
@@ -77,7 +77,7 @@ fn has_replies(door: &MemoryDoor, first: &str) -> bool {
     has_reply(door, 0, first) && has_reply(door, 1, "") && door.reply(2) == None
 }
 
-/// Returns a door, with room for `capacity` bytes of each reply, at which the call with the number
+/// Returns a door, with a capacity of `capacity` bytes for all replies, at which the call with the number
 /// `failing` fails.
 fn memory_door(alloc: Global, capacity: u64, failing: u64) -> Result<MemoryDoor, AllocError>
     ensures { IfOk result (λ door. (held_by door).listener_state ≡ not_listening) }
@@ -155,7 +155,7 @@ fn check_echo<D: Door, P: Read + Write>(
     Ok(())
 }
 
-/// Returns true if the port is taken.
+/// Returns true if the port is in use.
 fn is_taken(system: &HostRuntime, port: u16) -> Result<bool, Fail> {
     Ok(HostDoor::new(system.clone()?).listen(port) == Err(Failed))
 }

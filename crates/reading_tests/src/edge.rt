@@ -45,7 +45,7 @@ fn folder(alloc: Global, fails: &[u64]) -> Result<MemoryFiles, AllocError> {
     added.and(Ok(MemoryFiles::new(files, fails)))
 }
 
-/// Reads from steady files in memory, with the facts that a caller knows as its contract.
+/// Reads from steady files in memory. Its contract says what a caller knows of the result.
 fn read_steady(
     alloc: Global,
     files: &mut MemoryFiles,
@@ -138,7 +138,7 @@ fn has_taken(sink: &MemorySink, count: u64) -> bool {
     sink.bytes().len() as u64 == count && PIER.starts_with(sink.bytes())
 }
 
-/// The room of a sink, the call that fails, and the number of bytes sent before a failure.
+/// The capacity of a sink, the call that fails, and the number of bytes sent before a failure.
 static SINKS: &[(u64, u64, Option<u64>)] = &[
     (10, 0, None),
     (10, 1, Some(0)),
@@ -156,7 +156,7 @@ fn sink(alloc: Global, most: u64, capacity: u64, failing: u64) -> Result<MemoryS
     MemorySink::new(alloc, most.max(1), capacity, [failing].to_vec(alloc)?)
 }
 
-/// Returns true if such a sink has taken `sent` bytes, or all.
+/// Returns true if such a sink has accepted `sent` bytes, or all.
 fn is_sent(alloc: Global, capacity: u64, failing: u64, sent: Option<u64>) -> bool {
     match sink(alloc, 3, capacity, failing) {
         Ok(mut sink) => count_sent(&mut sink) == sent && has_taken(&sink, sent.unwrap_or(10)),

@@ -35,7 +35,7 @@ wave_slope a x y s w m near =
 later : (p w t : ℕ) → (p + w * (t + 1)) % circle ≡ ((p + w * t) % circle + w) % circle
 later p w t = omega arith
 
--- the most that the change of one wave's height differs from its fall
+-- the greatest difference between the change of one wave's height and its fall
 abbrev pub wave_gap : WaveSpec → ℕ
 wave_gap h = unsigned_abs h.amplitude * unit_gap_of h.speed
 

@@ -14,15 +14,15 @@ use Rattle.station_curve.specs.Schureman.{predicted_level, predicted_slope}
 use Rattle.rate_bound.specs.Rates.{book_sums}
 use Rattle.slope_agreement.specs.UnitGaps.{each_unit, two_cuts}
 
--- the size of the difference between the level's rise from m to m + 1 and the slope at m, in the
--- slope's unit: billionths of a millionth of the station's unit a minute, times 34,377,467,708 (the
+-- the size of the difference between the rise of `level` from minute m to m + 1 and `slope` at m, in the
+-- unit of the slope: billionths of a millionth of the station's unit a minute, times 34,377,467,708 (the
 -- units of angle in a radian) and 4,147,200,000 (the total weight of a blend)
 abbrev pub gap_between : (ℤ → ℤ) → (ℤ → ℤ) → ℤ → ℕ
 gap_between level slope m = unsigned_abs ((pos radian *ℤ (level (m +ℤ pos 1) -ℤ level m)) -ℤ slope m)
 
--- the size of the difference between the level's rise from m to m + 1 and the slope at m + 1, in the
--- slope's unit: billionths of a millionth of the station's unit a minute, times 34,377,467,708 (the
--- units of angle in a radian) and 4,147,200,000 (the total weight of a blend)
+-- the size of the difference between the rise of `level` from minute m to m + 1 and `slope` at m + 1, in
+-- the unit of the slope: billionths of a millionth of the station's unit a minute, times 34,377,467,708
+-- (the units of angle in a radian) and 4,147,200,000 (the total weight of a blend)
 abbrev pub gap_before : (ℤ → ℤ) → (ℤ → ℤ) → ℤ → ℕ
 gap_before level slope m = unsigned_abs ((pos radian *ℤ (level (m +ℤ pos 1) -ℤ level m)) -ℤ slope (m +ℤ pos 1))
 
@@ -46,26 +46,29 @@ pub record IsPlainMinute (first_year : ℤ) (years : ℕ) (m : ℤ) (year : ℕ)
   pub here : place_of first_year years m ≡ Plain year
   pub there : place_of first_year years (m +ℤ pos 1) ≡ Plain year
 
--- the slope error bound of a year, in billionths of a millionth of the station's unit a minute, times
--- 34,377,467,708 (the units of angle in a radian) and 4,147,200,000 (the total weight of a blend): the
--- sum of each amplitude's size times the unit gap of its speed
+-- a bound on the difference between rise and slope in a minute of a year, from the year's sums over the
+-- waves: the sum of each amplitude's size times `unit_gap_of` its speed; in billionths of a millionth of
+-- the station's unit a minute, times 34,377,467,708 (the units of angle in a radian) and 4,147,200,000
+-- (the total weight of a blend)
 abbrev pub year_agreement : Sums → ℤ
 year_agreement year =
     pos total_weight *ℤ ((year.far +ℤ (pos each_unit *ℤ year.steep)) +ℤ (pos two_cuts *ℤ year.amount))
 
--- the greatest of the values of the first `year` years, counted from 0; at least 0
+-- the greatest of `value` 0, `value` 1 .. for as many years as the second argument says; at least 0
 unfoldable pub greatest : (ℕ → ℤ) → ℕ → ℤ
 greatest value zero = pos 0
 greatest value (suc year) = int_max (greatest value year) (value year)
 
--- the slope error bound of a prediction, in billionths of a millionth of the station's unit a minute,
--- times 34,377,467,708 (the units of angle in a radian) and 4,147,200,000 (the total weight of a
--- blend): the greatest of the bounds of the years that it needs
+-- a bound on the difference between the rise of the level in a minute and the slope, the greatest bound
+-- of the years that the prediction `c` needs, in billionths of a millionth of the station's unit a
+-- minute, times 34,377,467,708 (the units of angle in a radian) and 4,147,200,000 (the total weight of a
+-- blend)
 abbrev pub agreement_of : Prediction → ℤ
 agreement_of c = greatest (λ year. year_agreement (sums_for c year)) c.book.years
 
--- the slope error bound of a station, in billionths of a millionth of the station's unit a minute,
--- times 34,377,467,708 (the units of angle in a radian) and 4,147,200,000 (the total weight of a
--- blend): the greatest of the bounds of the book's years, by every constituent of the book
+-- a bound on the difference between the rise of a station's level in a minute and its slope, the
+-- greatest bound of the book's years, by every constituent of the book, in billionths of a millionth of
+-- the station's unit a minute, times 34,377,467,708 (the units of angle in a radian) and 4,147,200,000
+-- (the total weight of a blend)
 abbrev pub predicted_agreement : Book → Station → ℤ
 predicted_agreement b s = greatest (λ year. year_agreement (book_sums b s year)) b.years

@@ -6,19 +6,19 @@ use Rattle.fixed_sine.specs.Circle.{circle, radian}
 use Rattle.fixed_sine.specs.Sine.{isin_of, icos_of}
 use Rattle.fixed_sine.specs.Rate.{step_of}
 
--- the most that the change of the cosine over one unit of 1/600,000,000 degree differs from its slope
--- there, in billionths times 34,377,467,708 (the units of angle in a radian)
+-- a bound on the difference between the change of the cosine over one unit of angle (1/600,000,000
+-- degree) and its slope there, in billionths times 34,377,467,708 (the units of angle in a radian)
 abbrev pub each_unit : ℕ
 each_unit = 100000
 
--- the error of rounding twice to whole billionths, in billionths times 34,377,467,708 (the units of
--- angle in a radian)
+-- a bound on the error of rounding twice to whole billionths, in billionths times 34,377,467,708 (the
+-- units of angle in a radian)
 abbrev pub two_cuts : ℕ
 two_cuts = 2 * radian
 
--- the bound on the difference between the change of the cosine over w units of 1/600,000,000 degree and
--- its slope times w, in billionths times 34,377,467,708 (the units of angle in a radian): the slope's
--- change, the gap of each unit, and rounding
+-- a bound on the difference between the change of the cosine over `w` units of angle (1/600,000,000
+-- degree) and its slope times `w`, in billionths times 34,377,467,708 (the units of angle in a radian):
+-- the change of the slope, the difference over each single unit, and rounding
 unfoldable pub unit_gap_of : ℕ → ℕ
 unit_gap_of w = w * step_of w + each_unit * w + two_cuts
 

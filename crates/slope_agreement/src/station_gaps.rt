@@ -12,11 +12,11 @@ use year_blend::TOTAL_WEIGHT;
 /// The total weight.
 const WEIGHT: i128 = TOTAL_WEIGHT as i128;
 
-/// Returns the slope error bound of `station`: a bound on the difference between the rise of the level
-/// in a minute and the slope at the beginning of that minute. It is in the slope's unit, billionths of
-/// a millionth of the station's unit a minute, times 34,377,467,708 (the units of angle in a radian)
-/// and 4,147,200,000 (the total weight of a blend). It holds at each minute that is, like the next one,
-/// outside the blends at new years, and is the greatest bound of any year.
+/// Returns a bound on the difference between the rise of the level of `station` in a minute and its
+/// slope at the beginning of that minute. The unit is the slope's: billionths of a millionth of the
+/// station's unit a minute, times 34,377,467,708 (the units of angle in a radian) and 4,147,200,000 (the
+/// total weight of a blend). The bound holds at each minute that is, like the next one, outside the
+/// blends at new years; it is the greatest bound of any year.
 pub fn agreement(station: &StationCurve) -> i128
     ensures value { result ≡ agreement_of station.now }
     ensures law { (m : ℤ) (year : ℕ) → IsPredicted station.now m

@@ -6,12 +6,12 @@ ghost use Rattle.slope_agreement.specs.UnitGaps.{unit_gap_of, SlopeLaw};
 
 use fixed_sine::{RADIAN, step};
 
-/// The most that the change of the cosine over one unit of 1/600,000,000 degree differs from its slope
-/// there, in billionths times 34,377,467,708 (the units of angle in a radian).
+/// A bound on the difference between the change of the cosine over one unit of angle (1/600,000,000
+/// degree) and its slope there, in billionths times 34,377,467,708 (the units of angle in a radian).
 pub const EACH_UNIT: u64 = 100_000;
 
-/// The error of rounding twice to whole billionths, in billionths times 34,377,467,708 (the units of
-/// angle in a radian).
+/// A bound on the error of rounding twice to whole billionths, in billionths times 34,377,467,708 (the
+/// units of angle in a radian).
 pub const TWO_CUTS: u64 = 2 * RADIAN as u64;
 
 /// Returns a bound on the difference between the change of the cosine in a minute and its slope, for a

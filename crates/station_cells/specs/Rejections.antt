@@ -18,11 +18,11 @@ use Rattle.station_cells.specs.declared.rejection.Rejection.TheVariants.{SlackWa
 
 -- ---- the line
 
--- the text of a cell by its number, counted from 1
+-- the text `: cell N` for the number of a cell, counted from 1
 abbrev pub cell_text : ℕ → List ℕ
 cell_text cell = codes ": cell " ++ decimal cell
 
--- the end of a track's line: what its verdict says about the cells
+-- the end of the line that rejects a track: what the verdict says about the track's cells
 unfoldable pub finding_text : Verdict → List ℕ
 finding_text Accepted = codes ": accepted\n"
 finding_text (WrongLength covered wanted) =
@@ -32,7 +32,7 @@ finding_text (WrongStep cell) = cell_text cell ++ codes " has the wrong step\n"
 finding_text (WrongLevel cell written computed) =
     cell_text cell ++ (codes " has level " ++ signed_decimal written) ++ (codes ", computed " ++ signed_decimal computed ++ codes "\n")
 
--- the line of a rejection, with its LF
+-- the line, with its LF, that says why a certificate is rejected
 unfoldable pub rejection_line : Rejection → List ℕ
 rejection_line SlackWanted = codes "Rejected: slack track wanted\n"
 rejection_line SlackNotWanted = codes "Rejected: slack track not wanted\n"
@@ -40,26 +40,28 @@ rejection_line (Track track finding) = codes "Rejected: track " ++ track_word tr
 
 -- ---- the first fault
 
--- the fault of the slack track: it must be present exactly if it is required
+-- the fault of the slack track, or None: the first Bool says whether the track is required, the second
+-- whether the certificate has it
 abbrev pub slack_fault : Bool → Bool → Option Rejection
 slack_fault true false = Some SlackWanted
 slack_fault false true = Some SlackNotWanted
 slack_fault true true = None
 slack_fault false false = None
 
--- the rejection with a track's verdict, or None if the verdict accepts
+-- the fault of a track for the verdict on its cells, or None if the verdict accepts them
 abbrev pub fault_from : TrackName → Verdict → Option Rejection
 fault_from track Accepted = None
 fault_from track finding = Some (Track track finding)
 
--- the fault of a track's cells by its curve over the minutes of `span`, or None if they are right or
--- there is no track
+-- the fault of a track over the minutes of `span`, or None if its cells follow from the curve, or if
+-- there is no curve or no list of cells
 abbrev pub track_fault : Span → TrackName → Option CurveSpec → Option (List Cell) → Option Rejection
 track_fault span track (Some curve) (Some cells) = fault_from track (verdict curve span.begin (span_minutes span) cells)
 track_fault span track _ _ = None
 
--- the first fault of tracks over the minutes of `span`: first whether the slack track is present
--- exactly if required, and then the cells of each track in turn; None if they are right
+-- the first fault of `tracks`, a certificate's cells for each curve, over the minutes of `span`, or None
+-- if they are right: first whether the slack track is present exactly if there is its curve, and then
+-- the cells of each track in turn
 unfoldable pub rejection_of : Followed → Span → Tracks → Option Rejection
 rejection_of curves span tracks =
     option_or (option_or (option_or
@@ -68,7 +70,7 @@ rejection_of curves span tracks =
     (track_fault span Slack curves.slack tracks.slack))
     (track_fault span Mark curves.mark tracks.mark)
 
--- tracks of fewer than 2^32 cells each
+-- each track of a certificate has fewer than 2^32 cells
 pub record HasFewCells (tracks : Tracks) : Type 0 where
   pub turn : length tracks.turn < 2 ^ 32
   pub slack : ForSome tracks.slack (λ cells. length cells < 2 ^ 32)

@@ -26,8 +26,9 @@ use Rattle.tide_edge.specs.declared.writing.WriteFailed.{WriteFailed}
 use Rattle.tide_edge.specs.SinkStates.{SinkState, put, sink_failed}
 use Rattle.station_cells.specs.declared.sending.Sent.{Sent}
 
--- a piece of a text and its cells are written after the bytes that `sent` counts: the whole piece or,
--- if a write failed, only its first bytes
+-- `text`, the next part of a text of which `sent` counts what was written before, was written whole, and
+-- the result has the counts after it; or a write failed, and only the first bytes of `text` were written
+-- (the sink is in the state `before`, then `after`)
 abbrev pub Sends : SinkState → SinkState → Sent → List ℕ → ℕ → Result Sent WriteFailed → Type 0
 Sends before after sent text cells (Ok done) =
     (done.bytes ≡ sent.bytes + length text) × (done.cells ≡ sent.cells + cells) × (after ≡ put text before)
@@ -35,19 +36,20 @@ Sends before after sent text cells (Err fault) =
     (sent.bytes ≤ fault.sent) × (fault.sent < sent.bytes + length text)
     × (after ≡ sink_failed (put (take (fault.sent - sent.bytes) text) before))
 
--- a buffer with these contents has room for a line
+-- Bool: whether a buffer of 4,096 bytes with the contents `held` has room for `line`
 abbrev pub has_room : List ℕ → List ℕ → Bool
 has_room held line = nat_le (length held + length line) 4096
 
--- the bytes of a buffer that are written before a line is appended to it
+-- the bytes that a buffer with the contents `held` writes before `line` is appended: none if it has room
+-- for the line, else all
 abbrev pub gone_for : List ℕ → List ℕ → List ℕ
 gone_for held line = if has_room held line then [] else held
 
--- the contents of a buffer after a line was appended to it
+-- the contents of a buffer, before with the contents `held`, after `line` was appended
 abbrev pub held_after : List ℕ → List ℕ → List ℕ
 held_after held line = if has_room held line then held ++ line else line
 
--- the number of remaining cells of a search, 0 without a search
+-- the number of remaining cells of a search; 0 if there is no search
 abbrev pub left_count : {C : Type 0} → Option (Looking C) → ℕ
 left_count None = 0
 left_count (Some search) = length search.remaining

@@ -15,11 +15,11 @@ use curve_law::{Cell, Curve};
 use interval_search::Search;
 use tide_edge::{Sink, WriteFailed};
 
-/// Writes the heading of `track` and the line of each remaining cell of `search`, or nothing if
-/// `search` is `None`. Returns the new progress after `sent`.
+/// Writes to `out` the heading line of `track` and the line of each remaining cell of `search`, or
+/// nothing if `search` is `None`. Returns the counts `sent` plus the bytes and cells written here.
 ///
 /// # Errors
-/// [`WriteFailed`] if the sink fails: then it has a prefix of the lines.
+/// [`WriteFailed`] if a write to `out` fails: then only the first bytes of these lines are written.
 #[tactic(auto, using(crate::proofs::SendLemmas::same_state))]
 pub fn send_if_followed<C: Curve + Drop, S: Sink>(
     out: &mut S,
@@ -40,11 +40,11 @@ pub fn send_if_followed<C: Curve + Drop, S: Sink>(
     }
 }
 
-/// Writes the heading of `track`, and the line of each remaining cell of `search`. Returns the new
-/// progress after `sent`.
+/// Writes to `out` the heading line of `track` and the line of each remaining cell of `search`. Returns
+/// the counts `sent` plus the bytes and cells written here.
 ///
 /// # Errors
-/// [`WriteFailed`] if the sink fails: then it has a prefix of the lines.
+/// [`WriteFailed`] if a write to `out` fails: then only the first bytes of these lines are written.
 pub fn send_track<C: Curve + Drop, S: Sink>(
     out: &mut S,
     sent: Sent,

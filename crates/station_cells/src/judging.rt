@@ -13,10 +13,10 @@ use cert_text::TrackName;
 use curve_law::{Cells, Curve, Tracks, Verdict};
 use event_list::Span;
 
-/// Returns the first fault of `tracks` over the minutes of `span`, or `None` if they are right. It
-/// checks first whether the slack track is present exactly if there is a curve `slack`, and then the
-/// cells of each track. No curve has been evaluated yet, and each has a value at each minute of `span`
-/// and at its end. It doesn't allocate.
+/// Returns the first fault of `tracks`, a certificate's cells for each curve, over the minutes of
+/// `span`, or `None` if they are right. The checks in order: the slack track is present exactly if there
+/// is a curve `slack`; the cells of each track follow from its curve. Each curve has a value at each
+/// minute of `span` and at its end, and hasn't been evaluated yet. The call doesn't allocate.
 #[tactic(auto, unfolding(crate::specs::Rejections::rejection_of))]
 pub fn rejection_over<A: Curve + Drop, B: Curve + Drop>(
     turn: A,

@@ -14,7 +14,8 @@ use tide_edge::{Sink, WriteFailed};
 /// The most bytes of a cell's line with its LF.
 const MOST_CELL_BYTES: usize = 24;
 
-/// A buffer of the last bytes of a text, at most 4,096, that aren't written yet. It doesn't allocate.
+/// A buffer for the last bytes of a text, which aren't written yet: at most 4,096 bytes. It doesn't
+/// allocate.
 #[derive(Drop)]
 pub struct LineBuffer {
     text: ArrayString<4096>,
@@ -30,14 +31,16 @@ impl LineBuffer {
         }
     }
 
-    /// Returns true if the buffer has room for the line of any cell, with its LF.
+    /// Returns true if the buffer has room for the line of any cell, which has at most 24 bytes with its
+    /// LF.
     pub fn has_room_for_cell(&self) -> bool
         ensures { IsTrue result ↔ (length self.now.text.bytes + MOST_CELL_BYTES ≤ 4096) }
     {
         self.text.len() + MOST_CELL_BYTES <= self.text.capacity()
     }
 
-    /// Appends the line of `cell`, with its LF, at most 24 bytes. The buffer has room for it.
+    /// Appends the line of `cell`, which has at most 24 bytes with its LF. The buffer must have room for
+    /// 24 bytes ([`has_room_for_cell`](LineBuffer::has_room_for_cell)).
     pub fn put_cell(&mut self, cell: &Cell)
         requires cell { IsCell cell.now }
         requires room { length self.old.text.bytes + MOST_CELL_BYTES ≤ 4096 }
@@ -48,12 +51,11 @@ impl LineBuffer {
         push_cell_line(cell, &mut self.text);
     }
 
-    /// Appends `line`, of at most 4,096 bytes, to the buffer, and returns the new progress. If the
-    /// buffer has no room for `line`, the buffer's contents are written to `out` first. `sent` counts
-    /// the bytes written before.
+    /// Appends `line`, which has at most 4,096 bytes. If the buffer has no room for it, its contents are
+    /// first written to `out`. Returns the counts `sent` plus the bytes written to `out`.
     ///
     /// # Errors
-    /// [`WriteFailed`] if this write fails: then the buffer is unchanged.
+    /// [`WriteFailed`] if this write to `out` fails: then the buffer is unchanged.
     #[tactic(auto, using(crate::proofs::SendLemmas::same_state))]
     pub fn put<S: Sink>(&mut self, out: &mut S, sent: Sent, line: &str) -> Result<Sent, WriteFailed>
         requires length_bound { length line.now ≤ 4096 }
@@ -72,11 +74,10 @@ impl LineBuffer {
         Ok(done)
     }
 
-    /// Writes the buffer's contents to `out`, and returns the new progress. `sent` counts the bytes
-    /// written before.
+    /// Writes the buffer's contents to `out`. Returns the counts `sent` plus the bytes written.
     ///
     /// # Errors
-    /// [`WriteFailed`] if the write fails.
+    /// [`WriteFailed`] if the write to `out` fails.
     pub fn end<S: Sink>(self, out: &mut S, sent: Sent) -> Result<Sent, WriteFailed>
         requires { sent.bytes + length self.text.bytes < 2 ^ 64 }
         ensures { Sends (S.state out.old) (S.state out.new) sent self.text.bytes 0 result }

@@ -10,18 +10,18 @@ use curve_law::Verdict;
 use decimal_text::Bytes;
 use std::alloc::{AllocError, Global};
 
-/// The first fault of the tracks of a certificate.
+/// The first fault that the check of a certificate finds.
 #[derive(Clone, Copy, PartialEq, Eq)]
 pub enum Rejection {
-    /// The slack track is required, and the certificate doesn't have it.
+    /// The station's slack waters are listed, but the certificate has no cells for them.
     SlackWanted,
-    /// The certificate has a slack track, and none is required.
+    /// The certificate has cells for slack waters, but the station's slack waters aren't listed.
     SlackNotWanted,
-    /// The verdict on the cells of this track, which rejects them.
+    /// The cells of this track don't follow from the curve; the verdict says why.
     Track(TrackName, Verdict),
 }
 
-/// Returns the line that reports `rejection` of a certificate, with its LF.
+/// Returns the line, with its LF, that says why a certificate is rejected.
 #[tactic(auto, unfolding(crate::specs::Rejections::rejection_line))]
 pub fn rejection_line(alloc: Global, rejection: Rejection) -> Result<Bytes, AllocError>
     ensures { IfOk result (λ line. line ≡ rejection_line rejection) }

@@ -6,20 +6,20 @@ ghost use Rattle.station_cells.specs.Sending.{Sends};
 use decimal_text::Text;
 use tide_edge::{Sink, WriteFailed, write_all};
 
-/// The progress of a text that is written piece by piece.
+/// The counts of the bytes and cells of a text that have been written so far.
 #[derive(Clone, Copy)]
 pub struct Sent {
-    /// The number of bytes of the text that are written.
+    /// The number of bytes of the text that have been written.
     pub bytes: u64,
-    /// The number of cells whose lines are written or in a buffer.
+    /// The number of cells of which the lines have been written or are in a buffer.
     pub cells: u64,
 }
 
-/// Writes `piece` to `out`, and returns the new progress. `sent` counts the bytes of the text that were
-/// written before.
+/// Writes `piece`, the next part of a text, to `out`. Returns the counts `sent` plus the bytes of
+/// `piece`.
 ///
 /// # Errors
-/// [`WriteFailed`] if the sink fails.
+/// [`WriteFailed`] if the write to `out` fails.
 pub fn send<S: Sink>(out: &mut S, sent: Sent, piece: &str) -> Result<Sent, WriteFailed>
     requires { sent.bytes + length piece.now < 2 ^ 64 }
     ensures { Sends (S.state out.old) (S.state out.new) sent piece.now 0 result }
@@ -35,8 +35,8 @@ pub fn send<S: Sink>(out: &mut S, sent: Sent, piece: &str) -> Result<Sent, Write
     }
 }
 
-/// Writes a line, `prefix` followed by `name` and an LF, to `out`, and returns the new progress. `sent`
-/// counts the bytes of the text that were written before.
+/// Writes to `out` the line that has `prefix`, `name` and an LF. Returns the counts `sent` plus the
+/// bytes of this line.
 pub fn send_name<S: Sink>(
     out: &mut S,
     sent: Sent,

@@ -10,9 +10,9 @@ use event_list::Span;
 use interval_search::search;
 use std::alloc::{AllocError, Global};
 
-/// Returns the cells, made by halving, of each curve over `span`: of `turn`, and of `slack` and `mark`
-/// if they are present. No curve has been evaluated yet, and each has a value at each minute of `span`
-/// and at its end.
+/// Returns the cells of each curve over `span` (`slack` and `mark` only if present). A cell is a stretch
+/// of minutes without an event, or one minute that may have an event; cells are found by halving. Each
+/// curve has a value at each minute of `span` and at its end, and hasn't been evaluated yet.
 pub fn tracks_over<A: Curve + Drop, B: Curve + Drop>(
     alloc: Global,
     turn: A,
@@ -59,7 +59,7 @@ fn cells_if_followed<C: Curve + Drop>(
     }
 }
 
-/// Returns the number of cells of all tracks together.
+/// Returns the number of cells of all `tracks` together, which is below 2^64.
 #[tactic(auto, unfolding(event_list::specs::Events::cells_in))]
 pub fn cell_count(tracks: &Tracks) -> u64
     requires { cells_in tracks.now < 2 ^ 64 }

@@ -1,8 +1,8 @@
 -- Products of signed numbers within their types.
 use Rattle.std.proofs.Common.{◌≡◌, ℕ, suc, ◌+◌, ◌*◌, ◌^◌, ◌<◌, ◌≤◌, ℤ, pos, negsuc, neg_ℤ, ◌+ℤ◌, ◌-ℤ◌, ◌*ℤ◌, ◌≤ℤ◌, ◌<ℤ◌, FitsSigned, refl, sym, ap, ◌∙◌, arith}
 use Rattle.std.specs.Prelude.{unsigned_abs}
-use Rattle.std.proofs.lemmas.Int.{ints, to_z-of_z, unsigned_abs-mul, fits_signed_mul, fits_signed_from_abs}
-use Rattle.std.proofs.lemmas.Nat.{mul-le, div_below}
+use Rattle.std.proofs.lemmas.Int.{ints, unsigned_abs-mul}
+use Rattle.std.proofs.lemmas.Nat.{div_below}
 use mir.Syntax.{Width, w64}
 use mir.Val.{to_z, of_z, hbits}
 use Rattle.decimal_text.specs.Rounding.{half_up}
@@ -11,13 +11,12 @@ pub use Rattle.fixed_sine.proofs.ProductLemmas.{abs_minus, abs_times, cast_small
 pub kept_small : (w : Width) (a : ℤ) (m : ℕ) → unsigned_abs a ≤ m → m < 2 ^ hbits w → unsigned_abs (to_z w (of_z w a)) ≤ m
 kept_small w a m h fits = rw (cast_small w a m h fits) h
 
-pub abs_below : (z : ℤ) (n : ℕ) → pos 0 ≤ℤ z → z ≤ℤ pos n → unsigned_abs z ≤ n
-abs_below (pos a) n least most = omega (arith, ints)
-abs_below (negsuc a) n least most = absurd (omega (arith, ints))
-
 pub abs_within : (z : ℤ) (low high : ℕ) → pos low ≤ℤ z → z ≤ℤ pos high → unsigned_abs z ≤ high
 abs_within (pos a) low high least most = omega (arith, ints, most)
 abs_within (negsuc a) low high least most = absurd (omega (arith, ints, least))
+
+pub abs_below : (z : ℤ) (n : ℕ) → pos 0 ≤ℤ z → z ≤ℤ pos n → unsigned_abs z ≤ n
+abs_below z n least most = abs_within z 0 n least most
 
 -- a fraction of at most k rounds to at most k
 pub half_up-le : (n unit k : ℕ) → 0 < unit → n ≤ k * unit → half_up n unit ≤ k
@@ -57,3 +56,6 @@ pos_abs (negsuc n) h = absurd (omega (arith, ints, h))
 
 pub abs_onto : (z : ℤ) (n : ℕ) → pos 0 ≤ℤ z → z <ℤ pos n → unsigned_abs z ≤ n
 abs_onto z n least below = abs_below z n least (omega (arith, ints, below))
+
+pub abs_factors : (z a : ℤ) (n most : ℕ) → z ≡ a *ℤ pos n → unsigned_abs z ≤ most → unsigned_abs a * n ≤ most
+abs_factors z a n most is small = omega (arith, ap unsigned_abs is, unsigned_abs-mul a (pos n), small)

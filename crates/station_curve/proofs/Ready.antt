@@ -13,7 +13,7 @@ use Rattle.station_curve.specs.Limits.{most_amount, most_steepness}
 use Rattle.station_curve.specs.Curves.{Prediction, IsPrediction, waves_for, sums_for, IsPredicted, is_touched, waves_of}
 use Rattle.station_curve.specs.Workings.Inside.{prediction_in, IsReady}
 use Rattle.station_curve.specs.Workings.Prepared.{stored_over, is_present}
-use Rattle.station_curve.proofs.Products.{cast_small, abs_within, times}
+use Rattle.station_curve.proofs.Products.{cast_small, abs_within}
 use Rattle.station_curve.proofs.WithinLimits.{amount-present, steepness-present, waves_for_within, over-touched}
 use Rattle.station_curve.proofs.Ranges.{in_domain, place_used}
 use Rattle.station_curve.specs.Workings.NumberRanges.{IsPlaceUsed}

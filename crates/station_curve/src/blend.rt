@@ -26,7 +26,7 @@ pub fn weighted(weight: i64, value: i128) -> i128
 }
 
 /// Returns `later`, the later year's value, times `weight`, plus `earlier`, the earlier year's value,
-/// times the rest of the total weight of 4,147,200,000. Both values are at most 10^26 in size, and
+/// times 4,147,200,000 (the total weight) less `weight`. Both values are at most 10^26 in size, and
 /// `weight` is from 0 to 4,147,200,000.
 pub fn mixed(earlier: i128, later: i128, weight: i64) -> i128
     requires earlier { unsigned_abs earlier ≤ 10 ^ 26 }
@@ -82,7 +82,7 @@ pub fn error_of(size: i128) -> i128
     i128::from(TOTAL_WEIGHT) * i128::from(APPROXIMATE_ERROR) * size
 }
 
-/// Returns the most that a slope changes if each speed is rounded down to a multiple of 2^9 units of
+/// Returns a bound on the change of a slope if each speed is rounded down to a multiple of 2^9 units of
 /// 1/600,000,000 degree a minute. `amount` is the sum of the absolute values of the amplitudes, in
 /// millionths of the station's unit. The result is in billionths of a millionth of the station's unit a
 /// minute, times 34,377,467,708 (the units of angle in a radian) and 4,147,200,000 (the total weight of

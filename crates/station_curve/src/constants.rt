@@ -169,7 +169,7 @@ pub fn waves_if_asked(
     }
 }
 
-/// Returns the waves of year `year`, counted from 0, without those of constituents that have no
+/// Returns the waves of year `year`, counted from 0, except for constituents without an
 /// amplitude. The year's constants don't exceed `MOST_AMOUNT` or `MOST_STEEPNESS`.
 fn year_waves(
     alloc: Global,

@@ -19,15 +19,13 @@ ghost use Rattle.std.specs.Prelude.{
 };
 ghost use Rattle.harmonics_book.specs.Books.{IsBook, IsStation};
 ghost use Rattle.year_blend.specs.declared.parts.Place.TheVariants.{Plain};
-ghost use Rattle.year_blend.specs.declared.spanning.TheConstants.{LONGEST_SPAN};
-ghost use Rattle.year_blend.specs.Places.{InDomain, place_of};
-ghost use Rattle.year_blend.specs.Stretches.{stretch_of};
+ghost use Rattle.year_blend.specs.Places.{InDomain};
 ghost use Rattle.year_blend.specs.Weights.{total_weight};
 
+mod placing;
 mod year_values;
 
 use crate::blend::{by_full_weight, drift, error_of, mixed, speed_error_of, weighted};
-use crate::calendar::calendar_year_of;
 use crate::fault::{CurveFault, is_hydraulic};
 use crate::greatest::{Greatest, greatest_of_years};
 use crate::minute_range::{MinuteRange, all_minutes};
@@ -38,7 +36,7 @@ use decimal_text::rounded;
 use harmonics_book::{Book, Station, ValidBook};
 use std::alloc::{AllocError, Global};
 use std::marker::Model;
-use year_blend::{Place, Stretch, TOTAL_WEIGHT, place, stretch, weight};
+use year_blend::{Place, TOTAL_WEIGHT, weight};
 
 /// The predicted tide of a station: its level and slope at each minute of a book's years, or of a part of
 /// them.
@@ -56,9 +54,6 @@ pub struct StationCurve {
     years: Vec<Year>,
     greatest: Greatest,
 }
-
-/// The whole minutes of a mean calendar year.
-const MEAN_YEAR: u64 = 525_949;
 
 impl Model for StationCurve {
     ghost use Rattle.station_curve.specs.Curves.{Prediction};
@@ -80,7 +75,7 @@ impl StationCurve {
     ghost use Rattle.station_curve.specs.Approximate.{approximate_level_of, approximate_slope_of};
     ghost use Rattle.station_curve.specs.Errors.{level_error_of, slope_error_of};
     ghost use Rattle.station_curve.specs.Limits.{AreWithinLimits};
-    ghost use Rattle.station_curve.specs.Workings.NumberRanges.{IsPlaceUsed, IsPlainYearOf, IsAround};
+    ghost use Rattle.station_curve.specs.Workings.NumberRanges.{IsPlaceUsed, IsPlainYearOf};
 
     /// Returns the curve, for all minutes of the book's years, of the station with index `station` in
     /// the book's list.
@@ -312,8 +307,8 @@ impl StationCurve {
         }
     }
 
-    /// Returns the most that an approximate level of the curve differs from the level, in billionths of
-    /// a millionth of the station's unit, times [`TOTAL_WEIGHT`] (4,147,200,000).
+    /// Returns a bound on the difference between an approximate level of the curve and the level, in
+    /// billionths of a millionth of the station's unit, times [`TOTAL_WEIGHT`] (4,147,200,000).
     pub fn level_error(&self) -> i128
         ensures value { result ≡ pos (level_error_of self.now) }
         ensures size { unsigned_abs result ≤ 2 * 10 ^ 24 }
@@ -321,9 +316,9 @@ impl StationCurve {
         error_of(self.greatest.amount)
     }
 
-    /// Returns the most that an approximate slope of the curve differs from the slope, in billionths of
-    /// a millionth of the station's unit a minute, times [`TOTAL_WEIGHT`] (4,147,200,000) and
-    /// 34,377,467,708 (the units of angle in a radian).
+    /// Returns a bound on the difference between an approximate slope of the curve and the slope, in
+    /// billionths of a millionth of the station's unit a minute, times [`TOTAL_WEIGHT`] (4,147,200,000)
+    /// and 34,377,467,708 (the units of angle in a radian).
     pub fn slope_error(&self) -> i128
         ensures value { result ≡ pos (slope_error_of self.now) }
         ensures size { unsigned_abs result ≤ 2 * 10 ^ 32 }
@@ -339,77 +334,5 @@ impl StationCurve {
         ensures size { unsigned_abs result ≤ 11 * 10 ^ 9 }
     {
         rounded(self.level(m), TOTAL_WEIGHT as u64 * 1_000_000_000) as i64
-    }
-
-    /// Returns which years' constants the minutes from `m` to `m + n`, both included, use. It is one
-    /// year if none of them is less than an hour from a new year between two of the book's years, and
-    /// otherwise the two years around it. `m` and `m + n` are minutes of the curve, and `n` is at most
-    /// `LONGEST_SPAN`.
-    #[inline(always)]
-    pub fn stretch(&self, m: i64, n: u32) -> Stretch
-        requires first { IsPredicted self.now m }
-        requires last { IsPredicted self.now (m +ℤ pos n) }
-        requires length_bound { n ≤ LONGEST_SPAN }
-        ensures { result ≡ stretch_of self.now.book.first_year self.now.book.years m n }
-    {
-        self.limits_hold();
-        match self.year_around(m, m + i64::from(n)) {
-            Some(year) => Stretch::Within { year },
-            None => stretch(self.first_year, self.years(), m, n),
-        }
-    }
-
-    /// Returns the position of minute `m` among the book's years: in the plain part of a year, or in
-    /// the blend at a new year.
-    fn place(&self, m: i64) -> Place
-        requires { IsPredicted self.now m }
-        ensures value { result ≡ place_of self.now.book.first_year self.now.book.years m }
-        ensures used { IsPlaceUsed self.now m result }
-        ensures valid { IsPrediction self.now }
-    {
-        match self.plain_year(m) {
-            Some(year) => Place::Plain { year },
-            None => place(self.first_year, self.years(), m),
-        }
-    }
-
-    /// Returns the year, counted from 0, whose plain part contains minute `m`, or `None` if `m` is less
-    /// than an hour from a new year between two of the book's years.
-    #[inline(always)]
-    fn plain_year(&self, m: i64) -> Option<u32>
-        requires { IsPredicted self.now m }
-        ensures year { IsPlainYearOf self.now m result }
-        ensures valid { IsPrediction self.now }
-    {
-        match self.year_around(m, m) {
-            Some(year) => Some(year),
-            None => calendar_year_of(self.first_year, self.years(), m),
-        }
-    }
-
-    /// Returns the likely year, counted from 0, of the minutes from `first` to `last`, or `None` unless
-    /// they are all at least an hour from both its ends.
-    #[inline(always)]
-    fn year_around(&self, first: i64, last: i64) -> Option<u32>
-        requires first { IsPredicted self.now first }
-        requires last { IsPredicted self.now last }
-        ensures { IfSome result (λ year. IsAround self.now.book.first_year self.now.book.years first last year) }
-    {
-        let year = self.likely_year(first);
-        if self.years[year as usize].surrounds(first, last) {
-            Some(year)
-        } else {
-            None
-        }
-    }
-
-    /// Returns the year, counted from 0, that would contain minute `m` if all years had the same
-    /// length.
-    #[inline(always)]
-    fn likely_year(&self, m: i64) -> u32
-        ensures { result < self.now.book.years }
-    {
-        let ended = m.abs_diff(self.years[0].start) / MEAN_YEAR;
-        ended.min(self.years.len() as u64 - 1) as u32
     }
 }

@@ -63,8 +63,8 @@ pub fn approximate_heights(waves: &[Wave], minutes: u64) -> i64
 }
 
 /// Returns the sum of the waves' approximate falls (minus the slope of each) `minutes` minutes after
-/// the time an hour before the year's start. The unit is 2^24 times that of a fall, which is 10^-15 of
-/// the station's unit a minute, divided by 34,377,467,708 (the units of angle in a radian).
+/// the time an hour before the year's start. The unit is 2^24 times the unit of a fall, which is 10^-15
+/// of the station's unit a minute, divided by 34,377,467,708 (the units of angle in a radian).
 #[inline(never)]
 pub fn approximate_falls(waves: &[Wave], minutes: u64) -> i64
     requires time { minutes ≤ 600000 }
@@ -79,8 +79,8 @@ pub fn approximate_falls(waves: &[Wave], minutes: u64) -> i64
     sum
 }
 
-/// Returns `heights`, a sum of approximate heights in units of 2^15 * 10^-15 of the station's unit, in
-/// billionths of a millionth of the station's unit: times 2^15.
+/// Converts `heights`, a sum of approximate heights in units of 2^15 * 10^-15 of the station's unit, to
+/// billionths of a millionth of the station's unit: returns 2^15 times `heights`.
 pub fn in_billionths(heights: i64) -> i128
     requires { unsigned_abs heights ≤ 30518 * 10 ^ 9 }
     ensures value { result ≡ pos (2 ^ 15) *ℤ heights }
@@ -89,9 +89,9 @@ pub fn in_billionths(heights: i64) -> i128
     HEIGHT_UNIT * i128::from(heights)
 }
 
-/// Returns `falls`, a sum of approximate falls in 2^24 times the unit of a fall, in the unit of a fall:
-/// times 2^24. That unit is 10^-15 of the station's unit a minute, divided by 34,377,467,708 (the units
-/// of angle in a radian).
+/// Converts `falls`, a sum of approximate falls in 2^24 times the unit of a fall, to the unit of a
+/// fall: returns 2^24 times `falls`. The unit of a fall is 10^-15 of the station's unit a minute,
+/// divided by 34,377,467,708 (the units of angle in a radian).
 pub fn in_fall_units(falls: i64) -> i128
     requires { unsigned_abs falls ≤ 6 * 10 ^ 18 }
     ensures value { result ≡ pos (2 ^ 24) *ℤ falls }
@@ -100,8 +100,8 @@ pub fn in_fall_units(falls: i64) -> i128
     FALL_UNIT * i128::from(falls)
 }
 
-/// Returns the mean level `datum`, given in millionths of the station's unit, in billionths of a
-/// millionth of the station's unit: times 10^9.
+/// Converts the mean level `datum`, in millionths of the station's unit, to billionths of a millionth
+/// of the station's unit: returns 10^9 times `datum`.
 pub fn mean_level(datum: i64) -> i128
     requires { unsigned_abs datum ≤ 10 ^ 10 }
     ensures value { result ≡ pos (10 ^ 9) *ℤ datum }

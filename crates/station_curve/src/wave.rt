@@ -102,8 +102,8 @@ impl Wave {
     }
 
     /// Returns the wave's approximate fall, minus its part of the slope, `minutes` minutes after the
-    /// time an hour before the year's start. The unit is 2^24 times that of a fall, which is 10^-15 of
-    /// the station's unit a minute, divided by 34,377,467,708 (the units of angle in a radian).
+    /// time an hour before the year's start. The unit is 2^24 times the unit of a fall, which is 10^-15
+    /// of the station's unit a minute, divided by 34,377,467,708 (the units of angle in a radian).
     pub fn approximate_fall(&self, minutes: u64) -> i64
         requires { minutes ≤ 600000 }
         ensures value { result ≡ approximate_fall_at minutes self.now }

@@ -19,13 +19,13 @@ pub struct Sums {
     /// millionth of the station's unit a minute, times 34,377,467,708 (the units of angle in a radian),
     /// is at most 10^9 times this sum in size.
     pub steep: i128,
-    /// The sum of the sizes of the amplitudes times the sine's greatest change in a minute: the most
-    /// that the level by the year's constants changes in a minute, in billionths of a millionth of the
+    /// The sum of the sizes of the amplitudes times the sine's greatest change in a minute: a bound on
+    /// the change in a minute of the level by the year's constants, in billionths of a millionth of the
     /// station's unit.
     pub near: i128,
     /// The sum of the sizes of the amplitudes times the speed times the sine's greatest change in a
-    /// minute: the most that the slope by the year's constants changes in a minute, where the slope is
-    /// in billionths of a millionth of the station's unit a minute, times 34,377,467,708 (the units of
+    /// minute: a bound on the change in a minute of the slope by the year's constants, which is in
+    /// billionths of a millionth of the station's unit a minute, times 34,377,467,708 (the units of
     /// angle in a radian).
     pub far: i128,
 }

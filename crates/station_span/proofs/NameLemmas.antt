@@ -137,10 +137,10 @@ unfolding basis_of
 of_basis book table name basis is rows ok = of_station book table name basis (station_at book name) is rows refl ok
 
 named_by : (book : Book) (table : List Offsets) (name : List ℕ) (next : Basis → Result Site Refusal) (site : Site)
-    (found_station : Result Basis FindFault) → IsBook book → IsTable table → basis_of book table name ≡ found_station
-    → (basis_from found_station >>= next) ≡ Ok site → IsStationName name
-named_by book table name next site (Ok basis) is rows found_station ok = of_basis book table name basis is rows found_station
-named_by book table name next site (Err fault) is rows found_station ok = absurd cc
+    (basis : Result Basis FindFault) → IsBook book → IsTable table → basis_of book table name ≡ basis
+    → (basis_from basis >>= next) ≡ Ok site → IsStationName name
+named_by book table name next site (Ok basis) is rows expected ok = of_basis book table name basis is rows expected
+named_by book table name next site (Err fault) is rows expected ok = absurd cc
 
 pub site_name : (purpose : Purpose) (book : Book) (table : List Offsets) (name : List ℕ) (span_request : SpanRequest) (site : Site)
     → IsBook book → IsTable table → site_in purpose book table name span_request ≡ Ok site → IsStationName name

@@ -9,17 +9,17 @@ use Rattle.tide_fault.specs.declared.refusal.Refusal.{Refusal}
 use Rattle.tide_fault.specs.declared.refusal.Refusal.TheVariants.{LevelNotHere}
 use Rattle.station_span.specs.Sites.{Site}
 
--- the step of the level: the station has one at each minute only if its high and low waters have the
--- same offsets; otherwise it is refused
+-- Ok if a station with this basis (its reference and its offsets) has a level at each minute, because
+-- its high and low waters have the same offsets; otherwise the refusal LevelNotHere
 abbrev pub level_in : Basis → Result (Unit {0}) Refusal
 level_in basis = if is_equal basis then Ok tt else Err LevelNotHere
 
--- the station's level at a minute, in millionths of its unit: the reference's level at the minute less
--- the offset's minutes, times the offset's factor, plus its height
+-- the station's level at a minute, in millionths of its unit: the reference station's level at the
+-- minute less the offset's minutes, times the offset's factor, plus the offset's height
 abbrev pub level_at : Book → Site → ℤ → ℤ
 level_at book site minute = scaled site.basis.high (predicted_millionths book site.station (minute -ℤ site.basis.high.add))
 
--- the station's level rises at a minute: the reference's slope at the minute less the offset's minutes
--- is above 0
+-- Bool: whether the station's level rises at a minute, that is, whether the reference station's slope at
+-- the minute less the offset's minutes is above 0
 abbrev pub is_rising_at : Book → Site → ℤ → Bool
 is_rising_at book site minute = int_lt (pos 0) (predicted_slope book site.station (minute -ℤ site.basis.high.add))

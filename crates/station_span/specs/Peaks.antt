@@ -16,34 +16,34 @@ use Rattle.station_span.specs.declared.purpose.Purpose.TheVariants.{Highest}
 use Rattle.station_span.specs.Levels.{level_in}
 use Rattle.station_span.specs.Sites.{Site, site_in}
 
--- the station of a name with a span for a highest water, if it has a level at each minute, or the first
--- refusal
+-- the station called `name` with its offsets, if it has a level at each minute and a request for its
+-- highest water over this span has an answer; otherwise the first refusal
 unfoldable pub highest_site : Book → List Offsets → List ℕ → SpanRequest → Result Site Refusal
 highest_site book table name span_request = do
   site ← site_in Highest book table name span_request
   level ← level_in site.basis
   Ok site
 
--- the curve of the reference's level, without offsets and with a mark of 0: its values are in 10^-21 of
--- the reference's unit, times 4,147,200,000 (the total weight of a blend)
+-- the curve of the reference station's level, without offsets; its values are in 10^-21 of the station's
+-- unit, times 4,147,200,000 (the total weight of the blend at a new year)
 abbrev pub level_curve : Book → Site → CurveSpec
 level_curve book site = predicted_mark Second book site.station (pos 1000000) (pos 0) (pos 0) true
 
--- the reference's minute that the high-water offset moves to the first minute of the span
+-- the minute of the reference station that the high-water offset moves to the first minute of the span
 abbrev pub first_source : Site → SpanRequest → ℤ
 first_source site span_request = span_request.begin -ℤ site.basis.high.add
 
--- the number of minutes of the span of the request, from its begin up to but not including its end
+-- the number of minutes of a request's span, from its begin up to but not including its end
 abbrev pub minute_count : SpanRequest → ℕ
 minute_count span_request = unsigned_abs (span_request.end -ℤ span_request.begin)
 
--- the highest water of the reference among the minutes that the high-water offset moves into the span,
--- with the cells that show it
+-- the highest water of the reference station among the minutes that the high-water offset moves into the
+-- span, with the cells that prove it
 unfoldable pub highest_of : Book → Site → SpanRequest → Peak
 highest_of book site span_request = peak_of (level_curve book site) (first_source site span_request) (minute_count span_request)
 
--- the verdict on a claimed highest water of the reference among the minutes that the high-water offset
--- moves into the span, however it was made
+-- the verdict on `peak`, claimed to be the highest water of the reference station among the minutes that
+-- the high-water offset moves into the span; `peak` can be from any source
 unfoldable pub highest_verdict : Book → Site → SpanRequest → Peak → PeakVerdict
 highest_verdict book site span_request peak =
     peak_verdict (level_curve book site) (first_source site span_request) (minute_count span_request) peak

@@ -22,77 +22,84 @@ use Rattle.tide_fault.specs.declared.refusal.Refusal.{Refusal}
 use Rattle.tide_fault.specs.declared.refusal.Refusal.TheVariants.{NoStation, Hydraulic, BackwardSpan, EmptySpan, OutOfYears, SpanTooLong, MarkNotHere}
 use Rattle.tide_fault.specs.Faults.{refusal_of_curve, refusal_of_find}
 
--- a station of a harmonics file, and the offsets of the requested station from it
+-- a station of a harmonics file (`station`), and the offsets (`basis`) of the requested station from it
 pub record Site : Type 0 where
   pub basis : Basis
   pub station : Station
 
 -- the stations that can be requested: the stations of a harmonics file, and the subordinate stations of
--- a table
+-- a table of offsets
 pub record BookWithTable : Type 0 where
   pub book : Book
   pub table : List Offsets
 
--- a request about a station: its name, its span and its optional mark
+-- a request about a station: the station's name, a span and an optional mark
 pub record NamedSpan : Type 0 where
   pub name : List ℕ
   pub span_request : SpanRequest
 
--- the greatest number of minutes of a span of a request
+-- the greatest number of minutes that the span of a request may have
 abbrev pub span_limit : ℤ
 span_limit = pos 5270400
 
 -- ---- each step
 
--- the basis of a name, or the refusal
+-- the same basis (a reference station and offsets), or the refusal for the fault in finding it
 abbrev pub basis_from : Result Basis FindFault → Result Basis Refusal
 basis_from (Ok basis) = Ok basis
 basis_from (Err fault) = Err (refusal_of_find fault)
 
--- the step of the unit: it is a unit of levels or of a current's speed; a hydraulic current has no level
+-- Ok with the unit if levels can be given in it; knots squared, the unit of a hydraulic current, is
+-- refused
 abbrev pub level_unit : Units → Result Units Refusal
 level_unit Feet = Ok Feet
 level_unit Meters = Ok Meters
 level_unit Knots = Ok Knots
 level_unit KnotsSquared = Err Hydraulic
 
--- the minutes of the reference that are needed for levels: if high and low waters have the same offset,
--- the span moved back by its minutes; otherwise the same as for events
+-- the minutes of the reference station that a request for levels needs: if high and low waters have the
+-- same offset, the span moved back by the offset's minutes; otherwise the minutes that determine all
+-- events of the span
 abbrev pub moved : Basis → ℤ → ℤ → Span
 moved basis begin end =
     if is_equal basis then record { begin = begin -ℤ basis.high.add; end = end -ℤ basis.high.add }
     else widened_of basis begin end
 
--- the minutes of the reference that a request needs: for events all minutes whose events the offsets can
--- move into the span, else the minutes for levels
+-- the minutes of the reference station that a request for this purpose needs: for events, the minutes
+-- whose events the offsets can move into the span; for levels and the highest water, the minutes of
+-- `moved`
 abbrev pub reached : Purpose → Basis → ℤ → ℤ → Span
 reached Events basis begin end = widened_of basis begin end
 reached Levels basis begin end = moved basis begin end
 reached Highest basis begin end = moved basis begin end
 
--- a request for this purpose needs a span with a minute: an empty span has no highest water
+-- Bool: whether a request for this purpose needs a span with at least one minute: only the highest water
+-- does
 abbrev pub needs_minute : Purpose → Bool
 needs_minute Events = false
 needs_minute Levels = false
 needs_minute Highest = true
 
--- the span is empty, and the request needs a minute
+-- Bool: whether the span from `begin` up to but not including `end` has no minute although a request for
+-- this purpose needs one
 unfoldable pub lacks_minute : Purpose → ℤ → ℤ → Bool
 lacks_minute purpose begin end = needs_minute purpose && int_le end begin
 
--- a minute, since 1970-01-01T00:00Z, is in the file's years, or is the first one after them
+-- Bool: whether a minute, since 1970-01-01T00:00Z, is in the years of the harmonics file or is the first
+-- minute after them
 abbrev pub has_minute : Book → ℤ → Bool
 has_minute book minute =
     int_le (year_start_of book.first_year) minute
     && int_le minute (year_start_of (book.first_year +ℤ pos book.years))
 
--- the first minute of a span and its end, which isn't part of it, are in the file's years or the first
--- minute after them
+-- Bool: whether the first minute of a span and the minute at its end are both in the years of the
+-- harmonics file or the first minute after them
 abbrev pub has_span : Book → Span → Bool
 has_span book span = has_minute book span.begin && has_minute book span.end
 
--- the step of the span: its end isn't before its beginning, it has a minute if the request needs one,
--- and the file has the minutes of the reference that are needed; otherwise it is refused
+-- Ok if a request for this purpose may have the span from `begin` up to but not including `end`: `end`
+-- isn't before `begin`, the span has a minute if the purpose needs one, and the harmonics file has all
+-- minutes of the reference station that are needed; otherwise the first refusal
 unfoldable pub span_in : Purpose → Book → Basis → ℤ → ℤ → Result (Unit {0}) Refusal
 span_in purpose book basis begin end =
     if int_lt end begin then Err BackwardSpan
@@ -100,24 +107,26 @@ span_in purpose book basis begin end =
     else if has_span book (reached purpose basis begin end) then Ok tt
     else Err (OutOfYears (year_start_of book.first_year) (year_start_of (book.first_year +ℤ pos book.years)))
 
--- the step of the limits on the constants: the station's curve, or the refusal
+-- the same curve, or the refusal for the fault because of which the station has no curve
 abbrev pub curve_from : Result Prediction CurveFault → Result Prediction Refusal
 curve_from (Ok curve) = Ok curve
 curve_from (Err fault) = Err (refusal_of_curve fault)
 
--- the step of the length: a span of at most 5,270,400 minutes; a longer one is refused
+-- Ok if the span from `begin` to `end` has at most 5,270,400 minutes; otherwise the refusal SpanTooLong
 unfoldable pub length_in : ℤ → ℤ → Result (Unit {0}) Refusal
 length_in begin end =
     if int_lt span_limit (end -ℤ begin) then Err (SpanTooLong (end -ℤ begin)) else Ok tt
 
--- the step of the mark: a mark needs a station with a level at each minute
+-- Ok if there is no mark, or the station's high and low waters have the same offsets; otherwise the
+-- refusal MarkNotHere
 abbrev pub mark_in : Basis → Option ℤ → Result (Unit {0}) Refusal
 mark_in basis None = Ok tt
 mark_in basis (Some mark) = if is_equal basis then Ok tt else Err MarkNotHere
 
 -- ---- all of them
 
--- the steps from the unit on
+-- Ok with the station, if its unit, the span, its constants, the span's length and the mark allow an
+-- answer to a request for this purpose; otherwise the refusal of the first that doesn't
 unfoldable pub site_at : Purpose → Book → Site → SpanRequest → Result Site Refusal
 site_at purpose book site span_request = do
   units ← level_unit site.station.units
@@ -127,16 +136,16 @@ site_at purpose book site span_request = do
   mark ← mark_in site.basis span_request.mark
   Ok site
 
--- all steps: the station called `name` with its offsets, if a request for this purpose over this span
--- has an answer, or the first refusal
+-- Ok with the station called `name` and its offsets, if a request for this purpose over this span has an
+-- answer; otherwise the first refusal
 unfoldable pub site_in : Purpose → Book → List Offsets → List ℕ → SpanRequest → Result Site Refusal
 site_in purpose book table name span_request = do
   basis ← basis_from (basis_of book table name)
   station ← ok_or (slice_get book.stations basis.station) NoStation
   site_at purpose book (record { basis = basis; station = station }) span_request
 
--- the station called `name` with its offsets, if its reference has a curve for all minutes of the file,
--- or the first refusal
+-- Ok with the station called `name` and its offsets, if its reference station has a curve for all
+-- minutes of the harmonics file; otherwise the first refusal
 unfoldable pub station_in : Book → List Offsets → List ℕ → Result Site Refusal
 station_in book table name = do
   basis ← basis_from (basis_of book table name)

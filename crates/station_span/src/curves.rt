@@ -12,9 +12,9 @@ use harmonics_book::Units;
 use rate_bound::{MarkCurve, TurnCurve, Version};
 use station_table::Basis;
 
-/// Returns the curve whose sign changes are the high and low waters of the reference of
-/// `found_station`, or a current's greatest and least streams, with the rates of `version`. It is not
-/// yet evaluated.
+/// Returns the curve whose changes of sign are the high and low waters of the reference station of
+/// `found_station` (for a current, its greatest and least streams). `version` is the certificate version
+/// whose rule bounds the curve's change. The curve is not yet evaluated.
 pub fn turn_curve<'a>(found_station: &'a FoundStation, version: Version) -> TurnCurve<'a>
     ensures curve_spec { (⟦<TurnCurve<'a> as Curve>⟧.state result).curve_model.curve_spec ≡ turn_spec version found_station.now.curve }
     ensures fresh { (⟦<TurnCurve<'a> as Curve>⟧.state result).count ≡ 0 }
@@ -22,8 +22,10 @@ pub fn turn_curve<'a>(found_station: &'a FoundStation, version: Version) -> Turn
     TurnCurve::new(&found_station.curve, version)
 }
 
-/// Returns the curve whose sign changes are a current's slack waters, with the rates of `version`, not
-/// yet evaluated. Returns `None` if the slack waters of the station `found_station` aren't listed.
+/// Returns the curve whose changes of sign are the slack waters of the station `found_station`, at
+/// minutes of its reference station, or `None` if its slack waters aren't listed: the station isn't a
+/// current, or it has different offsets for highs and lows and none for slack waters. `version` is the
+/// certificate version whose rule bounds the curve's change. The curve is not yet evaluated.
 pub fn slack_curve<'a>(found_station: &'a FoundStation, version: Version) -> Option<MarkCurve<'a>>
     ensures curve_spec { option_map (λ curve. (⟦<MarkCurve<'a> as Curve>⟧.state curve).curve_model.curve_spec) result
         ≡ slack_over version found_station.now.curve found_station.now.basis }
@@ -38,8 +40,9 @@ pub fn slack_curve<'a>(found_station: &'a FoundStation, version: Version) -> Opt
     Some(MarkCurve::new(&found_station.curve, version, times, plus, 0, true))
 }
 
-/// Returns the curve whose sign changes are the crossings of the mark of the request, with the rates of
-/// `version`, not yet evaluated. Returns `None` if the request has no mark.
+/// Returns the curve whose changes of sign are the minutes of the reference station at which the level
+/// of `found_station` crosses the mark of its request, or `None` if the request has no mark. `version`
+/// is the certificate version whose rule bounds the curve's change. The curve is not yet evaluated.
 pub fn mark_curve<'a>(found_station: &'a FoundStation, version: Version) -> Option<MarkCurve<'a>>
     ensures curve_spec { option_map (λ curve. (⟦<MarkCurve<'a> as Curve>⟧.state curve).curve_model.curve_spec) result
         ≡ mark_over version found_station.now.curve found_station.now.basis found_station.now.span_request.mark }

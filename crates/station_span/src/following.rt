@@ -25,21 +25,24 @@ use rate_bound::{MarkCurve, TurnCurve, Version};
 use std::alloc::{AllocError, Global};
 use tide_fault::Refusal;
 
-/// The events of a station over a span, the unit of their levels, which is the reference's, and the
-/// number of cells in which they were found.
+/// The events of a station over a span, the unit of their levels, and the number of cells (stretches of
+/// minutes with at most one event) that the search for them produced.
 #[derive(Drop)]
 pub struct FoundEvents {
     pub units: Units,
     pub events: Events,
-    /// The number of cells of all tracks over the minutes of the reference that were evaluated.
+    /// The number of cells of all searches (high and low waters, slack waters, mark) together.
     pub cells: u64,
 }
 
-/// Returns the events of the station of `stations` that `request` names, over its span.
+/// Returns the events of the station that `request` names, one of `stations`, over the span of
+/// `request`.
 ///
 /// # Errors
-/// The first [`Refusal`] in this order: the station, its unit, the span, the limits on its constants,
-/// the mark. If memory runs out, [`Refusal::NoMemory`] is returned in place of any other result.
+/// The first [`Refusal`] in this order: the station isn't found, it is a hydraulic current, its span is
+/// backward or outside the file's years, its constants exceed a limit, its span is too long, or the
+/// request has a mark but the offsets of highs and lows differ. If memory runs out,
+/// [`Refusal::NoMemory`] is returned in place of any other result.
 pub fn list_station(
     alloc: Global,
     stations: &StationData<'_>,
@@ -116,10 +119,10 @@ fn shifted_events(
     }
 }
 
-/// Returns a merge of the events of the reference of `found_station` over its evaluated minutes. The
-/// merge yields one event at a time and doesn't allocate. If the station has no offsets, these are the
-/// station's events. `found_station` is a result of [`find_station`](crate::find_station) for
-/// [`Purpose::Events`].
+/// Returns a merge of the events of the reference station of `found_station`, over the minutes whose
+/// events the station's offsets can move into the span of the request. The merge yields one event at a
+/// time and doesn't allocate. If the station has no offsets, its events are the reference's.
+/// `found_station` is a result of [`find_station`](crate::find_station) for [`Purpose::Events`].
 pub fn merge_of<'a>(found_station: &'a FoundStation) -> Merge<TurnCurve<'a>, MarkCurve<'a>>
     requires { found_station.now.purpose ≡ Purpose.Events }
     ensures remaining { AreReferences found_station.now result.remaining }
@@ -134,9 +137,9 @@ pub fn merge_of<'a>(found_station: &'a FoundStation) -> Merge<TurnCurve<'a>, Mar
     )
 }
 
-/// Returns the search for the high and low waters of the reference of `found_station`, or a current's
-/// greatest and least streams. It evaluates the curve at most once per cell, plus once. `found_station`
-/// is for [`Purpose::Events`].
+/// Returns the search for the high and low waters of the reference station of `found_station` (for a
+/// current, its greatest and least streams). The search evaluates the curve at most once per cell, plus
+/// once. `found_station` was found for [`Purpose::Events`].
 pub fn turn_search<'a>(found_station: &'a FoundStation) -> Search<TurnCurve<'a>>
     requires { found_station.now.purpose ≡ Purpose.Events }
     ensures at { result.at ≡ found_station.now.span.begin }
@@ -150,10 +153,10 @@ pub fn turn_search<'a>(found_station: &'a FoundStation) -> Search<TurnCurve<'a>>
     )
 }
 
-/// Returns the search for the slack waters of the reference station of `found_station`, or `None` if
-/// the station of `found_station` is no current, or has different offsets for highs and lows and none
-/// for slack waters. The search evaluates the curve at most once per cell, plus once. `found_station`
-/// is for [`Purpose::Events`].
+/// Returns the search for the slack waters of the reference station of `found_station`, or `None` if the
+/// station isn't a current, or has different offsets for highs and lows and none for slack waters. The
+/// search evaluates the curve at most once per cell, plus once. `found_station` was found for
+/// [`Purpose::Events`].
 pub fn slack_search<'a>(found_station: &'a FoundStation) -> Option<Search<MarkCurve<'a>>>
     requires { found_station.now.purpose ≡ Purpose.Events }
     ensures at { ForSome result (λ search. search.at ≡ found_station.now.span.begin) }
@@ -166,9 +169,10 @@ pub fn slack_search<'a>(found_station: &'a FoundStation) -> Option<Search<MarkCu
     )
 }
 
-/// Returns the search for the minutes of the reference at which the station's level crosses the mark,
-/// or `None` if the request of `found_station` has no mark. It evaluates the curve at most once per
-/// cell, plus once. `found_station` is for [`Purpose::Events`].
+/// Returns the search for the minutes of the reference station at which the level of the station
+/// `found_station` crosses the mark of its request, or `None` if the request has no mark. The search
+/// evaluates the curve at most once per cell, plus once. `found_station` was found for
+/// [`Purpose::Events`].
 pub fn mark_search<'a>(found_station: &'a FoundStation) -> Option<Search<MarkCurve<'a>>>
     requires { found_station.now.purpose ≡ Purpose.Events }
     ensures at { ForSome result (λ search. search.at ≡ found_station.now.span.begin) }

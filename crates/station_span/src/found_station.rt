@@ -12,21 +12,24 @@ use harmonics_book::Units;
 use station_curve::StationCurve;
 use station_table::Basis;
 
-/// A station that was found by its name, with a span over which a request about it has an answer. Its
-/// curve has only the minutes of `span` and the one at its end.
+/// A station that was found by its name, for a request about it that has an answer. Its curve covers the
+/// minutes of the field `span` and the minute at its end, and no others.
 #[derive(Drop)]
 pub struct FoundStation {
-    /// The station's offsets from its reference.
+    /// The station's reference in the book, and its offsets from it.
     pub basis: Basis,
-    /// The unit of the reference's levels.
+    /// The unit of the reference station's levels, which is also the unit of the station's.
     pub units: Units,
-    /// The curve of the reference's level and slope, for the minutes of `span` and the one at its end.
+    /// The curve of the reference station's level and slope, for the minutes of `span` and the minute at
+    /// its end.
     pub curve: StationCurve,
-    /// The purpose for which the reference's minutes were chosen.
+    /// The purpose of the request: it determines which minutes of the reference station `span` has.
     pub purpose: Purpose,
-    /// The span and the mark of the request, in the station's minutes and levels, not the reference's.
+    /// The span and the mark of the request, in minutes and levels of the station itself, before its
+    /// offsets are removed.
     pub span_request: SpanRequest,
-    /// The minutes of the reference that are evaluated; its end is evaluated as well.
+    /// The minutes at which the reference station's curve is evaluated; the minute at its end is
+    /// included.
     pub span: Span,
     pub ghost unit: { units ≡ curve.station.units },
     pub ghost valid: { IsFound purpose curve.book span_request (site_with basis curve.station) },

@@ -14,11 +14,11 @@ use crate::station::earlier;
 use event_list::scaled;
 use tide_fault::Refusal;
 
-/// Returns `Ok` if the station `found_station` has a level at each minute, because its high and low
-/// waters have the same offsets.
+/// Returns `Ok` if the station `found_station` has a level at each minute, which it has if its high and
+/// low waters have the same offsets.
 ///
 /// # Errors
-/// [`Refusal::LevelNotHere`] if its high and low waters have different offsets.
+/// [`Refusal::LevelNotHere`] if the offsets of its high and low waters differ.
 #[tactic(auto, unfolding(crate::specs::Levels::level_in))]
 pub fn check_level(found_station: &FoundStation) -> Result<(), Refusal>
     ensures exact { result ≡ level_in found_station.now.basis }
@@ -33,9 +33,10 @@ pub fn check_level(found_station: &FoundStation) -> Result<(), Refusal>
     }
 }
 
-/// Returns the level of the station `found_station` at `minute`, since 1970-01-01T00:00Z, in millionths
-/// of its unit. This is the reference's level at `minute` less the minutes of the station's offset,
-/// times its factor, rounded to whole millionths, plus its height. It doesn't allocate.
+/// Returns the level of the station `found_station` at `minute`, in millionths of its unit. `minute` is
+/// counted from 1970-01-01T00:00Z. The level is the reference station's, at `minute` less the offset's
+/// minutes, times the offset's factor (rounded to whole millionths), plus the offset's height. The call
+/// doesn't allocate.
 pub fn level_at(found_station: &FoundStation, minute: i64) -> i64
     requires { IsEvaluable found_station.now minute }
     ensures { result ≡ level_at found_station.now.curve.book (site_of found_station.now) minute }
@@ -46,8 +47,8 @@ pub fn level_at(found_station: &FoundStation, minute: i64) -> i64
     scaled(&found_station.basis.high, level)
 }
 
-/// Returns true if the level of the station `found_station` rises at `minute`: the reference's slope at
-/// `minute` less the minutes of the station's offset is above 0. It doesn't allocate.
+/// Returns true if the level of the station `found_station` rises at `minute`, that is, if the slope of
+/// its reference station at `minute` less the offset's minutes is above 0. The call doesn't allocate.
 pub fn is_rising(found_station: &FoundStation, minute: i64) -> bool
     requires { IsEvaluable found_station.now minute }
     ensures { result ≡ is_rising_at found_station.now.curve.book (site_of found_station.now) minute }
@@ -55,8 +56,8 @@ pub fn is_rising(found_station: &FoundStation, minute: i64) -> bool
     found_station.curve.slope(source(found_station, minute)) > 0
 }
 
-/// Returns the reference's minute that the offset of the station `found_station` moves to `minute`:
-/// `minute` less the offset's minutes.
+/// Returns the reference station's minute that the offset of the station `found_station` moves to
+/// `minute`: `minute` less the offset's minutes.
 pub fn source(found_station: &FoundStation, minute: i64) -> i64
     requires { IsEvaluable found_station.now minute }
     ensures exact { result ≡ minute -ℤ found_station.now.basis.high.add }
@@ -65,9 +66,9 @@ pub fn source(found_station: &FoundStation, minute: i64) -> i64
     earlier(minute, found_station.basis.high.add)
 }
 
-/// Proves levels, in millionths, that two offsets give from a reference's, of which one doubles the
-/// level and the other halves it. Also proves that a station has a level at each minute if its high and
-/// low waters have the same offsets, and no level otherwise.
+/// Proves examples of levels, in millionths: one offset doubles a reference station's level and adds
+/// 500,000, another halves it, rounded to the nearest millionth. Also proves that a station has a level
+/// at each minute if its high and low waters have the same offsets, and is refused otherwise.
 #[tactic(auto, unfolding(crate::specs::Levels::level_in, decimal_text::specs::Rounding::rounded_of))]
 pub fn worked_levels()
     ensures twice { scaled (record { add = pos 30; times = pos 2000000; plus = pos 500000 }) (pos 1000000) ≡ pos 2500000 }

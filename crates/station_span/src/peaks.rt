@@ -21,13 +21,14 @@ use rate_bound::MarkCurve;
 use std::alloc::{AllocError, Global};
 use tide_fault::Refusal;
 
-/// Returns the station of `stations` that `request` names, with its span, prepared for a search for its
-/// highest water.
+/// Returns the station that `request` names, one of `stations`, ready for a search for its highest water
+/// over the span of `request`.
 ///
 /// # Errors
-/// The first [`Refusal`] in this order: the station, its unit, the span, the limits on its constants,
-/// the mark, a level at each minute. If memory runs out, [`Refusal::NoMemory`] is returned in place of
-/// any other result.
+/// The first [`Refusal`] in this order: the station isn't found, it is a hydraulic current, its span is
+/// backward, empty or outside the file's years, its constants exceed a limit, its span is too long, or
+/// the offsets of its highs and lows differ. If memory runs out, [`Refusal::NoMemory`] is returned in
+/// place of any other result.
 ///
 /// # Examples
 /// ```
@@ -54,8 +55,8 @@ pub fn find_level(
     Ok(found_station)
 }
 
-/// Returns the highest water of the reference among the minutes that the high-water offset of
-/// `found_station` moves into the span of its request, with the cells that show it.
+/// Returns the highest water of the reference station among the minutes that the high-water offset of
+/// `found_station` moves into the span of its request, with the cells that prove it.
 pub fn find_highest(alloc: Global, found_station: &FoundStation) -> Result<Peak, AllocError>
     requires { HasPeak found_station.now }
     ensures exact { IfOk result (λ peak. peak ≡ highest_of found_station.now.curve.book (site_of found_station.now) found_station.now.span_request) }
@@ -70,8 +71,9 @@ pub fn find_highest(alloc: Global, found_station: &FoundStation) -> Result<Peak,
     Ok(peak)
 }
 
-/// Returns the minute of the highest water of the reference among the minutes that the high-water
-/// offset of `found_station` moves into the span of its request. It makes no cells.
+/// Returns the minute of the highest water of the reference station, among the minutes that the
+/// high-water offset of `found_station` moves into the span of its request. Unlike [`find_highest`], it
+/// makes no certificate cells.
 pub fn highest_minute(found_station: &FoundStation) -> i64
     requires { HasPeak found_station.now }
     ensures exact { result ≡ (highest_of found_station.now.curve.book (site_of found_station.now) found_station.now.span_request).at }
@@ -85,9 +87,10 @@ pub fn highest_minute(found_station: &FoundStation) -> i64
     .minute
 }
 
-/// Returns the verdict on `peak` as the highest water of the reference among the minutes that the
-/// high-water offset of `found_station` moves into the span of its request. `peak.value` is below 10^37
-/// in size, and `peak` has fewer than 2^32 cells. The call doesn't allocate.
+/// Returns [`PeakVerdict::Accepted`] if `peak` and its cells prove the highest water of the reference
+/// station among the minutes that the high-water offset of `found_station` moves into the span of its
+/// request; otherwise the first fault. The size of `peak.value` is below 10^37, and `peak` has fewer
+/// than 2^32 cells. The call doesn't allocate.
 pub fn judge_highest(found_station: &FoundStation, peak: &Peak) -> PeakVerdict
     requires peak { HasPeak found_station.now }
     requires size { unsigned_abs peak.now.value < 10 ^ 37 }
@@ -103,8 +106,8 @@ pub fn judge_highest(found_station: &FoundStation, peak: &Peak) -> PeakVerdict
     )
 }
 
-/// Returns the station's minute to which the high-water offset of `found_station` moves the reference's
-/// minute `at`: `at` plus the offset's minutes.
+/// Returns the station's minute to which the high-water offset of `found_station` moves the minute `at`
+/// of its reference station: `at` plus the offset's minutes.
 pub fn moved_minute(found_station: &FoundStation, at: i64) -> i64
     requires peak { HasPeak found_station.now }
     requires inside { IsSourceIn (site_of found_station.now) found_station.now.span_request at }

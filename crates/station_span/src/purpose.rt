@@ -3,11 +3,13 @@
 /// The purpose of a request, which determines the minutes of the reference station that it needs.
 #[derive(Clone, Copy)]
 pub enum Purpose {
-    /// Events: the minutes of the reference whose events the station's offsets can move into the span.
+    /// The request is for events: it needs the reference's minutes whose events the station's offsets
+    /// can move into the span.
     Events,
-    /// Levels: the minutes of the reference that the station's offset moves to minutes of the span.
+    /// The request is for levels: it needs the reference's minutes that the station's offset moves into
+    /// the span.
     Levels,
-    /// The highest water: the minutes of the reference that the station's offset moves into the span,
-    /// which has at least one minute.
+    /// The request is for the highest water: it needs the reference's minutes that the station's offset
+    /// moves into the span. The span must have at least one minute.
     Highest,
 }

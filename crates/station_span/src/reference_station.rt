@@ -12,19 +12,21 @@ use station_curve::StationCurve;
 use std::alloc::Global;
 use tide_fault::Refusal;
 
-/// A reference station that has levels, with its curve for all minutes of the harmonics file.
+/// A reference station whose unit is not knots squared, with its curve for all minutes of the harmonics
+/// file.
 #[derive(Drop)]
 pub struct ReferenceStation<'a> {
     pub station: &'a Station,
     pub curve: StationCurve,
 }
 
-/// Returns the reference station of the station `name` of `stations`, with its curve for all minutes of
-/// the harmonics file.
+/// Returns the reference station of the station called `name`, one of `stations`, with its curve for all
+/// minutes of the harmonics file.
 ///
 /// # Errors
-/// The first [`Refusal`] in this order: the station, its unit, the limits on its constants. If memory
-/// runs out, [`Refusal::NoMemory`] is returned in place of any other result.
+/// The first [`Refusal`] in this order: the station isn't found, its reference is a hydraulic current,
+/// its constants exceed a limit. If memory runs out, [`Refusal::NoMemory`] is returned in place of any
+/// other result.
 #[tactic(auto, unfolding(crate::specs::Sites::station_in))]
 pub fn find_reference<'a>(
     alloc: Global,

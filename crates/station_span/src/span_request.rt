@@ -7,7 +7,7 @@ pub struct SpanRequest {
     pub begin: i64,
     /// The end of the span, in minutes since 1970-01-01T00:00Z. It isn't part of the span.
     pub end: i64,
-    /// The mark: the level whose crossings are listed, in millionths of the station's unit, or `None`
-    /// if none are.
+    /// The mark, in millionths of the station's unit: the level whose crossings are listed. `None` if no
+    /// crossings are listed.
     pub mark: Option<i64>,
 }

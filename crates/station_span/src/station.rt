@@ -40,13 +40,14 @@ use year_blend::year_start;
 /// The greatest number of minutes of a span.
 const SPAN_LIMIT: i64 = 5_270_400;
 
-/// Returns the station of `stations` that `request` names, with its span, its mark, and the curve of its
-/// reference station over the minutes that `purpose` needs: the ones for events, for levels, or for the
-/// highest water.
+/// Returns the station that `request` names, one of `stations`, with the span and mark of `request`, and
+/// with the curve of its reference station over the minutes that `purpose` needs.
 ///
 /// # Errors
-/// The first [`Refusal`] in this order: the station, its unit, the span, the limits on its constants,
-/// the mark. If memory runs out, [`Refusal::NoMemory`] is returned in place of any other result.
+/// The first [`Refusal`] in this order: the station isn't found, it is a hydraulic current, its span is
+/// backward, empty (for [`Purpose::Highest`]) or outside the file's years, its constants exceed a limit,
+/// its span is too long, or the request has a mark but the offsets of highs and lows differ. If memory
+/// runs out, [`Refusal::NoMemory`] is returned in place of any other result.
 ///
 /// # Examples
 /// ```
@@ -78,11 +79,12 @@ pub fn find_station(
     find_at(alloc, book, purpose, basis, station, request)
 }
 
-/// Returns the basis of the station `name` of `stations`: its reference in the book and its offsets.
+/// Returns the basis of the station called `name`, one of `stations`: the index of its reference station
+/// in the book, and its offsets.
 ///
 /// # Errors
-/// [`Refusal::NoStation`] if neither the book nor the table has the name, and [`Refusal::NoReference`]
-/// if the book doesn't have the reference of the table's row.
+/// [`Refusal::NoStation`] if neither the book nor the table has a station called `name`, and
+/// [`Refusal::NoReference`] if the table has it but the book lacks its reference station.
 pub fn find_basis(stations: &StationData<'_>, name: &Text) -> Result<Basis, Refusal>
     ensures exact { result ≡ basis_from (basis_of stations.now.book stations.now.table name.now) }
     ensures valid { IfOk result (IsBasis (length stations.now.book.stations)) }
@@ -128,7 +130,7 @@ fn find_at(
     })
 }
 
-/// Returns the station at index `index`, counted from 0, of the list of `book`.
+/// Returns the station at `index`, counted from 0, in the list of stations of `book`.
 pub fn station_at(book: &Book, index: u32) -> &Station
     requires { index < length book.now.stations }
     ensures { slice_get book.now.stations index ≡ Some result.now }
@@ -136,10 +138,10 @@ pub fn station_at(book: &Book, index: u32) -> &Station
     &book.stations.as_slice()[index as usize]
 }
 
-/// Returns `units` if they are units of levels.
+/// Returns `units` if levels can be given in these units.
 ///
 /// # Errors
-/// [`Refusal::Hydraulic`] if they are knots squared.
+/// [`Refusal::Hydraulic`] if `units` is knots squared, the unit of a hydraulic current.
 pub fn level_units(units: Units) -> Result<Units, Refusal>
     ensures exact { result ≡ level_unit units }
     ensures levels { OnOk result (HasLevels units) }
@@ -162,7 +164,7 @@ fn span_looked_at(
     request: &StationRequest<'_>,
 ) -> Result<Span, Refusal>
     requires offsets { HasOffsets basis.now }
-    ensures found_station { OnOk result (span_in purpose book.now basis.now request.now.span_request.begin request.now.span_request.end ≡ Ok tt) }
+    ensures found { OnOk result (span_in purpose book.now basis.now request.now.span_request.begin request.now.span_request.end ≡ Ok tt) }
     ensures refused { IfErr result (λ refusal.
         span_in purpose book.now basis.now request.now.span_request.begin request.now.span_request.end ≡ Err refusal) }
     ensures exact { IfOk result (λ span. span ≡ reached purpose basis.now request.now.span_request.begin request.now.span_request.end) }
@@ -240,8 +242,8 @@ fn level_span(basis: &Basis, request: &StationRequest<'_>) -> Span
     }
 }
 
-/// Returns `minute` less `add` minutes; `minute` is at most 20,000,000,000 and `add` at most 1,440 in
-/// size.
+/// Returns `minute` less `add` minutes. `minute` is from -20,000,000,000 to 20,000,000,000, and `add`
+/// from -1,440 to 1,440.
 pub fn earlier(minute: i64, add: i32) -> i64
     requires minute { unsigned_abs minute ≤ 20000000000 }
     requires add { unsigned_abs add ≤ 1440 }

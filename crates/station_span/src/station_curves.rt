@@ -13,8 +13,9 @@ use station_curve::StationCurve;
 use std::alloc::Global;
 use tide_fault::Refusal;
 
-/// Returns the curve of `station`, which is at index `index` of `book`, for the minutes of `span` and
-/// the one at its end.
+/// Returns the level and slope curve of `station`, which has index `index` in the list of `book`, for
+/// the minutes of `span` and the minute at its end. The result is a [`Refusal`] if the station is a
+/// hydraulic current, its constants exceed a limit in some year of the book, or memory runs out.
 pub fn curve_over(
     alloc: Global,
     book: &ValidBook<'_>,
@@ -40,12 +41,12 @@ pub fn curve_over(
     }
 }
 
-/// Returns the curve of `station`, which is at index `index` of `book`, for all minutes of the book's
-/// years and the first minute after them.
+/// Returns the level and slope curve of `station`, which has index `index` in the list of `book`, for
+/// all minutes of the book's years and the first minute after them.
 ///
 /// # Errors
-/// [`Refusal::TooLarge`] or [`Refusal::TooSteep`] if its constants exceed a limit in some year;
-/// [`Refusal::NoMemory`] if memory runs out.
+/// [`Refusal::Hydraulic`] for a hydraulic current; [`Refusal::TooLarge`] or [`Refusal::TooSteep`] if the
+/// station's constants exceed a limit in some year; [`Refusal::NoMemory`] if memory runs out.
 pub fn whole_curve(
     alloc: Global,
     book: &ValidBook<'_>,

@@ -8,7 +8,7 @@ use station_table::OffsetTable;
 use std::marker::Model;
 
 /// The stations that can be requested, borrowed: the stations of a valid book of harmonic constants, and
-/// the subordinate stations of a table of offsets. In contracts its value is the book and the table.
+/// the subordinate stations of a table of offsets. In contracts its value is this book and this table.
 #[derive(Drop)]
 pub struct StationData<'a> {
     book: ValidBook<'a>,
@@ -24,8 +24,8 @@ impl<'a> Model for StationData<'a> {
 }
 
 impl<'a> StationData<'a> {
-    /// Returns the stations of `book` and of `table`; the caller proves that the counts, names and
-    /// values of `book` are in the ranges of a file.
+    /// Returns the stations of `book` together with the subordinate stations of `table`. The caller
+    /// proves that the counts, names and values of `book` are in the ranges of a harmonics file.
     pub fn new(book: &'a Book, table: &'a OffsetTable) -> StationData<'a>
         requires { IsBook book.now }
         ensures { result ≡ record { book = book.now; table = table.now } }
@@ -36,14 +36,14 @@ impl<'a> StationData<'a> {
         }
     }
 
-    /// Borrows the book of harmonic constants.
+    /// Borrows the book of harmonic constants, which has the reference stations.
     pub fn book(&self) -> &ValidBook<'a>
         ensures { result.now ≡ self.now.book }
     {
         &self.book
     }
 
-    /// Borrows the table of offsets.
+    /// Borrows the table of offsets, which has the subordinate stations.
     pub fn table(&self) -> &'a OffsetTable
         ensures { result.now ≡ self.now.table }
     {

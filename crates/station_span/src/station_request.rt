@@ -7,9 +7,9 @@ use crate::span_request::SpanRequest;
 use decimal_text::Text;
 use std::marker::Model;
 
-/// A request about a station over a span, with its name borrowed and an optional mark. The minutes and
-/// the mark are in the ranges that a request, a certificate or a clock can give. In contracts its value
-/// is the name, the span and the mark.
+/// A request about a station, which it names: a span and an optional mark. The name is borrowed. Minutes
+/// are at most 20,000,000,000 in size, and the mark at most 10,000,000,000 millionths. In contracts its
+/// value is the name, the span and the mark.
 #[derive(Drop)]
 pub struct StationRequest<'a> {
     name: &'a Text,
@@ -28,9 +28,9 @@ impl<'a> Model for StationRequest<'a> {
 }
 
 impl<'a> StationRequest<'a> {
-    /// Returns the request about the station `name` over the span of `span_request`, with its mark. The
-    /// minutes of `span_request` are at most 20,000,000,000 in size, and its mark at most 10,000,000,000
-    /// millionths.
+    /// Returns the request about the station called `name`, over the span and with the mark of
+    /// `span_request`. The minutes of the span are at most 20,000,000,000 in size, and the mark, if any,
+    /// is at most 10,000,000,000 millionths in size.
     pub fn new(name: &'a Text, span_request: SpanRequest) -> StationRequest<'a>
         requires { IsInRange span_request }
         ensures { result ≡ record { name = name.now; span_request = span_request } }

@@ -2,7 +2,7 @@
 use Rattle.std.specs.Prelude.{ℕ, List, [], ◌∷◌, ◌++◌, codes}
 use Rattle.std.specs.List.{flat_map}
 
--- the text of the page of the version
+-- the text that `--version` prints
 abbrev pub version_text : List ℕ
 version_text = codes "tide 1.0.0\n"
 
@@ -10,7 +10,7 @@ version_text = codes "tide 1.0.0\n"
 abbrev line_text : List ℕ → List ℕ
 line_text line = line ++ codes "\n"
 
--- the lines of the page of help
+-- the lines that `--help` prints
 abbrev pub help_lines : List (List ℕ)
 help_lines =
     codes "Predicts tides and tidal currents at a station, from harmonic constants."
@@ -64,6 +64,6 @@ help_lines =
     ∷ codes "NOT FOR NAVIGATION."
     ∷ []
 
--- the text of the page of help
+-- the text that `--help` prints
 abbrev pub help_text : List ℕ
 help_text = flat_map line_text help_lines

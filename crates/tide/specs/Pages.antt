@@ -9,29 +9,30 @@ use Rattle.tide.specs.declared.help.InfoPage.{InfoPage}
 use Rattle.tide.specs.declared.help.InfoPage.TheVariants.{Help, Version}
 use Rattle.tide.specs.PageTexts.{help_text, version_text}
 
--- the text of a page
+-- the text of a page about the program itself: its help or its version
 abbrev pub page_text : InfoPage → List ℕ
 page_text Help = help_text
 page_text Version = version_text
 
--- an argument is this option, in its short or its long form
+-- Bool: whether the argument `word` is an option, in its short or in its long form
 abbrev pub is_option : List ℕ → List ℕ → List ℕ → Bool
 is_option short long word = bytes_eq word short || bytes_eq word long
 
--- an argument is the option for help, `-h` or `--help`
+-- Bool: whether the argument `word` is the option for help, `-h` or `--help`
 abbrev pub asks_for_help : List ℕ → Bool
 asks_for_help word = is_option (codes "-h") (codes "--help") word
 
--- an argument is the option for the version, `-V` or `--version`
+-- Bool: whether the argument `word` is the option for the version, `-V` or `--version`
 abbrev pub asks_for_version : List ℕ → Bool
 asks_for_version word = is_option (codes "-V") (codes "--version") word
 
--- the first argument is the option for the version, `-V` or `--version`
+-- Bool: whether the first argument is the option for the version, `-V` or `--version`
 abbrev pub first_asks_for_version : List (List ℕ) → Bool
 first_asks_for_version [] = false
 first_asks_for_version (word ∷ words) = asks_for_version word
 
--- the page that the arguments request: any of them can request help, and the first the version
+-- the page that the arguments request: the help if any argument is the option for it, else the version
+-- if the first argument is the option for it, else None
 abbrev pub page_of : List (List ℕ) → Option InfoPage
 page_of words =
     if list_any asks_for_help words then Some Help
@@ -40,14 +41,14 @@ page_of words =
 
 -- ---- The three kinds of arguments
 
--- a page about the program as the answer of a run
+-- a page about the program (its help or its version), as the answer of a run
 abbrev pub page_answer : InfoPage → Result Answer RunFault
 page_answer page = Ok (record { text = page_text page; rejected = false; cells = 0 })
 
--- the arguments request neither a page nor `serve`
+-- the arguments request neither the help nor the version, and their command isn't `serve`
 abbrev pub AsksAnswer : List (List ℕ) → Type 0
 AsksAnswer words = (page_of words ≡ None) × (asks_to_serve words ≡ false)
 
--- the arguments request no page, and their command is `serve`
+-- the arguments request neither the help nor the version, and their command is `serve`
 abbrev pub AsksService : List (List ℕ) → Type 0
 AsksService words = (page_of words ≡ None) × (asks_to_serve words ≡ true)

@@ -18,12 +18,13 @@ use Rattle.tide.specs.ArgumentErrors.{Given, HasWords, LacksWords, line_of, stat
 use Rattle.tide.specs.Pages.{AsksAnswer, AsksService, page_answer, page_of}
 use Rattle.tide.specs.declared.arguments.ArgumentError.{ArgumentError}
 
--- the sheets of a report in the order of their pages, each with the greatest number of events that it
--- accepts
+-- the sheets that a report can have, in the order of their pages, each with the greatest number of
+-- events that it accepts
 abbrev pub program_sheets : List SheetSpec
 program_sheets = tally_sheet 1000000 ∷ range_sheet 1000000 ∷ first_sheet 10 ∷ ical_sheet 100000 ∷ []
 
--- the objects of the program: files, a port, standard output, standard error and a clock
+-- the files, the port (`door`), the standard output, the standard error and the clock of a run of the
+-- program, each of any type
 pub record World (F D O E K : Type 0) : Type 0 where
   pub files : F
   pub door : D
@@ -31,11 +32,11 @@ pub record World (F D O E K : Type 0) : Type 0 where
   pub err : E
   pub clock : K
 
--- the objects of the program as one record
+-- files, a port, standard output, standard error and a clock as one record
 abbrev pub world : {F D O E K : Type 0} → F → D → O → E → K → World F D O E K
 world files door out err clock = record { files = files; door = door; out = out; err = err; clock = clock }
 
--- the states of objects of any kind
+-- functions that give the states of the files, the port, both outputs and the clock, each of any type
 pub record WorldStates (F D O E K : Type 0) : Type 0 where
   pub files : F → FilesState
   pub door : D → DoorState
@@ -43,13 +44,14 @@ pub record WorldStates (F D O E K : Type 0) : Type 0 where
   pub err : E → SinkState
   pub clock : K → ClockState
 
--- the states of the program's objects as one record
+-- the functions that give the states of files, a port, two outputs and a clock, as one record
 abbrev pub world_states : {F D O E K : Type 0} → (F → FilesState) → (D → DoorState) → (O → SinkState) → (E → SinkState) → (K → ClockState)
     → WorldStates F D O E K
 world_states files door out err clock = record { files = files; door = door; out = out; err = err; clock = clock }
 
--- The arguments request a page or an answer, or serve. A page is written without allocating and uses
--- nothing else, an answer doesn't use the port, and serving doesn't use `out`.
+-- The program responds to the arguments `words`: it prints its help or its version, or serves, or
+-- answers a request. Help and version are written without allocating and use no files, port or clock; an
+-- answer doesn't use the port; and serving doesn't use `out`.
 pub record RespondsAs {F D O E K : Type 0} (s : WorldStates F D O E K) (sheets : List SheetSpec)
     (words : List (List ℕ)) (status : Status)
     (before after : World F D O E K) : Type 0 where
@@ -66,8 +68,8 @@ pub record RespondsAs {F D O E K : Type 0} (s : WorldStates F D O E K) (sheets :
 
 -- ---- The program's arguments
 
--- There are no arguments: one line on standard error and the exit status say why, and nothing else is
--- used.
+-- The arguments can't be used: one line on standard error and the exit status say why, and nothing else
+-- is used.
 pub record RefusesAs {F D O E K : Type 0} (s : WorldStates F D O E K) (why : ArgumentError) (status : Status)
     (before after : World F D O E K)
     : Type 0 where
@@ -79,8 +81,8 @@ pub record RefusesAs {F D O E K : Type 0} (s : WorldStates F D O E K) (why : Arg
   pub same_out : after.out ≡ before.out
   pub same_clock : after.clock ≡ before.clock
 
--- The program responds to its arguments, with the program's sheets for a report; or there are no
--- arguments, or no memory for the sheets.
+-- The program responds to its arguments, with its four sheets for a report; or the arguments can't be
+-- used, or there is no memory for the sheets, and it says so.
 abbrev pub AnswersArguments : {F D O E K A : Type 0} → WorldStates F D O E K → Given A → Status → World F D O E K → World F D O E K → Type 0
 AnswersArguments s arguments status before after =
     ((words : List (List ℕ)) × HasWords arguments words × RespondsAs s program_sheets words status before after)
@@ -88,7 +90,8 @@ AnswersArguments s arguments status before after =
 
 -- ---- The machine
 
--- nothing was done yet: no file opened, no byte accepted, the clock not read, and the port not listened to
+-- nothing was done yet: no file was opened, nothing was written, the clock wasn't read, the port wasn't
+-- listened to, and no fault was counted
 pub record IsFresh {F D O E K : Type 0} (s : WorldStates F D O E K) (w : World F D O E K) : Type 0 where
   pub open_log : (s.files w.files).open_log ≡ no_openings
   pub files_faults : (s.files w.files).faults ≡ 0
@@ -102,8 +105,9 @@ pub record IsFresh {F D O E K : Type 0} (s : WorldStates F D O E K) (w : World F
   pub clock_read : (s.clock w.clock).readings ≡ 0
   pub clock_faults : (s.clock w.clock).faults ≡ 0
 
--- There are objects of these types, fresh before the run and in these states after it, over which the
--- program responds to its arguments. The two outputs are the ones over the streams that were passed.
+-- There are files, a port, two outputs and a clock, unused before the run and in the states `after` it,
+-- with which the program responds to its arguments. The two outputs meet the conditions `is_out` and
+-- `is_err`, that is, write to the streams that were passed.
 abbrev pub AnswersOver : {F D O E K A : Type 0} → WorldStates F D O E K → (O → Type 0) → (E → Type 0) → Given A → Status → Type 0
 AnswersOver {F} {D} {O} {E} {K} s is_out is_err arguments status =
     (before : World F D O E K) × (after : World F D O E K) × IsFresh s before × is_out before.out × is_err before.err

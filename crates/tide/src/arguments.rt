@@ -13,16 +13,17 @@ use std::io::{self, ErrorKind};
 use tide_edge::Sink;
 use tide_fault::Status;
 
-/// The reason why the program has no arguments.
+/// The reason why the program can't use its arguments.
 #[derive(Clone, Copy, PartialEq, Eq)]
 pub enum ArgumentError {
     /// An argument isn't UTF-8.
     NotText,
-    /// Memory ran out.
+    /// Memory ran out while the arguments were read.
     NoMemory,
 }
 
-/// Returns the arguments after the program's name, from the system's `arguments`.
+/// Returns the program's arguments as words, without the program's name, which is the first of the
+/// system's `arguments`.
 ///
 /// # Errors
 /// [`ArgumentError::NotText`] if an argument isn't UTF-8, and [`ArgumentError::NoMemory`] if memory runs
@@ -47,7 +48,8 @@ fn why_of(kind: ErrorKind) -> ArgumentError
     }
 }
 
-/// Returns all arguments after the program's name, in the order of the command line.
+/// Returns all `arguments` except the first, which is the program's name, in the order of the command
+/// line.
 pub fn words_of(alloc: Global, mut arguments: Args) -> Result<Words, AllocError>
     ensures { IfOk result (λ words. words ≡ map string_bytes (drop 1 (into_iter_items arguments))) }
 {
@@ -59,8 +61,8 @@ pub fn words_of(alloc: Global, mut arguments: Args) -> Result<Words, AllocError>
     Ok(Words::from_vec(words))
 }
 
-/// Writes the line for the reason `why` to `err`, and returns the exit status for it, even if the write
-/// fails.
+/// Writes to `err` the line that reports `why`, the reason why the arguments can't be used, and returns
+/// the exit status for this reason, even if the write fails.
 pub fn report_argument_error<E: Sink>(why: ArgumentError, err: &mut E) -> Status
     ensures status { result ≡ status_of why }
     ensures line { (failed : Bool) × Wrote (E.state err.old) (E.state err.new) failed (line_of why) }

@@ -11,9 +11,9 @@ use std::io;
 use tide_edge::{Clock, Door, Files, Sink};
 use tide_fault::Status;
 
-/// Responds to `arguments`, with the sheets `tally`, `range`, `first` and `ical` for a report, over only
-/// the objects that are passed; or, if there are no arguments, writes the reason to `err`. Returns the
-/// exit status, 0 to 8.
+/// Responds to `arguments`, using only the objects that are passed, and returns the exit status, 0 to 8.
+/// A report can have the sheets `tally`, `range`, `first` and `ical`. If the arguments can't be used,
+/// the reason is written to `err`.
 pub fn respond_to<F: Files, D: Door, O: Sink, E: Sink, K: Clock>(
     alloc: Global,
     arguments: io::Result<Args>,

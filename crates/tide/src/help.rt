@@ -62,7 +62,7 @@ NOT FOR NAVIGATION.
 /// The page of the version.
 const VERSION: &str = "tide 1.0.0\n";
 
-/// A page about the program itself.
+/// A page of text about the program itself: its help or its version.
 #[derive(Clone, Copy, PartialEq, Eq)]
 pub enum InfoPage {
     Help,
@@ -70,7 +70,7 @@ pub enum InfoPage {
 }
 
 impl InfoPage {
-    /// Returns the text of the page.
+    /// Returns the text of the help or of the version.
     pub fn text(self) -> &'static str
         ensures { result.now ≡ page_text self }
     {
@@ -81,8 +81,8 @@ impl InfoPage {
     }
 }
 
-/// Returns the page that the arguments `words` request: help if any of them is `-h` or `--help`,
-/// otherwise the version if the first is `-V` or `--version`, and `None` for all other arguments.
+/// Returns the page that the arguments `words` request: the help if any of them is `-h` or `--help`,
+/// else the version if the first is `-V` or `--version`, else `None`.
 pub fn page_asked(words: &Words) -> Option<InfoPage>
     ensures { result ≡ page_of words.now }
 {

@@ -12,8 +12,8 @@ use std::rt;
 use tide_edge::{Clock, Door, Files, HostClock, HostDoor, HostFiles, HostSink, Sink};
 use tide_fault::Status;
 
-/// Responds to `arguments` over the files, the port and the clock of `machine`, and over the
-/// streams `out` and `err`. Returns the exit status, 0 to 8.
+/// Responds to `arguments`, with the files, the port and the clock of `machine`, writing to the streams
+/// `out` and `err`. Returns the exit status, 0 to 8.
 pub fn respond_here<R, W, V>(machine: R, arguments: io::Result<Args>, out: W, err: V) -> Status
 where
     R: rt::Files + rt::Clock + Net + AllocGlobal + Copy + Drop,

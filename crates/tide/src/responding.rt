@@ -17,10 +17,11 @@ use tide_edge::{Clock, Door, Files, Sink, write_all};
 use tide_fault::Status;
 use tide_server::serve;
 
-/// Writes the page that the arguments `words` request, or serves if their command is `serve`, or
-/// otherwise answers them, over only the objects that are passed; `sheets` are the sheets of a report.
-/// Returns the exit status, 0 to 8. A page doesn't use files, port or clock and doesn't allocate; an
-/// answer doesn't use the port, and serving doesn't use `out`.
+/// Responds to the arguments `words`, using only the objects that are passed: writes the help or the
+/// version if they request it, serves if their command is `serve`, and otherwise answers them. `sheets`
+/// are the sheets that a report can have. Returns the exit status, 0 to 8. Help and version are written
+/// without allocating and use no files, port or clock; an answer doesn't use the port, and serving
+/// doesn't use `out`.
 pub fn respond<F: Files, D: Door, O: Sink, E: Sink, K: Clock>(
     alloc: Global,
     words: &Words,

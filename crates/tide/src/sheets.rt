@@ -20,11 +20,11 @@ const MOST_FIRST: u32 = 10;
 /// The greatest number of events that the sheet `ical` accepts.
 const MOST_IN_CALENDAR: u32 = 100_000;
 
-/// Responds to the arguments `words`, like [`respond`], with the sheets `tally`, `range`, `first` and
-/// `ical`.
+/// Responds to the arguments `words` as [`respond`] does; a report can have the sheets `tally`, `range`,
+/// `first` and `ical`.
 ///
 /// # Errors
-/// [`AllocError`] if memory for the sheets ran out: then nothing was read or written.
+/// [`AllocError`] if memory for the sheets runs out: then nothing was read or written.
 pub fn respond_with_sheets<F: Files, D: Door, O: Sink, E: Sink, K: Clock>(
     alloc: Global,
     words: &Words,

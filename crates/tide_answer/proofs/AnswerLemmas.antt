@@ -95,11 +95,11 @@ listed_refused memory book table question request refusal named excused =
     rw (parts.0, parts.1) (excused_then memory (site_in Events book table request.name request.span_request) _ refusal excused)
 
 pub listed_whole : (book : Book) (table : List Offsets) (question : Question) (request : NamedSpan) (site : Site)
-    (found_station : FoundEvents) → named_span question ≡ Ok request
-    → site_in Events book table request.name request.span_request ≡ Ok site → IsSiteList book request.span_request site found_station
-    → listed book table question ≡ Ok (record { name = request.name; units = found_station.units; events = found_station.events })
+    (found : FoundEvents) → named_span question ≡ Ok request
+    → site_in Events book table request.name request.span_request ≡ Ok site → IsSiteList book request.span_request site found
+    → listed book table question ≡ Ok (record { name = request.name; units = found.units; events = found.events })
 unfolding listed
-listed_whole book table question request site found_station named expected list =
+listed_whole book table question request site found named expected list =
     let parts = named_parts question request named in
     rw (parts.0, parts.1, expected, list.units, list.events) refl
 

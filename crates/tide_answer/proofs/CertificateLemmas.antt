@@ -135,7 +135,7 @@ certificate_valid name book span_request site tracks named begin end is same =
       marked = marked_alike span_request.mark _ (cover_over s);
     })
 
--- ---- the text is short, whoever wrote it
+-- ---- every accepted text is short
 
 pub accepted_usual : (version : Version) (book : Book) (span_request : SpanRequest) (site : Site) (c : Certificate) → IsFound Events book span_request site
     → AreAccepted (followed_by version book site span_request.mark) (widened_of site.basis span_request.begin span_request.end) c.tracks → HasUsualLevels c

@@ -117,7 +117,7 @@ pub ok_has : (A E : Type 0) (r : Result A E) (x : A) (P : A → Type 0) → P x 
 ok_has A E (Ok v) x P has is = rw is has
 ok_has A E (Err fault) x P has is = tt
 
--- ---- the events are those of either version
+-- ---- both versions have the same events
 
 slack_events : (s : Span) (asks : Bool) (c d : CurveSpec) → c.track ≡ d.track
     → flat_map (events_over s) (option_to_list (if_asked asks c))

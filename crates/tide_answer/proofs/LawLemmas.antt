@@ -72,7 +72,7 @@ if_marked_lists s (Some level) f g (Some cells) same listed = rw (← same level
 if_marked_lists s None f g None same listed = listed
 if_marked_lists s None f g (Some cells) same listed = listed
 
--- the versions differ in their rates alone
+-- the versions differ only in their rates
 version_lists : (v : Version) (book : Book) (site : Site) (cert : Certificate) (s : Span)
     → ListsEvents s (followed_by v book site cert.mark) cert.tracks
     → ListsEvents s (followed_by Second book site cert.mark) cert.tracks

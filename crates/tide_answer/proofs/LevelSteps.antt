@@ -1,4 +1,4 @@
--- The results of the steps of a list of levels, and of those of a station's clock.
+-- The results of the steps of a list of levels, and of the steps of `clock`.
 use Rattle.std.proofs.Common.{◌≡◌, ℕ, ℤ, Bool, false, List, Ok, refl}
 use Rattle.decimal_text.specs.Expected.{Excused}
 use Rattle.harmonics_book.specs.declared.book.Book.{Book}

@@ -87,10 +87,10 @@ pub zone_some : (streams : Bool) (zone inputs : Zone) → Some zone ≡ (if stre
 zone_some true zone inputs is = (refl, cc)
 zone_some false zone inputs is = absurd cc
 
-pub zone_none : (streams : Bool) (inputs : Zone)
-    → (let o : Option Zone = None in o) ≡ (if streams then Some inputs else None) → streams ≡ false
-zone_none true inputs is = absurd cc
-zone_none false inputs is = refl
+pub zone_none : (streams : Bool) (zone : Zone)
+    → (let o : Option Zone = None in o) ≡ (if streams then Some zone else None) → streams ≡ false
+zone_none true zone is = absurd cc
+zone_none false zone is = refl
 
 pub plain_if : (layout : Layout) (basis : Basis) (zone : Zone) → streams_by basis layout zone ≡ true → IsTrue (is_plain basis)
 plain_if layout basis zone streams = (both (is_plain basis) _ streams).0

@@ -100,16 +100,16 @@ use Rattle.tide_answer.specs.Trials.{trial_of}
 abbrev pub text_alone : List ℕ → Answer
 text_alone text = record { text = text; rejected = false; cells = 0 }
 
--- an answer that lists events, with the number of cells of the requested tracks over the minutes that
--- were searched
+-- an answer that lists events: `text`, no rejection, and the number of cells (stretches of minutes with
+-- at most one event) of the search for the events
 abbrev pub text_of_events : Book → Site → SpanRequest → List ℕ → Answer
 text_of_events book site span_request text = record { text = text; rejected = false; cells = cells_of book site span_request }
 
--- the answer that accepts a certificate: the line `Accepted`, and the text after it
+-- the answer that accepts a certificate: the line `Accepted`, and then the text `shown`
 abbrev pub text_accepted : List ℕ → Answer
 text_accepted shown = text_alone (codes "Accepted\n" ++ shown)
 
--- the answer that rejects a certificate with the line of its first fault
+-- the answer that rejects a certificate; `line` reports the first fault
 abbrev pub text_rejected : List ℕ → Answer
 text_rejected line = record { text = line; rejected = true; cells = 0 }
 
@@ -130,7 +130,7 @@ on_calendar book table name span_request zone = do
 
 -- ---- certificates
 
--- the certificate of a station's events, with the cells of version 2
+-- the certificate, by the rules of version 2, of the events of the station called `name` over a span
 abbrev pub certificate_by : Book → Site → List ℕ → SpanRequest → Certificate
 certificate_by book site name span_request = record {
   version = 2;
@@ -147,24 +147,26 @@ certified book table name span_request = do
   site ← site_in Events book table name span_request
   Ok (text_of_events book site span_request (certificate_text (certificate_by book site name span_request)))
 
--- the certificate of a text, or the refusal
+-- the same certificate, or the refusal for the fault of a text that isn't a certificate
 abbrev pub certificate_from : Result Certificate CertFault → Result Certificate Refusal
 certificate_from (Ok cert) = Ok cert
 certificate_from (Err fault) = Err (refusal_of_cert fault)
 
--- the version of the rates (bounds on how much a curve changes in a minute) by which a certificate is
--- checked
+-- the version of the rules for bounding how much a curve changes in a minute, by which a certificate is
+-- checked: First for a certificate of version 1, else Second
 abbrev pub version_of : Certificate → Version
 version_of cert = if cert.version == 1 then First else Second
 
--- the answer to the check of a certificate: if it is valid, `Accepted` and the events of the
--- certificate's station, span and mark, else the rejection
+-- the answer of the command `check` for the certificate `cert`: without a rejection, `Accepted` and the
+-- events of the certificate's station, span and mark in the local time of `zone`; with one, the line
+-- that reports it
 abbrev pub judged : Book → Site → Certificate → Zone → Option Rejection → Answer
 judged book site cert zone None =
     text_accepted (plain_events_of cert.station site.station.units (events_of book site (request_by_certificate cert)) zone)
 judged book site cert zone (Some rejection) = text_rejected (rejection_line rejection)
 
--- the answer of the command `check`: whether a certificate is valid, or the first refusal
+-- the answer of the command `check` for the text `bytes`: whether it is a valid certificate, or the
+-- first refusal
 unfoldable pub checked : Book → List Offsets → List ℕ → Zone → Result Answer Refusal
 checked book table bytes zone = do
   cert ← certificate_from (certificate_of bytes)
@@ -174,32 +176,34 @@ checked book table bytes zone = do
 
 -- ---- levels
 
--- the number of rows of a span, one every `step` minutes from `begin` on; `end` has a row if a step
--- leads to it
+-- the number of rows of a listing of levels, one every `step` minutes from `begin` on; `end` has a row
+-- if a step leads to it
 abbrev pub row_count : ℤ → ℤ → ℤ → ℕ
 row_count begin end step = unsigned_abs (end -ℤ begin) / unsigned_abs step + 1
 
--- the greatest number of rows of a listing of heights
+-- the greatest number of rows that a listing of levels may have
 abbrev pub row_limit : ℕ
 row_limit = 100000
 
--- the check of the number of rows: more than 100,000 are refused
+-- Ok if a listing of levels, one every `step` minutes from `begin` to `end`, has at most 100,000 rows;
+-- otherwise the refusal TooManyRows with their number
 unfoldable pub rows_in : ℤ → ℤ → ℤ → Result (Unit {0}) Refusal
 rows_in begin end step =
     if nat_lt row_limit (row_count begin end step) then Err (TooManyRows (pos (row_count begin end step))) else Ok tt
 
--- the row of heights at an index: `index` steps of `step` minutes after `begin`
+-- the row of a listing of levels at `index`, counted from 0: the minute `index` times `step` minutes
+-- after `begin`, and the station's level then
 abbrev pub row_at : Book → Site → ℤ → ℤ → ℕ → Row
 row_at book site begin step index =
     let minute = begin +ℤ (step *ℤ pos index) in record { minute = minute; level = level_at book site minute }
 
--- the rows of heights of a span, one every `step` minutes from `begin` on; `end` has a row if a step
+-- the rows of a listing of levels, one every `step` minutes from `begin` on; `end` has a row if a step
 -- leads to it
 abbrev pub rows_of : Book → Site → ℤ → ℤ → ℤ → List Row
 rows_of book site begin end step = map (row_at book site begin step) (range_with_len 0 (row_count begin end step))
 
--- the answer of the command `heights`: the levels of a station at even steps of time, or the first
--- refusal
+-- the answer of the command `heights`: the levels of a station over a span, one every `step` minutes, or
+-- the first refusal
 unfoldable pub heights : Book → List Offsets → List ℕ → SpanRequest → ℤ → Layout → Zone → Result Answer Refusal
 heights book table name span_request step layout zone = do
   site ← site_in Levels book table name span_request
@@ -207,8 +211,8 @@ heights book table name span_request step layout zone = do
   few ← rows_in span_request.begin span_request.end step
   Ok (text_alone (heights_text layout name site.station.units (rows_of book site span_request.begin span_request.end step) zone))
 
--- the answer of the command `clock`: the level at a minute and whether it rises, and the events of the
--- 1,440 minutes from there on
+-- the answer of the command `clock`: the level at the minute `now`, whether it rises then, and the
+-- events of the 1,440 minutes from `now` on; or the first refusal
 unfoldable pub on_clock : Book → List Offsets → List ℕ → ℤ → Zone → Result Answer Refusal
 on_clock book table name now zone = do
   site ← site_in Events book table name (request_from_minute now)
@@ -219,8 +223,8 @@ on_clock book table name now zone = do
 
 -- ---- the highest water
 
--- the listing of a highest water; `at` is its minute at the reference station, which the high-water
--- offset moves
+-- the text of the command `highest`: the station's name, and the minute and level of its highest water;
+-- `at` is the reference station's minute, to which the high-water offset adds its minutes
 abbrev pub highest_text_at : Book → Site → List ℕ → ℤ → Zone → List ℕ
 highest_text_at book site name at zone =
     let minute = at +ℤ site.basis.high.add in highest_text_of name site.station.units minute (level_at book site minute) zone
@@ -231,7 +235,7 @@ highest book table name span_request zone = do
   site ← highest_site book table name span_request
   Ok (text_alone (highest_text_at book site name (highest_of book site span_request).at zone))
 
--- the certificate of the highest water of a station over a span
+-- the certificate of the highest water, over the span of a request, of the station called `name`
 abbrev pub peak_certificate_by : Book → Site → List ℕ → SpanRequest → PeakCertificate
 peak_certificate_by book site name span_request =
     record { station = name; begin = span_request.begin; end = span_request.end; peak = highest_of book site span_request }
@@ -242,24 +246,24 @@ peak_certified book table name span_request = do
   site ← highest_site book table name span_request
   Ok (text_alone (peak_text (peak_certificate_by book site name span_request)))
 
--- the refusal of bytes that aren't the text of a certificate of a highest water
+-- the refusal for the fault of a text that isn't a certificate of a highest water
 abbrev pub refusal_of_peak : PeakFault → Refusal
 refusal_of_peak peak.NoMemory = NoMemory
 refusal_of_peak (peak.NotACertificate line) = NotACertificate line
 
--- the certificate of a highest water of a text, or the refusal
+-- the same certificate of a highest water, or the refusal for the fault of a text that isn't one
 abbrev pub peak_from : Result PeakCertificate PeakFault → Result PeakCertificate Refusal
 peak_from (Ok cert) = Ok cert
 peak_from (Err fault) = Err (refusal_of_peak fault)
 
--- the answer to the check of a certificate of a highest water: if it is valid, `Accepted` and this
--- highest water in universal time, else the rejection
+-- the answer of the command `peakcheck` for the certificate `cert`: if the verdict accepts it,
+-- `Accepted` and its highest water in universal time; otherwise the line that reports the fault
 abbrev pub peak_judged : Book → Site → PeakCertificate → PeakVerdict → Answer
 peak_judged book site cert Accepted = text_accepted (highest_text_at book site cert.station cert.peak.at Utc)
 peak_judged book site cert verdict = text_rejected (verdict_line verdict)
 
--- the answer of the command `peakcheck`: whether a certificate of a highest water is valid, or the first
--- refusal
+-- the answer of the command `peakcheck` for the text `bytes`: whether it is a valid certificate of a
+-- highest water, or the first refusal
 unfoldable pub peak_checked : Book → List Offsets → List ℕ → Result Answer Refusal
 peak_checked book table bytes = do
   cert ← peak_from (peak_of bytes)
@@ -268,11 +272,12 @@ peak_checked book table bytes = do
 
 -- ---- the facts of a station
 
--- the number of constituents of a station that have an amplitude
+-- the number of constituents whose amplitude at the station isn't 0
 abbrev pub constituent_count : Station → ℕ
 constituent_count station = count_by (λ amplitude. not (int_eq amplitude (pos 0))) station.amplitude
 
--- the answer of the command `about`: the facts about a station, or the first refusal
+-- the answer of the command `about` for the station called `name`: its reference, unit, number of
+-- constituents and slope bound, or the first refusal
 unfoldable pub station_about : Book → List Offsets → List ℕ → Result Answer Refusal
 station_about book table name = do
   site ← station_in book table name
@@ -282,29 +287,29 @@ station_about book table name = do
 -- ---- every request
 
 -- the refusal of a question without the station, the span or the seed that its command needs, and of a
--- question for a command that has no answer here; each question that was read from text has what its
+-- command that isn't answered here (`report`, `serve`); a question that was read from text has what its
 -- command needs
 abbrev pub refusal_of_incomplete : Refusal
 refusal_of_incomplete = NoStation
 
--- a value that a command needs, or the refusal if it is missing
+-- Ok with a value that a command needs, or the refusal of an incomplete question if it is missing
 abbrev pub named_by : {A : Type 0} → Option A → Result A Refusal
 named_by value = ok_or value refusal_of_incomplete
 
--- the answer of a command that needs a station and a span
+-- the result of `next` for the name and the span of a question, or the refusal if one of them is missing
 unfoldable pub asks_span : Question → (List ℕ → SpanRequest → Result Answer Refusal) → Result Answer Refusal
 asks_span question next = do
   name ← named_by question.station
   span_request ← named_by (request_by_question question)
   next name span_request
 
--- the answer of a command that needs a station
+-- the result of `next` for the name of the station of a question, or the refusal if it is missing
 unfoldable pub asks_name : Question → (List ℕ → Result Answer Refusal) → Result Answer Refusal
 asks_name question next = do
   name ← named_by question.station
   next name
 
--- the events of the station, span and mark of a question, for a report
+-- the events, for a report, of the station, span and mark of a question, or the first refusal
 unfoldable pub listed : Book → List Offsets → Question → Result Listed Refusal
 listed book table question = do
   name ← named_by question.station
@@ -312,17 +317,18 @@ listed book table question = do
   site ← site_in Events book table name span_request
   Ok (record { name = name; units = site.station.units; events = events_of book site span_request })
 
--- the answer of a command that reads no file, from its seed; all other commands need a station
+-- the answer of a command that reads no file (`sample` or `trial`) for its seed; a refusal for any other
+-- command, or without a seed
 abbrev pub text_from : Command → Option ℕ → Result Answer Refusal
 text_from Sample (Some seed) = Ok (text_alone (sample_of seed))
 text_from Trial (Some seed) = trial_of seed >>= λ text. Ok (text_alone text)
 text_from _ _ = Err refusal_of_incomplete
 
--- the answer to a request that names no file, or the first refusal
+-- the answer to a question whose command reads no file (`sample` or `trial`), or the first refusal
 unfoldable pub answered_without_files : Question → Result Answer Refusal
 answered_without_files question = text_from question.command question.seed
 
--- the answer of a command that needs a span; other commands have no answer here
+-- the answer of a command that needs a station called `name` and a span; a refusal for any other command
 abbrev pub text_over : Command → Book → List Offsets → Question → Zone → List ℕ → SpanRequest → Result Answer Refusal
 text_over Predict book table question zone name span_request = predicted book table name span_request question.layout zone
 text_over Certify book table question zone name span_request = certified book table name span_request
@@ -332,7 +338,8 @@ text_over Highest book table question zone name span_request = highest book tabl
 text_over Peak book table question zone name span_request = peak_certified book table name span_request
 text_over _ book table question zone name span_request = Err refusal_of_incomplete
 
--- the answer of a command to a question
+-- the answer of a command to a question, with the harmonic constants `book`, the offsets `table` and the
+-- zone, certificate and present minute of `inputs`
 abbrev pub text_by : Command → Book → List Offsets → Question → Given → Result Answer Refusal
 text_by Check book table question inputs = checked book table inputs.certificate inputs.zone
 text_by PeakCheck book table question inputs = peak_checked book table inputs.certificate
@@ -347,6 +354,7 @@ text_by Serve book table question inputs = Err refusal_of_incomplete
 text_by command book table question inputs =
     asks_span question (text_over command book table question inputs.zone)
 
--- the answer to a request over harmonic constants and a table that were read, or the first refusal
+-- the answer to a question with the harmonic constants `book` and the offsets `table`, or the first
+-- refusal
 unfoldable pub answered : Book → List Offsets → Question → Given → Result Answer Refusal
 answered book table question inputs = text_by question.command book table question inputs

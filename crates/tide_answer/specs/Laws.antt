@@ -28,14 +28,14 @@ use Rattle.tide_answer.specs.Asking.{request_by_certificate}
 use Rattle.station_span.specs.Following.{followed}
 use Rattle.station_span.specs.Sites.{Site, site_in}
 
--- a request that a command line can make: its moments are in the years 1 to 9999, and its mark is at
--- most 10,000 of the station's units in size
+-- a span and a mark that a command line can give: begin and end are in the years 1 to 9999, and the mark
+-- is at most 10,000 of the station's units in size
 pub record IsRequestable (span_request : SpanRequest) : Type 0 where
   pub begin : IsMoment span_request.begin
   pub end : IsMoment span_request.end
   pub mark : ForSome span_request.mark IsMark
 
--- the answer is the line `Accepted`, and then the listing of this other answer
+-- `prediction` is a listing, and `answer` is the line `Accepted` and then this listing
 abbrev pub AcceptsListing : Result Answer Refusal → Answer → Type 0
 AcceptsListing prediction answer =
     (listing : Answer) × (prediction ≡ Ok listing) × (answer ≡ text_alone (codes "Accepted\n" ++ listing.text))
@@ -48,27 +48,27 @@ AcceptsWhatIsCertified = (book : Book) (table : List Offsets) (name : List ℕ) 
     (answer : Answer) × (checked book table certificate.text zone ≡ Ok answer)
     × AcceptsListing (predicted book table name span_request Plain zone) answer
 
--- a certificate that `certify` returns has fewer than 333,000,000 bytes
+-- each certificate that `certify` returns has fewer than 333,000,000 bytes
 abbrev pub CertifiesInShort : Type 0
 CertifiesInShort = (book : Book) (table : List Offsets) (name : List ℕ) (span_request : SpanRequest) (certificate : Answer) →
     IsBook book → IsTable table → IsRequestable span_request → certified book table name span_request ≡ Ok certificate → length certificate.text < 333000000
 
--- the events in a track's cells are the events found by looking at every minute of the span; a track is
--- present exactly if its curve is
+-- the events in the cells of a track are the events found by looking at every minute of the span; the
+-- cells are present exactly if the curve is
 abbrev pub ListsTrack : Span → Option CurveSpec → Option (List Cell) → Type 0
 ListsTrack span (Some curve) (Some cells) = cell_events span.begin cells ≡ events_over span curve
 ListsTrack span None None = Unit {0}
 ListsTrack span (Some curve) None = ⊥
 ListsTrack span None (Some cells) = ⊥
 
--- each track of a certificate has exactly the events of its curve over the span
+-- the cells of each track of a certificate have exactly the events of the track's curve over the span
 pub record ListsEvents (span : Span) (curves : Followed) (tracks : Tracks) : Type 0 where
   pub turn : ListsTrack span (Some curves.turn) (Some tracks.turn)
   pub slack : ListsTrack span curves.slack tracks.slack
   pub mark : ListsTrack span curves.mark tracks.mark
 
--- the bytes are a certificate's text; its tracks have exactly the events of the curves of the
--- certificate's station, span and mark, and the answer lists what `predict` lists for them
+-- the bytes are the text of a certificate whose cells have exactly the events of the curves of its
+-- station, span and mark; the answer is `Accepted` and what `predict` lists for these
 pub record IsTrueCertificate (book : Book) (table : List Offsets) (bytes : List ℕ) (zone : Zone) (answer : Answer) : Type 0 where
   pub certificate : Certificate
   pub site : Site
@@ -78,14 +78,14 @@ pub record IsTrueCertificate (book : Book) (table : List Offsets) (bytes : List 
       (followed book site (request_by_certificate certificate)) certificate.tracks
   pub listing : AcceptsListing (predicted book table certificate.station (request_by_certificate certificate) Plain zone) answer
 
--- every certificate that `check` accepts has exactly the events of its station, span and mark, however
--- it was made
+-- each certificate that `check` accepts, whoever made it, has exactly the events of its station, span
+-- and mark
 abbrev pub AcceptsOnlyWhatIsTrue : Type 0
 AcceptsOnlyWhatIsTrue = (book : Book) (table : List Offsets) (bytes : List ℕ) (zone : Zone) (answer : Answer) →
     IsBook book → IsTable table → checked book table bytes zone ≡ Ok answer → answer.rejected ≡ false
     → IsTrueCertificate book table bytes zone answer
 
--- every certificate that `check` accepts has fewer than 333,000,000 bytes, however it was made
+-- each certificate that `check` accepts, whoever made it, has fewer than 333,000,000 bytes
 abbrev pub AcceptsOnlyInShort : Type 0
 AcceptsOnlyInShort = (book : Book) (table : List Offsets) (bytes : List ℕ) (zone : Zone) (answer : Answer) →
     IsBook book → IsTable table → checked book table bytes zone ≡ Ok answer → answer.rejected ≡ false → length bytes < 333000000

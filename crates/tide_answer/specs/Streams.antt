@@ -23,30 +23,30 @@ use Rattle.tide_answer.specs.Answers.{answered, named_by}
 use Rattle.tide_answer.specs.Asking.{request_by_question}
 use Rattle.station_span.specs.Sites.{site_in}
 
--- the commands whose answers can be streamed
+-- Bool: whether answers of a command can be streamed, that is, written while they are computed
 abbrev pub can_stream : Command → Bool
 can_stream Predict = true
 can_stream Certify = true
 can_stream _ = false
 
--- the layout is the one of text in columns
+-- Bool: whether a layout is `plain`
 abbrev pub is_plain_layout : Layout → Bool
 is_plain_layout Plain = true
 is_plain_layout _ = false
 
--- the zone is one of a zone file
+-- Bool: whether a zone was read from a zone file
 abbrev pub is_zone_file : Zone → Bool
 is_zone_file (zones.File file) = true
 is_zone_file _ = false
 
--- an answer is streamed (written while it is computed): its station has no offsets, its layout is lines
--- of text, and its zone isn't a file
+-- Bool: whether an answer is streamed, that is, written while it is computed: its station has no
+-- offsets, its layout is `plain`, and its zone wasn't read from a zone file
 abbrev pub streams_by : Basis → Layout → Zone → Bool
 streams_by basis layout zone =
     is_plain basis && (is_plain_layout layout && (if is_zone_file zone then false else true))
 
--- the prepared answer, which has a text if it is streamed (written while it is computed), or the first
--- refusal
+-- the prepared answer: `stream` has the answer if it is streamed, that is, written while it is computed,
+-- and is None if not; or the first refusal
 unfoldable pub prepared : Book → List Offsets → Question → Given → Result Ready Refusal
 prepared book table question inputs = do
   answer ← answered book table question inputs
@@ -55,7 +55,9 @@ prepared book table question inputs = do
   site ← site_in Events book table name span_request
   Ok (record { stream = if streams_by site.basis question.layout inputs.zone then Some answer else None })
 
--- the whole text of an answer is written, or its first bytes, and nothing after a failed write
+-- the whole text of `answer` was written, and the result is the number of its cells; or a write failed,
+-- and only the first `fault.sent` bytes were written (the arguments: sink before, sink after, answer,
+-- result)
 abbrev pub Streams : SinkState → SinkState → Answer → Result ℕ WriteFailed → Type 0
 Streams before after answer (Ok cells) = (cells ≡ answer.cells) × (after ≡ put answer.text before)
 Streams before after answer (Err fault) =

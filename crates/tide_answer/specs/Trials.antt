@@ -48,23 +48,24 @@ trial_span = record { begin = pos 16260480; end = pos 16349760; mark = None }
 
 -- ---- the counts of a station
 
--- 1 for a quiet cell, and 0 for any other
+-- 1 for a quiet cell (several minutes without an event), and 0 for any other cell
 abbrev pub quiet_one : Cell → ℕ
 quiet_one (Quiet minutes) = 1
 quiet_one Still = 0
 quiet_one (Turn kind level) = 0
 
--- the number of quiet cells of a track
+-- the number of quiet cells (several minutes without an event) of a track
 abbrev pub quiet_in : List Cell → ℕ
 quiet_in cells = sum_by quiet_one cells
 
--- 1 for a certificate without a fault, and 0 for any other
+-- 1 if the check of a certificate found no fault (None), and 0 if it found one
 abbrev pub accepted_if : Option Rejection → ℕ
 accepted_if None = 1
 accepted_if (Some rejection) = 0
 
--- the counts of a station: the number of tracks times the minutes that were searched; the events; the
--- cells, and the quiet ones among them; and the certificates that are accepted
+-- the counts of a trial at one station: the minutes of `span` times the number of tracks; the events;
+-- the cells, and the quiet ones among them (several minutes without an event); and 1 or 0 accepted
+-- certificates
 unfoldable pub tally_by : Span → Tracks → List Event → Option Rejection → Tally
 tally_by span tracks events rejection = record {
   minutes = span_minutes span * length (tracks_in tracks);
@@ -74,15 +75,15 @@ tally_by span tracks events rejection = record {
   accepted = accepted_if rejection;
 }
 
--- the counts of a trial at a station over a span
+-- the counts of a trial at one station over the span of a request
 unfoldable pub tally_at : Book → Site → SpanRequest → Tally
 tally_at book site span_request =
     let span = widened_of site.basis span_request.begin span_request.end in
     let tracks = tracks_of book site span_request in
     tally_by span tracks (events_of book site span_request) (rejection_of (followed book site span_request) span tracks)
 
--- the counts of a trial at a station, which is predicted, certified and checked over the trial's span;
--- or the first refusal
+-- the counts of a trial at the station called `name`, over December 2000 and January 2001; or the first
+-- refusal
 unfoldable pub station_tally : Book → List ℕ → Result Tally Refusal
 station_tally book name = do
   site ← site_in Events book [] name trial_span
@@ -90,7 +91,7 @@ station_tally book name = do
 
 -- ---- the sums over stations
 
--- the sum of the counts of some stations and of another station
+-- the sums of the counts `sum` and `one`
 unfoldable pub plus : Tally → Tally → Tally
 plus sum one = record {
   minutes = sum.minutes + one.minutes;
@@ -100,11 +101,11 @@ plus sum one = record {
   accepted = sum.accepted + one.accepted;
 }
 
--- the counts of no station, which are 0
+-- counts that are all 0
 abbrev pub nothing : Tally
 nothing = record { minutes = 0; events = 0; cells = 0; quiet = 0; accepted = 0 }
 
--- the counts of stations, one after the other, added to a sum; a refusal at any of them is the result
+-- `sum` plus the counts of a trial at each of the stations in turn; or the first refusal
 unfoldable pub tally_on : Book → Tally → List Station → Result Tally Refusal
 tally_on book sum [] = Ok sum
 tally_on book sum (station ∷ stations) = do
@@ -113,20 +114,20 @@ tally_on book sum (station ∷ stations) = do
 
 -- ---- the trial
 
--- the number of stations that are tried
+-- the number of stations at which the command `trial` predicts
 abbrev pub station_count : ℕ
 station_count = 40
 
--- the harmonic constants of the made file, or the refusal if it can't be read as a book
+-- the same harmonic constants, or the refusal for a made-up file that can't be read as a harmonics file
 abbrev pub book_from : Result Book At → Result Book Refusal
 book_from (Ok book) = Ok book
 book_from (Err fault) = Err (BadSample fault.line fault.why)
 
--- the line of a count: a word, a space and the number
+-- a line of the command `trial`: the word `what`, a space and the number
 abbrev pub number_line : List ℕ → ℕ → List ℕ
 number_line what number = what ++ codes " " ++ decimal number ++ codes "\n"
 
--- the lines of a trial
+-- the lines of the command `trial`: the seed, the number of stations and the summed counts
 unfoldable pub trial_text : ℕ → Tally → List ℕ
 trial_text seed sum =
     number_line (codes "seed") seed
@@ -137,7 +138,8 @@ trial_text seed sum =
     ++ number_line (codes "quiet") sum.quiet
     ++ number_line (codes "accepted") sum.accepted
 
--- the answer of `trial`: the counts of the first 40 stations of the file that a seed determines
+-- the text of the command `trial`: the summed counts at the first 40 stations of the made-up file that
+-- the seed determines; or the first refusal
 unfoldable pub trial_of : ℕ → Result (List ℕ) Refusal
 trial_of seed = do
   book ← book_from (book_of (sample_of seed))

@@ -14,13 +14,14 @@ use station_span::{StationData, find_reference};
 use std::alloc::Global;
 use tide_fault::Refusal;
 
-/// Returns the answer of the command `about` for the station `name`: its reference, its unit, the number
-/// of its constituents, and a bound on the difference between its slope and the steps of its levels from
-/// minute to minute, in units of which about 1.4257 * 10^35 are one of the station's units a minute.
+/// Returns the answer of the command `about` for the station called `name`, one of `stations`: its
+/// reference, its unit, the number of its constituents, and a bound on the difference between its slope
+/// and the change of its level over a minute. About 1.4257 * 10^35 of the bound's units are one of the
+/// station's units a minute.
 ///
 /// # Errors
 /// The first [`Refusal`] in this order: the station isn't found, it is a hydraulic current, its
-/// constants are over a bound ([`Refusal::TooLarge`] or [`Refusal::TooSteep`]).
+/// constants exceed a limit ([`Refusal::TooLarge`] or [`Refusal::TooSteep`]).
 #[tactic(auto, unfolding(crate::specs::Answers::station_about))]
 pub fn about_answer(
     alloc: Global,

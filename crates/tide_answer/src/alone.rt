@@ -14,11 +14,12 @@ use question::{Command, ValidQuestion};
 use std::alloc::Global;
 use tide_fault::Refusal;
 
-/// Returns the answer to a request for a command that reads no file.
+/// Returns the answer to `question` if its command reads no file: `sample` or `trial`, each with a seed.
 ///
 /// # Errors
-/// The first [`Refusal`] in the order of `specs/Answers.antt`. If memory runs out, [`Refusal::NoMemory`]
-/// is returned in place of any other result.
+/// [`Refusal::NoStation`] if the command is another one or the seed is missing; [`Refusal::BadSample`]
+/// or the refusal at a station if the trial fails. If memory runs out, [`Refusal::NoMemory`] is returned
+/// in place of any other result.
 #[tactic(auto, unfolding(crate::specs::Answers::answered_without_files))]
 pub fn answer_alone(alloc: Global, question: &ValidQuestion<'_>) -> Result<Answer, Refusal>
     ensures { EqualsUnlessNoMemory refusal_is_out_of_memory (answered_without_files question.now) result }

@@ -18,11 +18,12 @@ use station_cells::{Sent, send, send_if_followed, send_name, send_track};
 use station_span::{FoundStation, mark_search, slack_search, turn_search};
 use tide_edge::{Sink, WriteFailed};
 
-/// Writes the certificate of the events of `found_station` over its span, by the rules of version 2,
-/// while its cells are found.
+/// Writes to `out` the certificate of the events of the station `found_station`, called `name`, over the
+/// span of its request, by the rules of version 2, while its cells are found. Returns the numbers of
+/// bytes and cells written.
 ///
 /// # Errors
-/// [`WriteFailed`] if the sink fails: then it has a prefix of the text.
+/// [`WriteFailed`] if a write to `out` fails: then `out` has only the first bytes of the certificate.
 pub fn send_certificate<S: Sink>(
     out: &mut S,
     found_station: &FoundStation,

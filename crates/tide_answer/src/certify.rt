@@ -16,13 +16,14 @@ use station_span::{Purpose, StationData, StationRequest, find_station};
 use std::alloc::{AllocError, Global};
 use tide_fault::Refusal;
 
-/// Returns the certificate of the requested events, by the rules of version 2.
+/// Returns the certificate, by the rules of version 2, of the station's events over the span of
+/// `request`.
 ///
 /// # Errors
 /// The first [`Refusal`] in this order: the station isn't found, it is a hydraulic current, the span is
-/// backward or outside the file's years, its constants are over a bound ([`Refusal::TooLarge`] or
-/// [`Refusal::TooSteep`]), the span is longer than 5,270,400 minutes, a mark is given but the offsets of
-/// its high and low waters differ.
+/// backward or outside the file's years, the station's constants exceed a limit ([`Refusal::TooLarge`]
+/// or [`Refusal::TooSteep`]), the span is longer than 5,270,400 minutes, or the request has a mark but
+/// the offsets of the station's high and low waters differ.
 #[tactic(auto, unfolding(crate::specs::Answers::certified))]
 pub fn certify(
     alloc: Global,
@@ -45,7 +46,8 @@ pub fn certify(
     })
 }
 
-/// Returns the certificate of version 2 that answers `request` with the cells `tracks`.
+/// Returns the certificate of version 2 with the station's name, the span and the mark of `request`, and
+/// with the cells `tracks`.
 pub fn certificate_of(
     request: &StationRequest<'_>,
     tracks: Tracks,

@@ -28,16 +28,16 @@ use std::alloc::{AllocError, Global};
 use tide_fault::Refusal;
 use zone_time::ZoneClock;
 
-/// Returns the result of checking the certificate with the text `bytes`. If it is valid, the answer is
-/// `Accepted` and the events of the certificate's span in the local time of `zone`; otherwise it is the
-/// line of the first fault of its tracks.
+/// Returns the answer of the command `check` for the certificate with the text `bytes`. If the
+/// certificate is valid, the answer is `Accepted` and the events of the certificate's span in the local
+/// time of `zone`; otherwise it is one line that reports the first fault of the certificate.
 ///
 /// # Errors
-/// The first [`Refusal`]: [`Refusal::NotACertificate`], and then, for the station, the span and the mark
-/// of the certificate: the station isn't found, it is a hydraulic current, the span is backward or
-/// outside the file's years, its constants are over a bound ([`Refusal::TooLarge`] or
-/// [`Refusal::TooSteep`]), the span is longer than 5,270,400 minutes, a mark is given but the offsets of
-/// its high and low waters differ.
+/// [`Refusal::NotACertificate`] if `bytes` isn't the text of a certificate; otherwise, for the station,
+/// the span and the mark of the certificate, the first [`Refusal`] in this order: the station isn't
+/// found, it is a hydraulic current, the span is backward or outside the file's years, the station's
+/// constants exceed a limit ([`Refusal::TooLarge`] or [`Refusal::TooSteep`]), the span is longer than
+/// 5,270,400 minutes, or there is a mark but the offsets of the station's high and low waters differ.
 #[tactic(auto, unfolding(crate::specs::Answers::checked))]
 pub fn check(
     alloc: Global,

@@ -17,15 +17,15 @@ use std::alloc::Global;
 use tide_fault::Refusal;
 use zone_time::{MINUTES_OF_DAY, ZoneClock};
 
-/// Returns the answer of the command `clock` for the station `name` at minute `now`: the level, whether
-/// it rises, and the events of the 1,440 minutes from `now` on. `now` is in minutes since
-/// 1970-01-01T00:00Z, from -10,000,000,000 to 10,000,000,000.
+/// Returns the answer of the command `clock` for the station called `name`, one of `stations`: its level
+/// at the minute `now`, whether it rises then, and the events of the 1,440 minutes from `now` on, in the
+/// local time of `zone`. `now` is in minutes since 1970-01-01T00:00Z, from -10,000,000,000 to
+/// 10,000,000,000.
 ///
 /// # Errors
-/// The first [`Refusal`] in this order: the station isn't found, it is a hydraulic current, the span is
-/// backward or outside the file's years, its constants are over a bound ([`Refusal::TooLarge`] or
-/// [`Refusal::TooSteep`]), the span is longer than 5,270,400 minutes, a level is needed at each minute
-/// but the offsets of its high and low waters differ.
+/// The first [`Refusal`] in this order: the station isn't found, it is a hydraulic current, the 1,440
+/// minutes are outside the file's years, the station's constants exceed a limit ([`Refusal::TooLarge`]
+/// or [`Refusal::TooSteep`]), or the offsets of its high and low waters differ.
 #[tactic(auto, unfolding(crate::specs::Answers::on_clock))]
 pub fn clock_answer(
     alloc: Global,

@@ -32,17 +32,19 @@ use std::alloc::Global;
 use tide_fault::Refusal;
 use zone_time::ZoneClock;
 
-/// Returns the answer to `question` with the harmonic constants `book` and the offsets `table`, and with
-/// the zone, the certificate and the present minute of `inputs`. The commands `report` (see
-/// [`station_events`](crate::station_events)) and `serve` are refused like a request without a station.
+/// Returns the answer to `question` with the harmonic constants `book` and the table of offsets `table`;
+/// `inputs` has the zone, the certificate and the present minute. The commands `report` and `serve` have
+/// no answer here: they are refused with [`Refusal::NoStation`]. For a report,
+/// [`station_events`](crate::station_events) returns the events.
 ///
 /// # Errors
-/// The first [`Refusal`] in this order, as `specs/Answers.antt` defines it: the format of a certificate,
-/// the station isn't found, it is a hydraulic current, the span is backward, empty for a highest water,
-/// or outside the file's years, its constants are over a bound ([`Refusal::TooLarge`] or
-/// [`Refusal::TooSteep`]), the span is longer than 5,270,400 minutes, a mark is given or a level is
-/// needed at each minute but the offsets of its high and low waters differ, there are more than 100,000
-/// rows. If memory runs out, [`Refusal::NoMemory`] is returned in place of any other result.
+/// The first [`Refusal`] in this order, as far as the command has the step: a text that isn't a
+/// certificate, the station isn't found, it is a hydraulic current, the span is backward, empty for a
+/// highest water, or outside the file's years, the station's constants exceed a limit
+/// ([`Refusal::TooLarge`] or [`Refusal::TooSteep`]), the span is longer than 5,270,400 minutes, the
+/// request has a mark or needs a level at each minute but the offsets of the station's high and low
+/// waters differ, there are more than 100,000 rows. If memory runs out, [`Refusal::NoMemory`] is
+/// returned in place of any other result.
 ///
 /// # Examples
 /// ```
@@ -82,11 +84,12 @@ pub fn answer(
     answer_valid(alloc, &stations, &question, inputs.view())
 }
 
-/// Returns the answer to the valid `question` about `stations`, like [`answer`], from borrowed inputs.
+/// Returns the answer to the valid `question` about `stations`, with the borrowed zone, certificate and
+/// present minute of `inputs`. The result is the same as the result of [`answer`].
 ///
 /// # Errors
-/// The first [`Refusal`] in the order of `specs/Answers.antt`. If memory runs out, [`Refusal::NoMemory`]
-/// is returned in place of any other result.
+/// The same [`Refusal`] as in [`answer`], in the order that `specs/Answers.antt` defines. If memory runs
+/// out, [`Refusal::NoMemory`] is returned in place of any other result.
 #[tactic(auto, unfolding(crate::specs::Answers::answered, crate::specs::Answers::asks_name))]
 pub fn answer_valid(
     alloc: Global,

@@ -1,10 +1,10 @@
 //! The forms of an answer that is streamed.
 
-/// The form of an answer that is written while it is computed.
+/// Whether an answer that is written while it is computed is a listing or a certificate.
 #[derive(Clone, Copy)]
 pub enum Form {
-    /// A listing: the station's name and the line of each event.
+    /// A listing of events: the station's name, and one line for each event.
     Listing,
-    /// A certificate of the events.
+    /// A certificate of the station's events.
     Certificate,
 }

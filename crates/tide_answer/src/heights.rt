@@ -21,15 +21,16 @@ use zone_time::ZoneClock;
 /// The greatest number of rows of a list of heights.
 const ROW_LIMIT: u64 = 100_000;
 
-/// Returns the levels of the requested station, one every `step` minutes from the beginning of the span
-/// to its end, which is listed if the steps lead to it. `step` is from 1 to 44,640.
+/// Returns the levels (the command `heights`) of the station that `request` names, one every `step`
+/// minutes from the beginning of the span on. The minute at the span's end has a row if a step leads to
+/// it. `step` is from 1 to 44,640.
 ///
 /// # Errors
 /// The first [`Refusal`] in this order: the station isn't found, it is a hydraulic current, the span is
-/// backward or outside the file's years, its constants are over a bound ([`Refusal::TooLarge`] or
-/// [`Refusal::TooSteep`]), the span is longer than 5,270,400 minutes, the offsets of the station's high and
-/// low waters differ ([`Refusal::MarkNotHere`] if the request has a mark, [`Refusal::LevelNotHere`] if it
-/// has none), and [`Refusal::TooManyRows`] for more than 100,000 rows.
+/// backward or outside the file's years, the station's constants exceed a limit ([`Refusal::TooLarge`]
+/// or [`Refusal::TooSteep`]), the span is longer than 5,270,400 minutes, the offsets of the station's
+/// high and low waters differ ([`Refusal::MarkNotHere`] if the request has a mark, else
+/// [`Refusal::LevelNotHere`]), or there are more than 100,000 rows ([`Refusal::TooManyRows`]).
 #[tactic(auto, unfolding(crate::specs::Answers::heights))]
 pub fn list_heights(
     alloc: Global,
@@ -142,8 +143,8 @@ fn minutes_to(step: i64, index: u64) -> i64
     step * index as i64
 }
 
-/// Proves examples of the number of rows that a span has for a step: the end has a row if a step leads
-/// to it.
+/// Proves examples of the number of rows that a listing of levels has, for a begin, an end and a step in
+/// minutes: the end has a row if a step leads to it, and 100,000 rows are allowed but no more.
 #[tactic(auto, unfolding(crate::specs::Answers::rows_in))]
 pub fn sample_row_counts()
     ensures empty_span { row_count (pos 0) (pos 0) (pos 60) ≡ 1 }

@@ -23,14 +23,15 @@ use std::alloc::{AllocError, Global};
 use tide_fault::Refusal;
 use zone_time::ZoneClock;
 
-/// Returns the listing of the highest water of the requested station over its span, in the local time of
-/// `zone`.
+/// Returns the answer of the command `highest`: the highest water, over the span of `request`, of the
+/// station that `request` names, in the local time of `zone`.
 ///
 /// # Errors
 /// The first [`Refusal`] in this order: the station isn't found, it is a hydraulic current, the span is
-/// backward, empty or outside the file's years, its constants are over a bound ([`Refusal::TooLarge`] or
-/// [`Refusal::TooSteep`]), the span is longer than 5,270,400 minutes, a mark is given or a level is
-/// needed at each minute but the offsets of its high and low waters differ.
+/// backward, empty or outside the file's years, the station's constants exceed a limit
+/// ([`Refusal::TooLarge`] or [`Refusal::TooSteep`]), the span is longer than 5,270,400 minutes, or the
+/// offsets of the station's high and low waters differ ([`Refusal::MarkNotHere`] if the request has a
+/// mark, else [`Refusal::LevelNotHere`]).
 #[tactic(auto, unfolding(crate::specs::Answers::highest))]
 pub fn highest_answer(
     alloc: Global,
@@ -47,8 +48,9 @@ pub fn highest_answer(
     Ok(text_alone(text))
 }
 
-/// Returns the listing of the highest water: the station's name, and the minute and level that result if
-/// the offset of high waters is applied to the minute `at` of the reference station and its level then.
+/// Returns the text of the command `highest` for the station called `name`: the name, and the minute and
+/// level of its highest water. `at` is the minute at the reference station; the station's minute is `at`
+/// plus the minutes of its high-water offset, in the local time of `zone`.
 pub fn highest_text_at(
     alloc: Global,
     found_station: &FoundStation,
@@ -65,13 +67,15 @@ pub fn highest_text_at(
     highest_text(alloc, name, found_station.units, minute, level, zone.zone())
 }
 
-/// Returns the certificate of the highest water of the requested station over its span.
+/// Returns the answer of the command `peak`: the certificate of the highest water, over the span of
+/// `request`, of the station that `request` names.
 ///
 /// # Errors
 /// The first [`Refusal`] in this order: the station isn't found, it is a hydraulic current, the span is
-/// backward, empty or outside the file's years, its constants are over a bound ([`Refusal::TooLarge`] or
-/// [`Refusal::TooSteep`]), the span is longer than 5,270,400 minutes, a mark is given or a level is
-/// needed at each minute but the offsets of its high and low waters differ.
+/// backward, empty or outside the file's years, the station's constants exceed a limit
+/// ([`Refusal::TooLarge`] or [`Refusal::TooSteep`]), the span is longer than 5,270,400 minutes, or the
+/// offsets of the station's high and low waters differ ([`Refusal::MarkNotHere`] if the request has a
+/// mark, else [`Refusal::LevelNotHere`]).
 #[tactic(auto, unfolding(crate::specs::Answers::peak_certified))]
 pub fn certify_peak(
     alloc: Global,

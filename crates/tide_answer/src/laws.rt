@@ -4,25 +4,25 @@ ghost use Rattle.tide_answer.specs.Laws.{AcceptsWhatIsCertified, AcceptsOnlyInSh
 
 use cert_text::{certificates_are_short, certificates_have_one_text, readings_go_by_the_grammar};
 
-/// Proves that the command `check` accepts what `certify` returned, with the listing of the same
-/// station, span and mark.
+/// Proves that the command `check` accepts each certificate that the command `certify` returns, and that
+/// it then lists the events of the same station, span and mark.
 pub fn certified_is_accepted()
     ensures { AcceptsWhatIsCertified }
 {
     readings_go_by_the_grammar();
 }
 
-/// Proves that a certificate that the command `certify` returns has fewer than 333,000,000 bytes, so it
-/// can be read again.
+/// Proves that each certificate that the command `certify` returns has fewer than 333,000,000 bytes, so
+/// that it is short enough for the command `check`.
 pub fn certified_is_short()
     ensures { CertifiesInShort }
 {
     certificates_are_short();
 }
 
-/// Proves that a certificate that the command `check` accepts is true, however it was made: its tracks
-/// have exactly the events of the curves of its station, span and mark, and the answer lists what
-/// `predict` lists for them.
+/// Proves that each certificate that the command `check` accepts is true, whoever made it: its cells
+/// have exactly the events of its station, span and mark, and the answer of `check` lists what `predict`
+/// lists for these.
 pub fn accepted_is_true()
     ensures { AcceptsOnlyWhatIsTrue }
 {
@@ -30,8 +30,8 @@ pub fn accepted_is_true()
     readings_go_by_the_grammar();
 }
 
-/// Proves that a certificate that the command `check` accepts has fewer than 333,000,000 bytes, however
-/// it was made.
+/// Proves that each certificate that the command `check` accepts has fewer than 333,000,000 bytes,
+/// whoever made it.
 pub fn accepted_is_short()
     ensures { AcceptsOnlyInShort }
 {

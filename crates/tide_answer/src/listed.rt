@@ -21,26 +21,26 @@ use station_table::OffsetTable;
 use std::alloc::Global;
 use tide_fault::Refusal;
 
-/// The events of a station over a span, for a report.
+/// The events of a station over a span, with the station's name and unit, for a report.
 #[derive(Drop)]
 pub struct Listed {
-    /// The station's name as in the request.
+    /// The station's name, as the request gives it.
     pub name: Text,
-    /// The unit of the events' levels.
+    /// The unit of the events' levels, which are in millionths of it.
     pub units: Units,
     pub events: Events,
 }
 
-/// Returns the events of the station, span and mark of `question`. Each event has a
+/// Returns the events, for a report, of the station, span and mark of `question`. Each event has a
 /// [`word`](event_text::word) in the station's unit, a level in millionths of this unit, and a minute
-/// that the clock of any zone can show; the name has no control characters.
+/// for which every zone has a local time. The name has no control characters.
 ///
 /// # Errors
 /// The first [`Refusal`] in this order: the station isn't found, it is a hydraulic current, the span is
-/// backward or outside the file's years, its constants are over a bound ([`Refusal::TooLarge`] or
-/// [`Refusal::TooSteep`]), the span is longer than 5,270,400 minutes, a mark is given but the offsets of
-/// its high and low waters differ. If memory runs out, [`Refusal::NoMemory`] is returned in place of any
-/// other result.
+/// backward or outside the file's years, the station's constants exceed a limit ([`Refusal::TooLarge`]
+/// or [`Refusal::TooSteep`]), the span is longer than 5,270,400 minutes, or the request has a mark but
+/// the offsets of the station's high and low waters differ. If memory runs out, [`Refusal::NoMemory`] is
+/// returned in place of any other result.
 ///
 /// # Examples
 /// ```

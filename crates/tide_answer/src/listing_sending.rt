@@ -17,11 +17,12 @@ use station_cells::{LineBuffer, Sent, send_name};
 use tide_edge::{Sink, WriteFailed};
 use zone_time::ZoneClock;
 
-/// Writes the line of each remaining event of `merge`. `sent` has the counts of the bytes and cells that
-/// were written before.
+/// Writes to `out` one line for each remaining event of `merge`, with levels in `units` and times in the
+/// local time of `zone`. Returns `sent`, the numbers of bytes and cells written before, plus the bytes
+/// written here.
 ///
 /// # Errors
-/// [`WriteFailed`] if the sink fails: then it has a prefix of the lines.
+/// [`WriteFailed`] if a write to `out` fails: then `out` has only the first bytes of these lines.
 pub fn send_events<'a, S: Sink>(
     out: &mut S,
     sent: Sent,
@@ -54,10 +55,12 @@ fn line_of(units: Units, event: &Event, zone: &ZoneClock<'_>) -> ArrayString<96>
     line
 }
 
-/// Writes the station's `name`, and the line of each remaining event of `merge`.
+/// Writes to `out` the station's `name`, and one line for each remaining event of `merge`, with levels
+/// in `units` and times in the local time of `zone`. Returns the number of bytes written; its count of
+/// cells is 0.
 ///
 /// # Errors
-/// [`WriteFailed`] if the sink fails: then it has a prefix of the listing.
+/// [`WriteFailed`] if a write to `out` fails: then `out` has only the first bytes of the listing.
 #[tactic(auto, unfolding(listing::specs::Listings::plain_events_of))]
 pub fn send_listing<'a, S: Sink>(
     out: &mut S,

@@ -25,16 +25,16 @@ use std::alloc::{AllocError, Global};
 use tide_fault::Refusal;
 use zone_time::Zone;
 
-/// Returns the result of checking the certificate of a highest water with the text `bytes`. If it is
-/// valid, the answer is `Accepted` and the highest water of the certificate's span in universal time;
-/// otherwise it is the line of the first fault.
+/// Returns the answer of the command `peakcheck` for the certificate of a highest water with the text
+/// `bytes`. If the certificate is valid, the answer is `Accepted` and the highest water of the
+/// certificate's span in universal time; otherwise it is one line that reports the first fault.
 ///
 /// # Errors
-/// The first [`Refusal`]: [`Refusal::NotACertificate`], and then, for the station and the span of the
-/// certificate: the station isn't found, it is a hydraulic current, the span is backward, empty or
-/// outside the file's years, its constants are over a bound ([`Refusal::TooLarge`] or
-/// [`Refusal::TooSteep`]), the span is longer than 5,270,400 minutes, a level is needed at each minute
-/// but the offsets of its high and low waters differ.
+/// [`Refusal::NotACertificate`] if `bytes` isn't the text of such a certificate; otherwise, for the
+/// station and the span of the certificate, the first [`Refusal`] in this order: the station isn't
+/// found, it is a hydraulic current, the span is backward, empty or outside the file's years, the
+/// station's constants exceed a limit ([`Refusal::TooLarge`] or [`Refusal::TooSteep`]), the span is
+/// longer than 5,270,400 minutes, or the offsets of the station's high and low waters differ.
 #[tactic(auto, unfolding(crate::specs::Answers::peak_checked))]
 pub fn check_peak_text(
     alloc: Global,

@@ -12,13 +12,14 @@ use std::alloc::Global;
 use tide_fault::Refusal;
 use zone_time::ZoneClock;
 
-/// Returns the listing of the requested events, in `layout` and in the local time of `zone`.
+/// Returns the answer of the command `predict`: the events, over the span of `request`, of the station
+/// that `request` names, in `layout` and in the local time of `zone`.
 ///
 /// # Errors
 /// The first [`Refusal`] in this order: the station isn't found, it is a hydraulic current, the span is
-/// backward or outside the file's years, its constants are over a bound ([`Refusal::TooLarge`] or
-/// [`Refusal::TooSteep`]), the span is longer than 5,270,400 minutes, a mark is given but the offsets of
-/// its high and low waters differ.
+/// backward or outside the file's years, the station's constants exceed a limit ([`Refusal::TooLarge`]
+/// or [`Refusal::TooSteep`]), the span is longer than 5,270,400 minutes, or the request has a mark but
+/// the offsets of the station's high and low waters differ.
 #[tactic(auto, unfolding(crate::specs::Answers::predicted))]
 pub fn predict(
     alloc: Global,

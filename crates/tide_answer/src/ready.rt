@@ -23,15 +23,17 @@ use tide_edge::{Sink, WriteFailed};
 use tide_fault::Refusal;
 use zone_time::Zone;
 
-/// The prepared source of an answer, which may be streamed: written while it is computed.
+/// The prepared answer to a `predict` or `certify` request that nothing refuses. It holds what is needed
+/// to write the answer while it is computed, if the answer can be streamed in this way, and nothing
+/// otherwise.
 #[derive(Drop)]
 pub struct Ready {
     stream: Option<Stream>,
 }
 
 impl Ready {
-    /// Returns true if the answer is streamed: the station has no offsets, the layout is lines of text,
-    /// and the zone isn't a file.
+    /// Returns true if the answer is streamed, that is, computed while it is written: the station has no
+    /// offsets, the layout is `plain`, and the zone isn't read from a zone file.
     pub fn streams(&self) -> bool
         ensures { result ≡ is_some self.now.stream }
     {
@@ -39,15 +41,15 @@ impl Ready {
     }
 }
 
-/// Returns the prepared source of the answer to a request to predict or to certify, from which
-/// [`answer_into`](crate::answer_into) writes the answer.
+/// Returns the prepared answer to a `predict` or `certify` request. If [`Ready::streams`] is true,
+/// [`answer_into`](crate::answer_into) writes the answer while it is computed.
 ///
 /// # Errors
 /// The first [`Refusal`] in this order: the station isn't found, it is a hydraulic current, the span is
-/// backward or outside the file's years, its constants are over a bound ([`Refusal::TooLarge`] or
-/// [`Refusal::TooSteep`]), the span is longer than 5,270,400 minutes, a mark is given but the offsets of
-/// its high and low waters differ. If memory runs out, [`Refusal::NoMemory`] is returned in place of any
-/// other result.
+/// backward or outside the file's years, the station's constants exceed a limit ([`Refusal::TooLarge`]
+/// or [`Refusal::TooSteep`]), the span is longer than 5,270,400 minutes, or the request has a mark but
+/// the offsets of the station's high and low waters differ. If memory runs out, [`Refusal::NoMemory`] is
+/// returned in place of any other result.
 pub fn prepare(
     alloc: Global,
     book: &Book,
@@ -66,12 +68,13 @@ pub fn prepare(
     prepare_valid(alloc, &stations, &question, inputs.view())
 }
 
-/// Returns the prepared source of the answer to the valid `question` about `stations`, like [`prepare`],
-/// from borrowed inputs.
+/// Returns the prepared answer to the valid `question`, a `predict` or `certify` request about
+/// `stations`, with the borrowed zone, certificate and present minute of `inputs`. The result is the
+/// same as the result of [`prepare`].
 ///
 /// # Errors
-/// The first [`Refusal`] in the order of `specs/Answers.antt`. If memory runs out, [`Refusal::NoMemory`] is
-/// returned in place of any other result.
+/// The same [`Refusal`] as in [`prepare`], in the order that `specs/Answers.antt` defines. If memory
+/// runs out, [`Refusal::NoMemory`] is returned in place of any other result.
 #[tactic(auto, unfolding(crate::specs::Streams::prepared))]
 pub fn prepare_valid(
     alloc: Global,
@@ -99,12 +102,12 @@ pub fn prepare_valid(
     }
 }
 
-/// Writes the text of an answer that is streamed, and returns the number of its cells. It doesn't
-/// allocate.
+/// Writes the text of the streamed answer `ready` to `out` while it is computed, and returns the number
+/// of its cells. The call doesn't allocate.
 ///
 /// # Errors
-/// [`WriteFailed`] if a write failed: exactly the first `sent` bytes were written, and nothing after
-/// that.
+/// [`WriteFailed`] if a write to `out` fails: then exactly the first `sent` bytes of the text were
+/// written.
 pub fn answer_into<S: Sink>(ready: &Ready, out: &mut S) -> Result<u64, WriteFailed>
     requires { IsSome ready.now.stream }
     ensures { ForSome ready.now.stream (λ answer. Streams (S.state out.old) (S.state out.new) answer result) }
@@ -115,8 +118,8 @@ pub fn answer_into<S: Sink>(ready: &Ready, out: &mut S) -> Result<u64, WriteFail
     }
 }
 
-/// Returns true if answers of `command` can be streamed: written while they are computed. Whether a
-/// given answer is streamed, [`Ready::streams`] says.
+/// Returns true if answers of `command` can be streamed, that is, written while they are computed.
+/// Whether an answer is streamed also depends on its station, layout and zone: see [`Ready::streams`].
 pub fn can_stream(command: Command) -> bool
     ensures { result ≡ can_stream command }
 {
@@ -133,8 +136,8 @@ fn form_of(command: Command) -> Form
     }
 }
 
-/// Returns `zone` if the answer is streamed (the station has no offsets, the layout is lines of text,
-/// and the zone isn't a file), and otherwise `None`.
+/// Returns `zone` if the answer is streamed (the station has no offsets, the layout is `plain`, and the
+/// zone isn't a zone file's), and otherwise `None`.
 fn streamed_zone(basis: &Basis, layout: Layout, zone: &Zone) -> Option<Zone>
     ensures { result ≡ (if streams_by basis.now layout zone.now then Some zone.now else None) }
 {

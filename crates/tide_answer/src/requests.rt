@@ -15,18 +15,19 @@ use question::ValidQuestion;
 use station_span::{SpanRequest, StationRequest};
 use tide_fault::Refusal;
 
-/// Returns the refusal of a question that doesn't have a value that its command needs.
+/// Returns [`Refusal::NoStation`], the refusal of a question without the station, the span or the seed
+/// that its command needs, and of a command that has no answer in this crate.
 pub fn refusal_of_incomplete() -> Refusal
     ensures { result ≡ refusal_of_incomplete }
 {
     Refusal::NoStation
 }
 
-/// Returns the station's name, the span and the mark of `question`. A question whose command needs them
-/// has them.
+/// Returns the request of `question`: the station's name, the span and the mark.
 ///
 /// # Errors
-/// [`refusal_of_incomplete`] if the station or the span is missing.
+/// [`refusal_of_incomplete`] if `question` has no station or no span. A question that was read from text
+/// has both if its command needs them.
 #[tactic(auto, unfolding(crate::specs::Workings::Requests::named_span))]
 pub fn station_request<'a>(question: &ValidQuestion<'a>) -> Result<StationRequest<'a>, Refusal>
     ensures exact { result ≡ named_span question.now }
@@ -37,12 +38,13 @@ pub fn station_request<'a>(question: &ValidQuestion<'a>) -> Result<StationReques
     Ok(StationRequest::new(name, span_request))
 }
 
-/// Returns the station's name in `question`. A question whose command needs it has it.
+/// Returns the name of the station of `question`.
 ///
 /// # Errors
-/// [`refusal_of_incomplete`] if the name is missing.
+/// [`refusal_of_incomplete`] if `question` has no station. A question that was read from text has one if
+/// its command needs it.
 pub fn station_named<'a>(question: &ValidQuestion<'a>) -> Result<&'a Text, Refusal>
-    ensures found_station { IfOk result (λ name. named_by question.now.station ≡ Ok name.now) }
+    ensures found { IfOk result (λ name. named_by question.now.station ≡ Ok name.now) }
     ensures missing { IfErr result (λ refusal. named_by question.now.station ≡ Err refusal) }
 {
     match &question.get().station {
@@ -69,7 +71,8 @@ fn span_named(question: &ValidQuestion<'_>) -> Result<SpanRequest, Refusal>
     }
 }
 
-/// Returns the request of the certificate `cert`: its station's name, its span and its mark.
+/// Returns the request for the events that the certificate `cert` is about: its station's name, its span
+/// and its mark.
 pub fn request_of_certificate<'a>(cert: &'a Certificate) -> StationRequest<'a>
     requires { IsCertificate cert.now }
     ensures { result ≡ record { name = cert.now.station; span_request = request_by_certificate cert.now } }
@@ -82,7 +85,8 @@ pub fn request_of_certificate<'a>(cert: &'a Certificate) -> StationRequest<'a>
     StationRequest::new(&cert.station, span_request)
 }
 
-/// Returns the request of `cert`, a certificate of a highest water: its station's name and its span.
+/// Returns the request for the highest water that the certificate `cert` is about: its station's name
+/// and its span, without a mark.
 pub fn request_of_peak_certificate<'a>(cert: &'a PeakCertificate) -> StationRequest<'a>
     requires { IsPeakCertificate cert.now }
     ensures { result ≡ record { name = cert.now.station; span_request = request_by_peak_certificate cert.now } }

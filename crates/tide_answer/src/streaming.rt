@@ -13,8 +13,8 @@ use std::marker::Model;
 use tide_edge::{Sink, WriteFailed};
 use zone_time::Zone;
 
-/// An answer that is written while it is computed. It owns the curve of its station. In contracts its
-/// value is the answer.
+/// An answer that is computed while it is written. It owns the curve of its station. In contracts its
+/// value is the whole answer.
 #[derive(Drop)]
 pub struct Stream {
     form: Form,
@@ -35,7 +35,8 @@ impl Model for Stream {
 }
 
 impl Stream {
-    /// Returns the answer of the form `form` for the station `found_station`.
+    /// Returns the answer, not yet written, for the station `found_station` called `name`: a listing of
+    /// its events in the local time of `zone`, or their certificate, as `form` says.
     pub fn new(form: Form, found_station: FoundStation, name: Text, zone: Zone) -> Stream
         requires { IsStream found_station name zone }
         ensures { result ≡ stream_of form found_station name zone }
@@ -48,11 +49,12 @@ impl Stream {
         }
     }
 
-    /// Writes the answer's text, and returns the number of its cells. It doesn't allocate.
+    /// Writes the text of the answer to `out`, and returns the number of its cells. The call doesn't
+    /// allocate.
     ///
     /// # Errors
-    /// [`WriteFailed`] if a write failed: exactly the first `sent` bytes were written, and nothing after
-    /// that.
+    /// [`WriteFailed`] if a write to `out` fails: then exactly the first `sent` bytes of the text were
+    /// written.
     pub fn write<S: Sink>(&self, out: &mut S) -> Result<u64, WriteFailed>
         ensures { Streams (S.state out.old) (S.state out.new) self.now result }
     {

@@ -27,23 +27,24 @@ use event_list::Span;
 use station_cells::{Rejection, cell_count};
 use std::alloc::{AllocError, Global};
 
-/// The counts of a trial at one station, or their sums over several stations.
+/// The counts that the command `trial` makes at one station, or their sums over several stations.
 #[derive(Clone, Copy)]
 pub struct Tally {
-    /// The sum, over the tracks, of the minutes that were searched for events.
+    /// The number of minutes that were searched for events, counted once for each track (high and low
+    /// waters, slack waters).
     pub minutes: u128,
-    /// The number of events that were predicted.
+    /// The number of predicted events.
     pub events: u128,
-    /// The number of cells of all tracks together.
+    /// The number of cells (stretches of minutes with at most one event) of all tracks together.
     pub cells: u128,
-    /// The number of cells of several minutes without an event.
+    /// The number of cells that have several minutes and no event.
     pub quiet: u128,
-    /// The number of certificates that the check accepts.
+    /// The number of certificates that the command `check` would accept.
     pub accepted: u128,
 }
 
 impl Tally {
-    /// Returns the counts of no station, which are 0.
+    /// Returns counts that are all 0.
     pub fn nothing() -> Tally
         ensures { result ≡ nothing }
     {
@@ -56,7 +57,8 @@ impl Tally {
         }
     }
 
-    /// Returns the sums of these counts and the counts of `one` station.
+    /// Returns the sums of these counts and the counts `one` of a station. Before the call, these are at
+    /// most 2^100 each, and the counts `one` at most 2^66 each.
     #[tactic(auto, unfolding(crate::specs::Trials::plus))]
     pub fn plus(self, one: Tally) -> Tally
         requires sum { IsUpTo (2 ^ 100) self }
@@ -72,8 +74,9 @@ impl Tally {
         }
     }
 
-    /// Returns the counts of one station, from its `tracks` over `span`, their `events`, and the check's
-    /// `rejection`, or `None` if the check accepts.
+    /// Returns the counts of one station. `span` has the minutes that were searched, `tracks` the cells
+    /// found in them, and `events` the predicted events; `rejection` is the fault that checking the
+    /// certificate found, or `None` if it is accepted.
     #[tactic(auto, unfolding(crate::specs::Trials::tally_by))]
     pub fn of(span: &Span, tracks: &Tracks, events: &Events, rejection: Option<Rejection>) -> Tally
         requires in_range { IsSpanInRange span.now }
@@ -170,7 +173,7 @@ fn accepted_count(rejection: Option<Rejection>) -> u128
     }
 }
 
-/// Returns the lines that the command `trial` prints for `seed` with the counts `sum`.
+/// Returns the lines that the command `trial` prints for the seed `seed` and the summed counts `sum`.
 #[tactic(auto, unfolding(crate::specs::Trials::trial_text))]
 pub fn tally_text(alloc: Global, seed: u64, sum: Tally) -> Result<Bytes, AllocError>
     requires { IsUpTo (2 ^ 100) sum }

@@ -6,18 +6,20 @@ ghost use Rattle.tide_answer.specs.Answers.{text_alone, text_rejected};
 use decimal_text::Bytes;
 use std::alloc::{AllocError, Global};
 
-/// The answer to a request: its text, whether it rejects a certificate, and a count of cells.
+/// The answer to a request: its text, whether it rejects a certificate, and the number of cells of the
+/// search for its events.
 #[derive(Drop)]
 pub struct Answer {
     pub text: Bytes,
-    /// True if a certificate was checked and isn't valid. The text then reports the fault.
+    /// True if the answer is about a certificate that was checked and isn't valid. The text then reports
+    /// its first fault.
     pub rejected: bool,
-    /// The number of cells of the requested tracks, each over all minutes of the reference that were
-    /// searched, if the answer lists events, and 0 otherwise.
+    /// The number of cells (stretches of minutes with at most one event) of the search for events, for
+    /// the commands `predict`, `calendar`, `certify` and `clock`; 0 for all other commands.
     pub cells: u64,
 }
 
-/// Returns an answer with `text` and 0 cells, which rejects nothing.
+/// Returns the answer with this text, 0 cells and no rejection.
 pub fn text_alone(text: Bytes) -> Answer
     ensures { result ≡ text_alone text }
 {
@@ -28,14 +30,14 @@ pub fn text_alone(text: Bytes) -> Answer
     }
 }
 
-/// Returns the line `Accepted`, the first line of the answer to the check of a valid certificate.
+/// Returns the line `Accepted`, which begins the answer to the check of a valid certificate.
 pub fn accepted_line(alloc: Global) -> Result<Vec<u8>, AllocError>
     ensures { IfOk result (λ text. text.items ≡ codes "Accepted\n") }
 {
     Vec::from_slice(alloc, b"Accepted\n")
 }
 
-/// Returns the answer that rejects a certificate; `line` reports its first fault.
+/// Returns the answer that rejects a certificate: `line`, which reports the first fault, and 0 cells.
 pub fn rejected(line: Bytes) -> Answer
     ensures { result ≡ text_rejected line }
 {

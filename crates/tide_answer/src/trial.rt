@@ -32,11 +32,13 @@ const SPAN: SpanRequest = SpanRequest {
     mark: None,
 };
 
-/// Predicts, certifies and checks at the first forty stations of the file that `seed` determines, and
-/// returns the lines of the counts.
+/// Predicts, certifies and checks at the first forty stations of the made-up file that `seed`
+/// determines, and returns the lines of the counts, which the command `trial` prints.
 ///
 /// # Errors
-/// [`Refusal::BadSample`] if the file can't be read as a book, and the first [`Refusal`] of a station.
+/// [`Refusal::BadSample`] if the made-up file can't be read as a harmonics file; otherwise the first
+/// [`Refusal`] at a station. If memory runs out, [`Refusal::NoMemory`] is returned in place of any other
+/// result.
 #[tactic(auto, unfolding(crate::specs::Trials::trial_of))]
 pub fn try_sample(alloc: Global, seed: u64) -> Result<Bytes, Refusal>
     ensures { EqualsUnlessNoMemory refusal_is_out_of_memory (trial_of seed) result }

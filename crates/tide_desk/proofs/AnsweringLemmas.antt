@@ -135,7 +135,7 @@ shown_unread sheets given question name before after none result is read = recor
       meets_at (IsTrue firm) (files_in folders question name) _ result none is (read.answer firm folders shows);
 }
 
--- the files were read, and the result is that of the other steps
+-- the files were read, and the other steps have the result
 pub shown_read : (sheets : List SheetSpec) (given : Option ℤ) (question : Question) (name : List ℕ)
     (before after : Openings) (read : Materials)
     (result : Result Answer RunFault) → failing_file result ≡ None

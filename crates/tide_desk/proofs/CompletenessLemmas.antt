@@ -64,7 +64,7 @@ use Rattle.tide_desk.proofs.SettledLemmas.{never}
 wrote_risen : (before after : SinkState) (text : List ℕ) → Wrote before after true text → Rose before.faults after.faults
 wrote_risen before after text wrote = rw wrote.2 (le_refl (counted before.faults))
 
--- the texts and the status are those of the answer
+-- the texts and the status are the answer's
 record IsWhole (expected : Result Answer RunFault) (status : Status) (before after : Outputs) : Type 0 where
   ends : status ≡ status_with expected
   text : after.out ≡ put (text_with expected) before.out

@@ -82,7 +82,7 @@ unfolding certificate_named
 certificate_there folder None text held few = absurd held
 certificate_there folder (Some name) text held few = bytes_whole slots.Certificate (folder name) text held few
 
--- the text of a certificate is that of a named file, or has no byte
+-- the text of a certificate is the text of a named file, or empty
 pub certificate_held : (folder : Folder) (named : Option (List ℕ)) (text : List ℕ)
     → certificate_named folder named ≡ Ok text → (text ≡ [] → ⊥) → Holds folder named text
 unfolding certificate_named
@@ -175,7 +175,7 @@ was_answered sheets folder minute words question answer asked reads ok =
     by_file sheets folder minute question question.file answer refl reads
     (sym (words_answer sheets folder minute words question asked) ∙ ok)
 
--- the answer is that of the request over the contents of the files
+-- the answer is the request's answer over the contents of the files
 is_over_file : (sheets : List SheetSpec) (folder : Folder) (minute : ℤ) (question : Question) (answer : Answer)
     (was : WasAnswered folder minute question answer) → is_report question.command ≡ false
     → answered_over_file sheets (λ slot. folder) minute question was.name ≡ Ok answer

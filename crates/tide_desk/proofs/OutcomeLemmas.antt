@@ -116,7 +116,7 @@ refused_silent none Done before after says = absurd says
 refused_silent none Rejected before after says = absurd says
 refused_silent none _ before after says = tt
 
--- the status of a reason isn't that of an answer
+-- a reason and an answer have different statuses
 pub reported_silent : {A : Type 0} (none : RunFault) (status : Status) (unprinted printed : SinkState) (before after : A)
     → Reports none status unprinted printed → IsSilent status before after
 reported_silent none status unprinted printed before after reported =

@@ -40,18 +40,19 @@ use Rattle.tide_desk.specs.Shown.{answer_by}
 
 -- ---- Objects that don't fail
 
--- the folder of the files, for observable objects
+-- the folder of the files of a run, if their contents can be observed
 abbrev pub folder_held : {F O E K : Type 0} → States F O E K → Objects F O E K → Folder
 folder_held s o = (s.files o.files).file_contents.folder
 
--- the answer to a command line with the contents of observable objects
+-- the answer to the command line `words` with the files and the clock of the objects `o`, if their
+-- contents can be observed
 abbrev pub answer_held : {F O E K : Type 0} → States F O E K → List SheetSpec → List (List ℕ) → Objects F O E K
     → Result Answer RunFault
 answer_held s sheets words o = answer_of sheets (folder_held s o) (next_minute (s.clock o.clock)) words
 
--- The files are observable and steady (one that exists can always be opened and read); the clock is
--- observable and has not failed, if the command line reads it; and no write of the answer has failed. (A
--- saturated count of faults counts as one that grew.)
+-- The files have contents that can be observed, and each that exists can always be opened and read. The
+-- clock, if the command line needs it, can be observed and hasn't failed. No write of the answer has
+-- failed. (If a count of faults is at its maximum, it counts as grown.)
 pub record NothingFailed {F O E K : Type 0} (s : States F O E K) (sheets : List SheetSpec) (words : List (List ℕ))
     (before after : Objects F O E K) : Type 0 where
   pub observable : IsTrue (s.files before.files).file_contents.is_observable
@@ -61,37 +62,38 @@ pub record NothingFailed {F O E K : Type 0} (s : States F O E K) (sheets : List 
 
 -- ---- The end of a run over objects that don't fail
 
--- the status of an answer, or of the reason why there is none
+-- the exit status of an answer (Rejected if it rejects a certificate, else Done), or of the reason why
+-- there is none
 abbrev pub status_with : Result Answer RunFault → Status
 status_with (Ok answer) = if answer.rejected then Rejected else Done
 status_with (Err none) = status_of none
 
--- the status is the answer's, and the output is the whole text; or there is no answer, and the line on
--- `err` gives the reason
+-- the exit status is the expected one, and the output has the whole text of the answer; or there is no
+-- answer, nothing was written to the output, and the line that was written to `err` gives the reason
 pub record EndsWhole {F O E K : Type 0} (s : States F O E K) (expected : Result Answer RunFault) (status : Status)
     (before after : Objects F O E K) : Type 0 where
   pub ends : status ≡ status_with expected
   pub text : s.out after.out ≡ put (text_with expected) (s.out before.out)
   pub line : (failed : Bool) × Wrote (s.err before.err) (s.err after.err) failed (refusal_line expected)
 
--- memory ran out, and nothing was written
+-- the exit status says that memory ran out, and nothing was written to `out`
 pub record RanOut {F O E K : Type 0} (status : Status) (before after : Objects F O E K) : Type 0 where
   pub ends : status ≡ NoMemory
   pub unwritten : after.out ≡ before.out
 
 -- A run over files, a clock and outputs that don't fail ends with the answer to its command line, or out
--- of memory: with a read fault only if a file that the command line names is missing, and never with a
--- write fault.
+-- of memory. It ends with a read fault only if a file that the command line names is missing, and never
+-- with a write fault.
 abbrev pub EndsByItsAnswer : {F O E K : Type 0} → States F O E K → Type 0
 EndsByItsAnswer {F} {O} {E} {K} s = (sheets : List SheetSpec) (words : List (List ℕ)) (status : Status)
     (before after : Objects F O E K) →
     AnswersAs s sheets words status before after → NothingFailed s sheets words before after →
     EndsWhole s (answer_held s sheets words before) status before after ⊎ RanOut status before after
 
--- A run over files, a clock and outputs of any kind, the machine's too, ends with the answer for the
--- bytes that were read of the opened files and the minute that the clock returned, unless a write of the
--- answer has failed. So it ends with a read fault only if the clock couldn't be read or a file couldn't
--- be read to its end.
+-- A run over any files, clock and outputs ends with the answer for the bytes that it read from the
+-- opened files and the minute that the clock returned, or out of memory, unless a write of the answer
+-- has failed. So it ends with a read fault only if the clock couldn't be read or a file couldn't be read
+-- to its end.
 abbrev pub EndsByWhatCame : {F O E K : Type 0} → States F O E K → Type 0
 EndsByWhatCame {F} {O} {E} {K} s = (sheets : List SheetSpec) (words : List (List ℕ)) (status : Status) (before after : Objects F O E K)
     (answers : AnswersAs s sheets words status before after) → ¬ (Rose (s.out before.out).faults (s.out after.out).faults) →
@@ -100,9 +102,9 @@ EndsByWhatCame {F} {O} {E} {K} s = (sheets : List SheetSpec) (words : List (List
 
 -- ---- A request that nothing refuses
 
--- The command line is a request whose files are all present, no longer than may be read and in their
--- formats, and with their contents it has this answer: its station is found and has a curve, its span is
--- in the file's years, and no bound is exceeded.
+-- The command line `words` is a request whose files are all in `folder`, no longer than may be read and
+-- in their formats, and with their contents at this minute nothing refuses the request: it has the
+-- answer `answer`.
 pub record HasAnswer (sheets : List SheetSpec) (folder : Folder) (minute : ℤ) (words : List (List ℕ)) (answer : Answer)
     : Type 0 where
   pub question : Question
@@ -114,17 +116,17 @@ pub record HasAnswer (sheets : List SheetSpec) (folder : Folder) (minute : ℤ) 
   pub unrefused : answered_over_book (is_report question.command) sheets read.book read.table question
       (given_with read (minute_for question.command minute)) ≡ Ok answer
 
--- the status is done, or rejected if the answer rejects a certificate; the whole text of the answer was
--- written to `out`, and nothing to `err`
+-- the exit status is Done, or Rejected if the answer rejects a certificate; the whole text of the answer
+-- was written to `out`, and nothing to `err`
 pub record WroteAll {F O E K : Type 0} (s : States F O E K) (answer : Answer) (status : Status) (before after : Objects F O E K)
     : Type 0 where
   pub ends : status ≡ (if answer.rejected then Rejected else Done)
   pub text : s.out after.out ≡ put answer.text (s.out before.out)
   pub silent : after.err ≡ before.err
 
--- A request that nothing refuses ends with its whole text written, or out of memory, if the files are
--- steady (one that exists can always be opened and read), have the contents that the command line names,
--- and are no longer than may be read, and if the clock and the outputs don't fail.
+-- A run for a request that nothing refuses ends with the whole text of its answer written, or out of
+-- memory, if the files can always be opened and read, the clock and the outputs don't fail, and the
+-- command line has an answer with their contents.
 abbrev pub IsComplete : {F O E K : Type 0} → States F O E K → Type 0
 IsComplete {F} {O} {E} {K} s = (sheets : List SheetSpec) (words : List (List ℕ)) (status : Status) (before after : Objects F O E K)
     (answer : Answer) →
@@ -134,16 +136,17 @@ IsComplete {F} {O} {E} {K} s = (sheets : List SheetSpec) (words : List (List ℕ
 
 -- ---- A valid certificate
 
--- the run is done with an answer that meets this condition, or memory ran out and nothing was written
+-- the run ended with status Done and wrote an answer that meets the condition `accepts`, or it ran out
+-- of memory and wrote nothing
 abbrev pub EndsAccepting : {F O E K : Type 0} → States F O E K → (Answer → Type 0) → Status → Objects F O E K → Objects F O E K
     → Type 0
 EndsAccepting s accepts status before after =
     ((answer : Answer) × accepts answer × (status ≡ Done) × (s.out after.out ≡ put answer.text (s.out before.out)))
     ⊎ RanOut status before after
 
--- The text is a certificate's, and nothing refuses a request for the certificate's station, span and
--- mark. Its slack track is present exactly if it is required, and the curve of each track accepts its
--- cells over the minutes of the reference.
+-- The text is a certificate, and nothing refuses a request for the certificate's station, span and mark.
+-- It has cells for slack waters exactly if the station's slack waters are listed, and the cells of each
+-- track follow from its curve, over the minutes of the reference station that determine the events.
 pub record IsValid (book : Book) (table : List Offsets) (text : List ℕ) : Type 0 where
   pub certificate : Certificate
   pub site : Site
@@ -153,7 +156,7 @@ pub record IsValid (book : Book) (table : List Offsets) (text : List ℕ) : Type
       (widened_of site.basis certificate.begin certificate.end) certificate.tracks ≡ None
 
 -- The text is a certificate of a highest water, nothing refuses a request for the certificate's station
--- and span, and the level's curve accepts it.
+-- and span, and the claimed highest water follows from the level's curve.
 pub record IsValidPeak (book : Book) (table : List Offsets) (text : List ℕ) : Type 0 where
   pub certificate : PeakCertificate
   pub site : Site
@@ -161,18 +164,20 @@ pub record IsValidPeak (book : Book) (table : List Offsets) (text : List ℕ) : 
   pub unrefused : highest_site book table certificate.station (request_by_peak_certificate certificate) ≡ Ok site
   pub accepted : highest_verdict book site (request_by_peak_certificate certificate) certificate.peak ≡ Accepted
 
--- every certificate that `check` accepts is valid: the curve of each of its tracks accepts the track's
--- cells
+-- each certificate that `check` accepts is valid: nothing refuses its station, span and mark, and the
+-- cells of each of its tracks follow from the curve
 abbrev pub IsValidIfAccepted : Type 0
 IsValidIfAccepted = (book : Book) (table : List Offsets) (text : List ℕ) (zone : Zone) (answer : Answer) →
     checked book table text zone ≡ Ok answer → answer.rejected ≡ false → IsValid book table text
 
--- every certificate of a highest water that `peakcheck` accepts is valid: the level's curve accepts it
+-- each certificate of a highest water that `peakcheck` accepts is valid: nothing refuses its station and
+-- span, and its highest water follows from the level's curve
 abbrev pub IsValidPeakIfAccepted : Type 0
 IsValidPeakIfAccepted = (book : Book) (table : List Offsets) (text : List ℕ) (answer : Answer) →
     peak_checked book table text ≡ Ok answer → answer.rejected ≡ false → IsValidPeak book table text
 
--- the contents of a folder under the names of a request to check a certificate
+-- under the names that a request to check a certificate gives, the folder has these harmonic constants,
+-- this table and this certificate text
 pub record HoldsFiles (folder : Folder) (question : Question) (book : Book) (table : List Offsets) (text : List ℕ) : Type 0 where
   pub name : List ℕ
   pub file : question.file ≡ Some name
@@ -180,8 +185,8 @@ pub record HoldsFiles (folder : Folder) (question : Question) (book : Book) (tab
   pub offsets : table_named folder question.offsets ≡ Ok table
   pub certificate : certificate_named folder question.certificate ≡ Ok text
 
--- A check of a valid certificate over files, a clock and outputs that don't fail accepts it, with the
--- listing of the certificate's station, span and mark, or runs out of memory.
+-- The command `check`, over files, a clock and outputs that don't fail, accepts a valid certificate and
+-- lists the events of its station, span and mark; or it runs out of memory.
 abbrev pub AcceptsValid : {F O E K : Type 0} → States F O E K → Type 0
 AcceptsValid {F} {O} {E} {K} s = (sheets : List SheetSpec) (words : List (List ℕ)) (check : Question) (book : Book)
     (table : List Offsets) (text : List ℕ) (zone : Zone) (status : Status) (before after : Objects F O E K) →
@@ -190,8 +195,8 @@ AcceptsValid {F} {O} {E} {K} s = (sheets : List SheetSpec) (words : List (List �
     IsValid book table text → AnswersAs s sheets words status before after → NothingFailed s sheets words before after →
     EndsAccepting s (IsTrueAnswer sheets (folder_held s before) check) status before after
 
--- A check of a valid certificate of a highest water over files, a clock and outputs that don't fail
--- accepts it, with the highest water, or runs out of memory.
+-- The command `peakcheck`, over files, a clock and outputs that don't fail, accepts a valid certificate
+-- of a highest water and prints its highest water; or it runs out of memory.
 abbrev pub AcceptsValidPeaks : {F O E K : Type 0} → States F O E K → Type 0
 AcceptsValidPeaks {F} {O} {E} {K} s = (sheets : List SheetSpec) (words : List (List ℕ)) (check : Question) (book : Book)
     (table : List Offsets) (text : List ℕ) (status : Status) (before after : Objects F O E K) →

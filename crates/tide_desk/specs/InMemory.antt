@@ -9,28 +9,27 @@ use Rattle.tide_fault.specs.declared.status.Status.TheVariants.{Done, Rejected, 
 use Rattle.tide_desk.specs.Answers.{ReadsClock, answer_of, question_of_words}
 use Rattle.tide_desk.specs.Outcomes.{EndsAs, IsFirm, Outputs, Says, Sources, outputs, sources, text_with}
 
--- the objects of a run in memory: files, two outputs and a clock
+-- the files, the two outputs and the clock of a run in memory
 pub record Held : Type 0 where
   pub files : HeldFiles
   pub out : HeldSink
   pub err : HeldSink
   pub clock : HeldClock
 
--- the states of the files and the clock in memory
+-- the states of the files and the clock of a run in memory
 abbrev pub sources_in : Held → Sources
 sources_in held = sources (files_state held.files) (clock_state held.clock)
 
--- the states of the outputs in memory
+-- the states of the two outputs of a run in memory
 abbrev pub outputs_in : Held → Outputs
 outputs_in held = outputs (sink_state held.out) (sink_state held.err)
 
--- the answer to a command line with the files and the minute in memory
+-- the answer to a command line with the files and the minute that `held` has in memory
 abbrev pub answer_in : List SheetSpec → Held → List (List ℕ) → Result Answer RunFault
 answer_in sheets held words = answer_of sheets (folder_of held.files.files) held.clock.minute words
 
--- in memory, what a run promises over observable files and an observable clock: it ends as by the answer
--- over their contents, if the files are steady and the clock hasn't failed, or if the status isn't a
--- read fault
+-- the promise of a run, for files and a clock in memory: if they can be observed, and either haven't
+-- failed or the status isn't a read fault, the run ends with the answer for their contents
 abbrev pub EndsAsPromised : List SheetSpec → List (List ℕ) → Status → Held → Held → Type 0
 EndsAsPromised sheets words status before after =
     IsTrue (files_state before.files).file_contents.is_observable
@@ -38,8 +37,8 @@ EndsAsPromised sheets words status before after =
     → IsFirm (ReadsClock (question_of_words sheets words)) (sources_in before) (sources_in after) ⊎ (¬ (status ≡ ReadFault))
     → EndsAs (answer_in sheets before words) status (outputs_in before) (outputs_in after)
 
--- In memory the premises hold: any status other than a read fault is the answer's, and if a run is done
--- or rejects a certificate, a sink that was empty contains exactly the answer's text.
+-- If a run in memory keeps its promise, its output was empty and its status isn't a read fault, then the
+-- status fits the answer, and if it is Done or Rejected, the output has exactly the text of the answer.
 abbrev pub MemoryHoldsTheAnswer : Type 0
 MemoryHoldsTheAnswer = (sheets : List SheetSpec) (words : List (List ℕ)) (status : Status) (before after : Held) →
     before.out.accepted ≡ [] → EndsAsPromised sheets words status before after → ¬ (status ≡ ReadFault) →

@@ -19,17 +19,18 @@ use Rattle.tide_edge.specs.FileStates.{Folder}
 
 -- ---- the requests
 
--- the command line is this request for the command, and the sheets have the words that it names
+-- the command line `words` is the request `question`, for the command `command`; each sheet that it
+-- names is one of `sheets`
 pub record Asks (sheets : List SheetSpec) (words : List (List ℕ)) (command : Command) (question : Question) : Type 0 where
   pub asked : question_of_words sheets words ≡ Ok question
   pub is : question.command ≡ command
 
--- two requests name one file of constants, and one table or none
+-- both requests name the same harmonics file, and the same table of offsets or none
 pub record NameSameFiles (question other : Question) : Type 0 where
   pub file : question.file ≡ other.file
   pub offsets : question.offsets ≡ other.offsets
 
--- the subject of a request or of a certificate: its station, span and mark
+-- what a request or a certificate is about: a station, a span and a mark
 pub record Subject : Type 0 where
   pub station : Option (List ℕ)
   pub begin : Option ℤ
@@ -50,8 +51,8 @@ subject_in certificate = record {
   mark = certificate.mark;
 }
 
--- a request to `predict` this station, span and mark (the subject), in lines of text, with the files of
--- a check and in its zone
+-- `question` is a request to `predict` the station, span and mark of `subject`, as lines of text, with
+-- the harmonics file, the table and the zone of the request `check`
 pub record AsksListing (check : Question) (subject : Subject) (question : Question) : Type 0 where
   pub command : question.command ≡ Predict
   pub files : NameSameFiles question check
@@ -61,17 +62,19 @@ pub record AsksListing (check : Question) (subject : Subject) (question : Questi
 
 -- ---- the contents of files
 
--- both requests name a file of constants, and the constants under both names are the same
+-- both names are given, and the harmonic constants under the name `other` in the folder `after` are the
+-- same as under the name `named` in the folder `before`
 abbrev pub HaveSameBook : Folder → Folder → Option (List ℕ) → Option (List ℕ) → Type 0
 HaveSameBook before after named other =
     IsSomeAnd other (λ there. IsSomeAnd named (λ here. book_named after there ≡ book_named before here))
 
--- the file with a name has this text
+-- a name is given, and the file of this name in the folder has this text
 abbrev pub Holds : Folder → Option (List ℕ) → List ℕ → Type 0
 Holds folder named text = IsSomeAnd named (λ name. folder name ≡ Some text)
 
--- the files that a check names have the same constants and table as the files that a run of `certify`
--- named, and the text as the certificate; no table counts as a table without rows
+-- with the names of `check`, the folder `after` has the harmonic constants and the table that the folder
+-- `before` has with the names of `certify`, and has `text` as the certificate; no table counts as one
+-- without rows
 pub record HoldsCertificate (before after : Folder) (certify check : Question) (text : List ℕ) : Type 0 where
   pub file : HaveSameBook before after certify.file check.file
   pub offsets : table_named after check.offsets ≡ table_named before certify.offsets
@@ -79,9 +82,8 @@ pub record HoldsCertificate (before after : Folder) (certify check : Question) (
 
 -- ---- the answers
 
--- the answer is the line `Accepted`, and then the answer, with the same folder, to each request that
--- meets the condition: to any command line that is one, at any minute, and to a request without a
--- command line, which names no certificate
+-- `answer` is the line `Accepted` and then the text `shown`, which is the answer, with the files of
+-- `folder`, to each request that meets the condition `asks`, from a command line or without one
 pub record AcceptsWith (sheets : List SheetSpec) (folder : Folder) (asks : Question → Type 0) (answer : Answer) : Type 0 where
   pub shown : Answer
   pub text : answer ≡ text_alone (codes "Accepted\n" ++ shown.text)
@@ -91,13 +93,14 @@ pub record AcceptsWith (sheets : List SheetSpec) (folder : Folder) (asks : Quest
       asks question → question.certificate ≡ None
       → answered_over_optional_file sheets (λ slot. folder) minute question question.file ≡ Ok shown
 
--- the answer is the line `Accepted`, and then what `predict` prints for a subject (station, span and
--- mark) with the files of the check and in its zone
+-- the answer is the line `Accepted`, and then what `predict` prints, with the files and in the zone of
+-- the request `check`, for a station, span and mark
 abbrev pub AcceptsWithListing : List SheetSpec → Folder → Question → Subject → Answer → Type 0
 AcceptsWithListing sheets folder check subject = AcceptsWith sheets folder (AsksListing check subject)
 
--- the answer of `certify` is accepted, with the listing of its station, span and mark, by each later
--- check, in any folder, that has the same constants and table, and the answer's text as its certificate
+-- the answer of `certify` is accepted, and the events of its station, span and mark are listed, by each
+-- later `check`, with any folder, that has the same constants and table, and that text as its
+-- certificate
 abbrev pub AcceptsWhatCertifyAnswers : Type 0
 AcceptsWhatCertifyAnswers = (sheets : List SheetSpec) (before after : Folder) (minute later : ℤ)
     (words more : List (List ℕ)) (certify check : Question) (certificate : Answer) (zone : Zone) →
@@ -107,8 +110,9 @@ AcceptsWhatCertifyAnswers = (sheets : List SheetSpec) (before after : Folder) (m
     (answer : Answer) × (answer_of sheets after later more ≡ Ok answer)
     × AcceptsWithListing sheets after check (subject_of certify) answer
 
--- with the file, the table and the zone that the check names, the text under its certificate's name is a
--- true certificate, and the answer has the listing of the certificate's station, span and mark
+-- with the harmonics file, the table and the zone that `check` names, the file that it names as the
+-- certificate is a true certificate, and `answer` lists the events of this certificate's station, span
+-- and mark
 pub record IsTrueAnswer (sheets : List SheetSpec) (folder : Folder) (check : Question) (answer : Answer) : Type 0 where
   pub book : Book
   pub table : List Offsets
@@ -121,8 +125,8 @@ pub record IsTrueAnswer (sheets : List SheetSpec) (folder : Folder) (check : Que
   pub is_true : IsTrueCertificate book table text zone answer
   pub listing : AcceptsWithListing sheets folder check (subject_in is_true.certificate) answer
 
--- every certificate that `check` accepts has exactly the events of its station, span and mark, however
--- it was made
+-- each certificate that `check` accepts, whoever made it, has exactly the events of its station, span
+-- and mark
 abbrev pub AcceptsOnlyTrueCertificates : Type 0
 AcceptsOnlyTrueCertificates = (sheets : List SheetSpec) (folder : Folder) (minute : ℤ) (words : List (List ℕ))
     (check : Question) (answer : Answer) →

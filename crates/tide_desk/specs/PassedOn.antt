@@ -27,16 +27,16 @@ use Rattle.tide_desk.specs.Shown.{folders_by}
 
 -- ---- By the contents of the files
 
--- a run over observable files is done, and its output was empty before
+-- a run ended with the status Done, its files can be observed, and its output was empty before it
 pub record IsDone {F O E K : Type 0} (s : States F O E K) (sheets : List SheetSpec) (words : List (List ℕ))
     (before after : Objects F O E K) : Type 0 where
   pub answers : AnswersAs s sheets words Done before after
   pub observable : IsTrue (s.files before.files).file_contents.is_observable
   pub empty : (s.out before.out).accepted ≡ []
 
--- A check over files, a clock and outputs that don't fail accepts a certificate that is, byte for byte,
--- what a run of `certify` that was done has written, with the same constants and table, and lists its
--- events; or it runs out of memory.
+-- The command `check`, over files, a clock and outputs that don't fail, accepts the certificate that a
+-- run of `certify` has written, if it is unchanged and the constants and the table are the same, and
+-- lists its events; or it runs out of memory.
 abbrev pub ChecksWhatWasCertified : {F O E K G P D L : Type 0} → States F O E K → States G P D L → Type 0
 ChecksWhatWasCertified {F} {O} {E} {K} {G} {P} {D} {L} s t = (sheets : List SheetSpec) (words more : List (List ℕ))
     (certify check : Question) (zone : Zone) (before after : Objects F O E K) (status : Status) (first last : Objects G P D L) →
@@ -46,8 +46,9 @@ ChecksWhatWasCertified {F} {O} {E} {K} {G} {P} {D} {L} s t = (sheets : List Shee
     zone_named (folder_held t first) check.zone ≡ Ok zone →
     EndsAccepting t (AcceptsWithListing sheets (folder_held t first) check (subject_of certify)) status first last
 
--- A `peakcheck` over files, a clock and outputs that don't fail accepts a certificate that is what a run
--- of `peak` that was done has written, and prints the highest water; or it runs out of memory.
+-- The command `peakcheck`, over files, a clock and outputs that don't fail, accepts the certificate that
+-- a run of `peak` has written, if it is unchanged and the constants and the table are the same, and
+-- prints the highest water; or it runs out of memory.
 abbrev pub ChecksWhatPeakCertified : {F O E K G P D L : Type 0} → States F O E K → States G P D L → Type 0
 ChecksWhatPeakCertified {F} {O} {E} {K} {G} {P} {D} {L} s t = (sheets : List SheetSpec) (words more : List (List ℕ))
     (peak check : Question) (before after : Objects F O E K) (status : Status) (first last : Objects G P D L) →
@@ -58,35 +59,36 @@ ChecksWhatPeakCertified {F} {O} {E} {K} {G} {P} {D} {L} s t = (sheets : List She
 
 -- ---- By the bytes that were read, over objects of any kind
 
--- The bytes that were read for a request are all bytes of its files, no longer than may be read and in
--- their formats, and these are their contents.
+-- The bytes that were read for a request are whole files, no longer than may be read and in their
+-- formats, and `read` has their contents.
 pub record CameAs (sheets : List SheetSpec) (words : List (List ℕ)) (question : Question) (open_log : List Opening) (read : Materials)
     : Type 0 where
   pub name : List ℕ
   pub file : question.file ≡ Some name
   pub files : files_in (folders_by (question_of_words sheets words) open_log) question name ≡ Ok read
 
--- the certificate that the second run read is what the first one wrote, with the same constants and table
+-- the certificate that the second run read is the text that the first run wrote, and both runs read the
+-- same harmonic constants and table
 pub record IsPassedOn (first second : Materials) (written : List ℕ) : Type 0 where
   pub book : second.book ≡ first.book
   pub offsets : second.table ≡ first.table
   pub certificate : second.certificate ≡ written
 
--- the subject of a request for this name and span: the station, the span and the mark
+-- the station called `name`, the span and the mark, as what a request or a certificate is about
 abbrev pub subject_over : List ℕ → SpanRequest → Subject
 subject_over name span_request = record { station = Some name; begin = Some span_request.begin; end = Some span_request.end; mark = span_request.mark }
 
--- the answer is the line `Accepted`, and the listing of the events of a subject (station, span and mark)
--- with these constants and table, in the local time of a zone
+-- the answer is the line `Accepted`, and the events of the station, span and mark of `subject`, with
+-- these constants and table, in the local time of `zone`
 pub record AcceptsSubject (book : Book) (table : List Offsets) (zone : Zone) (subject : Subject) (answer : Answer) : Type 0 where
   pub name : List ℕ
   pub span_request : SpanRequest
   pub about : subject ≡ subject_over name span_request
   pub listing : AcceptsListing (predicted book table name span_request Plain zone) answer
 
--- A check accepts a certificate that it read if it is what a run of `certify` that was done has written,
--- and both runs read the same constants and table, and lists its events; or it runs out of memory,
--- unless a write of its answer has failed.
+-- The command `check` accepts a certificate that it read, if a run of `certify` has written this text
+-- and both runs read the same constants and table, and lists its events; or it runs out of memory. This
+-- holds unless a write of its answer has failed.
 abbrev pub ChecksWhatCame : {F O E K G P D L : Type 0} → States F O E K → States G P D L → Type 0
 ChecksWhatCame {F} {O} {E} {K} {G} {P} {D} {L} s t = (sheets : List SheetSpec) (words more : List (List ℕ)) (certify check : Question)
     (before after : Objects F O E K) (status : Status) (first last : Objects G P D L) (one two : Materials)
@@ -96,17 +98,17 @@ ChecksWhatCame {F} {O} {E} {K} {G} {P} {D} {L} s t = (sheets : List SheetSpec) (
     ¬ (Rose (t.out first.out).faults (t.out last.out).faults) →
     EndsAccepting t (AcceptsSubject one.book one.table two.zone (subject_of certify)) status first last
 
--- the answer is the line `Accepted`, and the highest water of a subject (station and span) with these
--- constants and table, in universal time
+-- the answer is the line `Accepted`, and the highest water of the station and span of `subject`, with
+-- these constants and table, in universal time
 pub record AcceptsPeakOf (book : Book) (table : List Offsets) (subject : Subject) (answer : Answer) : Type 0 where
   pub name : List ℕ
   pub span_request : SpanRequest
   pub about : subject ≡ subject_over name span_request
   pub highest : AcceptsListing (highest_water book table name span_request Utc) answer
 
--- A `peakcheck` accepts a certificate that it read if it is what a run of `peak` that was done has
--- written, and prints the highest water; or it runs out of memory, unless a write of its answer has
--- failed.
+-- The command `peakcheck` accepts a certificate that it read, if a run of `peak` has written this text
+-- and both runs read the same constants and table, and prints the highest water; or it runs out of
+-- memory. This holds unless a write of its answer has failed.
 abbrev pub ChecksPeakThatCame : {F O E K G P D L : Type 0} → States F O E K → States G P D L → Type 0
 ChecksPeakThatCame {F} {O} {E} {K} {G} {P} {D} {L} s t = (sheets : List SheetSpec) (words more : List (List ℕ)) (peak check : Question)
     (before after : Objects F O E K) (status : Status) (first last : Objects G P D L) (one two : Materials)

@@ -26,8 +26,8 @@ subject_of_peak certificate = record {
   mark = None;
 }
 
--- a request to `highest` for this station and span (the subject), with the files of a check and in
--- universal time
+-- `question` is a request for the command `highest` about the station and span of `subject`, with the
+-- harmonics file and the table of the request `check`, in universal time
 pub record AsksHighest (check : Question) (subject : Subject) (question : Question) : Type 0 where
   pub command : question.command ≡ Highest
   pub files : NameSameFiles question check
@@ -36,13 +36,13 @@ pub record AsksHighest (check : Question) (subject : Subject) (question : Questi
 
 -- ---- the answers
 
--- the answer is the line `Accepted`, and then what `highest` prints for a subject (station and span)
--- with the files of the check, in universal time
+-- the answer is the line `Accepted`, and then what `highest` prints in universal time, with the
+-- harmonics file and the table of the request `check`, for a station and span
 abbrev pub AcceptsWithHighest : List SheetSpec → Folder → Question → Subject → Answer → Type 0
 AcceptsWithHighest sheets folder check subject = AcceptsWith sheets folder (AsksHighest check subject)
 
--- the answer of `peak` is accepted, with the highest water of its station and span, by each later check,
--- in any folder, that has the same constants and table, and the answer's text as its certificate
+-- the answer of `peak` is accepted, and the highest water of its station and span printed, by each later
+-- `peakcheck`, with any folder, that has the same constants and table, and that text as its certificate
 abbrev pub AcceptsWhatPeakAnswers : Type 0
 AcceptsWhatPeakAnswers = (sheets : List SheetSpec) (before after : Folder) (minute later : ℤ)
     (words more : List (List ℕ)) (peak check : Question) (certificate : Answer) →
@@ -51,8 +51,8 @@ AcceptsWhatPeakAnswers = (sheets : List SheetSpec) (before after : Folder) (minu
     (answer : Answer) × (answer_of sheets after later more ≡ Ok answer)
     × AcceptsWithHighest sheets after check (subject_of peak) answer
 
--- with the file and the table that the check names, the text under its certificate's name is a true
--- certificate, and the answer has the highest water of the certificate's station and span
+-- with the harmonics file and the table that `check` names, the file that it names as the certificate is
+-- a true certificate, and `answer` has the highest water of this certificate's station and span
 pub record IsTruePeakAnswer (sheets : List SheetSpec) (folder : Folder) (check : Question) (answer : Answer) : Type 0 where
   pub book : Book
   pub table : List Offsets
@@ -63,8 +63,8 @@ pub record IsTruePeakAnswer (sheets : List SheetSpec) (folder : Folder) (check :
   pub is_true : IsTruePeak book table text answer
   pub reported : AcceptsWithHighest sheets folder check (subject_of_peak is_true.certificate) answer
 
--- every certificate that `peakcheck` accepts has the highest water of its station and span, however it
--- was made
+-- each certificate that `peakcheck` accepts, whoever made it, has the highest water of its station and
+-- span
 abbrev pub AcceptsOnlyTruePeaks : Type 0
 AcceptsOnlyTruePeaks = (sheets : List SheetSpec) (folder : Folder) (minute : ℤ) (words : List (List ℕ))
     (check : Question) (answer : Answer) →

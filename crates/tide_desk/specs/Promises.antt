@@ -11,46 +11,46 @@ use Rattle.tide_desk.specs.Answers.{ReadsClock, HasFiles, NamesFile, allowed_by,
 use Rattle.tide_desk.specs.Outcomes.{EndsAs, IsFirm, IsSilent, IsUntouched, Outputs, Sources, WentOn, is_settled, outputs, sources}
 use Rattle.tide_desk.specs.Shown.{EndsAsShown}
 
--- the objects of a run: files, two outputs and a clock
+-- the files, the two outputs and the clock of a run, each of any type
 pub record Objects (F O E K : Type 0) : Type 0 where
   pub files : F
   pub out : O
   pub err : E
   pub clock : K
 
--- the objects of a run as one record
+-- files, two outputs and a clock as one record
 abbrev pub objects : {F O E K : Type 0} → F → O → E → K → Objects F O E K
 objects files out err clock = record { files = files; out = out; err = err; clock = clock }
 
--- the states of files, a clock and outputs of any kind
+-- functions that give the states of a run's files, outputs and clock, each of any type
 pub record States (F O E K : Type 0) : Type 0 where
   pub files : F → FilesState
   pub out : O → SinkState
   pub err : E → SinkState
   pub clock : K → ClockState
 
--- the states of a run's objects as one record
+-- the functions that give the states of files, outputs and a clock, as one record
 abbrev pub states : {F O E K : Type 0} → (F → FilesState) → (O → SinkState) → (E → SinkState) → (K → ClockState) → States F O E K
 states files out err clock = record { files = files; out = out; err = err; clock = clock }
 
--- the states of the files and the clock
+-- the states of the files and the clock of a run's objects
 abbrev pub sources_of : {F O E K : Type 0} → States F O E K → Objects F O E K → Sources
 sources_of s o = sources (s.files o.files) (s.clock o.clock)
 
--- the states of the outputs
+-- the states of the standard output and the standard error of a run's objects
 abbrev pub outputs_of : {F O E K : Type 0} → States F O E K → Objects F O E K → Outputs
 outputs_of s o = outputs (s.out o.out) (s.err o.err)
 
--- The command line was answered, with these sheets for a report. The fields:
--- - `shown`: the run ends as by the answer to the command line by the files that it opened, as far as their
---   bytes were read, and by the minute that the clock returned; it opened what the command line names, in
---   their order.
--- - `own_files`: over observable objects it ends as by the answer over their contents, unless reading has
---   failed.
--- - `reads`: the bytes that were read, and the readings of the clock; a fault of reading is one of the
---   files or of the clock.
--- - `unwritten`, `unprinted`: the outputs that are unchanged without an answer, and with one.
--- - All others: the cases in which the files and the clock are unchanged, and in which the clock is read.
+-- The command line `words` was answered; `sheets` are the sheets that a report can have. The fields:
+-- - `shown`: the run ends with the answer for the bytes that it read from the opened files and the
+--   minute that the clock returned; it opened the files that the command line names, in their order.
+-- - `own_files`: if the files, and the clock if it is needed, can be observed, the run ends with the
+--   answer for their contents, unless reading has failed.
+-- - `reads`: the bytes that were read and the readings of the clock are within limits; a read fault is a
+--   fault of one of the files or of the clock.
+-- - `unwritten`, `unprinted`: standard output is unchanged if there is no answer, and standard error is
+--   unchanged if the answer was written.
+-- - All others: when the files and the clock are unchanged, and when the clock is read.
 pub record AnswersAs {F O E K : Type 0} (s : States F O E K) (sheets : List SheetSpec) (words : List (List ℕ)) (status : Status)
     (before after : Objects F O E K) : Type 0 where
   pub shown : EndsAsShown sheets words (sources_of s before) (sources_of s after) status (outputs_of s before) (outputs_of s after)

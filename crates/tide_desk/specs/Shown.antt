@@ -25,16 +25,18 @@ use Rattle.tide_desk.specs.Workings.Settled.{IsSettled}
 
 -- ---- The answer, if the clock may fail
 
--- the minute that a clock returned, or the reason why there is no answer if it failed
+-- the minute that the clock returned; or a read fault if it returned none, because it failed
 abbrev pub minute_given : Option ℤ → Result ℤ RunFault
 minute_given None = Err Unread
 minute_given (Some minute) = Ok minute
 
--- the minute for a command, from what the clock returned: 0 if the command doesn't read the clock
+-- the minute that a command is answered for: 0 if it doesn't read the clock, and otherwise what the
+-- clock returned, or a read fault if it returned none
 abbrev pub minute_read : Command → Option ℤ → Result ℤ RunFault
 minute_read command given = if reads_clock command then minute_given given else Ok (pos 0)
 
--- the answer with the files, if the clock, which is read after them, may have failed
+-- the answer to a question whose harmonics file is called `name`, with the contents of `folders`;
+-- `given` is the minute that the clock, which is read after the files, returned, None if it failed
 unfoldable pub shown_over : List SheetSpec → Folders → Option ℤ → Question → List ℕ → Result Answer RunFault
 shown_over sheets folders given question name = do
   read ← files_in folders question name
@@ -42,12 +44,15 @@ shown_over sheets folders given question name = do
   refused_over read.table
       (answered_over_book (is_report question.command) sheets read.book read.table question (given_with read now))
 
--- the answer to a request, which may name no file
+-- the answer to a question with the contents of `folders`; the last argument is the name of the
+-- harmonics file, None if the question names no file; `given` is the minute that the clock returned,
+-- None if it failed
 abbrev pub shown_by : List SheetSpec → Folders → Option ℤ → Question → Option (List ℕ) → Result Answer RunFault
 shown_by sheets folders given question None = faulty (refused_from (answered_without_files question))
 shown_by sheets folders given question (Some name) = shown_over sheets folders given question name
 
--- the answer to a command line; each file is read from a separate folder
+-- the answer to the command line `words`; `folders` has a folder for each kind of file, and `given` is
+-- the minute that the clock returned, None if it failed
 unfoldable pub answer_shown : List SheetSpec → Folders → Option ℤ → List (List ℕ) → Result Answer RunFault
 answer_shown sheets folders given words = do
   question ← faulty (question_of_words sheets words)
@@ -55,34 +60,36 @@ answer_shown sheets folders given words = do
 
 -- ---- The openings and the minute
 
--- the names of a request's files in the order of reading, up to the file that is the reason why there is
--- no answer
+-- the names of a request's files in the order of reading; if `why` is Some, only up to the file that is
+-- the reason why there is no answer
 abbrev pub names_by : Question → Option (List ℕ) → Option Slot → List (List ℕ)
 names_by question None why = []
 names_by question (Some name) why = names_to name question why
 
--- the names of a command line's files
+-- the names of the files of a command line in the order of reading, up to the file that `why` names, if
+-- it does; none if the command line isn't a request
 abbrev pub names_wanted : Result Question Fault → Option Slot → List (List ℕ)
 names_wanted (Ok question) why = names_by question question.file why
 names_wanted (Err fault) why = []
 
--- the files of a command line as the openings show them
+-- the files of a command line, with the contents that `open_log`, the record of opened files, shows
 abbrev pub folders_by : Result Question Fault → List Opening → Folders
 folders_by (Ok question) open_log = folders_shown question open_log
 folders_by (Err fault) open_log = λ slot name. None
 
--- the minute that a clock returned between two states, if it returned one
+-- the first minute that a clock returned between two of its states, or None if it returned none
 abbrev pub given_between : ClockState → ClockState → Option ℤ
 given_between before after = slice_get after.returned_minutes (length before.returned_minutes)
 
--- the answer to a command line, from the openings and from what the clock returned between two states
+-- the answer to the command line `words`, from `open_log`, the record of opened files, and from the
+-- minute that the clock returned between two of its states
 abbrev pub answer_by : List SheetSpec → List (List ℕ) → List Opening → ClockState → ClockState → Result Answer RunFault
 answer_by sheets words open_log before after =
     answer_shown sheets (folders_by (question_of_words sheets words) open_log) (given_between before after) words
 
--- A run ends with the answer to its command line, from what it opened and what the clock returned. It
--- opened the first of the files that the command line names, in the order of reading, each once; and
--- unless memory ran out, none after the one that is the reason why there is no answer.
+-- A run ends with the answer to its command line, from the files that it opened and the minute that the
+-- clock returned. It opened files only in the order in which they are read, each once, and, unless
+-- memory ran out, none after the file that is the reason why there is no answer.
 pub record EndsAsShown (sheets : List SheetSpec) (words : List (List ℕ)) (before after : Sources) (status : Status)
     (unwritten written : Outputs) : Type 0 where
   pub open_log : List Opening
@@ -95,12 +102,12 @@ pub record EndsAsShown (sheets : List SheetSpec) (words : List (List ℕ)) (befo
   pub ends : EndsAs (answer_by sheets words open_log before.clock after.clock) status unwritten written
 
 -- The clock is read after all files, at most once. The fields, for any contents of the files that agree
--- with what was read of them:
--- - `last`: the clock is unchanged (`unread`), unless all files can be read.
--- - `once`: the clock was read once, if they can, and if the request needs it (`asks`) and the result is
---   no fault of reading or of memory.
--- - `failed`: the clock has failed, if they can and a file or the clock has failed.
--- - `minute`: an observable clock returned its next minute, if it returned one.
+-- with the bytes that were read of them:
+-- - `last`: the clock is unchanged (`unread`) if not all files can be read.
+-- - `once`: the clock was read once if all files can be read, the request needs the clock (`asks`), and
+--   the result is neither a fault of reading nor of memory.
+-- - `failed`: the clock has failed if all files can be read and the result is a fault of reading.
+-- - `minute`: if the clock can be observed and returned a minute, it is the clock's next one.
 pub record IsReadLast {T : Type 0} (asks unread : Type 0) (shows : Bool → List Opening → Folders → Type 0) (has_files : Folders → Type 0)
     (before after : Sources) (result : Result T RunFault) : Type 0 where
   pub open_log : List Opening

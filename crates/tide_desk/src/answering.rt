@@ -40,13 +40,14 @@ use tide_answer::{Given, StationData, answer_alone};
 use tide_edge::{Clock, Files};
 use tide_fault::{Fault, Refusal};
 
-/// Returns the answer to the arguments `words`, ready to be written. The files are opened in this order:
-/// the harmonic constants, the table, the zone and the certificate; and the clock is read after them,
-/// only for the commands `clock` and `report`.
+/// Returns the answer to the arguments `words`, ready to be written. The files that the arguments name
+/// are opened in this order: the harmonic constants, the table, the zone and the certificate. Then the
+/// clock is read, but only for the commands `clock` and `report`. A report has pages of `sheets`.
 ///
 /// # Errors
-/// The first reason in this order: the command line, a sheet that doesn't exist, the files, the clock,
-/// and then the refusals of the request with the files.
+/// The first reason in this order why there is no answer: the arguments aren't a request; they name a
+/// sheet that isn't one of `sheets`; a file can't be read or isn't in its format; the clock can't be
+/// read; the request is refused ([`Refusal`]).
 pub fn answer_words<F: Files, K: Clock>(
     alloc: Global,
     words: &Words,

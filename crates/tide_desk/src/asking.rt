@@ -14,11 +14,11 @@ use report_sheets::{Sheet, missing};
 use std::alloc::Global;
 use tide_fault::{Fault, Refusal};
 
-/// Returns the request of the arguments `words`. Each sheet that it names is one of `sheets`.
+/// Returns the request that the arguments `words` make, if each sheet that they name is one of `sheets`.
 ///
 /// # Errors
-/// [`Fault::Ask`] if the arguments aren't a request, and [`Fault::NoSheet`] for the first named sheet
-/// that isn't one of `sheets`.
+/// [`Fault::Ask`] if `words` isn't a request; [`Fault::NoSheet`], with the first named sheet that isn't
+/// one of `sheets`.
 #[tactic(auto, unfolding(crate::specs::Answers::question_of_words))]
 pub fn read_words(
     alloc: Global,

@@ -2,11 +2,11 @@
 
 use tide_answer::{Answer, Ready};
 
-/// The source from which an answer is written.
+/// The form in which an answer is kept until it is written.
 #[derive(Drop)]
 pub enum Body {
-    /// An answer in memory.
+    /// The whole answer, as a text in memory.
     Text(Answer),
-    /// A prepared answer, which is written while it is computed.
+    /// A prepared answer, which is computed while it is written.
     Stream(Ready),
 }

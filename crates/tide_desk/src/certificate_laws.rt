@@ -4,8 +4,8 @@ ghost use Rattle.tide_desk.specs.Laws.{AcceptsWhatCertifyAnswers, AcceptsOnlyTru
 
 use tide_answer::{accepted_is_true, certified_is_accepted, certified_is_short};
 
-/// Proves that the command `check` accepts the answer of `certify`, put into a file, with the listing
-/// that `predict` prints.
+/// Proves that the command `check` accepts each certificate that the command `certify` returns, if it is
+/// put into a file, and that it then lists what `predict` prints.
 pub fn what_certify_answers_is_accepted()
     ensures { AcceptsWhatCertifyAnswers }
 {
@@ -13,9 +13,9 @@ pub fn what_certify_answers_is_accepted()
     certified_is_short();
 }
 
-/// Proves that a certificate that the command `check` accepts is true, however it was made: its tracks
-/// have exactly the events of the curves of its station, span and mark, and the answer lists what
-/// `predict` prints for them.
+/// Proves that each certificate that the command `check` accepts is true, whoever made it: its cells
+/// have exactly the events of its station, span and mark, and the answer of `check` lists what `predict`
+/// prints for these.
 pub fn what_check_accepts_is_true()
     ensures { AcceptsOnlyTrueCertificates }
 {

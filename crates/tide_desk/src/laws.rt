@@ -2,9 +2,9 @@
 
 ghost use Rattle.tide_desk.specs.InMemory.{MemoryHoldsTheAnswer};
 
-/// Proves for [`run`](crate::run) over objects in memory that any exit status other than a read fault is
-/// the status of the answer, and that a sink that was empty contains exactly the answer's text if the
-/// run is done or rejects a certificate.
+/// Proves, for a call of [`run`](crate::run) with files, a clock and outputs in memory, that the exit
+/// status is the status of the answer, unless it is a read fault; and that, if the run is done or
+/// rejects a certificate, an output that was empty then has exactly the text of the answer.
 pub fn memory_holds_the_answer()
     ensures { MemoryHoldsTheAnswer }
 {}

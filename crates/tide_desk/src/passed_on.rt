@@ -8,10 +8,11 @@ use crate::peak_laws::what_peak_answers_is_accepted;
 use tide_answer::{certified_is_accepted, peak_certified_is_accepted};
 use tide_edge::{Clock, Files, Sink};
 
-/// Proves that, over files, a clock and outputs that don't fail, the command `check` accepts what a run
-/// of `certify` that was done has written, with the listing, or runs out of memory. The two runs may
-/// have files, clocks and outputs of different kinds. Over files, a clock and outputs of any kind this
-/// holds for the bytes that the second run read, unless a write of its answer failed.
+/// Proves that the command `check` accepts the certificate that a run of `certify` has written without a
+/// fault, and lists its events, or runs out of memory, if the files, the clock and the outputs of the
+/// check don't fail. The two runs may have files, clocks and outputs of different types. Also proves
+/// this for files, clocks and outputs that may fail, about the bytes that each run read, unless a write
+/// of the answer of `check` failed.
 pub fn what_was_certified_is_checked<F, O, E, K, G, P, D, L>()
 where
     F: Files,
@@ -29,10 +30,10 @@ where
     certified_is_accepted();
 }
 
-/// Proves that, over files, a clock and outputs that don't fail, the command `peakcheck` accepts what a
-/// run of `peak` that was done has written, with the highest water, or runs out of memory. Over files, a
-/// clock and outputs of any kind this holds for the bytes that the second run read, unless a write of
-/// its answer failed.
+/// Proves that the command `peakcheck` accepts the certificate that a run of `peak` has written without
+/// a fault, and prints its highest water, or runs out of memory, if the files, the clock and the outputs
+/// of the check don't fail. Also proves this for files, clocks and outputs that may fail, about the
+/// bytes that each run read, unless a write of the answer of `peakcheck` failed.
 pub fn what_peak_certified_is_checked<F, O, E, K, G, P, D, L>()
 where
     F: Files,

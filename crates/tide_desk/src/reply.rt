@@ -10,8 +10,8 @@ use std::marker::Model;
 use tide_answer::{Answer, Ready, answer_into};
 use tide_edge::{Sink, WriteFailed, write_all};
 
-/// An answer that can be written, from a text in memory or while it is computed. In contracts its value
-/// is the answer.
+/// An answer that is ready to be written: its text is in memory, or is computed while it is written. In
+/// contracts its value is the answer.
 #[derive(Drop)]
 pub struct Reply {
     body: Body,
@@ -29,7 +29,7 @@ impl Model for Reply {
 }
 
 impl Reply {
-    /// Returns the answer `answer`, a text in memory, ready to be written.
+    /// Returns `answer`, whose text is in memory, ready to be written.
     pub fn made(answer: Answer) -> Reply
         ensures { result ≡ answer }
     {
@@ -38,8 +38,8 @@ impl Reply {
         }
     }
 
-    /// Returns the answer with the source `body` (a text in memory, or one that is written while it is
-    /// computed), ready to be written.
+    /// Returns the answer of `body`, ready to be written. `body` has a text in memory, or an answer that
+    /// is computed while it is written.
     pub fn of(body: Body) -> Reply
         requires { IsReply body }
         ensures { result ≡ answer_in body }
@@ -47,11 +47,11 @@ impl Reply {
         Reply { body }
     }
 
-    /// Writes the answer's text, and returns true if it rejects a certificate. It doesn't allocate if
-    /// the text is written while it is computed.
+    /// Writes the text of the answer to `out`, and returns true if the answer rejects a certificate. The
+    /// call doesn't allocate if the text is computed while it is written.
     ///
     /// # Errors
-    /// [`WriteFailed`] if a write failed. Nothing was written after it.
+    /// [`WriteFailed`] if a write to `out` fails. Nothing is written after it.
     pub fn write<O: Sink>(&self, out: &mut O) -> Result<bool, WriteFailed>
         ensures wrote { Wrote (O.state out.old) (O.state out.new) (is_err result) self.now.text }
         ensures judged { IfOk result (λ rejected. rejected ≡ self.now.rejected) }

@@ -18,13 +18,13 @@ use tide_answer::{Given, StationData, answer_valid, can_stream, prepare_valid};
 use tide_fault::Refusal;
 use zone_time::Zone;
 
-/// Returns the source of the answer to `question` about `stations`: for the command `report` the pages
-/// of the requested sheets, and otherwise the text of [`answer`](tide_answer::answer). The answer is
-/// streamed (written while it is computed) exactly if both the request and the prepared source allow it;
-/// otherwise its text is made.
+/// Returns the answer to `question` about `stations`, in the form in which it is kept until it is
+/// written: for the command `report` the pages of the requested sheets, and for other commands the text
+/// of [`answer`](tide_answer::answer). An answer that can be streamed is computed while it is written;
+/// any other is a text in memory.
 ///
 /// # Errors
-/// The first [`Refusal`] in the order of [`answer`](tide_answer::answer).
+/// The first [`Refusal`], in the order of [`answer`](tide_answer::answer).
 pub fn body_with(
     alloc: Global,
     stations: &StationData<'_>,
@@ -80,8 +80,8 @@ fn body_for(
     Ok(Body::Text(answer_valid(alloc, stations, question, seen)?))
 }
 
-/// Returns true if the command, the layout and the zone let the answer be streamed (written while it is
-/// computed), as it then is for a station without offsets.
+/// Returns true if the command, the layout and the zone allow streaming: if the station has no offsets,
+/// the answer is then written while it is computed.
 fn may_stream(question: &Question, zone: &Zone) -> bool
     ensures { result ≡ may_stream question.now zone.now }
 {

@@ -14,16 +14,17 @@ ghost use Rattle.tide_desk.specs.Worked.{in_memory, pier, pier_words};
 
 use harmonics_text::worked_files;
 
-/// Proves examples of the minute for which a command is answered: the present one if it reads the clock,
-/// and otherwise 0.
+/// Proves examples of the minute that a command is answered for: the present minute for commands that
+/// read the clock (`clock` and `report`), and 0 for others.
 pub fn worked_minutes()
     ensures clock { minute_for Command.Clock (pos 7) ≡ pos 7 }
     ensures report { minute_for Command.Report (pos 7) ≡ pos 7 }
     ensures no_clock { minute_for Command.Heights (pos 7) ≡ pos 0 }
 {}
 
-/// Proves examples of arguments with no other fault, in which a word is the first that no sheet has: the
-/// fault names this word.
+/// Proves examples of checking the sheets that a command line names: the fault has the first named sheet
+/// that doesn't exist; a command line that names no sheet passes; and an argument that isn't valid is
+/// reported before a missing sheet.
 #[tactic(auto, unfolding(crate::specs::Answers::question_of_words, report_sheets::specs::Pages::missing_of, question::specs::Questions::question_of, question::specs::Questions::with_items, question::specs::Questions::with_item, question::specs::Forms::some_text, question::specs::Forms::sheets_of))]
 pub fn worked_sheets()
     ensures no_sheet { found_in (codes "first" ∷ []) (missing_of [] (codes "first" ∷ [])) ≡ Err (Fault.NoSheet (codes "first")) }
@@ -35,8 +36,8 @@ pub fn worked_sheets()
         ≡ Err (Fault.Ask (AskFault.BadValue 2)) }
 {}
 
-/// Proves that a run in memory that lists the stations of a small file has an answer and that nothing
-/// failed.
+/// Proves that an example of a run in memory, which lists the stations of a small harmonics file, has an
+/// answer, and that none of its files, clock and outputs failed.
 pub fn worked_runs()
     ensures answer { HasAnswer [] (folder_held in_memory pier) (pos 15791220) pier_words (text_alone (codes "Ref feet Pier\n")) }
     ensures nothing_failed { NothingFailed in_memory [] pier_words pier pier }

@@ -1,20 +1,18 @@
 -- The calls of a door in memory keep its connections of its requests.
-use Rattle.std.proofs.Common.{◌≡◌, ℕ, zero, ◌+◌, ◌-◌, ◌≤◌, Bool, true, false, List, [], ◌∷◌, ◌++◌, length, map, take, drop, min, append_assoc, append-nil, length-append, arith, Option, Some, None, Result, Ok, Err, ap, sym, ◌∙◌, subst, refl}
-use Rattle.std.specs.Bool.{IsTrue}
+use Rattle.std.proofs.Common.{◌≡◌, ℕ, ◌+◌, ◌-◌, ◌≤◌, Bool, true, false, List, [], ◌∷◌, ◌++◌, length, map, take, drop, min, append_assoc, append-nil, length-append, arith, Option, Some, None, Result, Ok, Err, ap, sym, ◌∙◌, subst, refl}
 use Rattle.std.specs.List.{concat}
 use Rattle.std.specs.Option.{option_map}
-use Rattle.std.specs.Prelude.{◌==◌, ◌||◌, ◌↔◌, if◌then◌else◌, nat_lt, IfOk}
+use Rattle.std.specs.Prelude.{◌==◌, ◌||◌, ◌↔◌, nat_lt, IfOk}
 use Rattle.std.proofs.lemmas.Bool.Decides.{nat_tests}
 use Rattle.std.proofs.lemmas.Grind.{common_steps}
-use Rattle.std.proofs.lemmas.List.{length-take-le, map-append, take-append-drop, take-append-le}
+use Rattle.std.proofs.lemmas.List.{length-take-le, map-append, take-append-drop}
 use Rattle.tide_edge.specs.declared.failed.Failed.{Failed}
 use Rattle.tide_edge.specs.FaultSchedule.{is_to_fail}
-use Rattle.tide_edge.specs.Doors.{Connection, Connections, append_to_last, change_latest, connection_after_read, connection_after_write, connections_of, first_or_empty, just_taken, left_after, no_connections}
+use Rattle.tide_edge.specs.Doors.{Connection, Connections, append_to_last, connection_after_read, connection_after_write, connections_of, first_or_empty, just_taken, left_after, no_connections}
 use Rattle.tide_edge.specs.DoorLaws.{AreOfRequests, IsOfRequest}
 use Rattle.tide_edge.specs.FileStates.{as_list}
 use Rattle.tide_edge.specs.Memory.{HeldDoor, after_line_read, after_line_write, after_taking, is_shut, line_count, line_read}
 use Rattle.tide_edge.specs.Workings.HeldDoors.{IsCurrent, IsTied, IsTiedDoor, all_many, of_both, of_latest}
-use Rattle.std.proofs.Math.Seq.{drop-nil}
 use Rattle.tide_edge.proofs.PieceLemmas.{all_left, bytes_left, left_on}
 
 -- no connection was accepted yet
@@ -28,7 +26,7 @@ tied_new requests =
 taken_of : (request : List (List ℕ)) → IsOfRequest true request just_taken
 taken_of request = record { prefix = refl; whole = λ is. absurd (cc); piece = λ is. omega arith }
 
--- the first request that waits became the current one
+-- the first pending request became the current one
 taken_next : (requests more : List (List (List ℕ))) (request : List (List ℕ)) (all : Connections) (coming replies : List (List ℕ))
     → IsTied requests (request ∷ more) all coming replies
     → IsTied requests more record { earlier = connections_of all; latest = Some just_taken } request (replies ++ [] ∷ [])
@@ -251,7 +249,7 @@ write_by true contents piece fails (t, over) =
       over,
     )
 write_by false contents piece fails (t, over) =
-    let count : ℕ = min (length piece) contents.buffer in
+    let count : ℕ = min (length piece) contents.capacity in
     let latest : Option Connection = option_map (connection_after_write (Ok count) piece) contents.connections.latest in
     rw fails (
       changed contents.requests contents.pending contents.connections latest contents.coming contents.coming contents.replies

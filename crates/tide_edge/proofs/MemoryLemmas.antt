@@ -45,12 +45,12 @@ begun_by true file found is = rw is refl
 begun_by false None found is = rw is refl
 begun_by false (Some bytes) found is = rw is refl
 
-rest_by : (now : FilesNow) (file_contents : FileContents) (fault_schedule : HeldCalls) (name : List ℕ) (index : Option (List ℕ))
+rest_by : (now : FilesNow) (file_contents : FileContents) (fault_schedule : HeldCalls) (name : List ℕ) (file : Option (List ℕ))
     → now.state.file_contents ≡ file_contents → now.fault_schedule ≡ fault_schedule → file_contents.is_observable ≡ true
-    → index ≡ (if is_to_fail fault_schedule then None else file_contents.folder name)
-    → (after_file_call now (Open name)).state.unread_bytes ≡ unwrap_or index []
-rest_by now file_contents fault_schedule name index is made t found =
-    rw (is, made, t, ← found) (begun_by (is_to_fail fault_schedule) (file_contents.folder name) index found)
+    → file ≡ (if is_to_fail fault_schedule then None else file_contents.folder name)
+    → (after_file_call now (Open name)).state.unread_bytes ≡ unwrap_or file []
+rest_by now file_contents fault_schedule name file is made t found =
+    rw (is, made, t, ← found) (begun_by (is_to_fail fault_schedule) (file_contents.folder name) file found)
 
 failed_by : (none : Bool) (fault_schedule : HeldCalls) → after_call (is_err (answer {T = Unit {0}} none record {})) fault_schedule ≡ after_call none fault_schedule
 failed_by true fault_schedule = refl
@@ -104,7 +104,7 @@ on_by : (now : FilesNow) (file_contents : FileContents) (fault_schedule : HeldCa
     → (after_file_call now (Read more)).state.unread_bytes ≡ drop (min (more + 1) (length unread_bytes)) unread_bytes
 on_by now file_contents fault_schedule more unread_bytes is made t to_fail left = rw (made, to_fail, is, t, left) refl
 
--- the rest of the open file, some bytes further on
+-- the unread bytes of the open file, some bytes further on
 further : (files : List NamedFile) (opened : Option ℕ) (at count : ℕ)
     → drop count (rest_of files opened at) ≡ rest_of files opened (at + count)
 further files None at zero = refl

@@ -9,7 +9,7 @@ use Rattle.std.specs.Str.{bytes_eq}
 use Rattle.tide_edge.specs.Memory.{folder_of}
 use Rattle.tide_edge.specs.Workings.OpenFile.{bytes_at}
 
--- the bytes at an index are those of the file with that index
+-- the bytes at an index are the bytes of the file with that index
 pub bytes_at-slice_get : (files : List NamedFile) (n : ℕ)
     → option_map (λ file. file.bytes) (slice_get files n)
     ≡ option_map (bytes_at files) (cond (nat_lt n (length files)) (Some n) None)
@@ -17,7 +17,7 @@ bytes_at-slice_get [] n = grind (arith, common_steps)
 bytes_at-slice_get (x ∷ xs) zero = grind (arith, common_steps)
 bytes_at-slice_get (x ∷ xs) (suc n) = grind (arith, common_steps, bytes_at-slice_get xs n)
 
--- the contents found by name are those of the file at the index found
+-- the contents found by name are the contents of the file at the index found
 pub folder_at_place : (files : List NamedFile) (name : List ℕ)
     → folder_of files name ≡ option_map (bytes_at files) (position (λ file. bytes_eq file.name name) files)
 folder_at_place files name =

@@ -133,11 +133,6 @@ module _ (limit : ℕ) (bytes : List ℕ) (before now after : FilesState) (so_fa
 
 -- ---- Opening and reading
 
-fault_taken : (bytes : List ℕ) (result : Result (Unit {0}) ReadAllFault)
-    → is_outside_fault source_of (all_taken bytes result) ≡ is_outside_fault source_of result
-fault_taken bytes (Ok done) = refl
-fault_taken bytes (Err fault) = refl
-
 module _ (opened : Unit {0}) (limit : ℕ) (name accepted : List ℕ) (s after : FilesState) (result : Result (Unit {0}) ReadAllFault)
     (come : HasCome limit (files_after_open (Ok opened) name s) after accepted result) where
   latest_is : after.open_log ≡ record { earlier = openings_of s.open_log; latest = Some come.opening }

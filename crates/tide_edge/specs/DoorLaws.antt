@@ -11,18 +11,20 @@ pub record IsOfRequest (keeps_pieces : Bool) (request : List (List ℕ)) (c : Co
   pub whole : IsTrue c.is_ended → c.came ≡ concat request
   pub piece : IsTrue keeps_pieces → c.last ≤ length (first_or_empty (left_after (length c.came - c.last) request))
 
--- each connection is of one request, in their order; there may be more requests
+-- each connection belongs to one request, in order; there may be more requests
 unfoldable pub AreOfRequests : Bool → List (List (List ℕ)) → List Connection → Type 0
 AreOfRequests keeps_pieces requests [] = Unit {0}
 AreOfRequests keeps_pieces [] (c ∷ more) = ⊥
 AreOfRequests keeps_pieces (request ∷ requests) (c ∷ more) =
     IsOfRequest keeps_pieces request c × AreOfRequests keeps_pieces requests more
 
--- each connection is of one request, and none waits if there are no more connections
+-- each connection belongs to one request, in order, and no request is pending if there are no more
+-- connections
 pub record IsOfRequests (d : DoorState) : Type 0 where
   pub connections : AreOfRequests d.keeps_pieces d.requests (connections_of d.connections)
   pub over : IsTrue d.listener_state.is_over → waiting_of d ≡ []
 
--- the law of doors: if the requests are observable, each connection is of one of them (`IsOfRequests`)
+-- the law of doors: if the requests are observable, each connection belongs to one of them
+-- (`IsOfRequests`)
 abbrev pub IsLawful : DoorState → Type 0
 IsLawful d = IsTrue d.is_observable → IsOfRequests d

@@ -158,7 +158,7 @@ pub record DoorState : Type 0 where
   pub faults : ℕ
   pub line_faults : ℕ
 
--- the requests that wait: one for each connection was accepted
+-- the pending requests: all but the first ones, of which each accepted connection has one
 abbrev pub waiting_of : DoorState → List (List (List ℕ))
 waiting_of d = drop (length (connections_of d.connections)) d.requests
 

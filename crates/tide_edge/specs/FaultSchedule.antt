@@ -11,7 +11,11 @@ pub record HeldCalls : Type 0 where
   pub made : ℕ
   pub faults : ℕ
 
--- the next call is one of those that are to fail; calls are counted from 1
+-- no call was made yet; the calls with these numbers are to fail
+abbrev pub schedule_of : List ℕ → HeldCalls
+schedule_of fails = record { fails = fails; made = 0; faults = 0 }
+
+-- the next call is to fail; calls are counted from 1
 abbrev pub is_to_fail : HeldCalls → Bool
 is_to_fail fault_schedule = list_any (λ n. n == counted fault_schedule.made) fault_schedule.fails
 

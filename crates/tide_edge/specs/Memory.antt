@@ -36,7 +36,7 @@ use Rattle.std.specs.Option.{option_map}
 use Rattle.std.specs.Str.{bytes_eq}
 use Rattle.tide_edge.specs.declared.named_file.NamedFile.{NamedFile}
 use Rattle.tide_edge.specs.declared.failed.Failed.{Failed}
-use Rattle.tide_edge.specs.FaultSchedule.{HeldCalls, answer, is_to_fail, after_call}
+use Rattle.tide_edge.specs.FaultSchedule.{HeldCalls, answer, is_to_fail, after_call, schedule_of}
 use Rattle.tide_edge.specs.Clocks.{ClockState}
 use Rattle.tide_edge.specs.Doors.{
   ListenerState,
@@ -52,6 +52,8 @@ use Rattle.tide_edge.specs.Doors.{
   connections_after_next,
   connection_after_read,
   connection_after_write,
+  no_connections,
+  not_listening,
 }
 use Rattle.tide_edge.specs.Faults.{counted, faults_after}
 use Rattle.tide_edge.specs.FileStates.{FilesState, files_after_open, files_after_read, no_openings}
@@ -135,7 +137,7 @@ pub record HeldSink : Type 0 where
 abbrev pub sink_state : HeldSink → SinkState
 sink_state contents = record { accepted = contents.accepted; faults = contents.fault_schedule.faults }
 
--- the next `write` fails: it is one of the calls that are to fail, or the room is used up
+-- the next `write` fails: it is one of the calls that are to fail, or the capacity is used up
 abbrev pub is_refused : HeldSink → Bool
 is_refused contents = is_to_fail contents.fault_schedule || (length contents.accepted == contents.capacity)
 
@@ -154,8 +156,8 @@ after_write contents piece = record {
 }
 
 -- A door in memory: all requests in their pieces; the part that is always observable; the bytes of each
--- connection; the requests that wait; the unread pieces of the open connection; the replies; the number of bytes
--- that they may still grow by; the calls, not counting `close`, with the failures of `listen` and
+-- connection; the pending requests; the unread pieces of the open connection; the replies; the number of
+-- bytes that they can still grow by; the calls, not counting `close`, with the failures of `listen` and
 -- `next`; and the failures of `read` and `write`.
 pub record HeldDoor : Type 0 where
   pub requests : List (List (List ℕ))
@@ -167,6 +169,20 @@ pub record HeldDoor : Type 0 where
   pub capacity : ℕ
   pub fault_schedule : HeldCalls
   pub line_faults : ℕ
+
+-- a door in memory before all calls, with these requests in their pieces
+abbrev pub held_door : List (List (List ℕ)) → ℕ → List ℕ → HeldDoor
+held_door requests capacity fails = record {
+  requests = requests;
+  listener_state = not_listening;
+  connections = no_connections;
+  pending = requests;
+  coming = [];
+  replies = [];
+  capacity = capacity;
+  fault_schedule = schedule_of fails;
+  line_faults = 0;
+}
 
 -- no piece is empty
 abbrev pub are_pieces : List (List ℕ) → Bool
@@ -184,7 +200,7 @@ door_state contents = record {
   line_faults = contents.line_faults;
 }
 
--- the result of the next call of `next` of a door in memory: whether a request waits, or a failure
+-- the result of the next call of `next` of a door in memory: whether a request is pending, or a failure
 abbrev pub comes : HeldDoor → Result Bool Failed
 comes contents = answer (is_to_fail contents.fault_schedule) (nat_lt 0 (length contents.pending))
 
@@ -234,7 +250,7 @@ after_line_read contents buffer_length filled = record contents {
   line_faults = faults_after (is_to_fail contents.fault_schedule) contents.line_faults;
 }
 
--- the next `write` fails: it is one of the calls that are to fail, or the room is used up
+-- the next `write` fails: it is one of the calls that are to fail, or the capacity is used up
 abbrev pub is_shut : HeldDoor → Bool
 is_shut contents = is_to_fail contents.fault_schedule || (contents.capacity == 0)
 

@@ -7,8 +7,8 @@ use Rattle.tide_edge.specs.FileStates.{Folder, FilesState, Opening, FileContents
 abbrev pub content_of : Folder → Opening → List ℕ
 content_of folder o = if o.is_open then unwrap_or (folder o.name) [] else []
 
--- The bytes read after an opening are a prefix of the file's bytes, `left` is the rest of them, and
--- `left` is empty if the end was found; the file that was opened is in the folder. If the files are
+-- The bytes read after an opening are a prefix of the file's bytes, `left` has the file's other bytes,
+-- and `left` is empty if the end was found; the file that was opened is in the folder. If the files are
 -- steady, a file that wasn't opened isn't in the folder, and no read has failed.
 pub record IsReadOf (file_contents : FileContents) (left : List ℕ) (o : Opening) : Type 0 where
   pub prefix : content_of file_contents.folder o ≡ o.bytes ++ left
@@ -21,8 +21,8 @@ pub record IsReadOf (file_contents : FileContents) (left : List ℕ) (o : Openin
 abbrev pub IsOfStore : FileContents → Opening → Type 0
 IsOfStore file_contents o = (left : List ℕ) × IsReadOf file_contents left o
 
--- the bytes read after each opening belong to the file that it opened, and the unread bytes of the state
--- are the rest of the latest opening's file
+-- the bytes read after each opening belong to the file that it opened, and the state's unread bytes are
+-- the bytes of the latest opening's file after the bytes read
 pub record AreOfStore (s : FilesState) : Type 0 where
   pub earlier : All (IsOfStore s.file_contents) s.open_log.earlier
   pub latest : IfSome s.open_log.latest (λ o. IsReadOf s.file_contents s.unread_bytes o)

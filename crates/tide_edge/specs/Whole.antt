@@ -41,7 +41,7 @@ abbrev pub whole : ℕ → Option (List ℕ) → Result (List ℕ) ReadAllFault
 whole limit None = Err Failed
 whole limit (Some bytes) = (if nat_le (length bytes) limit then Ok bytes else Err TooLong)
 
--- enough of a file was read to know the result: its end was found, or more than `limit` bytes came
+-- enough of a file was read to know the result: its end was found, or more than `limit` bytes were read
 abbrev pub is_read_out : ℕ → Opening → Bool
 is_read_out limit opening = opening.is_open && (nat_lt 0 opening.ends || nat_lt limit (length opening.bytes))
 
@@ -51,8 +51,9 @@ abbrev pub as_came : ℕ → Opening → Option (List ℕ)
 as_came limit opening = if is_read_out limit opening then Some opening.bytes else None
 
 -- The contents of a file agree with what an opening shows of them. If enough was read to know the
--- result, they begin with the bytes read, and are these if the end was found. Otherwise there is no such
--- file if it couldn't be opened or a read failed, as long as this is the only reason (`firm`).
+-- result, the contents begin with the bytes read, and equal them if the end was found. Otherwise the
+-- file doesn't exist if it couldn't be opened or a read failed, as long as this is the only reason
+-- (`firm`).
 pub record Shows (limit : ℕ) (firm : Bool) (opening : Opening) (file : Option (List ℕ)) : Type 0 where
   pub read : IsTrue (is_read_out limit opening)
       → (left : List ℕ) × (file ≡ Some (opening.bytes ++ left)) × (0 < opening.ends → left ≡ [])

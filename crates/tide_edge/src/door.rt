@@ -68,5 +68,9 @@ pub trait Door {
         requires { IsTrue (state self.old).listener_state.is_open }
         ensures { state self.new ≡ door_after_close (state self.old) };
 
+    /// If the requests are observable, each connection has one of them, in order: the bytes read over the
+    /// connection are a prefix of its request, and all of it if its end was found. If the door keeps
+    /// pieces, the last read returned bytes of one piece only. No request is pending once `next` has
+    /// returned false.
     ghost lawful: { (door : Self) → IsLawful (state door) };
 }

@@ -24,13 +24,13 @@ impl Model for FaultSchedule {
 }
 
 impl FaultSchedule {
-    ghost use Rattle.tide_edge.specs.FaultSchedule.{answer, is_to_fail, after_call};
+    ghost use Rattle.tide_edge.specs.FaultSchedule.{answer, is_to_fail, after_call, schedule_of};
     ghost use Rattle.tide_edge.specs.Faults.{counted};
 
     /// Returns the counts before any call. `fails` has the numbers of the calls that are to fail, counted
     /// from 1.
     pub(crate) fn new(fails: Vec<u64>) -> FaultSchedule
-        ensures { result ≡ record { fails = fails.items; made = 0; faults = 0 } }
+        ensures { result ≡ schedule_of fails.items }
     {
         FaultSchedule {
             fails,

@@ -42,7 +42,7 @@ pub trait Files {
         ensures reads { IsTrue (state self.old).file_contents.is_observable → IsTrue (state self.old).file_contents.is_steady → IsOk result };
 
     /// If the files are observable, the bytes read after each opening are a prefix of the file's bytes,
-    /// and all of them if its end was found. If they are also steady, only a file that isn't there
-    /// couldn't be opened, and no read has failed.
+    /// and all of them if its end was found. If they are also steady, an opening has failed only if
+    /// there is no such file, and no read has failed.
     ghost lawful: { (files : Self) → IsLawful (state files) };
 }

@@ -30,6 +30,8 @@ impl Model for FixedClock {
 }
 
 impl FixedClock {
+    ghost use Rattle.tide_edge.specs.FaultSchedule.{schedule_of};
+
     /// Returns a clock that shows `minute`, in minutes since 1970-01-01T00:00Z. The calls with a number
     /// in `fails`, counted from 1, fail.
     pub fn new(minute: i64, fails: Vec<u64>) -> FixedClock
@@ -37,7 +39,7 @@ impl FixedClock {
         ensures { result ≡ record {
           minute = minute;
           returned_minutes = [];
-          fault_schedule = record { fails = fails.items; made = 0; faults = 0 };
+          fault_schedule = schedule_of fails.items;
         } }
     {
         FixedClock {

@@ -23,7 +23,7 @@ const GONE_IN_A_ROW: u32 = u32::MAX;
 const CONNECTION_ERRORS: [i32; 5] = [64, 71, 92, 95, 112];
 
 /// A TCP port of the machine, at 127.0.0.1 only. The bytes read and written over each connection are
-/// observable, the waiting requests aren't.
+/// observable, the pending requests aren't.
 ///
 /// `next` waits without limit, so it never returns false. A peer has 60 seconds to send its whole request
 /// and 60 seconds to receive its whole reply; after that `read` or `write` fails. `close` waits at most 2
@@ -43,7 +43,7 @@ pub struct HostDoor<R: Net + rt::Clock + Drop> {
 impl<R: Net + rt::Clock + Drop> HostDoor<R> {
     ghost use Rattle.tide_edge.specs.Doors.{no_connections, not_listening};
 
-    /// Returns a door at the ports of `system`, the machine, that doesn't listen yet.
+    /// Returns a door that doesn't listen yet, for a port of `system`, the machine.
     pub fn new(system: R) -> HostDoor<R>
         ensures listener_state { (⟦<HostDoor<R> as Door>⟧.state result).listener_state ≡ not_listening }
         ensures connections { (⟦<HostDoor<R> as Door>⟧.state result).connections ≡ no_connections }

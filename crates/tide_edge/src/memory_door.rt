@@ -20,10 +20,10 @@ pub struct MemoryDoor {
 
 impl MemoryDoor {
     ghost use Rattle.tide_edge.specs.Adapters.{held_by};
-    ghost use Rattle.tide_edge.specs.Doors.{no_connections, not_listening};
+    ghost use Rattle.tide_edge.specs.Memory.{held_door};
 
-    /// Returns a door at which `requests` wait, each as the pieces in which it arrives; no piece is
-    /// empty. All replies together have at most `capacity` bytes. The calls with a number in `fails`,
+    /// Returns a door at which `requests` are pending, each as the pieces in which it arrives; no piece
+    /// is empty. All replies together have at most `capacity` bytes. The calls with a number in `fails`,
     /// counted from 1 without calls of `close`, fail, and so does a write if `capacity` is used up.
     ///
     /// It allocates the memory for all replies here, and none later.
@@ -37,17 +37,7 @@ impl MemoryDoor {
         fails: Vec<u64>,
     ) -> Result<MemoryDoor, AllocError>
         requires { IsTrue (list_all (λ request. are_pieces request.items) requests.items) }
-        ensures { IfOk result (λ door. held_by door ≡ record {
-          requests = map (λ request. request.items) requests.items;
-          listener_state = not_listening;
-          connections = no_connections;
-          pending = map (λ request. request.items) requests.items;
-          coming = [];
-          replies = [];
-          capacity = capacity;
-          fault_schedule = record { fails = fails.items; made = 0; faults = 0 };
-          line_faults = 0;
-        }) }
+        ensures { IfOk result (λ door. held_by door ≡ held_door (map (λ request. request.items) requests.items) capacity fails.items) }
     {
         Ok(MemoryDoor {
             queue: RequestQueue::new(alloc, requests, capacity, fails)?,

@@ -29,6 +29,8 @@ impl Model for MemorySink {
 }
 
 impl MemorySink {
+    ghost use Rattle.tide_edge.specs.FaultSchedule.{schedule_of};
+
     /// Returns an empty sink that accepts at most `most` bytes a call and `capacity` bytes in all. The
     /// calls with a number in `fails`, counted from 1, fail, and so does each call if `capacity` is
     /// used up.
@@ -48,7 +50,7 @@ impl MemorySink {
           accepted = [];
           most = most;
           capacity = capacity;
-          fault_schedule = record { fails = fails.items; made = 0; faults = 0 };
+          fault_schedule = schedule_of fails.items;
         }) }
     {
         Ok(MemorySink {

@@ -71,7 +71,7 @@ impl Replies {
         self.bytes.extend_from_slice(piece).unwrap();
     }
 
-    /// Returns the number of bytes that the replies may still grow by.
+    /// Returns the number of bytes that the replies can still grow by.
     pub(crate) fn capacity(&self) -> u64
         ensures { result ≡ self.now.capacity }
     {

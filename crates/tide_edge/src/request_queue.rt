@@ -35,7 +35,7 @@ use std::alloc::{AllocError, Global};
 use std::collections::VecDeque;
 use std::marker::Model;
 
-/// The requests of a door in memory, the connections over which they come, and their replies.
+/// The requests of a door in memory, the connections over which they arrive, and their replies.
 #[derive(Drop)]
 pub(crate) struct RequestQueue {
     requests: Log<Vec<Bytes>>,
@@ -64,7 +64,7 @@ impl Model for RequestQueue {
       pending = map (λ request. request.items) d.pending.items;
       coming = d.coming;
       replies = d.replies.replies;
-      buffer = d.replies.buffer;
+      capacity = d.replies.capacity;
       fault_schedule = d.fault_schedule;
       line_faults = d.line_faults;
     } };
@@ -76,8 +76,9 @@ impl Model for RequestQueue {
 
 impl RequestQueue {
     ghost use Rattle.tide_edge.specs.FaultSchedule.{answer, is_to_fail};
-    ghost use Rattle.tide_edge.specs.Doors.{IsUntouched, no_connections, not_listening};
+    ghost use Rattle.tide_edge.specs.Doors.{IsUntouched};
     ghost use Rattle.tide_edge.specs.Memory.{
+      held_door,
       comes,
       after_listen,
       after_taking,
@@ -90,9 +91,9 @@ impl RequestQueue {
       after_close,
     };
 
-    /// Returns a queue in which `requests` wait, each as the pieces in which it arrives; no piece is
-    /// empty. All replies together have at most `buffer` bytes. The calls with a number in `fails`,
-    /// counted from 1 without calls of `close`, fail, and so does a write if `buffer` is used up.
+    /// Returns a queue in which `requests` are pending, each as the pieces in which it arrives; no piece
+    /// is empty. All replies together have at most `capacity` bytes. The calls with a number in `fails`,
+    /// counted from 1 without calls of `close`, fail, and so does a write if `capacity` is used up.
     ///
     /// It allocates the memory for all replies here, and none later.
     ///
@@ -101,27 +102,17 @@ impl RequestQueue {
     pub(crate) fn new(
         alloc: Global,
         requests: Vec<Vec<Bytes>>,
-        buffer: u64,
+        capacity: u64,
         fails: Vec<u64>,
     ) -> Result<RequestQueue, AllocError>
         requires { IsTrue (list_all (λ request. are_pieces request.items) requests.items) }
-        ensures { IfOk result (λ queue. queue ≡ record {
-          requests = map (λ request. request.items) requests.items;
-          listener_state = not_listening;
-          connections = no_connections;
-          pending = map (λ request. request.items) requests.items;
-          coming = [];
-          replies = [];
-          buffer = buffer;
-          fault_schedule = record { fails = fails.items; made = 0; faults = 0 };
-          line_faults = 0;
-        }) }
+        ensures { IfOk result (λ queue. queue ≡ held_door (map (λ request. request.items) requests.items) capacity fails.items) }
     {
         Ok(RequestQueue {
             requests: Log::new().then(&requests),
             listener_state: ListenerState::not_listening(),
             connections: Connections::none(),
-            replies: Replies::new(alloc, buffer, requests.len())?,
+            replies: Replies::new(alloc, capacity, requests.len())?,
             pending: VecDeque::from(requests),
             coming: Pieces::new(Vec::new(alloc)),
             fault_schedule: FaultSchedule::new(fails),
@@ -153,7 +144,7 @@ impl RequestQueue {
         outcome
     }
 
-    /// Accepts the next request that waits, and returns true; returns false if none waits.
+    /// Accepts the next pending request, and returns true; returns false if none is pending.
     ///
     /// # Errors
     /// [`Failed`] if this call is one of those that are to fail.
@@ -201,7 +192,7 @@ impl RequestQueue {
     /// Appends the first bytes of `piece` to the current reply, and returns their count.
     ///
     /// # Errors
-    /// [`Failed`] if this call is one of those that are to fail, or if no room is left.
+    /// [`Failed`] if this call is one of those that are to fail, or if the capacity is used up.
     pub(crate) fn write(&mut self, piece: &[u8]) -> Result<usize, Failed>
         requires piece { 0 < length piece.now }
         requires open { IsTrue self.old.listener_state.is_open }
@@ -209,11 +200,11 @@ impl RequestQueue {
         ensures after { self.new ≡ after_line_write self.old piece.now }
         ensures some { IfOk result (λ count. 0 < count) }
     {
-        let buffer = self.replies.buffer();
-        let outcome = if self.fault_schedule.is_next_to_fail() || buffer == 0 {
+        let capacity = self.replies.capacity();
+        let outcome = if self.fault_schedule.is_next_to_fail() || capacity == 0 {
             Err(count_fault(&mut self.line_faults))
         } else {
-            let count = (piece.len() as u64).min(buffer) as usize;
+            let count = (piece.len() as u64).min(capacity) as usize;
             self.replies.append(&piece[..count]);
             Ok(count)
         };

@@ -11,7 +11,7 @@ ghost use Rattle.tide_edge.specs.declared.piece.TheConstants.{PIECE};
 use crate::read_all_fault::ReadAllFault;
 
 /// Proves examples of the definitions of outside objects: which files are read whole, and how each call
-/// changes the count of faults, the pieces of a connection that wait, the connections and the clock.
+/// changes the count of faults, the unread pieces of a connection, the connections and the clock.
 pub fn sample_states()
     ensures piece { PIECE ≡ 65536 }
     ensures fits { whole 3 (Some (7 ∷ 8 ∷ 9 ∷ [])) ≡ Ok (7 ∷ 8 ∷ 9 ∷ []) }

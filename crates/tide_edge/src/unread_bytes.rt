@@ -1,4 +1,4 @@
-//! The rest of a slice of bytes.
+//! The bytes of a slice from an index on.
 
 ghost use Rattle.std.specs.Prelude.{◌≡◌, ◌+◌, ◌-◌, ◌<◌, ◌^◌, length, drop};
 

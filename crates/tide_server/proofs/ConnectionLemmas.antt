@@ -156,9 +156,9 @@ has_read first now after request next count so_far waits more over = record {
   };
 }
 
--- ---- The room for a piece
+-- ---- The buffer for a piece
 
--- the first bytes of a room that is as long as the piece
+-- the first bytes of a buffer that is as long as the piece
 pub first_of_room : (buffer more piece : List ℕ) (long count : ℕ) → piece ≡ take long (buffer ++ more) → length buffer ≡ long
     → count ≤ long → take count piece ≡ take count buffer
 first_of_room buffer more piece long count is fills within =

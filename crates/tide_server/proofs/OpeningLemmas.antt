@@ -163,7 +163,7 @@ refused_another firm folders words status before after failed another is door cl
 
 -- ---- The status
 
--- the status for a reason why there is no data isn't that of a server that is done
+-- the status for a reason why there is no data isn't the status of a server that is done
 not_done : (none : RunFault) → ¬ (status_of none ≡ Done)
 not_done Unread is = absurd (cc)
 not_done (Faulty (Ask ask.NoMemory)) is = absurd (cc)

@@ -27,15 +27,15 @@ fixed_alone : (minutes : Option ℤ) → names (option_map Fixed minutes) ≡ fa
 fixed_alone None = refl
 fixed_alone (Some minutes) = refl
 
-no_name : (unread_bytes : Option (List ℕ)) (minutes : Option ℤ)
-    → names (option_or (option_and_then (file_zone Query) unread_bytes) (option_map Fixed minutes)) ≡ false
+no_name : (file : Option (List ℕ)) (minutes : Option ℤ)
+    → names (option_or (option_and_then (file_zone Query) file) (option_map Fixed minutes)) ≡ false
 no_name None minutes = fixed_alone minutes
 no_name (Some name) minutes = fixed_alone minutes
 
-no_file : (utc : Bool) (unread_bytes : Option (List ℕ)) (minutes : Option ℤ)
-    → names (if utc then Some Utc else option_or (option_and_then (file_zone Query) unread_bytes) (option_map Fixed minutes)) ≡ false
-no_file true unread_bytes minutes = refl
-no_file false unread_bytes minutes = no_name unread_bytes minutes
+no_file : (utc : Bool) (file : Option (List ℕ)) (minutes : Option ℤ)
+    → names (if utc then Some Utc else option_or (option_and_then (file_zone Query) file) (option_map Fixed minutes)) ≡ false
+no_file true file minutes = refl
+no_file false file minutes = no_name file minutes
 
 form_names_none : (text : List ℕ) → names (zone_of Query text) ≡ false
 unfolding zone_of

@@ -107,7 +107,7 @@ ended_listening value served_data status door opened door_after err err_after cl
         requests = e.kept.requests;
         faults = e.kept.faults;
         returned_minutes = e.kept.returned_minutes;
-        asked = e.kept.readings;
+        readings = e.kept.readings;
         clock = e.kept.clock;
       };
     }
@@ -183,6 +183,6 @@ ended_by served_data status before after files left e same = record {
   door_pieces = e.kept.pieces;
   door_requests = e.kept.requests;
   returned_minutes = e.kept.returned_minutes;
-  asked = e.kept.readings;
+  readings = e.kept.readings;
   clock_state = e.kept.clock;
 }

@@ -12,17 +12,17 @@ use Rattle.tide_server.specs.Openings.{served_data_of}
 use Rattle.tide_server.specs.Promises.{ServesAs, ServiceStates, Services}
 use Rattle.tide_server.specs.Serving.{IsOver, exchange}
 
--- The files are observable and steady (one that exists can always be opened and read), and neither the
--- clock nor the port itself has failed; connections may have. (A saturated count of faults counts as one
--- that grew.)
+-- The files can be observed, and each that exists can always be opened and read. Neither the clock nor
+-- the port has failed, though single connections may have. (If a count of faults is at its maximum, it
+-- counts as grown.)
 pub record NothingFailed {F D E K : Type 0} (s : ServiceStates F D E K) (before after : Services F D E K) : Type 0 where
   pub observable : IsTrue (s.files before.files).file_contents.is_observable
   pub steady : IsTrue (s.files before.files).file_contents.is_steady
   pub clock : ¬ (Rose (s.clock before.clock).faults (s.clock after.clock).faults)
   pub door : ¬ (Rose (s.door before.door).faults (s.door after.door).faults)
 
--- the server is done: it has listened at its port until there were no more connections or 2^64 - 1 were
--- accepted, and each connection has a reply
+-- the server ended with the status Done: it listened at its port until there were no more connections or
+-- 2^64 - 1 were accepted, and served each connection
 pub record ServedAll {F D E K : Type 0} (s : ServiceStates F D E K) (served_data : ServedData) (status : Status)
     (before after : Services F D E K)
     : Type 0 where
@@ -32,23 +32,23 @@ pub record ServedAll {F D E K : Type 0} (s : ServiceStates F D E K) (served_data
   pub passed : HasServed served_data false (exchange (s.door before.door) (s.clock before.clock))
       (exchange (s.door after.door) (s.clock after.clock))
 
--- the server ends with this status before it listens: port and clock are unchanged
+-- the server ended with the status `is` before it listened: port and clock are unchanged
 pub record EndedBefore {F D E K : Type 0} (status is : Status) (before after : Services F D E K) : Type 0 where
   pub ends : status ≡ is
   pub door : after.door ≡ before.door
   pub clock : after.clock ≡ before.clock
 
--- the server serves the expected data, or ends before it listens with the exit status for the reason why
--- there is none
+-- the server served the expected data until there were no more connections; or, if there are no data, it
+-- ended before it listened, with the exit status for the reason
 abbrev pub EndsBy : {F D E K : Type 0} → ServiceStates F D E K → Result ServedData RunFault → Status → Services F D E K → Services F D E K
     → Type 0
 EndsBy s (Ok served_data) status before after = ServedAll s served_data status before after
 EndsBy s (Err why) status before after = EndedBefore status (status_of why) before after
 
--- A server that returns, with steady files (one that exists can always be opened and read) and with a
--- clock and a port that don't fail, ends as the data that its command line names require: it is done if
--- the files are present, no longer than may be read and in their formats, and refused otherwise; or it
--- runs out of memory before it listens.
+-- If each file that exists can always be opened and read, and the clock and the port don't fail, a
+-- server that returns ends as its files require: it has served all connections if the files exist, are
+-- no longer than may be read and are in their formats, and has refused otherwise; or it ran out of
+-- memory before it listened.
 abbrev pub IsComplete : {F D E K : Type 0} → ServiceStates F D E K → Type 0
 IsComplete {F} {D} {E} {K} s = (words : List (List ℕ)) (status : Status) (before after : Services F D E K) →
     (s.door before.door).listener_state.port ≡ None → ServesAs s words status before after → NothingFailed s before after →

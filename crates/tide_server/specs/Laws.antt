@@ -8,14 +8,14 @@ use Rattle.tide_server.specs.declared.served_data.ServedData.{ServedData}
 use Rattle.tide_server.specs.Openings.{ServerStates}
 use Rattle.tide_server.specs.Serving.{Answers, MayLeave, RoseBy}
 
--- the objects of a server in memory: files, a port, standard error and a clock
+-- the files, the port, standard error and the clock of a server in memory
 pub record InMemory : Type 0 where
   pub files : HeldFiles
   pub door : HeldDoor
   pub err : HeldSink
   pub clock : HeldClock
 
--- the states of the objects of a server in memory
+-- the states of the files, the port, standard error and the clock of a server in memory
 abbrev pub server_states_in : InMemory → ServerStates
 server_states_in held = record {
   files = files_state held.files;
@@ -24,7 +24,8 @@ server_states_in held = record {
   clock = clock_state held.clock;
 }
 
--- each reply answers the bytes of its request, at this minute; there are as many replies as requests
+-- there are as many replies as requests, and each reply answers the bytes of the request at the same
+-- index, at this minute
 abbrev pub AreAnswered : ServedData → ℤ → List (List (List ℕ)) → List (List ℕ) → Type 0
 AreAnswered served_data minute [] [] = Unit {0}
 AreAnswered served_data minute [] (reply ∷ more) = ⊥
@@ -32,8 +33,8 @@ AreAnswered served_data minute (request ∷ requests) [] = ⊥
 AreAnswered served_data minute (request ∷ requests) (reply ∷ more) =
     Answers served_data minute (concat request) reply × AreAnswered served_data minute requests more
 
--- each reply answers the bytes of its request, at this minute, except at most `failed` of them; there
--- are as many replies as requests
+-- there are as many replies as requests, and each reply, except at most `failed` of them, answers the
+-- bytes of the request at the same index, at this minute
 abbrev pub AreAnsweredBut : ℕ → ServedData → ℤ → List (List (List ℕ)) → List (List ℕ) → Type 0
 AreAnsweredBut failed served_data minute [] [] = Unit {0}
 AreAnsweredBut failed served_data minute [] (reply ∷ more) = ⊥
@@ -42,15 +43,15 @@ AreAnsweredBut failed served_data minute (request ∷ requests) (reply ∷ more)
     (Answers served_data minute (concat request) reply × AreAnsweredBut failed served_data minute requests more)
     ⊎ ((fewer : ℕ) × (failed ≡ suc fewer) × AreAnsweredBut fewer served_data minute requests more)
 
--- a connection was left without a reply
+-- Bool: whether a connection was left without a reply: the list of such connections isn't empty
 abbrev pub is_left : List (List (List ℕ)) → Bool
 is_left [] = false
 is_left (request ∷ more) = true
 
--- The requests that waited were accepted in their order, and each has a reply; but after a read fault of
--- the clock the last one accepted was left without a reply: it has a byte, and its reply is empty.
--- Unless a read or write has failed, each reply answers its request. The replies that don't are at most
--- as many as the count of such faults grew by, unless this count is saturated.
+-- Pending requests were accepted in their order, and each has a reply. Each reply answers its request if
+-- no read or write failed; otherwise at most as many don't as the count of failures grew by, unless this
+-- count is at its maximum. If the clock failed, the last accepted request, which has a byte, has an
+-- empty reply.
 pub record HasAnswered (served_data : ServedData) (has_failed : Bool) (before after : InMemory) : Type 0 where
   pub requests : List (List (List ℕ))
   pub replies : List (List ℕ)

@@ -52,88 +52,94 @@ use Rattle.tide_server.specs.Serving.{Served, exchange}
 
 -- ---- The arguments
 
--- the command isn't `serve`
+-- Bool: whether a command line has a command other than `serve`
 abbrev pub asks_another : List (List ℕ) → Bool
 asks_another [] = false
 asks_another (word ∷ words) = not (asks_to_serve (word ∷ words))
 
--- the request of a command line to serve, or its fault
+-- the request to serve that a command line makes, or the reason why it makes none
 abbrev pub service_in : List (List ℕ) → Result Question AskFault
 service_in words = if asks_another words then Err UnknownCommand else question_of (pairs_of words)
 
--- the result of reading arguments, with its fault as a fault of the server
+-- the same request, or its fault as a fault of the server
 abbrev pub service_from : Result Question AskFault → Result Question Fault
 service_from (Ok question) = Ok question
 service_from (Err fault) = Err (Ask fault)
 
--- the request of the arguments to serve, or their fault
+-- the request to serve that a command line makes, or the fault of the server if it makes none
 unfoldable pub service_of : List (List ℕ) → Result Question Fault
 service_of words = service_from (service_in words)
 
 -- ---- The files; the harmonics file has the name
 
--- the data that a request to serve names: harmonic constants, a table and a port; the harmonics file has
--- this name
+-- the data of a request to serve: the harmonic constants of the file called `name`, the table of offsets
+-- and the port; or the first reason why there are none
 unfoldable pub served_data_named : Folders → Question → List ℕ → Result ServedData RunFault
 served_data_named folders question name = do
   book ← book_named (folders slots.File) name
   table ← table_named (folders slots.Offsets) question.offsets
   Ok (record { book = book; table = table; port = question.port })
 
--- the data that a request to serve names, which must name a file of harmonic constants
+-- the data of a request to serve, or the first reason why there are none; the Option is the name of the
+-- harmonics file, which must be given
 abbrev pub served_data_by : Folders → Question → Option (List ℕ) → Result ServedData RunFault
 served_data_by folders question None = Err (Faulty (Ask (MissingKey keys.File)))
 served_data_by folders question (Some name) = served_data_named folders question name
 
--- the data that the arguments name; each file is read from a separate folder
+-- the data that the command line `words` names, or the first reason why there are none; `folders` has a
+-- folder for each kind of file
 unfoldable pub served_data_from : Folders → List (List ℕ) → Result ServedData RunFault
 served_data_from folders words = do
   question ← faulty (service_of words)
   served_data_by folders question question.file
 
--- the data that the arguments name, with one folder
+-- the data that the command line `words` names, with all files in `folder`, or the first reason why
+-- there are none
 abbrev pub served_data_of : Folder → List (List ℕ) → Result ServedData RunFault
 served_data_of folder words = served_data_from (λ slot. folder) words
 
--- how many files may be opened for the arguments, and how many bytes read
+-- the number of files that may be opened, and of bytes that may be read, for a request to serve; both 0
+-- if the command line isn't one
 abbrev pub files_asked : Result Question Fault → Allowance
 files_asked (Ok question) = both (allowed_for slots.File question.file) (allowed_for slots.Offsets question.offsets)
 files_asked (Err fault) = no_file
 
 -- ---- The lines on standard error
 
--- the line of the port at which the server listens, such as `http://127.0.0.1:8080/`
+-- the line that says at which port the server listens, such as `http://127.0.0.1:8080/`
 abbrev pub notice_of : ℕ → List ℕ
 notice_of port = codes "http://127.0.0.1:" ++ decimal port ++ codes "/\n"
 
--- the line of the port, if the server listens
+-- the line that says at which port the server listens; empty if it doesn't listen
 abbrev pub notice_at : ℕ → ListenerState → List ℕ
 notice_at port door = if door.listens then notice_of port else []
 
--- the status and the line are those for this reason why there is no data, or memory ran out
+-- the status and the line are the ones for `why`, the reason why there are no data; or both say that
+-- memory ran out
 abbrev pub IsSaid : RunFault → Status → List ℕ → Type 0
 IsSaid why status line = ((status ≡ status_of why) × (line ≡ line_of why)) ⊎ ((status ≡ NoMemory) × (line ≡ codes "no memory\n"))
 
--- a command other than `serve` is refused with its status and line, even if memory runs out
+-- a command other than `serve` is refused: the status is Words, and the line on standard error says so,
+-- even if memory runs out
 abbrev pub RefusesCommand : Status → SinkState → SinkState → Type 0
 RefusesCommand status before after =
     (status ≡ Words) × (failed : Bool) × Wrote before after failed (codes "words: unknown command\n")
 
 -- ---- The end of a server
 
--- the states of a server's objects
+-- the states of a server's files, port, standard error and clock
 pub record ServerStates : Type 0 where
   pub files : FilesState
   pub door : DoorState
   pub err : SinkState
   pub clock : ClockState
 
--- the states of a server's objects as one record
+-- the states of files, port, standard error and clock as one record
 abbrev pub server_states : FilesState → DoorState → SinkState → ClockState → ServerStates
 server_states files door err clock = record { files = files; door = door; err = err; clock = clock }
 
--- No connection was served, since there is no data: `why` is the expected reason, unless memory ran out,
--- or reading failed and the files aren't steady. The port was not listened to, and the clock not read.
+-- The server refused to serve: port and clock are unchanged, and status and line say why. The reason is
+-- the expected one; or memory ran out; or, unless the condition `firm` holds, a file couldn't be read.
 pub record IsRefused (firm : Type 0) (expected : Result ServedData RunFault) (status : Status) (before after : ServerStates) : Type 0 where
   pub why : RunFault
   pub excused : Excuses (source_of why) firm expected why
@@ -143,14 +149,14 @@ pub record IsRefused (firm : Type 0) (expected : Result ServedData RunFault) (st
   pub door : after.door ≡ before.door
   pub clock : after.clock ≡ before.clock
 
--- the last line on standard error: no line after a server that is done, else `read fault`
+-- the last line on standard error for an exit status: none for Done, and otherwise `read fault`
 abbrev pub end_line : Status → List ℕ
 end_line Done = []
 end_line _ = codes "read fault\n"
 
--- The server listened at the port, and served connections until there were no more or until a fault: the
--- record has the bytes of each connection, for any port and clock, and the requests that were answered,
--- if port and clock are observable. The first line written names the port.
+-- The server listened at its port, said so on standard error, and served connections until there were no
+-- more or a fault ended it. `passed` has the bytes of each connection, for any port and clock; `served`
+-- has the requests and replies, for a port and a clock that can be observed.
 pub record HasListened (served_data : ServedData) (status : Status) (before after : ServerStates) : Type 0 where
   pub asked : after.door.listener_state.port ≡ Some served_data.port
   pub ends : (status ≡ Done) ⊎ (status ≡ ReadFault)
@@ -159,7 +165,7 @@ pub record HasListened (served_data : ServedData) (status : Status) (before afte
       → Served served_data (is_read_fault status) (exchange before.door before.clock) (exchange after.door after.clock)
   pub wrote : WroteBoth before.err after.err (notice_at served_data.port after.door.listener_state) (end_line status)
 
--- the server was refused, or has listened and served the expected data
+-- the server refused to serve; or it has listened and served the expected data
 abbrev pub EndsAs : Type 0 → Result ServedData RunFault → Status → ServerStates → ServerStates → Type 0
 EndsAs firm expected status before after =
     IsRefused firm expected status before after
@@ -167,9 +173,10 @@ EndsAs firm expected status before after =
 
 -- ---- The source of a fault of reading
 
--- A server ends with a read fault exactly if one of the files, the clock and the port has failed, once:
--- its count is one more, and the others are unchanged; the files only if the server hasn't listened.
--- The requests, and whether port and clock are observable, are unchanged.
+-- If `has_failed`, exactly one of the files, the clock and the port has failed, and otherwise none. The
+-- count of faults of the failed one grew by 1, and the other counts are unchanged; the files can have
+-- failed only if the server hasn't listened. The requests, and whether port and clock can be observed,
+-- are unchanged.
 pub record EndedBy (has_failed : Bool) (before after : ServerStates) : Type 0 where
   pub files : Bool
   pub clock : Bool
@@ -187,6 +194,6 @@ pub record EndedBy (has_failed : Bool) (before after : ServerStates) : Type 0 wh
 
 -- ---- The whole objects
 
--- the server hasn't listened, or no connection was accepted
+-- the server hasn't listened at its port, or no connection was accepted
 abbrev pub AcceptedNone : ListenerState → Type 0
 AcceptedNone door = (door.port ≡ None) ⊎ (door.accepted ≡ 0)

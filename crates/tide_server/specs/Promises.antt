@@ -23,41 +23,43 @@ use Rattle.tide_server.specs.Openings.{
 use Rattle.tide_server.specs.Serving.{IsOver}
 use Rattle.tide_server.specs.Shown.{EndsAsShown}
 
--- the objects of a server: files, a port, standard error and a clock
+-- a server's files, port (`door`), standard error and clock, each of any type
 pub record Services (F D E K : Type 0) : Type 0 where
   pub files : F
   pub door : D
   pub err : E
   pub clock : K
 
--- the objects of a server as one record
+-- files, a port, standard error and a clock as one record
 abbrev pub services : {F D E K : Type 0} → F → D → E → K → Services F D E K
 services files door err clock = record { files = files; door = door; err = err; clock = clock }
 
--- the states of objects of any kind
+-- functions that give the states of a server's files, port, standard error and clock, each of any type
 pub record ServiceStates (F D E K : Type 0) : Type 0 where
   pub files : F → FilesState
   pub door : D → DoorState
   pub err : E → SinkState
   pub clock : K → ClockState
 
--- the states of a server's objects as one record
+-- the functions that give the states of files, a port, standard error and a clock, as one record
 abbrev pub service_states : {F D E K : Type 0} → (F → FilesState) → (D → DoorState) → (E → SinkState) → (K → ClockState)
     → ServiceStates F D E K
 service_states files door err clock = record { files = files; door = door; err = err; clock = clock }
 
--- the states of a server's objects
+-- the states of the files, the port, standard error and the clock of a server
 abbrev pub server_states_of : {F D E K : Type 0} → ServiceStates F D E K → Services F D E K → ServerStates
 server_states_of s o = server_states (s.files o.files) (s.door o.door) (s.err o.err) (s.clock o.clock)
 
--- The arguments were served. The fields:
--- - `shown`: the server ends as by the data in the files that it opened, as far as their bytes were read;
---   it opened what the arguments name.
--- - `own_files`: over observable files it ends as by their contents, unless reading has failed.
--- - `another`: a command other than `serve` is refused by its own status and line.
--- - `reads`, `reads_first`: the bytes that were read, all of them before the port was listened to.
--- - All others: the cases in which the server is done, the source of a fault of reading, the cases in which
---   files, port and clock are unchanged, and that no connection stays open.
+-- The command line `words` was served. The fields:
+-- - `shown`: the server serves the data in the files that it opened, for the bytes that it read from
+--   them, or says why it can't; it opened the files that the command line names.
+-- - `own_files`: if the files can be observed, the server serves the data in them, or says why it can't,
+--   unless reading has failed.
+-- - `another`: a command other than `serve` is refused with a fixed status and line.
+-- - `reads`, `reads_first`: the bytes that were read are within limits, and all were read before the
+--   server listened.
+-- - All others: when the server is done, what caused a read fault, when files, port and clock are
+--   unchanged, and that no connection stays open.
 pub record ServesAs {F D E K : Type 0} (s : ServiceStates F D E K) (words : List (List ℕ)) (status : Status)
     (before after : Services F D E K)
     : Type 0 where

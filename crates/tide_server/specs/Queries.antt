@@ -8,18 +8,19 @@ use Rattle.question.specs.declared.pairs.Item.{Item}
 use Rattle.question.specs.declared.pairs.Pairs.{Pairs}
 use Rattle.http_rows.specs.Rows.{Asking}
 
--- the text of an encoded name or value: bytes that aren't UTF-8 become U+FFFD
+-- the text of a name or value in the query of a URL, decoded; bytes that aren't UTF-8 become U+FFFD
 unfoldable pub decoded_text : List ℕ → List ℕ
 decoded_text encoded = utf8_lossy (decode encoded)
 
--- the pair of an encoded name and an encoded value, which may be empty
+-- a decoded pair of a key and its value, which may be empty, from an encoded pair in the query of a URL
 abbrev pub item_of : List ℕ × List ℕ → Item
 item_of pair = record { key = decoded_text pair.0; value = Some (decoded_text pair.1) }
 
--- the pairs of a query, decoded
+-- the decoded pairs of keys and values in the query of a URL
 abbrev pub items_of : List ℕ → List Item
 items_of query = map item_of (raw_pairs query)
 
--- the command, which is the path without its `/`, and the pairs of a request
+-- the command and the arguments that a web request gives: the command is its path without the `/`, and
+-- the arguments are the pairs of its query
 abbrev pub pairs_of : Asking → Pairs
 pairs_of asking = record { origin = Query; command = Some (drop 1 asking.path); items = items_of asking.query }

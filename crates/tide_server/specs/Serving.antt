@@ -36,77 +36,78 @@ use Rattle.http_rows.specs.Rows.{ReplyRow, IsRow, is_settled}
 
 -- ---- One connection
 
--- the reply with HTTP status 503, which replaces another if memory runs out; a reply with a fixed text
--- is never replaced
+-- `reply` is the HTTP reply with status 503, which replaces the reply to `request` if memory runs out; a
+-- reply with a fixed text is never replaced
 abbrev pub IsUnavailable : List ℕ → List ℕ → Type 0
 IsUnavailable request reply = (row : ReplyRow) × IsRow request row × (fixed_of row ≡ None) × (reply ≡ unavailable_of row)
 
--- the answer to a connection's bytes: no bytes if there are none, and otherwise the reply to them or the
--- reply 503
+-- `reply` answers the bytes that were read over a connection: it is empty if there are no bytes, and
+-- otherwise it is the reply to them, or the reply 503 because memory ran out
 abbrev pub Answers : ServedData → ℤ → List ℕ → List ℕ → Type 0
 Answers served_data minute [] reply = reply ≡ []
 Answers served_data minute (b ∷ bytes) reply =
     IsReply served_data.book served_data.table minute (b ∷ bytes) reply ⊎ IsUnavailable (b ∷ bytes) reply
 
--- a reply answers the bytes; if a read or write of the connection failed, it is empty or a prefix of an
--- answer
+-- `reply` answers `bytes`; if the Bool, whether a read or write of the connection failed, is true, it
+-- may also be empty or only the beginning of an answer
 abbrev pub AnswersUnlessCut : Bool → (List ℕ → List ℕ → Type 0) → List ℕ → List ℕ → Type 0
 AnswersUnlessCut false answers bytes reply = answers bytes reply
 AnswersUnlessCut true answers bytes reply =
     (reply ≡ []) ⊎ ((whole : List ℕ) × answers bytes whole × (count : ℕ) × (reply ≡ take count whole))
 
--- a request that has a byte
+-- Bool: whether a request has at least one byte
 abbrev pub has_byte : List ℕ → Bool
 has_byte [] = false
 has_byte (b ∷ bytes) = true
 
--- the clock is read for a connection that has a byte, and for no other; if a read or write failed,
--- either is possible
+-- `is_asked`, whether the clock was read for a connection, is true exactly if the connection has a byte;
+-- if the first Bool, whether a read or write failed, is true, `is_asked` may be either
 abbrev pub AsksUnlessCut : Bool → List ℕ → Bool → Type 0
 AsksUnlessCut false bytes is_asked = is_asked ≡ has_byte bytes
 AsksUnlessCut true bytes is_asked = Unit {0}
 
--- a connection: the pieces that the client sent, its reply, whether a read or write failed, and whether
--- the clock was read for it
+-- a connection: the pieces of the request that the client sent, the reply, whether a read or write
+-- failed, and whether the clock was read for it
 pub record Conversation : Type 0 where
   pub request : List (List ℕ)
   pub reply : List ℕ
   pub is_cut : Bool
   pub is_asked : Bool
 
--- a connection that was answered at a minute
+-- a connection was answered at this minute, and the clock was read for it if needed
 pub record IsHeld (served_data : ServedData) (minute : ℤ) (c : Conversation) : Type 0 where
   pub answered : AnswersUnlessCut c.is_cut (Answers served_data minute) (concat c.request) c.reply
   pub asked : AsksUnlessCut c.is_cut (concat c.request) c.is_asked
 
 -- ---- One after the other
 
--- the clock after a connection, for which it was read once or not at all
+-- the state of the clock after a connection; the Bool says whether it was read for the connection
 abbrev pub clock_with : Bool → ClockState → ClockState
 clock_with is_asked clock = if is_asked then clock_after (Ok (next_minute clock)) clock else clock
 
--- the clock after a reading that failed
+-- the state of the clock after a reading that failed
 abbrev pub clock_failed : ClockState → ClockState
 clock_failed clock = record clock { readings = counted clock.readings; faults = counted clock.faults }
 
--- the clock after these connections, for each of which it was read once or not at all
+-- the state of the clock after these connections, for each of which it was read once or not at all
 unfoldable pub clock_after_all : List Conversation → ClockState → ClockState
 clock_after_all [] clock = clock
 clock_after_all (c ∷ more) clock = clock_after_all more (clock_with c.is_asked clock)
 
--- each connection was answered at the minute that the clock returns for it
+-- each of the connections was answered, in this order, at the minute that the clock returned next
 unfoldable pub AreHeld : ServedData → ClockState → List Conversation → Type 0
 AreHeld served_data clock [] = Unit {0}
 AreHeld served_data clock (c ∷ more) = IsHeld served_data (next_minute clock) c × AreHeld served_data (clock_with c.is_asked clock) more
 
 -- ---- The bytes that are read
 
--- the bytes read until now determine the request's row of the table of HTTP statuses
+-- the bytes `request`, read so far, determine the request's row of the table of HTTP statuses, that is,
+-- how the server replies
 abbrev pub IsEnough : List ℕ → Type 0
 IsEnough request = (row : ReplyRow) × IsRow request row × IsTrue (is_settled row)
 
--- the unread pieces of a connection: nothing was read after the bytes determined the reply; the bytes
--- before the last read didn't determine it, and this read returned no more than the rest of one piece
+-- `left` are the unread pieces of a request, which was read no further than its reply needs: the bytes
+-- before the last read didn't determine the reply, and the last read returned bytes of only one piece
 pub record IsReadAsNeeded (request left : List (List ℕ)) : Type 0 where
   pub before : ℕ
   pub all : ℕ
@@ -114,7 +115,8 @@ pub record IsReadAsNeeded (request left : List (List ℕ)) : Type 0 where
   pub waits : ¬ (IsEnough (take before (concat request)))
   pub one : all ≤ before + length (first_or_empty (left_after before request))
 
--- the unread pieces of the last connection; nothing is said about the earlier ones
+-- the last of the requests was read no further than its reply needs, with `left` as its unread pieces;
+-- nothing is said of earlier ones
 abbrev pub IsLastReadAsNeeded : List (List (List ℕ)) → List (List ℕ) → Type 0
 IsLastReadAsNeeded [] left = Unit {0}
 IsLastReadAsNeeded (request ∷ []) left = IsReadAsNeeded request left
@@ -131,30 +133,32 @@ pub record Exchange : Type 0 where
 abbrev pub exchange : DoorState → ClockState → Exchange
 exchange door clock = record { door = door; clock = clock }
 
--- a count grew by `more`, unless it is saturated at the greatest `u64`
+-- a count grew from `before` to `now` by `more`, or `now` is the greatest `u64`, at which the count
+-- stops
 abbrev pub RoseBy : ℕ → ℕ → ℕ → Type 0
 RoseBy more before now = (now ≡ before + more) ⊎ (now ≡ 2 ^ 64 - 1)
 
--- there are no more connections, or 2^64 - 1 were accepted
+-- there are no more connections for the port to accept, or it has accepted 2^64 - 1
 abbrev pub IsOver : ListenerState → Type 0
 IsOver door = (door.is_over ≡ true) ⊎ (door.accepted ≡ 2 ^ 64 - 1)
 
--- a connection was left without a reply only if the port or the clock has failed, and it is the last one
--- accepted
+-- `left`, the connections without a reply, is empty; if the Bool, whether the port or the clock failed,
+-- is true, it may have one
 abbrev pub MayLeave : Bool → List (List (List ℕ)) → Type 0
 MayLeave false left = left ≡ []
 MayLeave true left = length left ≤ 1
 
--- the clock at the end: it has failed for the connection that was left without a reply, if any
+-- the state of the clock at the end: it has failed if the list of connections without a reply isn't
+-- empty
 abbrev pub clock_at_end : List (List (List ℕ)) → ClockState → ClockState
 clock_at_end [] clock = clock
 clock_at_end (request ∷ more) clock = clock_failed clock
 
--- Connections were served one after the other, in the order in which they waited, and each has its
--- reply. As many were cut short as the count of failed reads and writes grew by. One was left without a
--- reply exactly if the clock has failed, and it has a byte. The clock was read once for each connection
--- that needs it, and for nothing else. If a read of the port returns bytes of only one piece that a
--- client sent, the last connection was read no further than its reply needs.
+-- The connections `served` were accepted in the order of the pending requests, and each was answered;
+-- then `left`, at most one connection, which has a byte and for which the clock failed, got no reply.
+-- The clock was read for nothing else. The count of failed reads and writes grew by the number of
+-- connections cut short. If a read of the port returns bytes of only one piece that a client sent, the
+-- last connection was read no further than its reply needs.
 pub record Served (served_data : ServedData) (has_failed : Bool) (before after : Exchange) : Type 0 where
   pub served : List Conversation
   pub left : List (List (List ℕ))

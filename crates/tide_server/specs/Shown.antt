@@ -13,8 +13,8 @@ use Rattle.named_files.specs.Readings.{Folders}
 use Rattle.tide_server.specs.declared.served_data.ServedData.{ServedData}
 use Rattle.tide_server.specs.Openings.{EndsAs, ServerStates, service_of, served_data_from}
 
--- the names of the files of a request to serve, up to the file that is the reason why there is no data;
--- the harmonics file has this name
+-- the names of the files of a request to serve, in the order of reading; `name` is the harmonics file;
+-- if the Option is Some, only up to the file that is the reason why there are no data
 abbrev pub served_data_names : List ℕ → Question → Option Slot → List (List ℕ)
 served_data_names name question None = name ∷ as_list question.offsets
 served_data_names name question (Some slots.File) = name ∷ []
@@ -22,28 +22,31 @@ served_data_names name question (Some slots.Offsets) = name ∷ as_list question
 served_data_names name question (Some slots.Zone) = name ∷ as_list question.offsets
 served_data_names name question (Some slots.Certificate) = name ∷ as_list question.offsets
 
--- the names of the files of a request, which may name none
+-- the names of the files of a request to serve, in the order of reading, up to the file `why`, which is
+-- the reason why there are no data; none if the request names no harmonics file
 abbrev pub names_by : Question → Option (List ℕ) → Option Slot → List (List ℕ)
 names_by question None why = []
 names_by question (Some name) why = served_data_names name question why
 
--- the names of the files of the arguments
+-- the names of the files of a command line, in the order of reading, up to the file `why`, which is the
+-- reason why there are no data; none if the command line isn't a request to serve
 abbrev pub names_served : Result Question Fault → Option Slot → List (List ℕ)
 names_served (Ok question) why = names_by question question.file why
 names_served (Err fault) why = []
 
--- the contents of the files of the arguments, as the openings show them
+-- the files of a command line, with the contents that `open_log`, the record of opened files, shows
 abbrev pub folders_by : Result Question Fault → List Opening → Folders
 folders_by (Ok question) open_log = folders_shown question open_log
 folders_by (Err fault) open_log = λ slot name. None
 
--- the data that the arguments name, from the openings of their files
+-- the data that the command line `words` names, from `open_log`, the record of opened files; or the
+-- first reason why there are none
 abbrev pub served_data_by_openings : List (List ℕ) → List Opening → Result ServedData RunFault
 served_data_by_openings words open_log = served_data_from (folders_by (service_of words) open_log) words
 
--- A server ends with the data of its arguments, from what it opened. It opened the first of the files
--- that the arguments name, in the order of reading, each once; and unless memory ran out, none after the
--- one that is the reason why there are no data.
+-- A server serves the data of its command line, from the files that it opened, or says why it can't. It
+-- opened files only in the order in which they are read, each once, and, unless memory ran out, none
+-- after the file that is the reason why there are no data.
 pub record EndsAsShown (words : List (List ℕ)) (status : Status) (before after : ServerStates) : Type 0 where
   pub open_log : List Opening
   pub all : openings_of after.files.open_log ≡ openings_of before.files.open_log ++ open_log

@@ -9,11 +9,11 @@ use Rattle.tide_edge.specs.Memory.{HeldClock, HeldDoor, HeldFiles, HeldSink, clo
 use Rattle.tide_server.specs.declared.served_data.ServedData.{ServedData}
 use Rattle.tide_server.specs.Promises.{ServiceStates, Services, service_states, services}
 
--- the counts before any call, none of which is to fail
+-- a schedule of faults before any call, by which no call fails
 abbrev pub no_calls : HeldCalls
 no_calls = record { fails = []; made = 0; faults = 0 }
 
--- the files of the example: one under the name `f`, with the constants of a pier
+-- files in memory: one called `f`, a small harmonics file
 abbrev pub pier_files : HeldFiles
 pier_files = record {
   files = record { name = codes "f"; bytes = file_of pier_lines } ∷ [];
@@ -21,7 +21,7 @@ pier_files = record {
   history = [];
 }
 
--- a port at which no request waits
+-- a port in memory to which no client connects
 abbrev pub quiet_door : HeldDoor
 quiet_door = record {
   requests = [];
@@ -35,20 +35,21 @@ quiet_door = record {
   line_faults = 0;
 }
 
--- the states of objects in memory
+-- the functions that give the states of files, a port, standard error and a clock in memory
 abbrev pub in_memory : ServiceStates HeldFiles HeldDoor HeldSink HeldClock
 in_memory = service_states files_state door_state sink_state clock_state
 
--- the objects of the example: its files, a port at which no request waits, an empty standard error, and
--- a clock at 2000-01-10T03:00Z
+-- a server's objects in memory: one file `f` with harmonic constants, a port to which no client
+-- connects, an empty standard error, and a clock at 2000-01-10T03:00Z
 abbrev pub pier : Services HeldFiles HeldDoor HeldSink HeldClock
 pier = services pier_files quiet_door (record { accepted = []; most = 10; capacity = 1000; fault_schedule = no_calls })
     (record { minute = pos 15791220; returned_minutes = []; fault_schedule = no_calls })
 
--- the arguments of the example, `serve file=f`
+-- the command line `serve file=f`
 abbrev pub pier_words : List (List ℕ)
 pier_words = codes "serve" ∷ codes "file=f" ∷ []
 
--- the data of the example: the constants of a pier, a table without rows, and the port 8080
+-- the data that the command line `serve file=f` names: the constants of a small harmonics file, a table
+-- without rows, and the port 8080
 abbrev pub pier_data : ServedData
 pier_data = record { book = pier_book; table = []; port = 8080 }

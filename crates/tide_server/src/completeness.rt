@@ -11,14 +11,16 @@ ghost use Rattle.tide_server.specs.Worked.{in_memory, pier, pier_data, pier_word
 use harmonics_text::worked_files;
 use tide_edge::{Clock, Door, Files, Sink};
 
-/// Proves that a server that returns is done, or ran out of memory before it listened, if the files are
-/// steady (one that exists can always be opened and read), have the contents that the arguments name,
-/// and are no longer than may be read (67,108,864 bytes each), and if the clock and the port don't fail.
+/// Proves that a server that returns has the exit status Done, or ran out of memory before it listened.
+/// The conditions: the files that the arguments name exist, can always be opened and read, are in their
+/// formats, and are no longer than may be read (67,108,864 bytes each); and the clock and the port don't
+/// fail.
 pub fn servers_are_complete<F: Files, D: Door, E: Sink, K: Clock>()
     ensures { IsComplete (service_states F.state D.state E.state K.state) }
 {}
 
-/// Proves an example of a server in memory: the data that it serves, and that nothing failed.
+/// Proves, for an example of a server in memory, its request, the data that it serves, that it doesn't
+/// listen yet, and that none of its files, port and clock failed.
 pub fn worked_servers()
     ensures words { service_of pier_words ≡ Ok (record (bare Command.Serve) { file = Some (codes "f") }) }
     ensures served_data { served_data_of (in_memory.files pier.files).file_contents.folder pier_words ≡ Ok pier_data }

@@ -28,7 +28,7 @@ pub(crate) fn serve_all<D: Door, K: Clock>(
         (exchange (D.state door.old) (K.state clock.old)) (exchange (D.state door.new) (K.state clock.new)) }
     ensures clock_unread { (D.state door.new).listener_state.accepted ≡ 0 → clock.new ≡ clock.old }
 {
-    for _taken in 0..u64::MAX {
+    for _accepted in 0..u64::MAX {
         if !serve_next(alloc, served_data, request, door, clock)? {
             return Ok(());
         }

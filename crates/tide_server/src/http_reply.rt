@@ -27,11 +27,11 @@ use std::alloc::{AllocError, Global};
 use tide_answer::{Fault, GivenView, Refusal, StationData, answer_valid, fault_line};
 use zone_time::Zone;
 
-/// Returns the reply to `request`, a whole request, with the harmonic constants `book` and the offsets
-/// `table`, at the minute `now` since 1970-01-01T00:00Z, from -10,000,000,000 to 10,000,000,000. Bytes
-/// after the request are ignored.
+/// Returns the HTTP reply to `request`, the bytes of a whole request, with the harmonic constants `book`
+/// and the offsets `table`, at the minute `now` since 1970-01-01T00:00Z, from -10,000,000,000 to
+/// 10,000,000,000. Bytes after the request are ignored.
 ///
-/// The program doesn't call it: it writes fixed replies without allocating, and makes only the others.
+/// The program doesn't call it, since it writes replies with a fixed text without allocating.
 ///
 /// # Errors
 /// [`AllocError`] if memory runs out.

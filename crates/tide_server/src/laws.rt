@@ -18,58 +18,58 @@ ghost use Rattle.tide_server.specs.Replies.{IsReply, names_file};
 ghost use Rattle.tide_server.specs.Responses.{fixed_of};
 ghost use Rattle.tide_server.specs.Rows.{ReplyRow, IsRow, is_settled};
 
-/// Proves that each request has exactly one row of the table of HTTP statuses, which says how it is
-/// replied to.
+/// Proves that each request has at most one row of the table of HTTP statuses, which says how the server
+/// replies to it.
 pub fn one_row()
     ensures { (request : List ℕ) (a b : ReplyRow) → IsRow request a → IsRow request b → a ≡ b }
 {}
 
-/// Proves that further bytes don't change a request's row of the table of HTTP statuses, if the bytes
-/// received until now determine it.
+/// Proves that more bytes of a request don't change its row of the table of HTTP statuses (which says
+/// how the server replies), if the bytes received so far determine the row.
 pub fn settled_rows_stay()
     ensures { (request more : List ℕ) (row : ReplyRow)
         → IsRow request row → IsTrue (is_settled row) → IsRow (request ++ more) row }
 {}
 
-/// Proves that a request's row of the table of HTTP statuses is determined by as many bytes as the
-/// longest request has, 4,202,496.
+/// Proves that 4,202,496 bytes, the length of the longest request, are enough to determine a request's
+/// row of the table of HTTP statuses, which says how the server replies.
 pub fn long_requests_are_settled()
     ensures { (request : List ℕ) (row : ReplyRow) → IsRow request row → LONGEST ≤ length request → IsTrue (is_settled row) }
 {}
 
-/// Proves that each request has exactly one reply, for the same harmonic constants, table and minute.
+/// Proves that each request has at most one reply, for the same harmonic constants, table of offsets and
+/// minute.
 pub fn one_reply()
     ensures { (book : Book) (table : List Offsets) (minute : ℤ) (request a b : List ℕ)
         → IsReply book table minute request a → IsReply book table minute request b → a ≡ b }
 {}
 
-/// Proves that further bytes don't change the reply to a request, if the bytes received until now
-/// determine its row of the table of HTTP statuses.
+/// Proves that more bytes of a request don't change the reply to it, if the bytes received so far
+/// determine its row of the table of HTTP statuses, which says how the server replies.
 pub fn settled_replies_stay()
     ensures { (book : Book) (table : List Offsets) (minute : ℤ) (request more reply : List ℕ) (row : ReplyRow)
         → IsRow request row → IsTrue (is_settled row)
         → IsReply book table minute request reply → IsReply book table minute (request ++ more) reply }
 {}
 
-/// Proves that a reply that doesn't depend on tides (for a row of the table of HTTP statuses with a
-/// fixed text) is the same for all harmonic constants, tables and minutes.
+/// Proves that a reply with a fixed text, such as to a malformed request, is the same for all harmonic
+/// constants, tables of offsets and minutes.
 pub fn fixed_rows_reply()
     ensures { (book : Book) (table : List Offsets) (minute : ℤ) (request reply : List ℕ) (row : ReplyRow)
         → IsRow request row → fixed_of row ≡ Some reply → IsReply book table minute request reply }
 {}
 
-/// Proves that a query never names a zone's file.
+/// Proves that a request made by a web query never names a zone file.
 pub fn queries_name_no_file()
     ensures { (command : Option (List ℕ)) (items : List Item) (question : Question)
         → question_of record { origin = Origin.Query; command = command; items = items } ≡ Ok question
         → names_file question.zone ≡ false }
 {}
 
-/// Proves for a server over files, a port, a sink and a clock in memory: if [`serve`](crate::serve) has
-/// listened, the port has a reply for each accepted request, in their order, each the reply to the bytes
-/// of its request at the clock's minute, unless a read or write failed. If the server ended with a read
-/// fault, this holds for all requests except the last one; if the clock failed for that request, its
-/// reply is empty.
+/// Proves, for a server with files, a port, a sink and a clock in memory that has listened: the port has
+/// one reply for each accepted request, in the same order. Each is the reply to the bytes of its request
+/// at the clock's minute, unless a read or write failed. If the server ended with a read fault, the last
+/// accepted request may have an empty reply instead, because the clock failed for it.
 pub fn serve_in_memory()
     ensures { (words : List (List ℕ)) (status : Status) (before after : InMemory)
         → before.door.listener_state.port ≡ None → ¬ (after.door.listener_state.port ≡ None)

@@ -2,5 +2,5 @@
 
 use http_rows::{MOST_BODY, MOST_HEAD};
 
-/// The number of bytes of the longest request, 4,202,496: the longest head and the longest body.
+/// The length of the longest request in bytes, 4,202,496: the longest head and the longest body.
 pub const LONGEST: usize = MOST_HEAD + MOST_BODY;

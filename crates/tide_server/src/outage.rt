@@ -3,7 +3,7 @@
 /// A failure that ends a server.
 #[derive(Clone, Copy)]
 pub(crate) enum Outage {
-    /// Listening on the port failed, or no connection could be accepted.
+    /// The server couldn't listen at its port, or couldn't accept a connection.
     Door,
     /// The clock couldn't be read.
     Clock,

@@ -8,19 +8,20 @@ use station_table::OffsetTable;
 use std::marker::Model;
 use tide_answer::StationData;
 
-/// The data that a server serves: harmonic constants and subordinate stations; and its port.
+/// The data of a server: the harmonic constants and the subordinate stations that it answers with, and
+/// the port at which it listens.
 #[derive(Drop)]
 pub struct ServedData {
-    /// The harmonic constants that the server answers with.
+    /// The harmonic constants with which the server answers.
     pub book: Book,
-    /// The subordinate stations. The table has no rows if the arguments name no table.
+    /// The table of subordinate stations. It has no rows if the arguments name no table.
     pub table: OffsetTable,
     /// The port of 127.0.0.1 at which the server listens.
     pub port: u16,
 }
 
-/// The data that a server serves, with harmonic constants that are proved to be valid. In contracts its
-/// value is the data.
+/// The data of a server, with harmonic constants that are proved to be in the ranges of a harmonics
+/// file. In contracts its value is the data.
 #[derive(Drop)]
 pub struct ValidServedData {
     served_data: ServedData,
@@ -38,8 +39,8 @@ impl Model for ValidServedData {
 }
 
 impl ValidServedData {
-    /// Returns `served_data` as valid data. The caller proves that its harmonic constants are valid, as
-    /// all are that were read from a file.
+    /// Returns `served_data` as valid data. The caller proves that its harmonic constants are in the
+    /// ranges of a harmonics file, as all constants that were read from a file are.
     pub fn new(served_data: ServedData) -> ValidServedData
         requires { IsBook served_data.book }
         ensures { result ≡ served_data }
@@ -47,7 +48,7 @@ impl ValidServedData {
         ValidServedData { served_data }
     }
 
-    /// Returns the stations that can be requested, borrowed.
+    /// Returns the stations that can be requested from the server, borrowed.
     pub fn stations(&self) -> StationData<'_>
         ensures { result ≡ record { book = self.now.book; table = self.now.table } }
     {

@@ -20,15 +20,15 @@ use std::alloc::Global;
 use tide_edge::{Clock, Door, Files, Sink};
 use tide_fault::Status;
 
-/// Serves answers with the files that the arguments `words` name, at the port of 127.0.0.1 that they
-/// name: reads arguments and files, allocates for the longest request, of 4,202,496 bytes, listens, and
-/// serves one connection after the other. Returns the exit status, 0 to 8.
+/// Serves answers over HTTP, with the files and at the port of 127.0.0.1 that the arguments `words`
+/// name. It reads the arguments and the files, allocates for the longest request (4,202,496 bytes),
+/// listens, and serves one connection after the other. Returns the exit status, 0 to 8.
 ///
-/// It prints to `err` the port at which it listens and, if something failed, the reason why it ends; a
-/// failed write to `err` changes nothing. A failed read or write of a connection ends only this
-/// connection. The clock is read once for each connection that has a byte, and the reply is for this
-/// minute. If a read of the port never returns bytes of more than one piece that a client sent, the last
-/// connection is read no further than its reply needs.
+/// The port at which the server listens is printed to `err`, and so is the reason why it ends, if
+/// something failed; a failed write to `err` changes nothing. A failed read or write of a connection
+/// ends only this connection. The clock is read once for each connection over which a byte was received,
+/// and its reply is for this minute. If a read of the port never returns bytes of more than one piece
+/// that a client sent, the last connection is read no further than its reply needs.
 ///
 /// # Examples
 /// ```

@@ -7,7 +7,7 @@ ghost use Rattle.tide_server.specs.Queries.{items_of, decoded_text};
 ghost use Rattle.tide_server.specs.Replies.{reply_of};
 ghost use Rattle.http_rows.specs.Rows.{asks};
 
-/// Proves examples of the keys and values that web queries give.
+/// Proves examples of the pairs of keys and values in the query of a URL, such as `station=Pier+test`.
 pub fn worked_queries()
     ensures items { items_of (codes "station=Pier+test&&zone=%2B05:30&mark") ≡
         record { key = codes "station"; value = Some (codes "Pier test") }
@@ -17,8 +17,8 @@ pub fn worked_queries()
     ensures no_text { decoded_text (codes "%FFa") ≡ 239 ∷ 191 ∷ 189 ∷ 97 ∷ [] }
 {}
 
-/// Proves examples of the replies, with HTTP status 400, to web queries that aren't requests: one to
-/// GET, and one to HEAD, which has no body.
+/// Proves examples of replies with HTTP status 400, to web queries that lack an argument: one to GET,
+/// and one to HEAD, which has no body.
 pub fn worked_answers()
     ensures none_asked { (book : Book) (table : List Offsets) (minute : ℤ)
         → reply_of book table minute (asks record { path = codes "/clock"; query = codes "zone=UTC"; body = []; is_head_request = false })

@@ -7,7 +7,7 @@ use Rattle.curve_law.specs.CurveSpec.{IsApproximateValue, IsLawful}
 use Rattle.curve_law.specs.CurveStates.{CurveModel}
 use Rattle.highest_water.specs.Samples.{hill, hills}
 
--- the facts about the curve with two maxima: each approximate value is the value
+-- the model of the curve with two maxima: each approximate value is exact
 abbrev pub hills_model : ℤ → ℤ → ℤ → ℤ → ℤ → CurveModel
 hills_model at top other_at other_top rate = record {
   curve_spec = hills at top other_at other_top rate;

@@ -5,7 +5,8 @@ use Rattle.zone_time.specs.Zones.{IsZone}
 use Rattle.named_files.specs.declared.materials.Materials.{Materials}
 use Rattle.decimal_text.specs.declared.limits.TheConstants.{MOST_BYTES}
 
--- valid harmonic constants, a valid zone, and a certificate's text of at most 400,000,000 bytes
+-- the harmonic constants and the zone that were read are valid, and the certificate's text has at most
+-- 400,000,000 bytes
 pub record AreMaterials (read : Materials) : Type 0 where
   pub book : IsBook read.book
   pub zone : IsZone read.zone

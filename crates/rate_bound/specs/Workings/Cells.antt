@@ -4,12 +4,12 @@ use Rattle.station_curve.specs.Curves.{Prediction, is_touched}
 use Rattle.year_blend.specs.declared.parts.Stretch.{Stretch}
 use Rattle.year_blend.specs.declared.parts.Stretch.TheVariants.{Within, Across}
 
--- a year of the book, counted from 0, that a prediction needs
+-- the year with this index, counted from 0, is one of the book's years, and the prediction needs it
 pub record IsNeeded (c : Prediction) (year : ℕ) : Type 0 where
   pub below : year < c.book.years
   pub touched : is_touched c.book c.first c.last year ≡ true
 
--- the year of a stretch, or the two years around its new year, are years that the prediction needs
+-- the prediction needs the year of the stretch of minutes, or both years around its new year
 abbrev pub AreNeeded : Prediction → Stretch → Type 0
 AreNeeded c (Within year) = IsNeeded c year
 AreNeeded c (Across year) = (0 < year) × IsNeeded c (year - 1) × IsNeeded c year

@@ -27,11 +27,11 @@ use Rattle.station_curve.specs.Curves.{IsPrediction, Prediction, waves_of}
 use Rattle.station_curve.specs.Schureman.{predicted_level}
 use Rattle.station_curve.proofs.WithinLimits.{sums_within_limits}
 
--- the mark and the added level cancel in a step
+-- adding `c` to both numbers leaves their difference unchanged
 pub same_mark : (x y c : ℤ) → (x +ℤ c) -ℤ (y +ℤ c) ≡ x -ℤ y
 same_mark x y c = omega (arith, ints)
 
--- a factor from 0 to 10^8 millionths, which isn't negative
+-- `times` is a factor from 0 to 10^8 millionths
 pub record IsTimes (times : ℤ) : Type 0 where
   pub size : unsigned_abs times ≤ 10 ^ 8
   pub same : pos (unsigned_abs times) ≡ times
@@ -130,7 +130,7 @@ mark_rate version c times plus mark slack a n rate valid scale cell is =
     rate_in version c times plus mark slack a n rate _ valid scale span
     (stretch_of-found c.book.first_year c.book.years a n span.times.years span.first span.last) is
 
--- a level less a mark is below its limit
+-- the size of a level less a mark is below 5 * 10^36, if `times`, `plus` and `mark` are in their ranges
 pub mark_small : (times plus mark level : ℤ) → IsScale times plus mark
     → unsigned_abs level ≤ total_weight * (11 * 10 ^ 18) → unsigned_abs (over_mark times plus mark level) < 5 * 10 ^ 36
 mark_small times plus mark level scale small =
@@ -145,7 +145,8 @@ mark_small times plus mark level scale small =
     (10 ^ 8 * (total_weight * (11 * 10 ^ 18))) (10 ^ 6 * total_weight * 10 ^ 9 * (2 * 10 ^ 10)) scaled raised in
     omega (arith, all)
 
--- the curve of the level less a mark meets the law of a curve
+-- the curve of the level less a mark keeps the law of a curve: its values are small, and its rates bound
+-- their change in a minute
 pub mark_lawful : (version : Version) (c : Prediction) (times plus mark : ℤ) (slack : Bool) → IsPrediction c
     → IsScale times plus mark → IsLawful (mark_spec version c times plus mark slack)
 mark_lawful version c times plus mark slack valid scale =

@@ -16,12 +16,12 @@ use Rattle.station_curve.specs.Curves.{IsPrediction, Prediction}
 use Rattle.station_curve.proofs.WithinLimits.{amount_small, steepness_small}
 use Rattle.station_curve.specs.Schureman.{predicted_level}
 
--- the error of a slope is small enough
+-- the error of an approximate slope is at most 10^36
 pub slope_narrow : (c : Prediction) → IsPrediction c → slope_error_of c ≤ 10 ^ 36
 unfolding slope_error_of
 slope_narrow c valid = omega (arith, steepness_small c valid.limits, amount_small c valid.limits)
 
--- the error of a scaled level is small enough
+-- the error of an approximate level times `times` is at most 10^36
 pub level_narrow : (c : Prediction) (times plus mark : ℤ) → IsPrediction c → IsScale times plus mark
     → unsigned_abs times * level_error_of c ≤ 10 ^ 36
 unfolding level_error_of
@@ -33,7 +33,7 @@ level_narrow c times plus mark valid scale =
     let product = mul-le (unsigned_abs times) (level_error_of c) (10 ^ 8) (2 * 10 ^ 24) few error in
     omega (arith, product)
 
--- an approximate slope is within its error
+-- the approximate slope at minute `m` differs from the slope by at most its error
 pub slope_close : (version : Version) (c : Prediction) (m : ℤ) → IsPrediction c → IsMinute (turn_spec version c) m
     → IsApproximateValue (turn_spec version c) (slope_error_of c) m (approximate_slope_of c.book c.station m)
 slope_close version c m valid at = slope_approximate c m valid (record { least = at.first; most = at.last })
@@ -46,7 +46,8 @@ approximate-mark times plus mark approximate level error close =
     let raised = pos (10 ^ 6 * total_weight * 10 ^ 9) *ℤ (plus -ℤ mark) in
     rw (same_mark (times *ℤ approximate) (times *ℤ level) raised) (scaled_gap times approximate level error close)
 
--- an approximate level less a mark is within its error of the level less the mark
+-- the approximate level less a mark, at minute `m`, differs from the level less the mark by at most its
+-- error
 pub level_close : (version : Version) (c : Prediction) (times plus mark : ℤ) (slack : Bool) (m : ℤ) → IsPrediction c
     → IsMinute (mark_spec version c times plus mark slack) m
     → IsApproximateValue (mark_spec version c times plus mark slack) (unsigned_abs times * level_error_of c) m

@@ -43,7 +43,7 @@ pub blended_slope_rate-pos : (hs gs : List WaveSpec) → blended_slope_rate (sum
     + (64800000 * radian * (near_of gs + near_of hs) + 1663000 * radian * (10 ^ 9 * (amount_of gs + amount_of hs))))
 blended_slope_rate-pos hs gs = rw (int_max-pos (far_of hs) (far_of gs)) (ap pos (omega arith))
 
--- a rate that `limited` returns unchanged
+-- `rate` is `given`, which is at most 4 * 10^34, so that `limited` returns it
 pub record IsLimited (rate given : ℤ) : Type 0 where
   pub same : given ≡ rate
   pub small : rate ≤ℤ pos (4 * 10 ^ 34)

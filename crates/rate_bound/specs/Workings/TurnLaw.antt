@@ -29,7 +29,8 @@ plain_small far rate is small = rw (sym is) (omega (arith, ints, small))
 limited_small : (rate : ℤ) → rate ≤ℤ pos (4 * 10 ^ 34) → (rate *ℤ pos MOST_MINUTES) <ℤ pos (5 * 10 ^ 37)
 limited_small rate small = omega (arith, ints, small)
 
--- the year of a span outside blends is one of the book's
+-- if all minutes of a span are in the plain part of the year with the index `year`, it is one of the
+-- book's years
 pub within_below : (b : Book) (a : ℤ) (n year : ℕ) → IsSpan b a n → IsFound b.first_year b.years a n (Within year) → year < b.years
 within_below b a n year span found =
     (rw found.plain at (place_of-rule b.first_year b.years a span.times.years span.first)).0.one_of
@@ -86,7 +87,8 @@ turn_rate version c a n rate valid cell is =
     rate_in version c a n rate _ valid span
     (stretch_of-found c.book.first_year c.book.years a n span.times.years span.first span.last) is
 
--- the curve of the slope meets the law of a curve
+-- the curve of the slope keeps the law of a curve: its values are small, and its rates bound their
+-- change in a minute
 pub turn_lawful : (version : Version) (c : Prediction) → IsPrediction c → IsLawful (turn_spec version c)
 turn_lawful version c valid =
     let all = are_ends c.book.first_year c.book.years valid.limits.times.years in

@@ -21,17 +21,19 @@ use Rattle.tide_fault.specs.declared.refusal.Refusal.{Refusal}
 use Rattle.tide_fault.specs.Faults.{refusal_is_out_of_memory}
 use Rattle.zone_time.specs.Zones.{InZoneYears}
 
--- the station and the offsets of a station that was found
+-- the reference station and the offsets of `found_station`
 abbrev pub site_of : FoundStation → Site
 site_of found_station = site_with found_station.basis found_station.curve.station
 
--- the curves that are followed at a station that was found
+-- the curves whose changes of sign are the events of `found_station`; the version determines the bounds
+-- on their change
 abbrev pub followed_at : Version → FoundStation → Followed
 followed_at version found_station = followed_by version found_station.curve.book (site_of found_station) found_station.span_request.mark
 
 -- ---- a station that was found
 
--- the found station is the expected one of the harmonics file, with the span of the request
+-- `found_station` is the expected station, for the purpose `reach_for`, of the harmonics file
+-- `book_read`, with the span and mark `asked_for`
 pub record IsFoundIn (reach_for : Purpose) (book_read : Book) (asked_for : SpanRequest) (expected : Result Site Refusal)
     (found_station : FoundStation) : Type 0 where
   pub site : expected ≡ Ok (site_of found_station)
@@ -39,12 +41,14 @@ pub record IsFoundIn (reach_for : Purpose) (book_read : Book) (asked_for : SpanR
   pub book : found_station.curve.book ≡ book_read
   pub span_request : found_station.span_request ≡ asked_for
 
--- the expected station was found, or the expected refusal returned
+-- the last argument is the expected station, or the expected refusal, or a refusal because memory ran
+-- out
 abbrev pub FindsIn : Purpose → Book → SpanRequest → Result Site Refusal → Result FoundStation Refusal → Type 0
 FindsIn purpose book span_request expected (Ok found_station) = IsFoundIn purpose book span_request expected found_station
 FindsIn purpose book span_request expected (Err refusal) = Excused (refusal_is_out_of_memory refusal) expected refusal
 
--- a station without a span was found, with a curve for all minutes
+-- `reference` is the reference station of the expected station, with its curve for all minutes of the
+-- harmonics file
 pub record IsReferenceFound (book : Book) (expected : Result Site Refusal) (reference : ReferenceStation) : Type 0 where
   pub site : Site
   pub is : expected ≡ Ok site
@@ -53,31 +57,35 @@ pub record IsReferenceFound (book : Book) (expected : Result Site Refusal) (refe
   pub curve : reference.curve ≡ prediction_of book site.station
   pub valid : IsPrediction reference.curve
 
--- the expected station was found, or the expected refusal returned
+-- the last argument is the expected reference station, or the expected refusal, or a refusal because
+-- memory ran out
 abbrev pub FindsReference : Book → Result Site Refusal → Result ReferenceStation Refusal → Type 0
 FindsReference book expected (Ok reference) = IsReferenceFound book expected reference
 FindsReference book expected (Err refusal) = Excused (refusal_is_out_of_memory refusal) expected refusal
 
 -- ---- levels
 
--- the station's level at this minute is that of a minute of the reference that may be evaluated
+-- the level of `found_station` at `minute` can be computed: the reference station's minute that the
+-- offset moves to `minute` is one at which the reference's curve may be evaluated
 pub record IsEvaluable (found_station : FoundStation) (minute : ℤ) : Type 0 where
   pub from : found_station.span.begin ≤ℤ (minute -ℤ found_station.basis.high.add)
   pub until : (minute -ℤ found_station.basis.high.add) ≤ℤ found_station.span.end
 
--- each minute of the requested span, its end included, has a level that may be evaluated
+-- the level can be computed at each minute of the requested span and at the minute of its end
 abbrev pub AreEvaluable : FoundStation → Type 0
 AreEvaluable found_station = (minute : ℤ) → found_station.span_request.begin ≤ℤ minute → minute ≤ℤ found_station.span_request.end → IsEvaluable found_station minute
 
--- a station that was found with a span that has a highest water: the span has a minute, and the
--- station's high and low waters have the same offsets
+-- `found_station` has a highest water over its span: it was found for that purpose, so that its span has
+-- a minute, and its high and low waters have the same offsets
 pub record HasPeak (found_station : FoundStation) : Type 0 where
   pub purpose : found_station.purpose ≡ Highest
   pub equal : IsTrue (is_equal found_station.basis)
 
 -- ---- events
 
--- the list of a station's events; its span has a local time in every zone
+-- `listed` has the events of the station `site` over the span of the request, their unit and the number
+-- of cells; the span isn't backward, and its begin and end are minutes that have a local time in every
+-- zone
 pub record IsSiteList (book : Book) (span_request : SpanRequest) (site : Site) (listed : FoundEvents) : Type 0 where
   pub units : listed.units ≡ site.station.units
   pub levels : HasLevels listed.units
@@ -88,11 +96,13 @@ pub record IsSiteList (book : Book) (span_request : SpanRequest) (site : Site) (
   pub begins : InZoneYears span_request.begin
   pub ends : InZoneYears span_request.end
 
--- the expected station's events were listed, or the expected refusal returned
+-- the last argument has the expected station's events, or is the expected refusal, or a refusal because
+-- memory ran out
 abbrev pub Lists : Book → SpanRequest → Result Site Refusal → Result FoundEvents Refusal → Type 0
 Lists book span_request expected (Ok listed) = (site : Site) × (expected ≡ Ok site) × IsSiteList book span_request site listed
 Lists book span_request expected (Err refusal) = Excused (refusal_is_out_of_memory refusal) expected refusal
 
--- the events of the reference's curves over the evaluated minutes
+-- the events are all events of the reference station's curves, over the minutes that determine the
+-- events of the span
 abbrev pub AreReferences : FoundStation → List Event → Type 0
 AreReferences found_station events = events ≡ merged_of found_station.span.begin (tracks_of found_station.curve.book (site_of found_station) found_station.span_request)

@@ -15,32 +15,32 @@ use Rattle.station_span.specs.declared.purpose.Purpose.{Purpose}
 use Rattle.station_span.specs.Sites.{Site, lacks_minute, reached, span_limit}
 use Rattle.harmonics_book.specs.declared.book.Station.{Station}
 
--- a span and a mark in the range that a request, a certificate or a clock can name: minutes of at most
--- 20,000,000,000 and a mark of at most 10,000,000,000 millionths in size
+-- the begin and the end of a request's span are at most 20,000,000,000 minutes in size, and its mark, if
+-- any, at most 10,000,000,000 millionths
 pub record IsInRange (span_request : SpanRequest) : Type 0 where
   pub begin : unsigned_abs span_request.begin ≤ 20000000000
   pub end : unsigned_abs span_request.end ≤ 20000000000
   pub mark : ForSome span_request.mark (λ level. unsigned_abs level ≤ 10000000000)
 
--- a span whose end isn't before its beginning, and whose begin and end are at most 100,000,000,000
--- minutes in size
+-- the span `s` isn't backward, and its begin and end are at most 100,000,000,000 minutes in size
 pub record IsSpanInRange (s : Span) : Type 0 where
   pub forward : s.begin ≤ℤ s.end
   pub begin : unsigned_abs s.begin ≤ 100000000000
   pub end : unsigned_abs s.end ≤ 100000000000
 
--- a span whose ends have a text as moments
+-- the begin and the end of a span can be written as text (for example 2000-01-01T00:00Z)
 pub record AreMoments (span_request : SpanRequest) : Type 0 where
   pub begin : IsMoment span_request.begin
   pub end : IsMoment span_request.end
 
--- each end of a span is at most a day from a given minute
+-- the begin of the span `s` is at most 1,440 minutes (a day) from the minute `begin`, and its end at
+-- most 1,440 minutes from the minute `end`
 pub record IsBeside (begin end : ℤ) (s : Span) : Type 0 where
   pub begins : unsigned_abs (s.begin -ℤ begin) ≤ 1440
   pub ends : unsigned_abs (s.end -ℤ end) ≤ 1440
 
--- a span whose end isn't before its beginning, and for which the harmonics file has the minutes that are
--- needed
+-- the span from `begin` to `end` isn't backward, has a minute if the purpose needs one, and the
+-- harmonics file has the minutes of the reference station that a request for this purpose needs
 pub record IsReached (purpose : Purpose) (book : Book) (basis : Basis) (begin end : ℤ) : Type 0 where
   pub forward : begin ≤ℤ end
   pub begins : InDomain book.first_year book.years (reached purpose basis begin end).begin
@@ -49,23 +49,24 @@ pub record IsReached (purpose : Purpose) (book : Book) (basis : Basis) (begin en
   pub beside : IsBeside begin end (reached purpose basis begin end)
   pub some : lacks_minute purpose begin end ≡ false
 
--- a unit of levels: any but a hydraulic current's
+-- Bool: whether levels can be given in a unit: in any but knots squared, the unit of a hydraulic current
 abbrev pub has_levels : Units → Bool
 has_levels Feet = true
 has_levels Meters = true
 has_levels Knots = true
 has_levels KnotsSquared = false
 
--- a unit of levels
+-- levels can be given in this unit: it isn't knots squared, the unit of a hydraulic current
 abbrev pub HasLevels : Units → Type 0
 HasLevels units = IsTrue (has_levels units)
 
--- a minute from the beginning of the year 2 to the beginning of the year 9300
+-- a minute, since 1970-01-01T00:00Z, from the beginning of the year 2 to the beginning of the year 9300
 pub record IsFileMinute (minute : ℤ) : Type 0 where
   pub least : negsuc 1035067679 ≤ℤ minute
   pub most : minute ≤ℤ pos 3855208320
 
--- a station with a curve, for which the harmonics file has the minutes that are needed
+-- the station `site` can be predicted for this request: its unit and its constants allow it, the
+-- harmonics file has the minutes that are needed, and the span and the mark are in range
 pub record IsFound (purpose : Purpose) (book : Book) (span_request : SpanRequest) (site : Site) : Type 0 where
   pub valid : IsBasis (length book.stations) site.basis
   pub levels : HasLevels site.station.units
@@ -75,6 +76,6 @@ pub record IsFound (purpose : Purpose) (book : Book) (span_request : SpanRequest
   pub mark : ForSome span_request.mark (λ level. IsTrue (is_equal site.basis))
   pub in_range : IsInRange span_request
 
--- a station with the offsets from it
+-- a station of the harmonics file together with its basis, which has the offsets from it
 abbrev pub site_with : Basis → Station → Site
 site_with basis station = record { basis = basis; station = station }

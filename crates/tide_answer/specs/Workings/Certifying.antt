@@ -18,7 +18,7 @@ use Rattle.station_span.specs.Following.{followed_by}
 use Rattle.station_cells.specs.Rejections.{rejection_of}
 use Rattle.station_span.specs.Sites.{Site, site_in}
 
--- the certificate of tracks, of version 2
+-- the certificate of version 2 of the station called `name`, with the cells `tracks`
 abbrev pub certificate_in : List ℕ → SpanRequest → Tracks → Certificate
 certificate_in name span_request tracks = record {
   version = 2;
@@ -29,13 +29,13 @@ certificate_in name span_request tracks = record {
   tracks = tracks;
 }
 
--- the first fault of a certificate's tracks, or None if they are right
+-- the first fault of the cells of the certificate `cert`, or None if all are right
 abbrev pub rejection_in : Book → Site → Certificate → Option Rejection
 rejection_in book site cert =
     rejection_of (followed_by (version_of cert) book site cert.mark) (widened_of site.basis cert.begin cert.end) cert.tracks
 
--- the answer to the check of a certificate that was read: it is accepted or rejected, or there is a
--- refusal
+-- the answer of the command `check` for the certificate `cert` that was read: accepted or rejected; or
+-- the first refusal
 unfoldable pub judged_in : Book → List Offsets → Certificate → Zone → Result Answer Refusal
 judged_in book table cert zone = do
   site ← site_in Events book table cert.station (request_by_certificate cert)

@@ -12,12 +12,12 @@ use Rattle.tide_answer.specs.declared.text.Answer.{Answer}
 use Rattle.tide_answer.specs.Answers.{peak_judged}
 use Rattle.tide_answer.specs.Asking.{request_by_peak_certificate}
 
--- the certificate of a highest water
+-- the certificate of the highest water `peak` of the station called `name`
 abbrev pub peak_certificate_in : List ℕ → SpanRequest → Peak → PeakCertificate
 peak_certificate_in name span_request peak = record { station = name; begin = span_request.begin; end = span_request.end; peak = peak }
 
--- the answer to the check of a certificate of a highest water that was read: it is accepted or rejected,
--- or there is a refusal
+-- the answer of the command `peakcheck` for the certificate `cert` that was read: accepted or rejected;
+-- or the first refusal
 unfoldable pub peak_judged_in : Book → List Offsets → PeakCertificate → Result Answer Refusal
 peak_judged_in book table cert = do
   site ← highest_site book table cert.station (request_by_peak_certificate cert)

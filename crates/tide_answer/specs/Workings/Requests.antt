@@ -7,7 +7,8 @@ use Rattle.tide_fault.specs.declared.refusal.Refusal.{Refusal}
 use Rattle.tide_answer.specs.Answers.{named_by}
 use Rattle.tide_answer.specs.Asking.{request_by_question}
 
--- the station, the span and the mark of a question, if it names a station and a span
+-- the station's name, the span and the mark of a question, or the refusal if the name or the span is
+-- missing
 unfoldable pub named_span : Question → Result NamedSpan Refusal
 named_span question = do
   name ← named_by question.station

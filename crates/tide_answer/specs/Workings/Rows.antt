@@ -7,12 +7,13 @@ use Rattle.station_span.specs.Sites.{Site}
 use Rattle.zone_time.specs.Zones.{InZoneYears}
 use Rattle.tide_answer.specs.Answers.{row_at}
 
--- a step between heights that a request can name: from 1 to 44,640 minutes
+-- a step of the command `heights`: from 1 to 44,640 minutes
 pub record IsStep (step : ℤ) : Type 0 where
   pub first : pos 1 ≤ℤ step
   pub last : step ≤ℤ pos 44640
 
--- the first `count` rows of a listing of heights
+-- `rows` are the first `count` rows of a listing of levels, one every `step` minutes from `begin` on;
+-- every zone has a local time for each of their minutes
 pub record AreRows (book : Book) (site : Site) (begin step : ℤ) (count : ℕ) (rows : List Row) : Type 0 where
   pub value : rows ≡ map (row_at book site begin step) (range_with_len 0 count)
   pub listed : All (λ row. InZoneYears row.minute) rows

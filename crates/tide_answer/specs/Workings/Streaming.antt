@@ -23,26 +23,31 @@ use Rattle.tide_answer.specs.Answers.{certificate_by}
 use Rattle.tide_answer.specs.declared.text.Answer.{Answer}
 use Rattle.station_span.specs.Workings.Spans.{AreMoments}
 
--- the text of a streamed answer: a listing or a certificate, as the form says
+-- the text of a streamed answer for the station called `name`: the listing of its events, or their
+-- certificate
 abbrev pub stream_text : Form → Book → Site → List ℕ → SpanRequest → Zone → List ℕ
 stream_text Listing book site name span_request zone = plain_events_of name site.station.units (events_of book site span_request) zone
 stream_text Certificate book site name span_request zone = certificate_text (certificate_by book site name span_request)
 
--- a streamed answer for a station: a listing or a certificate, as the form says
+-- a streamed answer for the station called `name`: the listing of its events, or their certificate; with
+-- the number of its cells
 abbrev pub stream_answer : Form → Book → Site → List ℕ → SpanRequest → Zone → Answer
 stream_answer form book site name span_request zone =
     record { text = stream_text form book site name span_request zone; rejected = false; cells = cells_of book site span_request }
 
--- a streamed answer for a station that was found: a listing or a certificate, as the form says
+-- a streamed answer for the station `found_station`, called `name`: the listing of its events, or their
+-- certificate
 abbrev pub stream_of : Form → FoundStation → List ℕ → Zone → Answer
 stream_of form found_station name zone = stream_answer form found_station.curve.book (site_of found_station) name found_station.span_request zone
 
--- the form of the streamed answers of a command: a certificate for `certify`, else a listing
+-- the form of a command's streamed answers: a certificate for `certify`, a listing for any other command
 abbrev pub form_of : Command → Form
 form_of Certify = Certificate
 form_of _ = Listing
 
--- what writing a streamed answer requires of the station, the name and the zone
+-- an answer for `found_station` can be streamed: the station was found for events and has no offsets,
+-- its span can be written as text, its name is a station's name, and the zone has a local time at each
+-- minute
 pub record IsStream (found_station : FoundStation) (name : List ℕ) (zone : Zone) : Type 0 where
   pub purpose : found_station.purpose ≡ Events
   pub moments : AreMoments found_station.span_request
@@ -52,19 +57,21 @@ pub record IsStream (found_station : FoundStation) (name : List ℕ) (zone : Zon
 
 -- ---- the parts of a certificate
 
--- the lines of a certificate before its tracks
+-- the lines of a certificate before its cells: version, station, begin, end, and the mark if there is
+-- one
 abbrev pub head_text : List ℕ → SpanRequest → List ℕ
 head_text name span_request =
     codes "tide certificate 2\nstation " ++ name ++ codes "\n"
     ++ (ended (begin_line_of span_request.begin) ++ ended (end_line_of span_request.end) ++ ended (mark_line_of span_request.mark))
 
--- the lines of a certificate's tracks
+-- the lines of a certificate that have its cells: high and low waters, then slack waters and mark if
+-- present
 abbrev pub tracks_text : Tracks → List ℕ
 tracks_text tracks =
     joined (track_lines_of Turn tracks.turn) ++ joined (lines_if_there Slack tracks.slack) ++ joined (lines_if_there Mark tracks.mark)
 
--- tracks whose cells can be written as lines: quiet ones have 2 to 1,024 minutes, and levels at most 14
--- digits
+-- each cell can be written as a line: a quiet cell (without an event) has 2 to 1,024 minutes, and a
+-- level has at most 14 digits
 pub record HasCells (tracks : Tracks) : Type 0 where
   pub turn : All IsCell tracks.turn
   pub slack : IfSome tracks.slack (All IsCell)

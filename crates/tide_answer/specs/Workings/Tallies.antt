@@ -2,7 +2,7 @@
 use Rattle.std.specs.Prelude.{ℕ, ◌≤◌}
 use Rattle.tide_answer.specs.declared.tally.Tally.{Tally}
 
--- the counts of a trial, each of which is at most `most`
+-- each count of the trial is at most `most`
 pub record IsUpTo (most : ℕ) (tally : Tally) : Type 0 where
   pub minutes : tally.minutes ≤ most
   pub events : tally.events ≤ most

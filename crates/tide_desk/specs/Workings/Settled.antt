@@ -5,11 +5,12 @@ use Rattle.named_files.specs.declared.run_fault.RunFault.{RunFault}
 use Rattle.named_files.specs.RunFaults.{status_of}
 use Rattle.tide_desk.specs.Outcomes.{is_settled}
 
--- a reason other than out of memory and a fault of reading
+-- the reason why there is no answer is neither that memory ran out nor that a file or the clock couldn't
+-- be read
 abbrev pub IsSettled : RunFault → Type 0
 IsSettled none = IsTrue (is_settled (status_of none))
 
--- the result of reading the clock, from the result of the step that read it
+-- the minute, or the failure of the clock instead of any error
 abbrev pub reading_of : {E : Type 0} → Result ℤ E → Result ℤ Failed
 reading_of (Ok minute) = Ok minute
 reading_of (Err fault) = Err record {}

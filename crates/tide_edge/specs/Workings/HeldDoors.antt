@@ -8,15 +8,15 @@ use Rattle.tide_edge.specs.DoorLaws.{AreOfRequests, IsOfRequest, IsOfRequests}
 use Rattle.tide_edge.specs.FileStates.{as_list}
 use Rattle.tide_edge.specs.Memory.{HeldDoor, door_state}
 
--- the connection accepted last is of the current request, whose other pieces are unread; or none was
--- accepted
+-- the connection accepted last belongs to the current request, and its other pieces are unread; or no
+-- connection was accepted
 abbrev pub IsCurrent : List (List (List ℕ)) → List (List (List ℕ)) → Option Connection → List (List ℕ) → Type 0
 IsCurrent passed current None coming = (passed ≡ []) × (current ≡ [])
 IsCurrent passed current (Some c) coming =
     (request : List (List ℕ)) × (current ≡ request ∷ []) × IsOfRequest true request c × (coming ≡ left_after (length c.came) request)
 
--- All requests are those of the earlier connections, the current one and the waiting ones; the
--- connections are of these, and the replies are the bytes sent over them.
+-- The requests are, in order, the earlier connections' requests, the current one and the pending ones.
+-- Each connection belongs to its request, and the replies are the bytes sent over the connections.
 pub record IsTied (requests pending : List (List (List ℕ))) (all : Connections) (coming replies : List (List ℕ)) : Type 0 where
   pub passed : List (List (List ℕ))
   pub current : List (List (List ℕ))
@@ -26,8 +26,8 @@ pub record IsTied (requests pending : List (List (List ℕ))) (all : Connections
   pub latest : IsCurrent passed current all.latest coming
   pub sent : replies ≡ map (λ c. c.sent) (connections_of all)
 
--- the requests of a door in memory are tied to its connections, and none waits if there are no more
--- connections
+-- the requests of a door in memory are tied to its connections, and no request is pending if there are
+-- no more connections
 abbrev pub IsTiedDoor : HeldDoor → Type 0
 IsTiedDoor contents =
     IsTied contents.requests contents.pending contents.connections contents.coming contents.replies × (IsTrue contents.listener_state.is_over → contents.pending ≡ [])
@@ -58,7 +58,7 @@ behind : (xs pending : List (List (List ℕ))) → drop (length xs) (xs ++ pendi
 behind [] pending = refl
 behind (x ∷ xs) pending = behind xs pending
 
--- the number of requests that don't wait
+-- as many requests aren't pending as connections were accepted
 pub all_many : (requests pending : List (List (List ℕ))) (all : Connections) (coming replies : List (List ℕ))
     (t : IsTied requests pending all coming replies) → length (t.passed ++ t.current) ≡ length (connections_of all)
 all_many requests pending all coming replies t =
@@ -81,7 +81,7 @@ lawful_of contents (t, over) = record {
       ∙ over is;
 }
 
--- ---- A fact, of which there is one proof at most
+-- ---- The law has at most one proof
 
 of_prop : (keeps_pieces : Bool) (request : List (List ℕ)) (c : Connection) → IsProp (IsOfRequest keeps_pieces request c)
 of_prop keeps_pieces request c = hlevel props

@@ -13,7 +13,7 @@ parts [] bytes = []
 parts (start ∷ []) bytes = drop start bytes ∷ []
 parts (start ∷ next ∷ more) bytes = drop start (take next bytes) ∷ parts (next ∷ more) bytes
 
--- the replies, the number of bytes that they may still grow by, and the number of replies that may still
+-- the replies, the number of bytes that they can still grow by, and the number of replies that can still
 -- be begun
 pub record HeldReplies : Type 0 where
   pub replies : List (List ℕ)

@@ -153,13 +153,13 @@ call_store (Ok count) buffer s = refl
 call_store (Err failed) buffer s = refl
 
 -- no call changes the contents, or which calls are to fail
-pub kept_store : (now : FilesNow) (fault_schedule : List FileCall) → (fold after_file_call now fault_schedule).state.file_contents ≡ now.state.file_contents
+pub kept_store : (now : FilesNow) (calls : List FileCall) → (fold after_file_call now calls).state.file_contents ≡ now.state.file_contents
 kept_store now [] = refl
 kept_store now (Open name ∷ more) = kept_store (after_file_call now (Open name)) more
 kept_store now (Read n ∷ more) =
     kept_store (after_file_call now (Read n)) more ∙ call_store (read_result now (n + 1)) now.state.unread_bytes now.state
 
-pub kept_fails : (now : FilesNow) (fault_schedule : List FileCall) → (fold after_file_call now fault_schedule).fault_schedule.fails ≡ now.fault_schedule.fails
+pub kept_fails : (now : FilesNow) (calls : List FileCall) → (fold after_file_call now calls).fault_schedule.fails ≡ now.fault_schedule.fails
 kept_fails now [] = refl
 kept_fails now (Open name ∷ more) = kept_fails (after_file_call now (Open name)) more
 kept_fails now (Read n ∷ more) = kept_fails (after_file_call now (Read n)) more
@@ -177,8 +177,8 @@ safe_now contents steady =
     kept_fails (before_calls contents) contents.history
     ∙ safe_by contents.fails (rw (kept_store (before_calls contents) contents.history) at steady)
 
-lawful_from : (now : FilesNow) (fault_schedule : List FileCall) → IsTrue now.state.file_contents.is_observable → IsSafe now
-    → AreOfStore now.state → AreOfStore (fold after_file_call now fault_schedule).state
+lawful_from : (now : FilesNow) (calls : List FileCall) → IsTrue now.state.file_contents.is_observable → IsSafe now
+    → AreOfStore now.state → AreOfStore (fold after_file_call now calls).state
 lawful_from now [] t safe of = of
 lawful_from now (Open name ∷ more) t safe of =
     lawful_from (after_file_call now (Open name)) more t safe

@@ -13,7 +13,7 @@ use Rattle.tide_server.specs.Openings.{ServerStates, end_line, notice_at, server
 use Rattle.tide_server.specs.Serving.{IsOver, exchange}
 use Rattle.tide_server.specs.Workings.Steps.{IsKept}
 
--- the states of the objects that are used after the files were read
+-- the states of a server's port, standard error and clock, which are used after the files were read
 pub record Unread : Type 0 where
   pub door : DoorState
   pub err : SinkState
@@ -23,11 +23,12 @@ pub record Unread : Type 0 where
 abbrev pub unread : DoorState → SinkState → ClockState → Unread
 unread door err clock = record { door = door; err = err; clock = clock }
 
--- the states of all objects, from the states of the files and of the others
+-- the states of a server's files, port, standard error and clock, as one record
 abbrev pub with_files : FilesState → Unread → ServerStates
 with_files files left = server_states files left.door left.err left.clock
 
--- the end of a server that has data, by a failure of the port or of the clock or by none
+-- a server that has data listened, served connections and ended, because there were no more connections
+-- or because the port or the clock failed
 pub record Ended (served_data : ServedData) (status : Status) (before after : Unread) : Type 0 where
   pub port : after.door.listener_state.port ≡ Some served_data.port
   pub ends : (status ≡ Done) ⊎ (status ≡ ReadFault)

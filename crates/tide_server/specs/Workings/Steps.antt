@@ -9,37 +9,38 @@ use Rattle.tide_server.specs.Conversations.{HasServed}
 use Rattle.tide_server.specs.Serving.{Exchange, IsOver}
 use Rattle.tide_server.specs.Workings.Connections.{Went, with_latest}
 
--- the failure is that the port couldn't listen or accept a connection
+-- Bool: whether a failure is that the server couldn't listen at its port or accept a connection
 abbrev pub is_door : Outage → Bool
 is_door outages.Door = true
 is_door outages.Clock = false
 
--- the failure is that the clock couldn't be read
+-- Bool: whether a failure is that the clock couldn't be read
 abbrev pub is_clock : Outage → Bool
 is_clock outages.Door = false
 is_clock outages.Clock = true
 
--- the result is that the port couldn't listen or accept a connection
+-- Bool: whether a result is the error that the server couldn't listen at its port or accept a connection
 abbrev pub is_door_outage : {T : Type 0} → Result T Outage → Bool
 is_door_outage (Ok value) = false
 is_door_outage (Err outage) = is_door outage
 
--- the result is that the clock couldn't be read
+-- Bool: whether a result is the error that the clock couldn't be read
 abbrev pub is_clock_outage : {T : Type 0} → Result T Outage → Bool
 is_clock_outage (Ok value) = false
 is_clock_outage (Err outage) = is_clock outage
 
 -- ---- One step
 
--- the port after a connection was accepted, answered and closed
+-- the port `d` after the connection `c` was accepted, served and closed
 abbrev pub door_with : DoorState → Connection → DoorState
 door_with d c = door_after_close (with_latest c (door_after_next (Ok true) d))
 
--- the port after it failed
+-- the port `d` after it couldn't listen or accept a connection: its count of faults is one more
 abbrev pub door_failed : DoorState → DoorState
 door_failed d = record d { faults = counted d.faults }
 
--- one step: the next connection was served, or there were no more, or the port or the clock failed
+-- one step of the server: the next connection was served (`Ok true`), there were no more (`Ok false`),
+-- or the port or the clock failed (`Err`)
 abbrev pub StepBy : Result Bool Outage → ServedData → Exchange → Exchange → Type 0
 StepBy (Ok true) served_data before after = Went false served_data (door_with before.door) after.door before.clock after.clock
 StepBy (Ok false) served_data before after = (after.door ≡ door_after_next (Ok false) before.door) × (after.clock ≡ before.clock)
@@ -48,12 +49,12 @@ StepBy (Err outages.Clock) served_data before after = Went true served_data (doo
 
 -- ---- Several steps
 
--- the port at which the server listens after it accepted `accepted` connections, none of which is open
+-- the state of a server's port `port` after `accepted` connections, none of which is open
 abbrev pub serving : ℕ → ℕ → ListenerState
 serving port accepted = record { port = Some port; listens = true; accepted = accepted; is_open = false; is_over = false }
 
--- what serving leaves unchanged: whether port and clock are observable, the requests, and the counts of
--- faults except for the failures
+-- serving leaves unchanged whether port and clock can be observed, the requests, and the counts of
+-- faults, except that they grow by the failures that the Bools name
 pub record IsKept (door_failed clock_failed : Bool) (before after : Exchange) : Type 0 where
   pub is_observable : after.door.is_observable ≡ before.door.is_observable
   pub pieces : after.door.keeps_pieces ≡ before.door.keeps_pieces
@@ -63,7 +64,7 @@ pub record IsKept (door_failed clock_failed : Bool) (before after : Exchange) : 
   pub readings : ℕ
   pub clock : after.clock ≡ record before.clock { returned_minutes = returned_minutes; readings = readings; faults = faults_after clock_failed before.clock.faults }
 
--- the connections of a port that listens were served, until there were no more or until a failure
+-- a port that listens served its connections, until there were no more or until the failure in `result`
 pub record Serves (served_data : ServedData) (result : Result (Unit {0}) Outage) (before after : Exchange) : Type 0 where
   pub port : after.door.listener_state.port ≡ Some served_data.port
   pub listens : after.door.listener_state.listens ≡ true

@@ -154,8 +154,8 @@ listed_is : answer_of [] pier_with_certificate (pos 0) (codes "predict" ∷ argu
 listed_is = answers_over [] pier_with_certificate (codes "predict" ∷ arguments) listed_question listed_answer refl
     listed_asked (record { file = refl; offsets = refl; zone = refl; certificate = refl }) listed_text
 
-one_answer : (inputs : Result Answer RunFault) (answer same : Answer) → inputs ≡ Ok answer → inputs ≡ Ok same → answer ≡ same
-one_answer inputs answer same is also = cc
+one_answer : (answered : Result Answer RunFault) (answer same : Answer) → answered ≡ Ok answer → answered ≡ Ok same → answer ≡ same
+one_answer answered answer same is also = cc
 
 pub returns-clause-checked : goal.returns-clause-checked
 returns-clause-checked c =

@@ -19,8 +19,4 @@ returns-clause-value c =
 pub returns-clause-size : goal.returns-clause-size
 returns-clause-size c =
     let small = abs_below c.args.weight total_weight c.requires.least c.requires.most in
-    rw (
-      c.from.ensures ∙ cast_small w64 c.args.weight total_weight small (lit< tt),
-      times w128 c.args.weight c.args.value total_weight (10 ^ 26) small c.requires.value (lit< tt) (lit< tt) (lit< tt),
-    )
-    (abs_times c.args.weight c.args.value total_weight (10 ^ 26) small c.requires.value)
+    rw (returns-clause-value c) (abs_times c.args.weight c.args.value total_weight (10 ^ 26) small c.requires.value)

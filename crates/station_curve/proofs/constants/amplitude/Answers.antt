@@ -15,15 +15,13 @@ returns-then-amplitude-eq0-clause-value c =
 
 pub effective-requires-clause-amplitude : goal.effective-requires-clause-amplitude
 effective-requires-clause-amplitude c =
-    let amplitude = get_or c.args.station.now.amplitude c.args.k (pos 0) in
     let small = station_amplitude (length c.args.book.now.constituents) c.args.station.now c.args.k c.requires.station c.requires.place in
-    rw c.as_slice.ensures (kept_small w64 amplitude (10 ^ 10) small (lit< tt))
+    rw c.as_slice.ensures (kept_small w64 (get_or c.args.station.now.amplitude c.args.k (pos 0)) (10 ^ 10) small (lit< tt))
 
 pub effective-requires-clause-factor : goal.effective-requires-clause-factor
 effective-requires-clause-factor c =
-    let place = c.place_in_table.result in
-    let small = book_factor c.args.book.now place c.get.ensures.valid c.place_in_table.ensures.within in
-    rw (c.as_slice-2.ensures, c.get.ensures.exact) (kept_small w64 (get_or c.args.book.now.factors place (pos 0)) (10 ^ 7) small (lit< tt))
+    let small = book_factor c.args.book.now c.place_in_table.result c.get.ensures.valid c.place_in_table.ensures.within in
+    rw (c.as_slice-2.ensures, c.get.ensures.exact) (kept_small w64 (get_or c.args.book.now.factors c.place_in_table.result (pos 0)) (10 ^ 7) small (lit< tt))
 
 pub returns-clause-size : goal.returns-clause-size
 returns-clause-size c = kept_small w64 c.effective.result (10 ^ 11) c.effective.ensures.size (lit< tt)

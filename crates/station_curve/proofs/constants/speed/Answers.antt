@@ -3,7 +3,7 @@ use Rattle.std.proofs.lemmas.Int.{ints}
 use mir.Syntax.{w64}
 use mir.Val.{to_z, of_z}
 use Rattle.station_curve.proofs.Products.{cast_small, abs_within, pos_abs}
-use Rattle.station_curve.proofs.BookValues.{constituent_speed, speed_within}
+use Rattle.station_curve.proofs.BookValues.{constituent_speed, speed_range, speed_within}
 use Rattle.station_curve.proofs.constants.speed.Goals as goal
 
 pub overflow_cast-result : goal.overflow_cast-result
@@ -26,9 +26,5 @@ returns-clause-value c =
 
 pub returns-clause-size : goal.returns-clause-size
 returns-clause-size c =
-    let element = c.index-as_slice-k.result in
-    let at = rw (c.as_slice.ensures, c.get.ensures.exact) at c.index-as_slice-k.is in
-    let range = speed_within c.args.book.now element c.args.k c.get.ensures.valid c.requires.place at in
-    let small = abs_within element.speed 0 3600000000 range.least range.most in
-    let same : to_z w64 (of_z w64 element.speed) ≡ element.speed = cast_small w64 element.speed 3600000000 small (lit< tt) in
-    rw same small
+    let range = speed_range c.args.book.now c.args.k c.get.ensures.valid c.requires.place in
+    omega (arith, ints, returns-clause-value c, range.1)

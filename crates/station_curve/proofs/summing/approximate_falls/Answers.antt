@@ -28,8 +28,5 @@ returns-clause-value c = c.loop-wave.invariant.value ∙ ap (approximate_falls_o
 
 pub returns-clause-size : goal.returns-clause-size
 returns-clause-size c =
-    omega (
-      arith,
-      all_within steepness_size 60 (10 ^ 17) c.args.waves.now c.loop-wave.wave-index (to_z w64 c.loop-wave.sum-bits)
-          c.loop-wave.invariant.size c.requires.steepness,
-    )
+    all_within steepness_size 60 (10 ^ 17) c.args.waves.now c.loop-wave.wave-index (to_z w64 c.loop-wave.sum-bits)
+    c.loop-wave.invariant.size c.requires.steepness

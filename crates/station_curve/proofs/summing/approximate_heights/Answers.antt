@@ -28,8 +28,5 @@ returns-clause-value c = c.loop-wave.invariant.value ∙ ap (approximate_heights
 
 pub returns-clause-size : goal.returns-clause-size
 returns-clause-size c =
-    omega (
-      arith,
-      all_within amplitude_size 30518 (10 ^ 9) c.args.waves.now c.loop-wave.wave-index (to_z w64 c.loop-wave.sum-bits)
-          c.loop-wave.invariant.size c.requires.amount,
-    )
+    all_within amplitude_size 30518 (10 ^ 9) c.args.waves.now c.loop-wave.wave-index (to_z w64 c.loop-wave.sum-bits)
+    c.loop-wave.invariant.size c.requires.amount

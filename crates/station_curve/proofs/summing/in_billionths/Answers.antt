@@ -11,8 +11,4 @@ returns-clause-value c =
 pub returns-clause-size : goal.returns-clause-size
 returns-clause-size c =
     let size = abs_times (pos (2 ^ 15)) c.args.heights (2 ^ 15) (30518 * 10 ^ 9) (lit≤ tt) c.requires in
-    rw (
-      c.from.ensures ∙ cast_small w64 c.args.heights (30518 * 10 ^ 9) c.requires (lit< tt),
-      times w128 (pos (2 ^ 15)) c.args.heights (2 ^ 15) (30518 * 10 ^ 9) (lit≤ tt) c.requires (lit< tt) (lit< tt) (lit< tt),
-    )
-    (omega (arith, size))
+    rw (returns-clause-value c) (omega (arith, size))

@@ -11,8 +11,4 @@ returns-clause-value c =
 pub returns-clause-size : goal.returns-clause-size
 returns-clause-size c =
     let size = abs_times (pos (2 ^ 24)) c.args.falls (2 ^ 24) (6 * 10 ^ 18) (lit≤ tt) c.requires in
-    rw (
-      c.from.ensures ∙ cast_small w64 c.args.falls (6 * 10 ^ 18) c.requires (lit< tt),
-      times w128 (pos (2 ^ 24)) c.args.falls (2 ^ 24) (6 * 10 ^ 18) (lit≤ tt) c.requires (lit< tt) (lit< tt) (lit< tt),
-    )
-    (omega (arith, size))
+    rw (returns-clause-value c) (omega (arith, size))

@@ -9,9 +9,4 @@ returns-clause-value c =
     (times w128 (pos (10 ^ 9)) c.args.datum (10 ^ 9) (10 ^ 10) (lit≤ tt) c.requires (lit< tt) (lit< tt) (lit< tt))
 
 pub returns-clause-size : goal.returns-clause-size
-returns-clause-size c =
-    rw (
-      c.from.ensures ∙ cast_small w64 c.args.datum (10 ^ 10) c.requires (lit< tt),
-      times w128 (pos (10 ^ 9)) c.args.datum (10 ^ 9) (10 ^ 10) (lit≤ tt) c.requires (lit< tt) (lit< tt) (lit< tt),
-    )
-    (abs_times (pos (10 ^ 9)) c.args.datum (10 ^ 9) (10 ^ 10) (lit≤ tt) c.requires)
+returns-clause-size c = rw (returns-clause-value c) (abs_times (pos (10 ^ 9)) c.args.datum (10 ^ 9) (10 ^ 10) (lit≤ tt) c.requires)

@@ -16,7 +16,6 @@ returns-clause-value c year in_years =
     let small = station_amplitude _ c.args.station.now c.args.k c.requires.station c.requires.place in
     let same = cast_small w64 amplitude (10 ^ 10) small (lit< tt) in
     let size : c.unsigned_abs-size.result ≡ unsigned_abs amplitude = rw (c.as_slice.ensures, same) at c.unsigned_abs-size.ensures.value in
-    let valid = c.factors_of.ensures.valid in
     let greatest = rw c.factors_of.ensures.value at c.greatest_of.ensures.value in
-    rw size (amplitude-most b c.args.station.now c.args.k c.greatest_of.result valid c.requires.place
-    (λ place within. greatest place (factors-length b c.args.k place valid c.requires.place within)) year in_years)
+    rw size (amplitude-most b c.args.station.now c.args.k c.greatest_of.result c.factors_of.ensures.valid c.requires.place
+    (λ place within. greatest place (factors-length b c.args.k place c.factors_of.ensures.valid c.requires.place within)) year in_years)

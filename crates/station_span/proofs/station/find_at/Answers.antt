@@ -14,19 +14,19 @@ span_looked_at-requires c = record { offsets = has_offsets _ _ c.requires.basis 
 pub curve_over-requires-clause-begins : goal.curve_over-requires-clause-begins
 curve_over-requires-clause-begins c =
     let reached = span_reached c.args.purpose c.args.book.now c.args.basis c.args.request.now.span_request (has_offsets _ _ c.requires.basis)
-    c.span_request-span_request.ensures.in_range c.in_ok-span.ensures.found_station in
+    c.span_request-span_request.ensures.in_range c.in_ok-span.ensures.found in
     rw c.in_ok-span.ensures.exact reached.begins
 
 pub curve_over-requires-clause-ends : goal.curve_over-requires-clause-ends
 curve_over-requires-clause-ends c =
     let reached = span_reached c.args.purpose c.args.book.now c.args.basis c.args.request.now.span_request (has_offsets _ _ c.requires.basis)
-    c.span_request-span_request.ensures.in_range c.in_ok-span.ensures.found_station in
+    c.span_request-span_request.ensures.in_range c.in_ok-span.ensures.found in
     rw c.in_ok-span.ensures.exact reached.ends
 
 pub curve_over-requires-clause-forward : goal.curve_over-requires-clause-forward
 curve_over-requires-clause-forward c =
     let reached = span_reached c.args.purpose c.args.book.now c.args.basis c.args.request.now.span_request (has_offsets _ _ c.requires.basis)
-    c.span_request-span_request.ensures.in_range c.in_ok-span.ensures.found_station in
+    c.span_request-span_request.ensures.in_range c.in_ok-span.ensures.found in
     rw c.in_ok-span.ensures.exact reached.in_range.forward
 
 pub returns-in_err-span : goal.returns-in_err-span
@@ -41,7 +41,7 @@ returns-in_err-curve c =
     let p = err_from_is_err_and c.from_residual-in_err-curve.result c.from_residual-in_err-curve.ensures.1 in
     let site : Site = record { basis = c.args.basis; station = c.args.station.now } in
     rw (p.1, p.2) (refused_curve _ c.args.purpose c.args.book.now site c.args.request.now.span_request _ _
-    (sym c.in_ok-level_units.ensures.exact) c.in_ok-span.ensures.found_station
+    (sym c.in_ok-level_units.ensures.exact) c.in_ok-span.ensures.found
     (curve_excused _ c.args.book.now c.args.station.now _ _ _ c.in_err-curve.ensures.exact))
 
 pub returns-in_err-check_length : goal.returns-in_err-check_length
@@ -51,7 +51,7 @@ returns-in_err-check_length c =
     let has : HasCurve c.args.purpose c.args.book.now site c.args.request.now.span_request _ (prediction_of c.args.book.now c.args.station.now) =
     record {
       unit = sym c.in_ok-level_units.ensures.exact;
-      span = c.in_ok-span.ensures.found_station;
+      span = c.in_ok-span.ensures.found;
       curve = curve_allowed c.args.book.now c.args.station.now _ _ c.in_ok-curve.curve c.in_ok-curve.ensures.exact;
     } in
     rw (p.1, p.2) (refused_length _ c.args.purpose c.args.book.now site c.args.request.now.span_request _
@@ -64,7 +64,7 @@ returns-in_err-check_mark c =
     let has : HasCurve c.args.purpose c.args.book.now site c.args.request.now.span_request _ (prediction_of c.args.book.now c.args.station.now) =
     record {
       unit = sym c.in_ok-level_units.ensures.exact;
-      span = c.in_ok-span.ensures.found_station;
+      span = c.in_ok-span.ensures.found;
       curve = curve_allowed c.args.book.now c.args.station.now _ _ c.in_ok-curve.curve c.in_ok-curve.ensures.exact;
     } in
     rw (p.1, p.2) (refused_mark _ c.args.purpose c.args.book.now site c.args.request.now.span_request _
@@ -74,7 +74,7 @@ pub invariant_of-result : goal.invariant_of-result
 invariant_of-result c =
     let is = c.in_ok-curve.ensures.predicts in
     let span = span_reached c.args.purpose c.args.book.now c.args.basis c.args.request.now.span_request (has_offsets _ _ c.requires.basis)
-    c.span_request-span_request.ensures.in_range c.in_ok-span.ensures.found_station in
+    c.span_request-span_request.ensures.in_range c.in_ok-span.ensures.found in
     let looked = c.in_ok-span.ensures.exact in
     let found_station : IsFound c.args.purpose c.args.book.now c.args.request.now.span_request (site_with c.args.basis c.args.station.now) = record {
       valid = c.requires.basis;
@@ -102,7 +102,7 @@ returns c =
     let has : HasCurve c.args.purpose c.args.book.now site c.args.request.now.span_request _ (prediction_of c.args.book.now c.args.station.now) =
     record {
       unit = sym c.in_ok-level_units.ensures.exact;
-      span = c.in_ok-span.ensures.found_station;
+      span = c.in_ok-span.ensures.found;
       curve = curve_allowed c.args.book.now c.args.station.now _ _ c.in_ok-curve.curve c.in_ok-curve.ensures.exact;
     } in
     let whole =

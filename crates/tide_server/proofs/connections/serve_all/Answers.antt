@@ -19,7 +19,7 @@ pub returns-in_err-serve_next-clause-serves : goal.returns-in_err-serve_next-cla
 returns-in_err-serve_next-clause-serves g c =
     let p = err_from_is_err_and c.from_residual.result c.from_residual.ensures.1 in
     rw (p.1, p.2)
-    (failed_serves c.args.served_data.now c.in_err-serve_next.field-0.0 c.loop-accepted._taken
+    (failed_serves c.args.served_data.now c.in_err-serve_next.field-0.0 c.loop-accepted._accepted
     (exchange (g.D.Door.state c.args.door.now) (g.K.Clock.state c.args.clock.now))
     (exchange (g.D.Door.state c.loop-accepted.door) (g.K.Clock.state c.loop-accepted.clock))
     (exchange (g.D.Door.state c.serve_next.new.door) (g.K.Clock.state c.serve_next.new.clock))
@@ -28,7 +28,7 @@ returns-in_err-serve_next-clause-serves g c =
 
 pub returns-then-not-branch-clause-serves : goal.returns-then-not-branch-clause-serves
 returns-then-not-branch-clause-serves g c =
-    over_serves c.args.served_data.now c.loop-accepted._taken
+    over_serves c.args.served_data.now c.loop-accepted._accepted
     (exchange (g.D.Door.state c.args.door.now) (g.K.Clock.state c.args.clock.now))
     (exchange (g.D.Door.state c.loop-accepted.door) (g.K.Clock.state c.loop-accepted.clock))
     (exchange (g.D.Door.state c.serve_next.new.door) (g.K.Clock.state c.serve_next.new.clock))
@@ -44,7 +44,7 @@ returns-then-not-branch-clause-clock_unread g c =
 
 pub returns-clause-serves : goal.returns-clause-serves
 returns-clause-serves g c =
-    let last : c.loop-accepted._taken ≡ 2 ^ 64 - 1 = omega arith in
+    let last : c.loop-accepted._accepted ≡ 2 ^ 64 - 1 = omega arith in
     all_serves c.args.served_data.now
     (exchange (g.D.Door.state c.args.door.now) (g.K.Clock.state c.args.clock.now))
     (exchange (g.D.Door.state c.loop-accepted.door) (g.K.Clock.state c.loop-accepted.clock))
@@ -61,11 +61,11 @@ loop-accepted-preserved g c =
     let next : (g.D.Door.state c.serve_next.new.door).listener_state ≡ closed (after_next (Ok true) (g.D.Door.state c.loop-accepted.door).listener_state) =
     ap (λ d. d.listener_state) step.door in
     let listener_state = rw c.loop-accepted.invariant.listener_state at next in
-    let accepted : (g.D.Door.state c.loop-accepted.door).listener_state.accepted ≡ c.loop-accepted._taken =
+    let accepted : (g.D.Door.state c.loop-accepted.door).listener_state.accepted ≡ c.loop-accepted._accepted =
     ap (λ d. d.accepted) c.loop-accepted.invariant.listener_state in
     let few : (g.D.Door.state c.loop-accepted.door).listener_state.accepted < 2 ^ 64 - 1 = rw accepted c.loop-accepted-test.true in record {
       listener_state =
-          next_serving c.args.served_data.now.port c.loop-accepted._taken (g.D.Door.state c.serve_next.new.door).listener_state
+          next_serving c.args.served_data.now.port c.loop-accepted._accepted (g.D.Door.state c.serve_next.new.door).listener_state
           c.loop-accepted-test.true listener_state;
       kept = kept_on c.args.served_data.now before now after c.loop-accepted.invariant.kept step;
       passed = passed_on c.args.served_data.now before now after c.loop-accepted.invariant.passed few step;

@@ -3,7 +3,6 @@ use Rattle.std.proofs.lemmas.Int.{to_z-of_z}
 use mir.Syntax.{w64, w128}
 use Rattle.year_blend.specs.declared.parts.Place.TheVariants.{Plain}
 use Rattle.year_blend.specs.Weights.{total_weight}
-use Rattle.station_curve.specs.Approximate.{approximate_year_slope}
 use Rattle.station_curve.proofs.Approximating.{full_weight, approximate_slope-at, slope_approximate}
 use Rattle.station_curve.proofs.curve.StationCurve.approximate_slope.Goals as goal
 

@@ -3,11 +3,10 @@ use Rattle.std.proofs.lemmas.Int.{to_z-of_z}
 use mir.Syntax.{w64, w128}
 use mir.Val.{to_z, of_z}
 use Rattle.station_curve.specs.Levels.{minutes_into}
-use Rattle.station_curve.specs.Approximate.{approximate_heights_of, approximate_year_level}
+use Rattle.station_curve.specs.Approximate.{approximate_year_level}
 use Rattle.station_curve.proofs.Products.{cast_small, kept_small, abs_plus, plus, plus_fits}
-use Rattle.station_curve.proofs.Ready.{stored, year_of, datum_of, datum_small, used_waves}
+use Rattle.station_curve.proofs.Ready.{datum_of, datum_small}
 use Rattle.station_curve.proofs.WithinLimits.{approximate_heights-present}
-use Rattle.station_curve.proofs.Touched.{touched}
 use Rattle.station_curve.specs.Curves.{waves_of}
 use Rattle.station_curve.proofs.curve.StationCurve.approximate_year_level.Goals as goal
 

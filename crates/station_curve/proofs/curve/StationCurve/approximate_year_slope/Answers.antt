@@ -1,12 +1,10 @@
-use Rattle.std.proofs.Common.{◌≡◌, pos, neg_ℤ, ◌*◌, ◌*ℤ◌, ◌^◌, ap, ◌∙◌, lit<, lit≤}
+use Rattle.std.proofs.Common.{pos, neg_ℤ, ◌*◌, ◌*ℤ◌, ◌^◌, ap, ◌∙◌, lit<, lit≤}
 use Rattle.std.proofs.lemmas.Int.{to_z-of_z}
 use mir.Syntax.{w64, w128}
 use Rattle.station_curve.specs.Levels.{minutes_into}
-use Rattle.station_curve.specs.Approximate.{approximate_falls_of, approximate_year_slope}
+use Rattle.station_curve.specs.Approximate.{approximate_year_slope}
 use Rattle.station_curve.proofs.Products.{cast_small, abs_minus, minus, minus_fits, zero_minus}
-use Rattle.station_curve.proofs.Ready.{stored, year_of, used_waves}
 use Rattle.station_curve.proofs.WithinLimits.{approximate_falls-present}
-use Rattle.station_curve.proofs.Touched.{touched}
 use Rattle.station_curve.specs.Curves.{waves_of}
 use Rattle.station_curve.proofs.curve.StationCurve.approximate_year_slope.Goals as goal
 

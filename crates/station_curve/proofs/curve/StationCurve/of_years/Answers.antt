@@ -1,4 +1,4 @@
-use Rattle.std.proofs.Common.{◌≡◌, ◌^◌, ap, ◌∙◌, lit<, pos}
+use Rattle.std.proofs.Common.{◌^◌, ap, ◌∙◌, lit<, pos}
 use mir.Syntax.{w32, w64}
 use Rattle.station_curve.proofs.Products.{abs_span, abs_within, cast_small}
 use Rattle.station_curve.specs.Waves.{amount_of, steepness_of}

@@ -46,7 +46,6 @@ year_around-requires-clause-last c = rw (to_z-of_z w64 c.args.m c.ranges.m) c.re
 
 pub calendar_year_of-requires-clause-years : goal.calendar_year_of-requires-clause-years
 calendar_year_of-requires-clause-years c =
-    let b = c.args.self.now.book in
     let first = first_year_of c.self.inside c.args.self.now c.self.invariant c.self.view_is in
     rw (first, c.years.ensures) (years_of c.self.inside c.args.self.now c.self.invariant c.self.view_is)
 

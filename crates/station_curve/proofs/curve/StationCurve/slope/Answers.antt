@@ -4,8 +4,7 @@ use mir.Syntax.{w64, w128}
 use Rattle.fixed_sine.specs.Circle.{radian}
 use Rattle.year_blend.specs.Weights.{total_weight}
 use Rattle.station_curve.proofs.Blending.{slope_plain, slope_blend, level_change}
-use Rattle.station_curve.proofs.Products.{cast_small, kept_small, abs_below, abs_span, abs_plus, abs_minus, plus, plus_fits, minus, minus_fits, under, times}
-use Rattle.station_curve.specs.Levels.{drift}
+use Rattle.station_curve.proofs.Products.{cast_small, kept_small, abs_below, abs_span, abs_plus, abs_minus, plus, plus_fits, minus, minus_fits, under}
 use Rattle.station_curve.proofs.curve.StationCurve.slope.Goals as goal
 
 pub weighted-requires-clause-value : goal.weighted-requires-clause-value
@@ -41,10 +40,9 @@ mixed-requires-clause-most c =
 
 pub drift-requires-clause-change : goal.drift-requires-clause-change
 drift-requires-clause-change c =
-    let high = c.year_heights.result in
-    let low = c.year_heights-in-Blend.result in
-    rw (minus w64 high low (10 ^ 18) (10 ^ 18) c.year_heights.ensures.size c.year_heights-in-Blend.ensures.size (lit< tt))
-    (abs_minus high low (10 ^ 18) (10 ^ 18) c.year_heights.ensures.size c.year_heights-in-Blend.ensures.size)
+    rw (minus w64 c.year_heights.result c.year_heights-in-Blend.result (10 ^ 18) (10 ^ 18)
+    c.year_heights.ensures.size c.year_heights-in-Blend.ensures.size (lit< tt))
+    (abs_minus c.year_heights.result c.year_heights-in-Blend.result (10 ^ 18) (10 ^ 18) c.year_heights.ensures.size c.year_heights-in-Blend.ensures.size)
 
 pub drift-requires-clause-in_range : goal.drift-requires-clause-in_range
 drift-requires-clause-in_range c =

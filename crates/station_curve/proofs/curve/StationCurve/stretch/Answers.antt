@@ -5,7 +5,6 @@ use mir.Val.{to_z, of_z}
 use Rattle.station_curve.proofs.Around.{around_within}
 use Rattle.station_curve.proofs.Ready.{first_year_of}
 use Rattle.station_curve.proofs.Ranges.{in_domain, minute_small}
-use Rattle.station_curve.proofs.Products.{times}
 use Rattle.station_curve.proofs.curve.StationCurve.stretch.Goals as goal
 
 pub overflow_add-m : goal.overflow_add-m

@@ -1,12 +1,9 @@
-use Rattle.std.proofs.Common.{◌≡◌, ◌^◌, ap, ◌∙◌, lit<}
+use Rattle.std.proofs.Common.{◌^◌, ◌∙◌, lit<}
 use Rattle.std.proofs.lemmas.Int.{to_z-of_z}
 use mir.Syntax.{w64}
-use Rattle.station_curve.specs.Waves.{heights_of}
 use Rattle.station_curve.specs.Levels.{minutes_into}
 use Rattle.station_curve.proofs.Products.{cast_small}
-use Rattle.station_curve.proofs.Ready.{year_of, used_waves}
 use Rattle.station_curve.proofs.WithinLimits.{heights-present}
-use Rattle.station_curve.proofs.Touched.{touched}
 use Rattle.station_curve.specs.Curves.{waves_of}
 use Rattle.station_curve.proofs.curve.StationCurve.year_heights.Goals as goal
 

@@ -2,7 +2,7 @@ use Rattle.std.proofs.Common.{◌≡◌, ◌^◌, pos, ◌+ℤ◌, ◌*ℤ◌, a
 use Rattle.std.proofs.lemmas.Int.{ints, to_z-of_z}
 use mir.Syntax.{w64, w128}
 use mir.Val.{to_z, of_z}
-use Rattle.station_curve.proofs.Products.{cast_small, kept_small, times}
+use Rattle.station_curve.proofs.Products.{cast_small, kept_small}
 use Rattle.station_curve.proofs.Ready.{datum_of, datum_small, valid_of}
 use Rattle.station_curve.proofs.Predicting.{year_level_is}
 use Rattle.station_curve.proofs.curve.StationCurve.year_level.Goals as goal

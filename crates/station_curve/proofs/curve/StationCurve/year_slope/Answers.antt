@@ -1,12 +1,9 @@
-use Rattle.std.proofs.Common.{◌≡◌, pos, neg_ℤ, ◌^◌, ap, ◌∙◌, lit<, lit≤, sym}
+use Rattle.std.proofs.Common.{pos, neg_ℤ, ◌^◌, ap, ◌∙◌, lit<, lit≤, sym}
 use Rattle.std.proofs.lemmas.Int.{to_z-of_z}
 use mir.Syntax.{w64, w128}
-use Rattle.station_curve.specs.Waves.{falls_of}
 use Rattle.station_curve.specs.Levels.{minutes_into}
-use Rattle.station_curve.proofs.Products.{abs_minus, minus, minus_fits, zero_minus, times}
-use Rattle.station_curve.proofs.Ready.{stored, year_of, used_waves, valid_of}
+use Rattle.station_curve.proofs.Products.{abs_minus, minus, minus_fits, zero_minus}
 use Rattle.station_curve.proofs.WithinLimits.{falls-present}
-use Rattle.station_curve.proofs.Touched.{touched}
 use Rattle.station_curve.specs.Curves.{waves_of}
 use Rattle.station_curve.proofs.Predicting.{year_slope_is}
 use Rattle.station_curve.proofs.curve.StationCurve.year_slope.Goals as goal

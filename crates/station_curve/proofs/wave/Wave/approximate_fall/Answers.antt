@@ -4,7 +4,7 @@ use Rattle.std.proofs.lemmas.Int.{unsigned_abs-mul}
 use Rattle.std.proofs.lemmas.Nat.{mul-le}
 use mir.Syntax.{w64}
 use Rattle.fixed_sine.specs.Approximate.{approximate_sine_of}
-use Rattle.station_curve.proofs.Products.{cast_small, times, times_fits, abs_times}
+use Rattle.station_curve.proofs.Products.{abs_factors, cast_small, times, times_fits, abs_times}
 use Rattle.station_curve.proofs.wave.Wave.approximate_fall.Goals as goal
 use Rattle.station_curve.proofs.wave.Wave.approximate_fall.Goals.{After-approximate_sine}
 
@@ -26,12 +26,8 @@ factor_size c =
     (coarse (unsigned_abs wave.amplitude) wave.speed)
 
 steep_small : (c : After-approximate_sine) → unsigned_abs c.args.self.now.amplitude * c.args.self.now.speed ≤ 100000000000000000
-steep_small c =
-    let wave = c.args.self.now in
-    let product : c.self.inside.steepness ≡ wave.amplitude *ℤ pos wave.speed =
-    c.self.invariant.product ∙ ap (λ h. h.amplitude *ℤ pos h.speed) c.self.view_is in
-    let small = c.self.invariant.steep in
-    omega (arith, small, ap unsigned_abs product, unsigned_abs-mul wave.amplitude (pos wave.speed))
+steep_small c = abs_factors c.self.inside.steepness c.args.self.now.amplitude c.args.self.now.speed (100000000000000000)
+    (c.self.invariant.product ∙ ap (λ h. h.amplitude *ℤ pos h.speed) c.self.view_is) c.self.invariant.steep
 
 factor_small : (c : After-approximate_sine) → unsigned_abs c.self.inside.factor ≤ 195312500000000
 factor_small c = omega (arith, factor_size c, steep_small c)

@@ -4,7 +4,7 @@ use Rattle.std.proofs.lemmas.Int.{ints, unsigned_abs-mul}
 use mir.Syntax.{w64, w128}
 use mir.Val.{to_z, of_z}
 use Rattle.fixed_sine.specs.Rate.{step_of, IsSpeed}
-use Rattle.station_curve.proofs.Products.{cast_small, small_fits, times, times_fits}
+use Rattle.station_curve.proofs.Products.{abs_factors, cast_small, small_fits, times, times_fits}
 use Rattle.station_curve.proofs.YearChanges.{most_step, height_rate_size}
 use Rattle.station_curve.proofs.wave.Wave.sums.Goals as goal
 use Rattle.station_curve.proofs.wave.Wave.sums.Goals.{After-from-steep}
@@ -41,12 +41,8 @@ amount_small : (c : After-from-steep) → unsigned_abs c.args.self.now.amplitude
 amount_small c = let small = c.self.invariant.amount in rw (← ap (λ h. unsigned_abs h.amplitude) c.self.view_is) small
 
 steep_small : (c : After-from-steep) → unsigned_abs c.args.self.now.amplitude * c.args.self.now.speed ≤ 10 ^ 17
-steep_small c =
-    let wave = c.args.self.now in
-    let product : c.self.inside.steepness ≡ wave.amplitude *ℤ pos wave.speed =
-    c.self.invariant.product ∙ ap (λ h. h.amplitude *ℤ pos h.speed) c.self.view_is in
-    let small = c.self.invariant.steep in
-    omega (arith, small, ap unsigned_abs product, unsigned_abs-mul wave.amplitude (pos wave.speed))
+steep_small c = abs_factors c.self.inside.steepness c.args.self.now.amplitude c.args.self.now.speed (10 ^ 17)
+    (c.self.invariant.product ∙ ap (λ h. h.amplitude *ℤ pos h.speed) c.self.view_is) c.self.invariant.steep
 
 is_speed : (w : ℕ) → w ≤ 3600000000 → IsSpeed (to_z w64 w)
 is_speed w quick = record { least = omega (arith, ints); most = omega (arith, ints) }

@@ -7,6 +7,6 @@ invariant_of-self c = record {
   tied =
       ∥∥₁_map c.args.self.now.tied
       (λ t. rw c.read.ensures.after
-      (tied_read c.args.self.now.queue c.args.buffer.now c.read.new.capacity c.read.auto.capacity c.read.ensures.filled
+      (tied_read c.args.self.now.queue c.args.buffer.now c.read.new.buffer c.read.auto.buffer c.read.ensures.filled
       (rw c.read.ensures.answer at c.read.ensures.end) t));
 }

@@ -3,7 +3,7 @@ use Rattle.tide_server.proofs.ConnectionLemmas.{first_of_room}
 use Rattle.tide_server.proofs.request.Request.read_more.Given.{Over}
 use Rattle.tide_server.proofs.request.Request.read_more.Goals as goal
 
--- the bytes that were read are behind those so far
+-- the bytes that were read follow the earlier ones
 read_behind : (g : Over) (c : goal.After-unwrap g)
     → c.extend_from_slice.new.self.items ≡ c.args.self.now ++ take c.in_ok-count.count c.read.new.buffer
 read_behind g c =

@@ -1,0 +1,24 @@
+use Rattle.station_curve.specs.Schureman.{predicted_millionths, predicted_level, predicted_year_level}
+use Rattle.decimal_text.specs.Rounding.{rounded_of}
+use Rattle.year_blend.specs.Places.{place_of, place_in, year_at}
+use Rattle.year_blend.specs.Weights.{weight_of}
+use Rattle.fixed_sine.specs.Sine.{icos_of, isin_of, half_of, quarter_of, scaled_between}
+use Rattle.fixed_sine.specs.Table.{sine_at, correction, sines}
+use Rattle.year_blend.proofs.StartLemmas.{starts}
+use Rattle.station_curve.proofs.laws.worked_levels.Goals as goal
+
+pub returns : goal.returns
+unfolding predicted_millionths predicted_level predicted_year_level rounded_of place_of place_in year_at weight_of icos_of isin_of half_of
+    quarter_of scaled_between sine_at correction sines
+returns c = record {
+  noon = simp starts;
+  two_hours_before = simp starts;
+  an_hour_before = simp starts;
+  first_blended = simp starts;
+  new_year = simp starts;
+  an_hour_after = simp starts;
+  two_hours_after = simp starts;
+  harbour_2000 = simp starts;
+  harbour_new_year = simp starts;
+  harbour_2001 = simp starts;
+}
