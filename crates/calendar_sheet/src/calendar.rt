@@ -18,12 +18,16 @@ use harmonics_book::Units;
 use std::alloc::{AllocError, Global};
 use zone_time::{MINUTES_OF_DAY, Zone, ZoneClock, write_clock, write_date};
 
-/// Returns the station's `name`, and a line such as `2000-01-10  06:00 -1.00 Low Tide  11:59 1.00 High
-/// Tide` for each date in the zone's local time, from the earliest to the latest date of `begin`, `end -
-/// 1` and the events. An empty span has no dates.
+/// Returns a line with the station's `name`, and a line for each local date in `zone`, such as
+/// `2000-01-10  06:00 -1.00 Low Tide  11:59 1.00 High Tide`. The dates run from the earliest to the
+/// latest local date of `begin`, `end - 1` and the events. If `begin` equals `end`, there are no dates.
 ///
-/// `begin` isn't after `end`. Each event has a [`word`] in `units`. Minutes are counted from
-/// 1970-01-01T00:00Z; each is in the years 2 to 9300 or on the day before them.
+/// `begin` isn't after `end`. Each event has a name in `units` ([`word`]) and a level in millionths of
+/// `units`. Minutes are counted from 1970-01-01T00:00Z; each is in the years 2 to 9300 or on the day
+/// before them.
+///
+/// # Errors
+/// [`AllocError`] if memory runs out.
 ///
 /// # Examples
 /// ```

@@ -4,8 +4,8 @@ use curve_law::Event;
 use std::alloc::{AllocError, Global};
 use std::marker::Model;
 
-/// A date with the events on it, in the order in which they were appended. The date is a day number,
-/// with 1970-01-01 as 0.
+/// A date with its events, in the order in which they were appended. The date is a day number, counted
+/// from 1970-01-01 as day 0.
 #[derive(Drop)]
 pub struct CalendarPage {
     day: i64,
@@ -23,7 +23,8 @@ impl Model for CalendarPage {
 impl CalendarPage {
     ghost use Rattle.std.specs.Prelude.{◌≡◌, [], ◌∷◌, ◌++◌, OnOk};
 
-    /// Returns the date `day`, a day number with 1970-01-01 as 0, without events. It doesn't allocate.
+    /// Returns the date with the number `day`, counted from 1970-01-01 as day 0, without events. It
+    /// doesn't allocate.
     pub fn new(alloc: Global, day: i64) -> CalendarPage
         ensures { result ≡ record { day = day; events = [] } }
     {
@@ -33,7 +34,10 @@ impl CalendarPage {
         }
     }
 
-    /// Appends `event` to the events of the date.
+    /// Appends `event` to the events of this date.
+    ///
+    /// # Errors
+    /// [`AllocError`] if memory runs out.
     pub fn push(&mut self, event: Event) -> Result<(), AllocError>
         ensures { OnOk result (self.new ≡ record self.old { events = self.old.events ++ event ∷ [] }) }
     {
@@ -41,14 +45,14 @@ impl CalendarPage {
         Ok(())
     }
 
-    /// Returns the day number of the date, with 1970-01-01 as 0.
+    /// Returns the day number of this date, counted from 1970-01-01 as day 0.
     pub fn day(&self) -> i64
         ensures { result ≡ self.now.day }
     {
         self.day
     }
 
-    /// Borrows the events on the date as a slice.
+    /// Borrows the events of this date, in the order in which they were appended.
     pub fn events(&self) -> &[Event]
         ensures { result.now ≡ self.now.events }
     {

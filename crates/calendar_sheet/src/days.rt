@@ -10,7 +10,8 @@ ghost use Rattle.zone_time.specs.Zones.{InZoneYears};
 use curve_law::Event;
 use zone_time::{MINUTES_OF_DAY, ZoneClock};
 
-/// A range of day numbers, with 1970-01-01 as 0. Both ends are included.
+/// A range of dates from `first` to `last`, both included. Dates are day numbers, counted from
+/// 1970-01-01 as day 0.
 #[derive(Clone, Copy)]
 pub struct Days {
     pub first: i64,
@@ -61,7 +62,8 @@ impl Days {
         days
     }
 
-    /// Returns the number of days in the range, at most 3,652,425.
+    /// Returns the number of days in this range, at most 3,652,425. The first day isn't after the last,
+    /// and the days are in the years 0 to 9999.
     pub fn count(self) -> usize
         requires { AreDays self.first self.last }
         ensures value { result ≡ unsigned_abs (self.last -ℤ self.first) + 1 }
@@ -70,7 +72,8 @@ impl Days {
         self.day_index(self.last) + 1
     }
 
-    /// Returns the day number at index `index` of the range: `index` days after the first day.
+    /// Returns the day that is `index` days after the first day of this range, as a day number
+    /// (1970-01-01 is 0). It isn't after the last day.
     pub fn day_at(self, index: usize) -> i64
         requires days { AreDays self.first self.last }
         requires index { pos index ≤ℤ (self.last -ℤ self.first) }
@@ -79,7 +82,8 @@ impl Days {
         self.first + index as i64
     }
 
-    /// Returns the index of `day`, which is in the range: the number of days from the first day to it.
+    /// Returns the number of days from the first day of this range to `day`, which is in the range.
+    /// Days are numbers, with 1970-01-01 as 0.
     pub fn day_index(self, day: i64) -> usize
         requires days { AreDays self.first self.last }
         requires least { self.first ≤ℤ day }
@@ -91,7 +95,8 @@ impl Days {
     }
 }
 
-/// Returns the day number of the local date of `minute` in the zone of the clock.
+/// Returns the local date of `minute` in `zone`, as a day number with 1970-01-01 as 0. `minute` is
+/// counted from 1970-01-01T00:00Z, in the years 2 to 9300 or on the day before them.
 pub fn local_day(zone: &ZoneClock<'_>, minute: i64) -> i64
     requires minute { InZoneYears minute }
     ensures exact { result ≡ day_in zone.now minute }
@@ -100,8 +105,9 @@ pub fn local_day(zone: &ZoneClock<'_>, minute: i64) -> i64
     zone.local(minute).minute.div_euclid(MINUTES_OF_DAY)
 }
 
-/// Returns the days from the earliest to the latest local date of `events` and of the minutes from
-/// `begin` up to but not including `end`. There is at least one such minute.
+/// Returns the range of local dates in `zone` from the earliest to the latest date of `begin`,
+/// `end - 1` and the `events`. `begin` is before `end`. Minutes are counted from 1970-01-01T00:00Z, in
+/// the years 2 to 9300 or on the day before them.
 pub fn days_of(events: &[Event], zone: &ZoneClock<'_>, begin: i64, end: i64) -> Days
     requires begin { InZoneYears begin }
     requires end { InZoneYears end }

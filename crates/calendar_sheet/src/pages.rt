@@ -12,9 +12,15 @@ use curve_law::Event;
 use std::alloc::{AllocError, Global};
 use zone_time::ZoneClock;
 
-/// Returns the dates from the earliest to the latest date of a span and of `events`, each with the
-/// events on it. The span is the minutes from `begin` up to but not including `end`; an empty span has
-/// no dates. Each event is visited twice.
+/// Returns each local date in `zone` from the earliest to the latest date of `begin`, `end - 1` and the
+/// `events`, with the events on this date. If `begin` equals `end`, there are no dates. The call visits
+/// each event twice.
+///
+/// `begin` isn't after `end`. Minutes are counted from 1970-01-01T00:00Z, in the years 2 to 9300 or on
+/// the day before them.
+///
+/// # Errors
+/// [`AllocError`] if memory runs out.
 pub fn pages_shown(
     alloc: Global,
     events: &[Event],

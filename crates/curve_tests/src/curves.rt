@@ -93,8 +93,8 @@ fn exact<C: Curve>(curve: &mut C) -> Option<i128> {
     Some(curve.exact_value(0, approximate))
 }
 
-/// The value of a line at minute 0, true if it falls, its rate, whether the eight minutes from 0 on are quiet,
-/// and the cell of the first one.
+/// Lines: the value at minute 0, true if it falls, its rate, whether the eight minutes from 0 on are
+/// quiet, and the cell of the first one.
 const DECIDED: &[(i64, bool, i64, bool, Cell)] = &[
     (1, false, 1, true, Cell::Still),
     (-8, false, 1, true, Cell::Still),

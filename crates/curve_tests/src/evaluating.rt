@@ -1,4 +1,4 @@
-//! Evaluations of curves, within their minutes.
+//! Evaluations of curves that first check the minute and the number of evaluations.
 
 ghost use Rattle.std.specs.Prelude.{◌<◌, ◌^◌, IsTrue};
 ghost use Rattle.curve_law.specs.CurveSpec.{IsMinute};
@@ -19,7 +19,8 @@ fn is_evaluated_seldom<C: Curve>(curve: &C) -> bool
     curve.evaluations() <= 1_000_000
 }
 
-/// Returns the value at minute `m`, or `None` if there is none or the curve was evaluated too often.
+/// Returns the value of `curve` at minute `m`, or `None` if `m` isn't one of its minutes or the curve
+/// was evaluated more than 1,000,000 times.
 pub fn value_at<C: Curve>(curve: &mut C, m: i64) -> Option<i128> {
     if has_minute(curve, m) && is_evaluated_seldom(curve) {
         Some(curve.value(m))
@@ -28,7 +29,8 @@ pub fn value_at<C: Curve>(curve: &mut C, m: i64) -> Option<i128> {
     }
 }
 
-/// Returns the level at minute `m`, or `None` if there is none.
+/// Returns the level, in millionths, of an event of `curve` after minute `m`, or `None` if `m` isn't
+/// one of the curve's minutes.
 pub fn note_at<C: Curve>(curve: &C, m: i64) -> Option<i64> {
     if has_minute(curve, m) {
         Some(curve.note(m))
@@ -37,7 +39,8 @@ pub fn note_at<C: Curve>(curve: &C, m: i64) -> Option<i64> {
     }
 }
 
-/// Returns true if there were at most as many evaluations as `cells`, and one more.
+/// Returns true if `evaluations`, the number of evaluations of a curve, is at most the number of
+/// `cells`, plus 1.
 pub fn is_few(evaluations: u64, cells: usize) -> bool {
     evaluations.saturating_sub(1) <= cells as u64
 }

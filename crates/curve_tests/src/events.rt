@@ -65,8 +65,9 @@ pub fn event(minute: i64, kind: Kind, level: i64) -> Event {
     }
 }
 
-/// Returns offsets: high waters 30 minutes later at 1.1 times the level and 0.1 units more, low waters
-/// 10 minutes earlier at 0.9 times the level.
+/// Returns a station with these offsets from its reference station: high waters are 30 minutes later,
+/// with 1.1 times the level plus 0.1 units, and low waters 10 minutes earlier, with 0.9 times the
+/// level. `slack` are its offsets for slack waters, if any.
 pub fn dock(slack: Option<Slack>) -> Basis
     requires { ForSome slack IsSlack }
     ensures { HasOffsets result }
@@ -88,7 +89,8 @@ pub fn dock(slack: Option<Slack>) -> Basis
     }
 }
 
-/// Returns true if the events can be moved.
+/// Returns true if offsets can be applied to all `events`: the absolute value of each minute is at most
+/// 10^12, and of each level at most 11,000 units.
 pub fn are_movable(events: &[Event]) -> bool
     ensures { IsTrue result → All IsMovable events.now }
 {
@@ -239,7 +241,10 @@ fn cells_are_counted_as_they_are_given(rt: HostRuntime) {
     }
 }
 
-/// Returns the remaining events of `merge`.
+/// Returns all remaining events of `merge` as a list, in order of time.
+///
+/// # Errors
+/// [`AllocError`] if memory runs out.
 pub fn taken<A: Curve, B: Curve>(
     alloc: Global,
     merge: &mut Merge<A, B>,

@@ -4,15 +4,17 @@ ghost use Rattle.std.specs.Prelude.{◌≡◌, ◌^◌, ◌≤◌, unsigned_abs,
 
 use curve_law::{Curve, Kind};
 
-/// A maximum at a minute, from which the value falls by 1 each minute to both sides.
+/// A maximum of a curve for tests, with the value `value` at the minute `at`; the value falls by 1 with
+/// each minute before or after it.
 #[derive(Clone, Copy)]
 pub struct Top {
     pub at: i64,
     pub value: i64,
 }
 
-/// A curve with two maxima over minutes -1,000,000 to 1,000,000: its value at each minute is the greater
-/// of the two. The rate may be greater than necessary.
+/// A curve for tests with two maxima, from minute -1,000,000 to minute 1,000,000. Its value at a minute
+/// is the greater of the two maxima's values there. Its rate, a bound on its change in a minute, may be
+/// greater than necessary.
 #[derive(Drop)]
 pub struct Hills {
     first: Top,
@@ -30,7 +32,9 @@ pub struct Hills {
 impl Hills {
     ghost use Rattle.curve_tests.specs.Workings.SampleLaws.{hills_model};
 
-    /// Returns the curve with two maxima, not yet evaluated.
+    /// Returns the curve with the maxima `first` and `second` and the rate `rate`, from 1 to 10^12,
+    /// without evaluations so far. Minutes and values of the maxima are at most 10^12 in absolute
+    /// value.
     pub fn new(first: Top, second: Top, rate: i64) -> Hills
         requires in_range { unsigned_abs first.at ≤ 10 ^ 12 }
         requires low { unsigned_abs first.value ≤ 10 ^ 12 }

@@ -44,7 +44,11 @@ fn small_book(alloc: Global, file: &[u8]) -> Option<Book>
     }
 }
 
-/// Returns the curve of a small file with one station.
+/// Returns the curve of the station in `file`, a harmonics file with one station.
+///
+/// # Errors
+/// The fault of the curve, if the station has none; [`CurveFault::NoMemory`] also if the file can't be
+/// read or doesn't have exactly one station.
 pub fn curve_of(alloc: Global, file: &[u8]) -> Result<StationCurve, CurveFault> {
     match small_book(alloc, file) {
         Some(book) => StationCurve::new(alloc, &book, 0),
@@ -90,7 +94,13 @@ fn curve_over(
     }
 }
 
-/// Returns the curve of a pier with an amplitude of 1 foot, or of -1.
+/// Returns the curve of a station with one constituent of 30 degrees an hour in the years from 1999 to
+/// 2001. `amplitude` is its amplitude in feet, and `argument` its equilibrium argument in degrees, as
+/// they are written in a harmonics file.
+///
+/// # Errors
+/// The fault of the curve, if the station has none; [`CurveFault::NoMemory`] also if the file can't be
+/// written or read.
 pub fn pier(alloc: Global, argument: &str, amplitude: &str) -> Result<StationCurve, CurveFault> {
     match pier_file(alloc, "30", argument, amplitude, "feet") {
         Ok(file) => curve_of(alloc, file.as_bytes()),

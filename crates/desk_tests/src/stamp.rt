@@ -9,7 +9,8 @@ use decimal_text::{Bytes, Text};
 use report_sheets::{Collected, Head, Sheet, Taken};
 use std::alloc::{AllocError, Global};
 
-/// A sheet with the number of its events and the minute of the report as its text.
+/// A sheet (page of a report) for tests: its text is the number of its events, the station's name and
+/// the minute of the report.
 #[derive(Drop)]
 pub struct Stamp {
     collected: Collected,

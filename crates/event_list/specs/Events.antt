@@ -42,48 +42,50 @@ span_minutes s = unsigned_abs (s.end -ℤ s.begin)
 
 -- ---- the events of the requested curves
 
--- the curves of the requested tracks of a station: of high and low waters, of slack water, and of a mark
+-- the curves of a station's requested tracks: of high and low waters (`turn`), of slack waters, and of
+-- crossings of a mark
 pub record Followed : Type 0 where
   pub turn : CurveSpec
   pub slack : Option CurveSpec
   pub mark : Option CurveSpec
 
--- the requested curves as a list
+-- the curves of the requested tracks as a list
 abbrev pub curves_of : Followed → List CurveSpec
 curves_of f = f.turn ∷ (option_to_list f.slack ++ option_to_list f.mark)
 
--- the events of a curve after each minute of a span, found by looking at each minute
+-- the events of the curve `c` in the span `s`, found by looking at each minute
 abbrev pub events_over : Span → CurveSpec → List Event
 events_over s c = plain_list c.track s.begin (span_minutes s)
 
--- The events of a station from `begin` up to but not including `end`: the events of the reference's
--- curves over the span that determines them, each moved and scaled by the offset of its kind, and of
--- these the ones within the span, in the order in which they are listed.
+-- The events of a station from `begin` up to but not including `end`, sorted by minute, then by kind,
+-- then by level. They are the events of the reference station's curves `f` over the span `widened_of`,
+-- each moved and scaled by the offset that the basis `b` has for its kind, if the moved minute is in
+-- the station's span.
 unfoldable pub station_events : Followed → Basis → ℤ → ℤ → List Event
 station_events f b begin end =
     ordered (moved_within b begin end (flat_map (events_over (widened_of b begin end)) (curves_of f)))
 
 -- ---- the events in cells
 
--- the cells of each requested track, as a list
+-- the cells of each track that is present, as a list
 abbrev pub tracks_of : Tracks → List (List Cell)
 tracks_of t = t.turn ∷ (option_to_list t.slack ++ option_to_list t.mark)
 
--- the events in the cells of all tracks, of which each begins at the minute `begin`, in the order in
--- which they are listed
+-- the events in the cells of all tracks, sorted by minute, then by kind, then by level; the first cell
+-- of each track begins at the minute `begin`
 unfoldable pub merged_of : ℤ → Tracks → List Event
 merged_of begin t = ordered (flat_map (cell_events begin) (tracks_of t))
 
--- the number of cells of all tracks together
+-- the number of cells of all tracks of `t` together
 unfoldable pub cells_in : Tracks → ℕ
 cells_in t = sum_by length (tracks_of t)
 
--- the cells of a curve over a span, made by halving its blocks until each part is quiet or a single
--- minute
+-- the cells of the curve `c` over the span `s`: blocks of 1,024 minutes, halved until a bound on the
+-- curve's rate shows that a part has no event, or the part is a single minute
 abbrev pub cover_over : Span → CurveSpec → List Cell
 cover_over s c = cover c s.begin (span_minutes s)
 
--- the cells of each requested curve over a span, made by halving
+-- the cells of each requested curve over the span, made by halving blocks of minutes
 abbrev pub covers_of : Followed → Span → Tracks
 covers_of f s = record {
   turn = cover_over s f.turn;
@@ -91,7 +93,8 @@ covers_of f s = record {
   mark = option_map (cover_over s) f.mark;
 }
 
--- the number of cells of the requested curves over a span, made by halving
+-- the number of cells of all requested curves over the span, if the cells are made by halving blocks of
+-- minutes
 unfoldable pub cell_count : Followed → Span → ℕ
 cell_count f s = cells_in (covers_of f s)
 
@@ -103,45 +106,47 @@ pub record AreShort (t : Tracks) : Type 0 where
   pub slack : ForSome t.slack (λ cells. all_minutes cells ≤ 6000000)
   pub mark : ForSome t.mark (λ cells. all_minutes cells ≤ 6000000)
 
--- a lawful curve whose minutes include the span and the span's end
+-- the curve is lawful (its values are below 10^37 in size and change by at most its rate), and its
+-- minutes include the span `s` and the span's end
 pub record IsValidOver (s : Span) (c : CurveSpec) : Type 0 where
   pub lawful : IsLawful c
   pub span : IsSpan c s.begin (span_minutes s)
 
--- all requested curves are lawful, and their minutes include the span and its end
+-- each requested curve is lawful (its values are below 10^37 in size and change by at most its rate),
+-- and its minutes include the span `s` and the span's end
 pub record AreValidOver (f : Followed) (s : Span) : Type 0 where
   pub turn : IsValidOver s f.turn
   pub slack : ForSome f.slack (IsValidOver s)
   pub mark : ForSome f.mark (IsValidOver s)
 
--- at each minute of a curve, the level of an event is at most 11,000,000,000 millionths of the unit in
--- size
+-- at each minute of the curve, the level that an event would have is at most 11,000,000,000 millionths
+-- of the unit in size
 abbrev pub HasLevels : CurveSpec → Type 0
 HasLevels c = (m : ℤ) → IsMinute c m → unsigned_abs (c.track.note m) ≤ 11000000000
 
--- at each minute of each requested curve, the level of an event is at most 11,000,000,000 millionths of
--- the unit in size
+-- at each minute of each requested curve, the level that an event would have is at most 11,000,000,000
+-- millionths of the unit in size
 pub record AllHaveLevels (f : Followed) : Type 0 where
   pub turn : HasLevels f.turn
   pub slack : ForSome f.slack HasLevels
   pub mark : ForSome f.mark HasLevels
 
--- a track is present exactly if its curve is requested, and the verdict on its cells over the span is
--- Accepted
+-- a track is present exactly if its curve is requested, and the check of its cells over the span `s`
+-- accepts them
 abbrev pub IsAccepted : Span → Option CurveSpec → Option (List Cell) → Type 0
 IsAccepted s None None = Unit {0}
 IsAccepted s None (Some cells) = ⊥
 IsAccepted s (Some c) None = ⊥
 IsAccepted s (Some c) (Some cells) = verdict c s.begin (span_minutes s) cells ≡ Accepted
 
--- the tracks are those of the requested curves, and the verdict on the cells of each over the span is
--- Accepted
+-- the tracks of `t` are the requested ones, and the check of the cells of each over the span `s`
+-- accepts them
 pub record AreAccepted (f : Followed) (s : Span) (t : Tracks) : Type 0 where
   pub turn : verdict f.turn s.begin (span_minutes s) t.turn ≡ Accepted
   pub slack : IsAccepted s f.slack t.slack
   pub mark : IsAccepted s f.mark t.mark
 
--- in this unit the events of a curve have names, both the rising and the falling ones
+-- in this unit the events of the curve have names, at rises of its value through 0 and at falls
 pub record IsNamed (units : Units) (c : CurveSpec) : Type 0 where
   pub rising : IsTrue (has_word units c.track.rising)
   pub falling : IsTrue (has_word units c.track.falling)

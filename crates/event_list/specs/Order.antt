@@ -4,8 +4,8 @@ use Rattle.std.specs.Ordering.{int_eq}
 use Rattle.curve_law.specs.declared.event.Event.{Event}
 use Rattle.curve_law.specs.Verdicts.{rank_of_kind}
 
--- one event is listed before another: at an earlier minute, or at the same minute with a kind of lower
--- rank, or with the same kind at a lower level
+-- the event `d` is listed before `e`: at an earlier minute, or at the same minute with a kind of lower
+-- rank, or with the same minute and kind at a lower level
 abbrev pub comes_before : Event → Event → Bool
 comes_before d e =
     int_lt d.minute e.minute
@@ -13,12 +13,12 @@ comes_before d e =
     && (nat_lt (rank_of_kind d.kind) (rank_of_kind e.kind)
     || (rank_of_kind d.kind == rank_of_kind e.kind && int_lt d.level e.level)))
 
--- inserts an event into events that are in the order in which they are listed
+-- the events with `e` inserted in its place; they are sorted by minute, then by kind, then by level
 unfoldable pub with_event : Event → List Event → List Event
 with_event e [] = e ∷ []
 with_event e (d ∷ ds) = if comes_before d e then d ∷ with_event e ds else e ∷ d ∷ ds
 
--- events sorted into the order in which they are listed
+-- the events sorted by minute, then by kind, then by level
 unfoldable pub ordered : List Event → List Event
 ordered [] = []
 ordered (e ∷ es) = with_event e (ordered es)

@@ -45,46 +45,49 @@ pub record HasOffsets (b : Basis) : Type 0 where
 
 -- ---- the widened span
 
--- the minutes added to the times of slack water, if the basis has them
+-- the numbers of minutes added to the times of slack waters before a flood and before an ebb; none if
+-- there are no such offsets
 abbrev pub slack_adds : Option Slack → List ℤ
 slack_adds None = []
 slack_adds (Some slack) = slack.flood_add ∷ slack.ebb_add ∷ []
 
--- the most minutes by which an event is moved later (or least earlier, if negative): the greatest of
--- the offsets' minutes
+-- the greatest number of minutes that an offset of the basis adds to an event's time (negative if each
+-- event is earlier)
 abbrev pub greatest_add : Basis → ℤ
 greatest_add b = fold int_max b.high.add (b.low.add ∷ slack_adds b.slack)
 
--- the least minutes by which an event is moved later (or most earlier, if negative): the least of the
--- offsets' minutes
+-- the least number of minutes that an offset of the basis adds to an event's time (negative if some
+-- event is earlier)
 abbrev pub least_add : Basis → ℤ
 least_add b = fold int_min b.high.add (b.low.add ∷ slack_adds b.slack)
 
--- the reference's span that determines all events of the station's span from `begin` up to but not
--- including `end`
+-- the reference station's span that determines all events of a station from `begin` up to but not
+-- including `end`: `begin` and `end`, earlier by the greatest and by the least number of minutes that
+-- the basis adds to an event's time
 abbrev pub widened_of : Basis → ℤ → ℤ → Span
 widened_of b begin end = record { begin = begin -ℤ greatest_add b; end = end -ℤ least_add b }
 
 -- ---- an event of the reference, moved and scaled
 
--- the offset that adds minutes and leaves the level unchanged
+-- the offset that adds `add` minutes and leaves the level unchanged
 abbrev pub later_by : ℤ → Offset
 later_by add = record usual { add = add }
 
--- the offset of a slack before a flood: that of the times of slack water, if there are any, else that
--- of high waters
+-- the offset of slack water before a flood: the minutes of `slack`, if given, else the offset `high` of
+-- high waters
 abbrev pub flood_offset : Option Slack → Offset → Offset
 flood_offset None high = high
 flood_offset (Some slack) high = later_by slack.flood_add
 
--- the offset of a slack before an ebb: that of the times of slack water, if there are any, else that of
+-- the offset of slack water before an ebb: the minutes of `slack`, if given, else the offset `high` of
 -- high waters
 abbrev pub ebb_offset : Option Slack → Offset → Offset
 ebb_offset None high = high
 ebb_offset (Some slack) high = later_by slack.ebb_add
 
--- the offset of each kind of event: low waters and, if the basis has times of slack water, slacks have
--- separate offsets; all others have the high waters' offset
+-- the offset that the basis has for each kind of event: one for low waters, and, if the basis has
+-- minutes for slack waters, one for each kind of slack water; all other events have the offset of high
+-- waters
 abbrev pub offset_of : Basis → Kind → Offset
 offset_of b High = b.high
 offset_of b Low = b.low
@@ -93,37 +96,39 @@ offset_of b EbbBegins = ebb_offset b.slack b.high
 offset_of b MarkRising = b.high
 offset_of b MarkFalling = b.high
 
--- a level in millionths of the unit, times the offset's factor in millionths, rounded to whole
--- millionths, plus the offset's height
+-- the level, in millionths of the unit, multiplied by the offset's factor and rounded to a whole
+-- number; then the offset's height is added
 abbrev pub scaled : Offset → ℤ → ℤ
 scaled offset level = rounded_of (level *ℤ offset.times) 1000000 +ℤ offset.plus
 
--- an event moved by the minutes of an offset, and scaled by its factor and height
+-- the event with the offset's minutes added to its minute, and its level scaled by the offset's factor
+-- and height
 abbrev pub moved_by : Offset → Event → Event
 moved_by offset e = record { minute = e.minute +ℤ offset.add; kind = e.kind; level = scaled offset e.level }
 
--- an event moved and scaled by the offset that the basis has for its kind
+-- the station's event for `e`, an event of its reference station: moved and scaled by the offset that
+-- the basis has for its kind
 abbrev pub moved : Basis → Event → Event
 moved b e = moved_by (offset_of b e.kind) e
 
 -- ---- the events that are kept
 
--- the minute of an event is from `begin` on and before `end`
+-- the event is at a minute from `begin` up to but not including `end`
 abbrev pub is_within : ℤ → ℤ → Event → Bool
 is_within begin end e = int_le begin e.minute && int_lt e.minute end
 
--- the events, moved and scaled by the offsets of their kinds, that are then from `begin` up to but not
--- including `end`
+-- the events, each moved and scaled by the offset that the basis has for its kind, if the moved minute
+-- is from `begin` up to but not including `end`
 abbrev pub moved_within : Basis → ℤ → ℤ → List Event → List Event
 moved_within b begin end events = filter (is_within begin end) (map (moved b) events)
 
--- the events of a station from `begin` up to but not including `end`, made from the events of its
--- reference, in the order in which they are listed
+-- the events of a station from `begin` up to but not including `end`, made from `events` of its
+-- reference station by the offsets of the basis, and sorted by minute, then by kind, then by level
 unfoldable pub shifted_of : Basis → ℤ → ℤ → List Event → List Event
 shifted_of b begin end events = ordered (moved_within b begin end events)
 
--- an event small enough to be moved: its minute is at most 10^12, and its level at most 11,000,000,000
--- millionths of the unit in size
+-- an event small enough for the offsets of any station: its minute is at most 10^12 in size, and its
+-- level at most 11,000,000,000 millionths of the unit
 pub record IsMovable (e : Event) : Type 0 where
   pub minute : unsigned_abs e.minute ≤ 10 ^ 12
   pub level : unsigned_abs e.level ≤ 11000000000

@@ -11,6 +11,7 @@ use Rattle.station_table.specs.declared.basis.Basis.{Basis}
 use Rattle.station_table.specs.Worked.{dock_high, dock_low, outer}
 use Rattle.event_list.specs.Events.{Followed}
 
+-- the event of this kind at a minute, with a level in millionths of the unit
 abbrev pub event : ℤ → Kind → ℤ → Event
 event minute kind level = record { minute = minute; kind = kind; level = level }
 
@@ -27,7 +28,7 @@ waters =
     ∷ event (pos 1439) High (pos 999962)
     ∷ []
 
--- the slack waters of that day, if the pier's tide is taken as a current
+-- the slack waters of a day, if the pier's tide is taken as a current
 abbrev pub slacks : List Event
 slacks =
     event (pos 179) EbbBegins (pos 8727)
@@ -36,28 +37,31 @@ slacks =
     ∷ event (pos 1260) FloodBegins (pos 0)
     ∷ []
 
--- the crossings of a mark of half a foot before noon
+-- the crossings of a mark of half a foot at the pier before noon
 abbrev pub marks : List Event
 marks = event (pos 119) MarkFalling (pos 507538) ∷ event (pos 600) MarkRising (pos 500000) ∷ []
 
 -- ---- the stations near it
 
--- a dock: its highs are 30 minutes later than the pier's at 1.1 times the level plus 0.1 foot, and its
--- lows 10 minutes earlier at 0.9 times the level
+-- the basis of a dock: its high waters are 30 minutes later than the pier's at 1.1 times the level plus
+-- 0.1 foot, and its low waters 10 minutes earlier at 0.9 times the level
 abbrev pub dock : Basis
 dock = record { station = 0; row = Some 0; high = dock_high; low = dock_low; slack = None }
 
--- a gate: the dock, with slack waters 5 minutes later before a flood and 5 minutes earlier before an ebb
+-- the basis of a gate: the offsets of the dock, and slack waters 5 minutes later before a flood and 5
+-- minutes earlier before an ebb
 abbrev pub gate : Basis
 gate = record dock { slack = Some (record { flood_add = pos 5; ebb_add = negsuc 4 }) }
 
--- an outer harbour: each event is 30 minutes later than the pier's at twice the level plus 0.5 foot
+-- the basis of an outer harbour: each event is 30 minutes later than at the pier, at twice the level
+-- plus 0.5 foot
 abbrev pub harbour : Basis
 harbour = record { station = 0; row = Some 1; high = outer; low = outer; slack = None }
 
 -- ---- small tracks and curves
 
--- the cells of three tracks over 8 minutes
+-- the cells of three tracks, each over 8 minutes: of high and low waters, slack waters, and crossings
+-- of a mark
 abbrev pub tracks : Tracks
 tracks = record {
   turn = Quiet 2 ∷ Turn High (pos 7) ∷ Turn Low (pos 6) ∷ Quiet 4 ∷ [];
@@ -65,7 +69,7 @@ tracks = record {
   mark = Some (Turn MarkRising (pos 5) ∷ Still ∷ Turn MarkFalling (pos 5) ∷ Quiet 5 ∷ []);
 }
 
--- a line that rises past 0 after minute 2, and one that falls to 0 after minute 1, each with the minute
--- as its level
+-- two curves: one rises past 0 after minute 2 (a low water), the other falls to 0 after minute 1 (a
+-- high water); the level of an event is the number of its minute
 abbrev pub lines : Followed
 lines = record { turn = line (negsuc 1) false (pos 1); slack = None; mark = Some (line (pos 2) true (pos 1)) }

@@ -9,11 +9,12 @@ use curve_law::{Cell, Curve, Event};
 use interval_search::{Found, Search};
 use std::marker::Model;
 
-/// The events of an optional search, one at a time. The search advances only when the caller takes its
-/// next event.
+/// The events that one search of a curve finds, one at a time; no events if there is no search. The
+/// search advances only when the caller takes its next event.
 ///
-/// In contracts its value is the remaining events, the state of the search, the number of cells that it
-/// has returned until now, and the number of all its cells.
+/// In contracts its value is the remaining events, the state of the search, the number of cells that
+/// the search has returned since [`Coming::new`], and the number of cells that it had yet to return
+/// then.
 #[derive(Drop)]
 pub struct Coming<C: Curve> {
     search: Option<Search<C>>,
@@ -41,8 +42,8 @@ impl<C: Curve> Model for Coming<C> {
 impl<C: Curve> Coming<C> {
     ghost use Rattle.event_list.specs.Workings.Coming.{events_ahead, cells_ahead, first_of};
 
-    /// Returns the events in the remaining cells of `search`, which may have advanced already; no event
-    /// without a search.
+    /// Returns the events in the remaining cells of `search`, which may have returned cells already; no
+    /// events if `search` is `None`. `search` has at most 2^61 remaining cells.
     pub fn new(search: Option<Search<C>>) -> Coming<C>
         ensures remaining { result.remaining ≡ events_ahead search }
         ensures pending { result.pending ≡ pending None search }
@@ -58,8 +59,8 @@ impl<C: Curve> Coming<C> {
         }
     }
 
-    /// Returns the next event without removing it, or `None` if no event remains; then the search has
-    /// returned all its cells. The search advances to its next event, if it hasn't yet.
+    /// Returns the next event without removing it, or `None` if no event remains; the search has then
+    /// returned all its cells. If the next event wasn't found yet, the search advances to it.
     pub fn peek(&mut self) -> Option<Event>
         ensures first { result ≡ first_of self.old.remaining }
         ensures found { result ≡ (looked self.old.pending).found }
@@ -78,7 +79,8 @@ impl<C: Curve> Coming<C> {
         }
     }
 
-    /// Removes and returns the next event, or returns `None` if no event remains.
+    /// Removes the next event and returns it, or returns `None` if no event remains; the search has
+    /// then returned all its cells.
     pub fn next(&mut self) -> Option<Event>
         ensures first { result ≡ first_of self.old.remaining }
         ensures rest { self.new.remaining ≡ drop 1 self.old.remaining }

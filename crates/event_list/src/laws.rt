@@ -23,10 +23,11 @@ ghost use Rattle.event_list.specs.Events.{
   AreNamed,
 };
 
-/// Proves how a station's events come from accepted cells over the span of the reference that
-/// determines them (`widened_of`): the events in the cells, merged and then moved by the station's
-/// offsets, are the station's events. Also proves that the cells made by halving are accepted, and that
-/// those of all tracks together are at most three for each minute of a span.
+/// Proves that a station's events are in accepted cells: cells that the check of a certificate accepts,
+/// over the reference station's span `widened_of`. The events in these cells, merged and then moved by
+/// the station's offsets, are the station's events. Also proves that the cells made by halving the span
+/// are accepted and give the same events, and that there are at most three of them (one for each track)
+/// for each minute of the span.
 pub fn cells_give_the_events()
     ensures accepted { (f : Followed) (b : Basis) (begin end : ℤ) (t : Tracks) →
         AreValidOver f (widened_of b begin end) → AreAccepted f (widened_of b begin end) t →
@@ -38,9 +39,9 @@ pub fn cells_give_the_events()
     ensures count_bound { (f : Followed) (s : Span) → cell_count f s ≤ 3 * span_minutes s }
 {}
 
-/// Proves that for a station without offsets the span of the reference that determines its events
-/// (`widened_of`) is the station's span itself, and the merged events in accepted cells are the
-/// station's events, unchanged.
+/// Proves for a station without offsets (`is_plain`) that its events are determined by the same span of
+/// its reference station, and are exactly the merged events in accepted cells (cells that the check of
+/// a certificate accepts), or in the cells made by halving the span.
 pub fn plain_bases_move_nothing()
     ensures span { (b : Basis) (begin end : ℤ) → IsTrue (is_plain b) →
         widened_of b begin end ≡ record { begin = begin; end = end } }
@@ -52,18 +53,19 @@ pub fn plain_bases_move_nothing()
         merged_of begin (covers_of f (record { begin = begin; end = end })) ≡ station_events f b begin end }
 {}
 
-/// Proves that the events in accepted cells are small enough to be moved by a station's offsets, if
-/// both ends of the span are from -10^12 to 10^12, and at each minute the levels of each requested
-/// curve are at most 11,000,000,000 millionths of the unit in size.
+/// Proves that the events in accepted cells (cells that the check of a certificate accepts) are small
+/// enough for the offsets of any station, if both ends of the span are from -10^12 to 10^12, and at
+/// each minute the levels of each requested curve are at most 11,000,000,000 millionths of the unit in
+/// size.
 pub fn accepted_events_can_be_moved()
     ensures { (f : Followed) (s : Span) (t : Tracks) → s.begin ≤ℤ s.end →
         unsigned_abs s.begin ≤ 10 ^ 12 → unsigned_abs s.end ≤ 10 ^ 12 →
         AreValidOver f s → AllHaveLevels f → AreAccepted f s t → All IsMovable (merged_of s.begin t) }
 {}
 
-/// Proves that each event of a station is from `begin` up to but not including `end`, and has a name if
-/// both kinds of each requested curve have one. Also proves that moved levels are at most
-/// 1,110,000,000,000 millionths of the unit in size.
+/// Proves that each event of a station is at a minute from `begin` up to but not including `end`; that
+/// it has a name in the unit if both kinds of events of each requested curve have one; and that offsets
+/// in their ranges make levels of at most 1,110,000,000,000 millionths of the unit in size.
 pub fn events_are_named()
     ensures within { (f : Followed) (b : Basis) (begin end : ℤ) →
         All (λ e. (begin ≤ℤ e.minute) × (e.minute <ℤ end)) (station_events f b begin end) }

@@ -7,8 +7,7 @@ ghost use Rattle.event_list.specs.Workings.Coming.{IsLeading};
 use crate::rank::comes_before;
 use curve_law::Event;
 
-/// The track whose next event is the first of three tracks' next events, in the order in which events
-/// are listed.
+/// The track with the first event in listing order, among the next events of three tracks.
 #[derive(Clone, Copy)]
 pub enum Leading {
     Turn,
@@ -16,8 +15,9 @@ pub enum Leading {
     Mark,
 }
 
-/// Returns the track whose event is listed first: by minute, then by kind, then by level. Of equal
-/// events the one of the earlier track leads. If no track has an event, this is [`Leading::Turn`].
+/// Returns the track with the first event in listing order (by minute, then by kind, then by level)
+/// among `turn`, `slack` and `mark`, the next events of three tracks. Of equal events the first
+/// argument is chosen. If no track has an event, returns [`Leading::Turn`].
 pub fn leading_of(turn: Option<Event>, slack: Option<Event>, mark: Option<Event>) -> Leading
     ensures first { IsLeading result turn slack mark }
     ensures which { result ≡ leading turn slack mark }

@@ -1,9 +1,10 @@
 //! The events of a station.
 //!
-//! [`track_events`] and [`merged`] return the events in the cells of a station's tracks at once, and a
-//! [`Merge`] of searches returns them one at a time without allocating. [`widened`] returns the span of
-//! the reference that determines a subordinate station's events, [`shifted`] these events, and [`scaled`]
-//! its level. `specs/Events.antt` defines the events of a station. [`word`] returns the name of an event.
+//! [`track_events`] and [`merged`] return all events in the cells of a station's tracks, and a
+//! [`Merge`] of searches returns them one at a time without allocating. For a subordinate station,
+//! [`widened`] returns the reference station's span that determines its events, [`shifted`] returns its
+//! events, and [`scaled`] a level. `specs/Events.antt` defines the events of a station. [`word`]
+//! returns the name of an event.
 #![tactic(auto)]
 
 mod coming;

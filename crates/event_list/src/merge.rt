@@ -11,12 +11,13 @@ use curve_law::{Curve, Event};
 use interval_search::Search;
 use std::marker::Model;
 
-/// The events of a station's up to three searches in the order in which they are listed, one at a time.
-/// A merge doesn't allocate, and a search advances only when its next event is needed.
+/// The events that the searches of a station's curves find (one to three searches), in listing order
+/// (by minute, then by kind, then by level), one at a time. A merge doesn't allocate, and a search
+/// advances only when its next event is needed.
 ///
-/// In contracts its value is the remaining events, for each search its pending event and its remaining
-/// cells, the number of cells that the searches have returned until now, and the number of all their
-/// cells.
+/// In contracts its value is the remaining events, for each search its pending event (found but not yet
+/// returned) and its remaining cells, the number of cells that the searches have returned since
+/// [`Merge::new`], and the number of cells that they had yet to return then.
 #[derive(Drop)]
 pub struct Merge<A: Curve, B: Curve> {
     turn: Coming<A>,
@@ -36,8 +37,8 @@ impl<A: Curve, B: Curve> Model for Merge<A, B> {
 }
 
 impl<A: Curve, B: Curve> Merge<A, B> {
-    /// Returns a merge of searches that have all reached the same minute. A track without a search has
-    /// no events.
+    /// Returns the merge of the searches `turn`, `slack` and `mark`, which have all reached the same
+    /// minute. A track has no events if its search is `None`.
     pub fn new(turn: Search<A>, slack: Option<Search<B>>, mark: Option<Search<B>>) -> Merge<A, B>
         requires slack_at { ForSome slack (λ search. search.at ≡ turn.at) }
         requires mark_at { ForSome mark (λ search. search.at ≡ turn.at) }
@@ -54,8 +55,9 @@ impl<A: Curve, B: Curve> Merge<A, B> {
         }
     }
 
-    /// Returns the next event, or `None` if no event remains; then the searches have returned all their
-    /// cells. A search advances only if it has no pending event.
+    /// Removes the next event and returns it, or returns `None` if no event remains; the searches have
+    /// then returned all their cells. A search advances only if it has no pending event (found but not
+    /// yet returned).
     pub fn next(&mut self) -> Option<Event>
         ensures next { ReturnsNext self.old result self.new }
         ensures asked { self.new.pending ≡ stepped self.old.pending }

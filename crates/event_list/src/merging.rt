@@ -8,8 +8,9 @@ use crate::turning::{add_followed_events, add_track_events};
 use curve_law::{Events, Tracks};
 use std::alloc::{AllocError, Global};
 
-/// Returns the events in the cells of all tracks, by minute, then by kind, then by level. The first
-/// cell of each track begins at the minute `begin`, from -10^12 to 10^12, and the cells of one track
+/// Returns the events in the cells of all `tracks` (consecutive minutes, each cell with one event or
+/// none), sorted by minute, then by kind, then by level. The first cell of each track begins at the
+/// minute `begin`, counted from 1970-01-01T00:00Z, from -10^12 to 10^12, and the cells of each track
 /// have at most 6,000,000 minutes together.
 ///
 /// # Errors

@@ -8,9 +8,11 @@ use crate::scaling::scaled;
 use curve_law::{Event, Kind};
 use station_table::{Basis, Offset};
 
-/// Returns the station's event for an event of its reference, by the offset of its kind. The minute is
-/// that of the reference plus the offset's minutes. The level is the reference's times the offset's
-/// factor, rounded to whole millionths of the unit, plus the offset's height.
+/// Returns the station's event for `event`, an event of its reference station, by the offset that
+/// `basis` has for the event's kind. The offset's minutes are added to the minute. The level is
+/// multiplied by the offset's factor and rounded to whole millionths of the unit, and then the offset's
+/// height is added. The offsets are in their ranges, and the event's minute is at most 10^12 and its
+/// level at most 11,000,000,000 in size.
 pub fn moved(basis: &Basis, event: &Event) -> Event
     requires offsets { HasOffsets basis.now }
     requires event { IsMovable event.now }

@@ -21,15 +21,14 @@ fn kind_rank(kind: Kind) -> u8
 }
 
 /// Returns true if `first` is listed before `second`: at an earlier minute, or at the same minute with
-/// a kind of lower rank, or with the same minute and kind at a lower level.
+/// a kind that is earlier in the order of `Kind`, or with the same minute and kind at a lower level.
 pub fn comes_before(first: &Event, second: &Event) -> bool
     ensures { result ≡ comes_before first.now second.now }
 {
     rank(first) < rank(second)
 }
 
-/// Returns `events` sorted into the order in which they are listed: by minute, then by kind, then by
-/// level.
+/// Returns `events` in listing order: sorted by minute, then by kind, then by level.
 pub fn in_order(events: Vec<Event>) -> Vec<Event>
     ensures { result.items ≡ ordered events.items }
 {

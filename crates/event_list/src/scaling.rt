@@ -7,9 +7,9 @@ ghost use Rattle.event_list.specs.Shifts.{scaled};
 use decimal_text::rounded;
 use station_table::Offset;
 
-/// Returns the station's level, in millionths of the unit, for a `level` of its reference of at most
-/// 11,000,000,000 millionths in size: times the offset's factor, rounded to whole millionths, plus the
-/// offset's height.
+/// Returns the station's level for `level`, a level of its reference station of at most 11,000,000,000
+/// in size. `level` is multiplied by the factor of `offset` and rounded to a whole number, and then the
+/// height of `offset` is added. Levels are in millionths of the unit.
 pub fn scaled(offset: &Offset, level: i64) -> i64
     requires range { IsOffset offset.now }
     requires level { unsigned_abs level ≤ 11000000000 }

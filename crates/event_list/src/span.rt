@@ -1,6 +1,6 @@
 //! A span of time.
 
-/// The minutes from `begin` up to but not including `end`, counted from 1970-01-01T00:00Z.
+/// A span: the minutes from `begin` up to but not including `end`, counted from 1970-01-01T00:00Z.
 #[derive(Clone, Copy, PartialEq, Eq)]
 pub struct Span {
     pub begin: i64,

@@ -7,8 +7,9 @@ ghost use Rattle.curve_law.specs.Cells.{minutes_of, event_in, all_minutes, cell_
 use curve_law::{Cell, Cells, Event, Events};
 use std::alloc::{AllocError, Global};
 
-/// Returns the events of one track's `cells`. The first cell begins at the minute `begin`, from -10^12
-/// to 10^12. The cells have at most 6,000,000 minutes together.
+/// Returns the events in `cells`, the cells of one track (consecutive minutes, each cell with one event
+/// or none). The first cell begins at the minute `begin`, counted from 1970-01-01T00:00Z, from -10^12
+/// to 10^12, and the cells have at most 6,000,000 minutes together.
 ///
 /// The program doesn't call this function: it lists the events of all tracks together, with
 /// [`merged`](crate::merged).
@@ -25,7 +26,9 @@ pub fn track_events(alloc: Global, cells: &Cells, begin: i64) -> Result<Events, 
     Ok(Events::from_vec(events))
 }
 
-/// Appends the events of one track's `cells`, of which the first begins at the minute `begin`.
+/// Appends to `events` the events in `cells`, the cells of one track. The first cell begins at the
+/// minute `begin`, counted from 1970-01-01T00:00Z, from -10^12 to 10^12, and the cells have at most
+/// 6,000,000 minutes together.
 ///
 /// # Errors
 /// [`AllocError`] if memory runs out.
@@ -60,9 +63,9 @@ fn add_event(events: &mut Vec<Event>, minute: i64, cell: Cell) -> Result<(), All
     Ok(())
 }
 
-/// Appends to `events` the events of `cells`, the cells of one track, or nothing if `cells` is `None`.
-/// The first cell begins at `begin`, in minutes since 1970-01-01T00:00Z, from -10^12 to 10^12, and the
-/// cells have at most 6,000,000 minutes together.
+/// Appends to `events` the events in `cells`, the cells of one track, or nothing if `cells` is `None`.
+/// The first cell begins at the minute `begin`, counted from 1970-01-01T00:00Z, from -10^12 to 10^12,
+/// and the cells have at most 6,000,000 minutes together.
 ///
 /// # Errors
 /// [`AllocError`] if memory runs out.

@@ -7,11 +7,11 @@ ghost use Rattle.event_list.specs.Events.{span_minutes};
 use crate::span::Span;
 use station_table::Basis;
 
-/// Returns the span of the reference that determines all events of a station's span from `begin` up to
-/// but not including `end`. It begins at `begin` less the most minutes by which the basis moves an
-/// event, and ends at `end` less the least. `begin` and `end` are from -10^12 to 10^12, and `begin`
-/// isn't later. If the offsets of `basis` are from -1,440 to 1,440 minutes, so are both moves. It
-/// doesn't allocate.
+/// Returns the reference station's span that determines all events of a station from `begin` up to but
+/// not including `end`. The returned span begins at `begin` minus the greatest number of minutes that
+/// `basis` adds to an event's time, and ends at `end` minus the least such number. `begin` and `end`
+/// are minutes since 1970-01-01T00:00Z, from -10^12 to 10^12, and `begin` isn't after `end`. If the
+/// offsets are in their ranges, each end is moved by at most 1,440 minutes. Nothing is allocated.
 pub fn widened(basis: &Basis, begin: i64, end: i64) -> Span
     requires forward { begin ≤ℤ end }
     requires begin { unsigned_abs begin ≤ 10 ^ 12 }

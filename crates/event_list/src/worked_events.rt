@@ -7,9 +7,12 @@ ghost use Rattle.event_list.specs.Shifts.{moved, shifted_of, widened_of};
 ghost use Rattle.event_list.specs.Events.{cell_count, cells_in, merged_of, station_events};
 ghost use Rattle.event_list.specs.Worked.{dock, event, gate, harbour, lines, marks, slacks, tracks, waters};
 
-/// Proves the spans of the reference, the pier, for a day of two subordinate stations, the dock and the
-/// gate. Also proves how the pier's events are moved for the dock, the gate and the harbour. The dock's
-/// first high is a high of the day before at the pier, and the dock's last high is after the span.
+/// Proves examples of moving the events of a reference station, the pier; minutes are counted from a
+/// midnight, levels are in millionths of a foot, and `negsuc n` is -(n + 1). The dock's high waters are
+/// 30 minutes later and its low waters 10 minutes earlier, so a day at the dock needs the pier's
+/// minutes from -30 up to but not including 1,450. The dock's first high water is the pier's at minute
+/// -1; an event at the end of the span isn't included. The gate also has offsets of slack water, and
+/// the harbour has one offset for all events. Half a millionth is rounded away from 0.
 #[tactic(auto, unfolding(decimal_text::specs::Rounding::rounded_of, crate::specs::Order::with_event, crate::specs::Order::ordered, crate::specs::Shifts::shifted_of))]
 pub fn worked_shifts()
     ensures dock_span { widened_of dock (pos 0) (pos 1440) ≡ record { begin = negsuc 29; end = pos 1450 } }
@@ -30,8 +33,9 @@ pub fn worked_shifts()
     ensures ends_before_it { shifted_of dock (pos 29) (pos 350) waters ≡ event (pos 29) Kind.High (pos 1199958) ∷ [] }
 {}
 
-/// Proves the order in which some events of two minutes are listed, and the events and the number of
-/// cells of three tracks of which the first cells begin at minute 10.
+/// Proves that four events at the minutes 4 and 5 are listed by minute and then by kind. Also proves
+/// the merged events of three tracks (`tracks`), of which each first cell begins at minute 10, and that
+/// these tracks have 14 cells.
 #[tactic(auto, unfolding(curve_law::specs::Cells::cell_events, crate::specs::Order::with_event, crate::specs::Order::ordered, crate::specs::Events::merged_of, crate::specs::Events::cells_in))]
 pub fn worked_orders()
     ensures one_minute { ordered (event (pos 5) Kind.MarkFalling (pos 0) ∷ event (pos 5) Kind.Low (pos 9)
@@ -45,9 +49,11 @@ pub fn worked_orders()
     ensures cells { cells_in tracks ≡ 14 }
 {}
 
-/// Proves, for two curves that are straight lines, the events at the dock, which lists each high 30 minutes
-/// later and each low 10 minutes earlier than the reference, and how many cells cover 8 minutes of each
-/// curve.
+/// Proves the events at the dock for two curves that are straight lines, with a low water at minute 2
+/// and a high water at minute 1; the level at a minute is the minute's number. At the dock the low
+/// water is 10 minutes earlier, at minute -8 (`negsuc 7`), and the high water 30 minutes later, at
+/// minute 31, which a span up to minute 31 doesn't include. Also proves that 8 cells cover 8 minutes of
+/// both curves.
 #[tactic(auto, unfolding(decimal_text::specs::Rounding::rounded_of, curve_law::specs::Track::minutes, curve_law::specs::Track::plain_list, curve_law::specs::Cover::keeps_side, curve_law::specs::Cover::is_quiet, curve_law::specs::Cover::unit_cell, curve_law::specs::Pieces::halves_within, curve_law::specs::Pieces::pieces_of_block, curve_law::specs::Pieces::blocks_within, curve_law::specs::Pieces::pieces_of, curve_law::specs::Cover::cover, crate::specs::Order::with_event, crate::specs::Order::ordered, crate::specs::Events::station_events, crate::specs::Events::cells_in, crate::specs::Events::cell_count))]
 pub fn worked_stations()
     ensures dock { station_events lines dock (negsuc 9) (pos 32)

@@ -11,24 +11,24 @@ use Rattle.zone_time.specs.Zones.{InZoneYears, local_in}
 use Rattle.decimal_text.specs.Rounding.{rounded_of}
 use Rattle.decimal_text.specs.Writing.{write_of}
 
--- the printed text of a unit
+-- the printed name of each unit
 unfoldable pub text_of_unit : Units → List ℕ
 text_of_unit Feet = codes "feet"
 text_of_unit Meters = codes "meters"
 text_of_unit Knots = codes "knots"
 text_of_unit KnotsSquared = codes "knots^2"
 
--- a level, in millionths of its unit, as text in hundredths of the unit; it is rounded first, so a
--- level that rounds to 0 has no sign
+-- the text of a level, in millionths of its unit, with two decimal places; the level is rounded to
+-- hundredths first, so one that rounds to 0 has no sign
 abbrev pub level_text : ℤ → List ℕ
 level_text level = write_of (rounded_of level 10000) 2
 
--- a text right-aligned in `places` columns; a longer one is unchanged
+-- the text right-aligned in `places` columns, with spaces (32) before it; a longer text is unchanged
 unfoldable pub padded : ℕ → List ℕ → List ℕ
 padded places text = replicate (places - length text) 32 ++ text
 
--- the line, without LF, of a level in millionths of this unit at a local time: the time, the level and
--- the unit
+-- the line, without an LF, of a level in millionths of the unit at a local time: the time, the level
+-- and the unit
 unfoldable pub height_line_of : Local → ℤ → Units → List ℕ
 height_line_of local level units =
     local_text local ++ codes "  " ++ padded 9 (level_text level) ++ codes " " ++ text_of_unit units
@@ -40,11 +40,13 @@ event_line_of local event units =
     height_line_of local event.level units ++ codes "  "
     ++ word_text (word_of units event.kind event.level) ++ codes "\n"
 
--- an event that has a name in the unit, and a minute that the clock of each zone can show
+-- an event with a name in the unit, at a minute of the years from 2 to 9300 or of the day before them,
+-- so that the clock of each zone can show it
 pub record IsListed (units : Units) (event : Event) : Type 0 where
   pub minute : InZoneYears event.minute
   pub named : IsTrue (has_word units event.kind)
 
--- the line, with its LF, of an event in the local time of a zone
+-- the line, with its LF, of an event at its local time in the zone: the time, the level, the unit and
+-- the event's name
 abbrev pub event_line_in : Zone → Units → Event → List ℕ
 event_line_in zone units event = event_line_of (local_in zone event.minute) event units

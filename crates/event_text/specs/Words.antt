@@ -25,33 +25,33 @@ use Rattle.event_text.specs.declared.event_word.EventWord.TheVariants.{
   MarkFalling,
 }
 
--- a kind is slack water
+-- the kind is slack water, before a flood or before an ebb
 abbrev pub is_slack : Kind → Bool
 is_slack FloodBegins = true
 is_slack EbbBegins = true
 is_slack _ = false
 
--- the events of this unit and kind have a name: in a current all do, in a tide all but slack water, in
--- a hydraulic current none
+-- events of this kind have a name in this unit: all kinds in knots (a current), all but slack water in
+-- feet and meters (a tide), and none in knots squared (a hydraulic current)
 abbrev pub has_word : Units → Kind → Bool
 has_word Feet kind = not (is_slack kind)
 has_word Meters kind = not (is_slack kind)
 has_word Knots kind = true
 has_word KnotsSquared kind = false
 
--- the name of a high with this level in millionths: in knots the greatest flood or the least ebb, where
--- a current above 0 is a flood; else a high tide
+-- the name of a high with this level, in millionths of the unit: in knots the greatest flood if the
+-- level is above 0, else the least ebb; in other units a high tide
 abbrev pub high_word_of : Units → ℤ → EventWord
 high_word_of Knots level = if int_lt (pos 0) level then MaxFlood else MinEbb
 high_word_of _ level = HighTide
 
--- the name of a low with this level in millionths: in knots the least flood or the greatest ebb, where
--- a current above 0 is a flood; else a low tide
+-- the name of a low with this level, in millionths of the unit: in knots the least flood if the level
+-- is above 0, else the greatest ebb; in other units a low tide
 abbrev pub low_word_of : Units → ℤ → EventWord
 low_word_of Knots level = if int_lt (pos 0) level then MinFlood else MaxEbb
 low_word_of _ level = LowTide
 
--- the name of an event, by the unit, the kind and the level, in millionths of the unit
+-- the name of an event of this unit and kind, with a level in millionths of the unit
 abbrev pub word_of : Units → Kind → ℤ → EventWord
 word_of units High level = high_word_of units level
 word_of units Low level = low_word_of units level
@@ -60,7 +60,7 @@ word_of units EbbBegins level = SlackEbbBegins
 word_of units RisesPastMark level = MarkRising
 word_of units FallsToMark level = MarkFalling
 
--- the printed text of a name
+-- the printed text of each name of an event
 abbrev pub word_text : EventWord → List ℕ
 word_text HighTide = codes "High Tide"
 word_text LowTide = codes "Low Tide"

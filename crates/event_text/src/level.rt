@@ -8,8 +8,8 @@ ghost use Rattle.event_text.specs.Lines.{level_text, padded};
 use arrayvec::ArrayString;
 use decimal_text::{rounded, write};
 
-/// Writes `level`, in millionths of its unit, to the empty `out`, rounded to hundredths of the unit,
-/// such as `-1.00`. It doesn't allocate.
+/// Writes `level` to the empty `out` as a decimal with two places, such as `-1.00`. `level` is in
+/// millionths of the unit, and is rounded to hundredths, a half away from 0. Nothing is allocated.
 pub fn write_level(level: i64, out: &mut ArrayString<24>)
     requires { out.old.bytes ≡ [] }
     ensures { out.new.bytes ≡ level_text level }

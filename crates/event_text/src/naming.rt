@@ -7,9 +7,9 @@ use crate::event_word::EventWord;
 use curve_law::Kind;
 use harmonics_book::Units;
 
-/// Returns the name in tide and current tables of an event of this kind in this unit; `level` is in
-/// millionths of the unit. A current above 0 is a flood, any other an ebb. The events of a hydraulic
-/// current have no names, and only a current has slack water.
+/// Returns the name in tide and current tables of an event of this `kind` at `level`, in millionths of
+/// the unit. In knots, a high or low is a flood if `level` is above 0, and otherwise an ebb. Events
+/// have no names in knots squared (a hydraulic current), and slack water has one only in knots.
 pub fn word(units: Units, kind: Kind, level: i64) -> EventWord
     requires { IsTrue (has_word units kind) }
     ensures { result ≡ word_of units kind level }

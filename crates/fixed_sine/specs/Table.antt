@@ -2,7 +2,7 @@
 -- (Bessel's interpolation formula).
 use Rattle.std.specs.Prelude.{ℕ, suc, ◌+◌, ◌-◌, ℤ, pos, negsuc, neg_ℤ, ◌+ℤ◌, ◌-ℤ◌, List, [], ◌∷◌, slice_index, nat_le, if◌then◌else◌}
 
--- for each degree from 0 to 90: 1,000,000,000 times its sine, rounded
+-- the sines of the whole degrees from 0 to 90, in billionths, rounded to whole numbers
 unfoldable pub sines : List ℕ
 sines =
     0 ∷ 17452406 ∷ 34899497 ∷ 52335956 ∷ 69756474 ∷
@@ -25,18 +25,18 @@ sines =
     996194698 ∷ 997564050 ∷ 998629535 ∷ 999390827 ∷ 999847695 ∷
     1000000000 ∷ []
 
--- the sine of a whole number of degrees from -90 to 180, in billionths: the table mirrored at 90
--- degrees, and negated below 0
+-- the sine of a whole number of degrees, from -90 to 180, in billionths: the table mirrored at 90
+-- degrees, and negated below 0 degrees; `negsuc k` is -(k + 1)
 unfoldable pub sine_at : ℤ → ℤ
 sine_at (pos k) = pos (slice_index sines (if nat_le k 90 then k else 180 - k))
 sine_at (negsuc k) = neg_ℤ (pos (slice_index sines (suc k)))
 
--- the change of the sine over the degree that begins at k degrees, in billionths
+-- the sine at k + 1 degrees minus the sine at k degrees, in billionths
 abbrev pub rise : ℕ → ℤ
 rise k = sine_at (pos (k + 1)) -ℤ sine_at (pos k)
 
--- the sum of the second differences of the sine, in billionths, at both ends of the degree that begins
--- at k degrees
+-- the correction of the interpolation over the degree that begins at k degrees: the sum of the second
+-- differences of the sine at both ends of the degree, in billionths
 unfoldable pub correction : ℕ → ℤ
 correction k =
     ((sine_at (pos (k + 2)) -ℤ sine_at (pos (k + 1))) -ℤ sine_at (pos k)) +ℤ sine_at (pos k -ℤ pos 1)

@@ -7,16 +7,16 @@ ghost use Rattle.fixed_sine.specs.Approximate.{approximate_error, approximate_si
 
 use crate::part_sines::part_sine;
 
-/// The most by which 2^15 times [`approximate_sine`] differs from [`crate::binary_angle_sine`], in
-/// billionths.
+/// A bound on the difference between [`approximate_sine`], multiplied by 2^15, and
+/// [`crate::binary_angle_sine`], in billionths.
 pub const APPROXIMATE_ERROR: i64 = 400_000;
 
 /// A part of the circle, 1/8,192, in 2^-64 of a turn.
 const PART: u64 = 1 << 51;
 
-/// Returns the approximate sine of `binary_angle`, which is in 2^-64 of a turn. The result is in units
-/// of 32,768 (2^15) billionths: times 32,768, it is within [`APPROXIMATE_ERROR`] billionths of
-/// [`crate::binary_angle_sine`].
+/// Returns the approximate sine of `binary_angle`, an angle in 2^-64 of a turn. The result is in units
+/// of 2^15 (32,768) billionths; multiplied by 32,768, it differs from [`crate::binary_angle_sine`] by
+/// at most [`APPROXIMATE_ERROR`] (400,000) billionths.
 #[inline]
 pub fn approximate_sine(binary_angle: u64) -> i64
     ensures value { result ≡ approximate_sine_of binary_angle }

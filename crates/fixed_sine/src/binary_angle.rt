@@ -13,10 +13,10 @@ use crate::circle::CIRCLE;
 use crate::degrees::degree_at;
 use crate::sine::{UNITS, isin};
 
-/// A full circle, in 2^-64 of a turn.
+/// A full circle as an angle in 2^-64 of a turn: 2^64.
 pub const FULL_CIRCLE: u128 = 1 << 64;
 
-/// A quarter of a circle, in 2^-64 of a turn.
+/// A quarter of a circle as an angle in 2^-64 of a turn: 2^62.
 pub const QUARTER_CIRCLE: u64 = 1 << 62;
 
 /// A unit of the circle is 2^52 / `SHARE` in 2^-64 of a turn.
@@ -28,8 +28,9 @@ const UNSURE: u64 = 1 << 51;
 /// A factor 2^52 is applied in two steps of 2^26, so that products fit 64 bits.
 const STEP: u64 = 1 << 26;
 
-/// Returns the angle of `units` units of 1/600,000,000 degree, from 0 to `CIRCLE - 1`, in 2^-64 of a
-/// turn. It is rounded up, but never into the next unit.
+/// Returns the angle of `units` units of 1/600,000,000 degree as an angle in 2^-64 of a turn: the first
+/// such angle above it, which [`binary_angle_sine`] rounds down to `units` units again. `units` is from
+/// 0 up to but not including `CIRCLE`.
 pub fn binary_angle_of(units: u64) -> u64
     requires { units < circle }
     ensures { result ≡ binary_angle_of units }
@@ -39,8 +40,8 @@ pub fn binary_angle_of(units: u64) -> u64
     scaled / SHARE * STEP + rest * STEP / SHARE + 1
 }
 
-/// Returns the sine, in billionths, of `binary_angle`, which is in 2^-64 of a turn and is first rounded
-/// down to whole units of 1/600,000,000 degree.
+/// Returns the sine, in billionths from -1,000,000,000 to 1,000,000,000, of `binary_angle`, an angle in
+/// 2^-64 of a turn. The angle is first rounded down to whole units of 1/600,000,000 degree.
 #[inline]
 pub fn binary_angle_sine(binary_angle: u64) -> i64
     ensures value { result ≡ isin_of (units_of binary_angle) }

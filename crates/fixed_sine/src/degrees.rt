@@ -4,15 +4,15 @@ ghost use Rattle.std.specs.Prelude.{◌≡◌, ◌<◌, ◌≤◌, ◌-◌, pos,
 ghost use Rattle.fixed_sine.specs.Table.{sine_at};
 ghost use Rattle.fixed_sine.specs.Workings.Degrees.{slope_at, bend_at, IsReady};
 
-/// The row of one degree in the table of all 360, with slopes prepared for fast sums.
+/// The sine at the start of a degree, with its slope and bend, prepared for fast sums.
 #[derive(Clone, Copy)]
 pub struct Degree {
-    /// The change of the sine for each unit of 1/600,000,000 degree at the degree's start, in 2^-64 of
-    /// a billionth, rounded up.
+    /// The change of the sine for each unit of 1/600,000,000 degree at the start of the degree, in
+    /// 2^-64 of a billionth, rounded up.
     pub slope: i64,
     /// The decrease of `slope` for each unit over the degree, in 2^-72 of a billionth, rounded down.
     pub bend: i32,
-    /// The sine at the degree's start, in billionths; plus 1 from 180 degrees on.
+    /// The sine at the start of the degree, in billionths; from 180 degrees on, plus 1.
     pub sine: i32,
 }
 
@@ -380,7 +380,7 @@ static DEGREES: [(i64, i32, i32); 360] = [
     (536_525_926_402_141_799, -17_430_124, -17_452_405),
 ];
 
-/// Returns the slope, bend and sine at `degrees` whole degrees, from 0 to 359.
+/// Returns the sine, slope and bend of the degree from `degrees` degrees on, from 0 to 359.
 pub fn degree_at(degrees: usize) -> Degree
     requires { degrees < 360 }
     ensures first { degrees < 180 → (result.sine ≡ sine_at (pos degrees))

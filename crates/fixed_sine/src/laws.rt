@@ -9,9 +9,9 @@ ghost use Rattle.fixed_sine.specs.Rate.{step_of, RateLaw};
 ghost use Rattle.fixed_sine.specs.BinaryAngle.{units_of};
 ghost use Rattle.fixed_sine.specs.Approximate.{approximate_error, approximate_sine_of};
 
-/// Proves two checks of the whole table of sines, which are in billionths. The rise of a degree plus a
-/// quarter of its correction is at most 17,454,000. The squares of the sines of `k` and `90 - k`
-/// degrees sum to 10^18 within 2*10^9.
+/// Proves two checks of the whole table of sines, which are in billionths: over each degree, the change
+/// of the sine plus a quarter of the absolute value of the correction is at most 17,454,000; and the
+/// squares of the sines of `k` and of `90 - k` degrees sum to 10^18 to within 2 * 10^9.
 pub fn table_checks()
     ensures gains { (k : ℕ) → k < 90
         → ((pos 4 *ℤ rise k) +ℤ pos (unsigned_abs (correction k))) ≤ℤ pos (4 * 17454000) }
@@ -19,30 +19,33 @@ pub fn table_checks()
         (((sine_at (pos k) *ℤ sine_at (pos k)) +ℤ (sine_at (pos (90 - k)) *ℤ sine_at (pos (90 - k)))) -ℤ pos (10 ^ 18)) ≤ 2 * 10 ^ 9 }
 {}
 
-/// Proves that sine and cosine are at most 1,000,000,000 billionths in size. Also proves that
-/// [`crate::step`], the bound on the sine's change, is at most 104,724,001 billionths over up to six
-/// degrees.
+/// Proves that the absolute value of each sine and cosine is at most 1,000,000,000 billionths, and that
+/// `step_of w`, the bound on the sine's change over `w` units of 1/600,000,000 degree, is at most
+/// 104,724,001 billionths for `w` up to six degrees.
 pub fn sine_sizes()
     ensures sine { (p : ℕ) → p < circle → unsigned_abs (isin_of p) ≤ 1000000000 }
     ensures cosine { (p : ℕ) → p < circle → unsigned_abs (icos_of p) ≤ 1000000000 }
     ensures step { (w : ℕ) → w ≤ 3600000000 → step_of w ≤ 104724001 }
 {}
 
-/// Proves that over `w` units of 1/600,000,000 degree the sine changes by at most [`crate::step`] of
-/// `w`, from each angle and for each `w` from 0 on.
+/// Proves that if an angle changes by `w` units of 1/600,000,000 degree, its sine changes by at most
+/// `step_of w` billionths (the value of [`crate::step`]), from each angle and for each `w` from 0 on.
 pub fn sine_rates()
     ensures { (w : ℕ) → RateLaw w }
 {}
 
-/// Proves that 2^15 times [`crate::approximate_sine`], which is in units of 2^15 billionths, is within
-/// 400,000 billionths of the sine.
+/// Proves that the approximate sine of an angle in 2^-64 of a turn, multiplied by 2^15, differs from
+/// the angle's sine by at most 400,000 billionths.
 pub fn sines_are_approximate()
     ensures { (binary_angle : ℕ) → binary_angle < 2 ^ 64
         → unsigned_abs ((pos (2 ^ 15) *ℤ approximate_sine_of binary_angle) -ℤ isin_of (units_of binary_angle)) ≤ approximate_error }
 {}
 
-/// Proves examples that another program computed: sines and cosines in billionths, of angles in units
-/// of 1/600,000,000 degree; bounds on the change of the sine; and fractions of a turn.
+/// Proves examples that another program computed. `isin_of` and `icos_of` are sine and cosine in
+/// billionths, rounded towards 0, of an angle in units of 1/600,000,000 degree: 300,000,000 is half a
+/// degree, and 216,000,000,000 the full circle. `step_of w` bounds the change of the sine, in
+/// billionths, over `w` units. The last three clauses reduce the angles -1, -216,000,000,000 and -2^127
+/// to one full circle (`circle`). `negsuc n` is -(n + 1).
 #[tactic(auto, unfolding(crate::specs::Table::sines, crate::specs::Table::sine_at, crate::specs::Table::correction, crate::specs::Sine::scaled_between, crate::specs::Sine::quarter_of, crate::specs::Sine::half_of, crate::specs::Sine::isin_of, crate::specs::Sine::icos_of, crate::specs::Rate::step_of))]
 pub fn sample_sines()
     ensures at_zero { isin_of 0 ≡ pos 0 }
@@ -72,7 +75,10 @@ pub fn sample_sines()
     ensures least_number { int_rem_euclid (negsuc (2 ^ 127 - 1)) (pos circle) ≡ pos 148115894272 }
 {}
 
-/// Proves examples of approximate sines, in units of 2^15 billionths, of angles in 2^-64 of a turn.
+/// Proves approximate sines, in units of 2^15 billionths, of angles in 2^-64 of a turn; the names of
+/// the clauses say the angles in degrees. Each is the sine in the middle of the part of the circle, one
+/// of 8,192 equal ones, that contains the angle: so the result for 0 degrees isn't 0. `negsuc n` is -(n
+/// + 1).
 #[tactic(auto, unfolding(crate::specs::Table::sines, crate::specs::Table::sine_at, crate::specs::Table::correction, crate::specs::Sine::scaled_between, crate::specs::Sine::quarter_of, crate::specs::Sine::half_of, crate::specs::Sine::isin_of, crate::specs::Approximate::part_sine_of))]
 pub fn worked_parts()
     ensures at_zero { approximate_sine_of 0 ≡ pos 12 }

@@ -1,12 +1,15 @@
 //! Sine and cosine in whole numbers, the same on every machine.
 //!
-//! An angle is a number of units on a circle of [`CIRCLE`] units, [`DEGREE`] to a degree. [`reduce`]
-//! reduces any number of units to the circle. [`isin`] and [`icos`] are in billionths: a table of whole
-//! degrees, interpolated by second differences. [`step`] bounds how much they change. [`binary_angle_sine`] is a
-//! faster way to the same sine: its angle is a fraction of a turn in 2^-64 ([`binary_angle_of`]), so sums and
-//! products drop full circles by themselves. The cosine is the sine of the angle plus [`QUARTER_CIRCLE`].
-//! [`approximate_sine`] is faster still, a table's entry: the sine in the middle of the angle's part of the
-//! circle, one of 8,192, in 16 bits. It is within [`APPROXIMATE_ERROR`] of the sine.
+//! An angle is a whole number of units of 1/600,000,000 degree, on a circle of [`CIRCLE`] units;
+//! [`reduce`] reduces any angle to one circle. [`isin`] and [`icos`] return sine and cosine in
+//! billionths, from a table of whole degrees with interpolation by second differences. [`step`] bounds
+//! the change of the sine.
+//!
+//! [`binary_angle_sine`] returns the same sine faster. Its angle is in 2^-64 of a turn
+//! ([`binary_angle_of`] converts), so that sums and products of angles drop full circles without a
+//! division. The cosine is the sine of the angle plus [`QUARTER_CIRCLE`]. [`approximate_sine`] is
+//! faster still: it returns the sine in the middle of the angle's part of the circle, one of 8,192
+//! equal parts, within [`APPROXIMATE_ERROR`].
 #![tactic(auto)]
 
 mod approximate;

@@ -718,8 +718,8 @@ static PART_SINES: [i16; 8192] = [
     -199, -176, -152, -129, -105, -82, -59, -35, -12,
 ];
 
-/// Returns the sine in the middle of part `part`, counted from 0, of the circle divided into 8,192
-/// equal parts. The result is in units of 2^15 billionths, rounded.
+/// Returns the sine in the middle of the part of the circle with index `part` (0 to 8,191), one of
+/// 8,192 equal parts. The result is in units of 2^15 (32,768) billionths, rounded to the nearest.
 #[inline]
 pub fn part_sine(part: usize) -> i16
     requires { part < 8192 }

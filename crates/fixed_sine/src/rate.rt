@@ -8,8 +8,8 @@ use crate::circle::DEGREE;
 /// The greatest rise of a degree plus a quarter of its correction.
 const GREATEST_GAIN: u64 = 17_454_000;
 
-/// Returns a bound on the change of the sine, in billionths, over `w` units of 1/600,000,000 degree.
-/// `w` is from 0 to 3,600,000,000, which is six degrees.
+/// Returns a bound, in billionths, on the change of the sine if its angle changes by `w` units of
+/// 1/600,000,000 degree. `w` is from 0 to 3,600,000,000, which is six degrees.
 pub fn step(w: i64) -> i64
     requires { IsSpeed w }
     ensures value { result ≡ pos (step_of (unsigned_abs w)) }

@@ -7,7 +7,7 @@ ghost use Rattle.fixed_sine.specs.Sine.{quarter_of, half_of, isin_of, icos_of};
 use crate::circle::{CIRCLE, DEGREE};
 use crate::table::{SineRow, row_of};
 
-/// The number of units of angle, of 1/600,000,000 degree each, in a degree, as an unsigned number.
+/// The number of units of 1/600,000,000 degree in a degree, as an unsigned number.
 pub const UNITS: u64 = DEGREE as u64;
 
 /// The number of units in 180 degrees.
@@ -16,8 +16,8 @@ const HALF: u64 = 180 * UNITS;
 /// The divisor of the interpolation formula between two degrees.
 const SQUARE: u128 = 4 * UNITS as u128 * UNITS as u128;
 
-/// Returns the sine of the angle `p`, in billionths from -1,000,000,000 to 1,000,000,000. `p` is in
-/// units of 1/600,000,000 degree, from 0 to `CIRCLE - 1`.
+/// Returns the sine of the angle `p`, in billionths, from -1,000,000,000 to 1,000,000,000. `p` is in
+/// units of 1/600,000,000 degree, from 0 up to but not including `CIRCLE`.
 ///
 /// # Examples
 /// ```
@@ -37,10 +37,11 @@ pub fn isin(p: i64) -> i64
     }
 }
 
-/// Returns the cosine of the angle `p`, in billionths from -1,000,000,000 to 1,000,000,000: the sine of
-/// the angle plus 90 degrees. `p` is in units of 1/600,000,000 degree, from 0 to `CIRCLE - 1`.
+/// Returns the cosine of the angle `p`, in billionths, from -1,000,000,000 to 1,000,000,000. `p` is in
+/// units of 1/600,000,000 degree, from 0 up to but not including `CIRCLE`.
 ///
-/// The program doesn't call it: it evaluates the sine at angles that are a quarter further on.
+/// The program doesn't call this function: it evaluates the sine of the angle plus a quarter of the
+/// circle.
 pub fn icos(p: i64) -> i64
     requires { IsOnCircle p }
     ensures value { result ≡ icos_of (unsigned_abs p) }

@@ -3,14 +3,16 @@
 ghost use Rattle.std.specs.Prelude.{◌≡◌, ◌+◌, ◌<◌, ◌≤◌, pos, neg_ℤ, slice_index};
 ghost use Rattle.fixed_sine.specs.Table.{sines, correction};
 
-/// The row of one degree in the table of sines.
+/// The row of the table of sines for one degree: the sine at its start, and the numbers that
+/// interpolation over the degree uses.
 #[derive(Clone, Copy)]
 pub struct SineRow {
     /// The sine at the start of the degree, in billionths.
     pub sine: u32,
-    /// The change of the sine over the degree, in billionths.
+    /// The sine at the end of the degree minus the sine at its start, in billionths.
     pub rise: u32,
-    /// The size of the correction over the degree, in billionths; the correction is negative or 0.
+    /// The absolute value of the correction of the interpolation over the degree, in billionths; the
+    /// correction itself is negative or 0.
     pub correction: u32,
 }
 
@@ -51,7 +53,8 @@ fn whole_sine(degrees: usize) -> u32
     SINES[degrees]
 }
 
-/// Returns the row of the table of sines for `degrees` whole degrees, from 0 to 89.
+/// Returns the row of the table of sines for the degree that begins at `degrees` whole degrees, from 0
+/// to 89.
 pub fn row_of(degrees: usize) -> SineRow
     requires { degrees < 90 }
     ensures sine { result.sine ≡ slice_index sines degrees }

@@ -30,7 +30,7 @@ use Rattle.httparse.specs.Grammar.{RequestHead, ReadsRequest}
 use Rattle.httparse.specs.Spans.{name_and_value}
 use Rattle.http_rows.specs.declared.limits.TheConstants.{MOST_FIELDS, MOST_HEAD}
 
--- the length in bytes of the empty line that the bytes begin with, LF or CR LF, or None if they don't
+-- the length of the empty line that the bytes begin with: 1 for LF, 2 for CR LF, or None if they don't
 -- begin with one
 unfoldable pub empty_line : List ℕ → Option ℕ
 empty_line bytes =
@@ -48,16 +48,18 @@ head_length (b ∷ bytes) =
 abbrev pub head_end : List ℕ → Option ℕ
 head_end request = head_length (take MOST_HEAD request)
 
--- the number of LF in the bytes
+-- the number of LF bytes among the bytes
 abbrev pub line_feeds : List ℕ → ℕ
 line_feeds bytes = count_by (λ b. b == line_feed) bytes
 
--- the number of fields of one name, and the value of the first of them
+-- the fields of a head with one name: their number, and the value of the first of them (no bytes if there
+-- is none)
 pub record Occurs : Type 0 where
   pub count : ℕ
   pub first : List ℕ
 
--- the values of the fields called `name`, compared without ASCII case
+-- the values of the fields called `name`, in order; names are compared without ASCII case, and a field is
+-- a pair of name and value
 abbrev pub values_of : List ℕ → List (List ℕ × List ℕ) → List (List ℕ)
 values_of name fields = map (λ f. f.1) (filter (λ f. str_eq_ignore_ascii_case f.0 name) fields)
 
@@ -66,12 +68,14 @@ abbrev pub first_or_empty : List (List ℕ) → List ℕ
 first_or_empty [] = []
 first_or_empty (value ∷ more) = value
 
--- the fields called `name`: their number, and the first value
+-- the fields called `name`: their number, and the value of the first of them, or no bytes; a field is a
+-- pair of name and value
 abbrev pub occurs : List ℕ → List (List ℕ × List ℕ) → Occurs
 occurs name fields =
     record { count = length (values_of name fields); first = first_or_empty (values_of name fields) }
 
--- the parts of a head that the server uses
+-- the parts of a request's head that the server uses: method, target, minor version of HTTP/1.x, and the
+-- fields Host, Content-Length and Transfer-Encoding
 pub record Head : Type 0 where
   pub method : List ℕ
   pub target : List ℕ
@@ -80,7 +84,8 @@ pub record Head : Type 0 where
   pub content_length : Occurs
   pub transfer_coding : Occurs
 
--- the parts that the server uses of a request head with this method, target, version and fields
+-- the parts that the server uses of a head with this method, target, minor version of HTTP/1.x and fields
+-- (pairs of name and value)
 abbrev pub head_of : List ℕ → List ℕ → ℕ → List (List ℕ × List ℕ) → Head
 head_of method target minor fields = record {
   method = method;
@@ -91,8 +96,8 @@ head_of method target minor fields = record {
   transfer_coding = occurs (codes "transfer-encoding") fields;
 }
 
--- The result of parsing bytes as a head: if they are, to the last byte, a request head of the grammar of
--- `httparse` with at most MOST_FIELDS fields, its parts; otherwise None.
+-- The result of parsing `bytes` as a head: the parts that the server uses, if the bytes are, to the last
+-- one, a request head of the grammar of `httparse` with at most MOST_FIELDS (64) fields; otherwise None.
 abbrev pub ReadsAs : List ℕ → Option Head → Type 0
 ReadsAs bytes None = (h : RequestHead) → ReadsRequest bytes h [] → MOST_FIELDS < length h.fields
 ReadsAs bytes (Some head) =

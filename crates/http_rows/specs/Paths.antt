@@ -5,7 +5,7 @@ use Rattle.std.specs.Str.{bytes_eq}
 use Rattle.http_rows.specs.declared.path.Path.{Path}
 use Rattle.http_rows.specs.declared.path.Path.TheVariants.{Predict, Certify, Heights, Calendar, Clock, Stations, Check}
 
--- the text of each path, such as `/predict`
+-- the text of each path of the server, such as `/predict`
 abbrev pub text_of : Path → List ℕ
 text_of Predict = codes "/predict"
 text_of Certify = codes "/certify"
@@ -15,14 +15,15 @@ text_of Clock = codes "/clock"
 text_of Stations = codes "/stations"
 text_of Check = codes "/check"
 
+-- all paths of the server
 abbrev pub all_paths : List Path
 all_paths = Predict ∷ Certify ∷ Heights ∷ Calendar ∷ Clock ∷ Stations ∷ Check ∷ []
 
--- the path with a text, or None if the server has no such path
+-- the path with the text `text`, or None if the server has no such path
 abbrev pub path_named : List ℕ → Option Path
 path_named text = find (λ path. bytes_eq (text_of path) text) all_paths
 
--- a path is for POST; all others are for GET and HEAD
+-- the server serves the path by POST (true) or by GET and HEAD (false)
 abbrev pub is_posted : Path → Bool
 is_posted Check = true
 is_posted Predict = false

@@ -49,10 +49,11 @@ use Rattle.http_rows.specs.declared.request_rejection.RequestRejection.TheVarian
   BodyCutShort,
 }
 
--- the path is the part of the target before its first `?` (63), and the query is the part after it
+-- the path of a request's target: the bytes before its first `?` (63), or all if there is none
 abbrev pub path_of : List ℕ → List ℕ
 path_of target = take (position_or_len (λ b. b == 63) target) target
 
+-- the query of a request's target: the bytes after its first `?` (63), or no bytes if there is none
 abbrev pub query_of : List ℕ → List ℕ
 query_of target = drop (position_or_len (λ b. b == 63) target + 1) target
 
@@ -80,34 +81,37 @@ is_get_or_head head = bytes_eq head.method (codes "GET") || is_head head
 abbrev pub is_post : Head → Bool
 is_post head = bytes_eq head.method (codes "POST")
 
--- the length of the body in bytes by a head: the digits, at most MOST_DIGITS (18), of the only
--- Content-Length, if there is no Transfer-Encoding; else None
+-- the length of the body in bytes that a head gives: the number in the only Content-Length, of 1 to
+-- MOST_DIGITS (18) digits, if there is no Transfer-Encoding; otherwise None
 abbrev pub length_in : Head → Option ℕ
 length_in head =
     if nat_lt 1 head.content_length.count || nat_lt 0 head.transfer_coding.count then None
     else digits_of MOST_DIGITS head.content_length.first
 
--- the length of the body in bytes by a head, 0 if the head gives none
+-- the length of the body in bytes that a head gives, or 0 if it gives none
 abbrev pub length_of : Head → ℕ
 length_of head = unwrap_or (length_in head) 0
 
 -- ---- the table, in its order
 
--- the rows for a request with a head that hasn't ended, each with its condition, in order
+-- the rejections of a request with a head that doesn't end, in the order of the table of HTTP statuses,
+-- each with the condition under which it applies
 abbrev pub unended_rows : List ℕ → List (Bool × RequestRejection)
 unended_rows request =
     (nat_le MOST_HEAD (length request), HeadTooLarge)
     ∷ (true, HeadCutShort)
     ∷ []
 
--- the rows for a head that has ended, by its lines and its grammar, each with its condition, in order
+-- the rejections of a request by the lines of its head (`bytes`) and by the result `read` of parsing it,
+-- in the order of the table of HTTP statuses, each with the condition under which it applies
 abbrev pub head_rows : List ℕ → Option Head → List (Bool × RequestRejection)
 head_rows bytes read =
     (nat_lt MOST_LINES (line_feeds bytes), HeadTooLarge)
     ∷ (is_none read, BadRequest)
     ∷ []
 
--- the rows for a head's fields, path, method and length, each with its condition, in order
+-- the rejections of a request by its head's fields, target, path, method and length of the body, in the
+-- order of the table of HTTP statuses, each with the condition under which it applies
 abbrev pub field_rows : Head → List (Bool × RequestRejection)
 field_rows head =
     (nat_lt 1 head.host.count || (head.minor == 1 && (head.host.count == 0)), BadRequest)
@@ -120,33 +124,36 @@ field_rows head =
     ∷ (is_post head && nat_lt MOST_BODY (length_of head), BodyTooLarge)
     ∷ []
 
--- the row for the bytes after the head, with its condition: the body is cut short
+-- the rejection of a request by `rest`, the bytes after its head, with its condition: a POST has fewer
+-- bytes there than its head says
 abbrev pub body_rows : Head → List ℕ → List (Bool × RequestRejection)
 body_rows head rest =
     (is_post head && nat_lt (length rest) (length_of head), BodyCutShort)
     ∷ []
 
--- the rejection of the first row with a true condition, or None if there is no such row
+-- the first rejection in the list with a true condition, or None if no condition is true
 abbrev pub first_row : List (Bool × RequestRejection) → Option RequestRejection
 first_row [] = None
 first_row (row ∷ rows) = if row.0 then Some row.1 else first_row rows
 
 -- ---- the row that applies
 
--- a request that the predictor answers: path, query and body, and whether the reply has no body
+-- a request that the predictor of tides answers: path, query and body, and whether the reply has no body
+-- (the method is HEAD)
 pub record Asking : Type 0 where
   pub path : List ℕ
   pub query : List ℕ
   pub body : List ℕ
   pub is_head_request : Bool
 
--- The row that applies to a request: it rejects the request and, if the Bool is true, its reply has no
--- body; or the predictor answers the request.
+-- The row of the table of HTTP statuses that applies to a request: it rejects the request for a reason,
+-- and the Bool is true if the reply has no body (the method is HEAD); or it asks the predictor of tides.
 pub data ReplyRow : Type 0 where
   rejects : RequestRejection → Bool → ReplyRow
   asks : Asking → ReplyRow
 
--- the predictor's request with this head; its body is at the start of `rest`
+-- the request for the predictor of tides with this head; a POST has its body at the start of `rest`, the
+-- bytes after the head, and other requests have no body
 abbrev pub asking : Head → List ℕ → Asking
 asking head rest = record {
   path = path_of head.target;
@@ -155,36 +162,42 @@ asking head rest = record {
   is_head_request = is_head head;
 }
 
--- the row of a request after its head was read; a reply to HEAD has no body
+-- the row of the table of HTTP statuses for a request with a valid head, and with the bytes `rest` after
+-- it: the rejection, if there is one, and otherwise the request for the predictor of tides
 abbrev pub field_row : Option RequestRejection → Head → List ℕ → ReplyRow
 field_row (Some rejection) head rest = rejects rejection (is_head head)
 field_row None head rest = asks (asking head rest)
 
--- the row after the test of the head's end and grammar
+-- the row of the table of HTTP statuses for a request after the test of its head: the rejection by the
+-- head, if there is one; BadRequest if the result `read` of parsing the head is None; otherwise the row
+-- by the fields and by `rest`, the bytes after the head
 abbrev pub head_row : Option RequestRejection → Option Head → List ℕ → ReplyRow
 head_row (Some rejection) read rest = rejects rejection false
 head_row None None rest = rejects BadRequest false
 head_row None (Some head) rest = field_row (first_row (field_rows head ++ body_rows head rest)) head rest
 
--- the row of a head that has ended
+-- the row of the table of HTTP statuses for a request with the head `bytes` and the bytes `rest` after
+-- it; `read` is the result of parsing the head
 abbrev pub ended_row : List ℕ → Option Head → List ℕ → ReplyRow
 ended_row bytes read rest = head_row (first_row (head_rows bytes read)) read rest
 
--- the row of a request with a head that hasn't ended
+-- the row of the table of HTTP statuses for a request with a head that doesn't end
 abbrev pub unended_row : List ℕ → ReplyRow
 unended_row request = head_row (first_row (unended_rows request)) None []
 
--- the row of a request with a head that ends at `end`, or doesn't end
+-- `row` is the row of the table of HTTP statuses that applies to a request with a head of `end` bytes, or
+-- one that doesn't end (None)
 abbrev pub IsRowAt : Option ℕ → List ℕ → ReplyRow → Type 0
 IsRowAt None request row = row ≡ unended_row request
 IsRowAt (Some end) request row =
     (read : Option Head) × ReadsAs (take end request) read × (row ≡ ended_row (take end request) read (drop end request))
 
--- the row of the table that applies to a request
+-- `row` is the row of the table of HTTP statuses that applies to the bytes `request`
 abbrev pub IsRow : List ℕ → ReplyRow → Type 0
 IsRow request row = IsRowAt (head_end request) request row
 
--- further bytes of the request can't change this rejection: neither its head nor its body was cut short
+-- further bytes of the request can't change this rejection: it isn't one because the head or the body was
+-- cut short
 abbrev pub is_settled_by : RequestRejection → Bool
 is_settled_by HeadCutShort = false
 is_settled_by BodyCutShort = false
@@ -196,7 +209,7 @@ is_settled_by RequiresPost = true
 is_settled_by LengthRequired = true
 is_settled_by BodyTooLarge = true
 
--- further bytes of the request can't change the row
+-- further bytes of the request can't change which row of the table of HTTP statuses applies to it
 abbrev pub is_settled : ReplyRow → Bool
 is_settled (rejects rejection is_head_request) = is_settled_by rejection
 is_settled (asks asking) = true

@@ -13,7 +13,8 @@ use crate::request_rejection::RequestRejection;
 use crate::target::{path_of, query_of};
 use decimal_text::digits;
 
-/// A request that the predictor of tides answers: its path, query and body.
+/// A request that isn't rejected by its bytes, so that the predictor of tides answers it: its path, query
+/// and body.
 #[derive(Clone, Copy)]
 pub struct Asking<'a> {
     pub path: Path,

@@ -9,21 +9,21 @@ use crate::reply_row::{ReplyRow, row_for};
 use crate::responses::{write_rejection, write_unavailable};
 use arrayvec::ArrayString;
 
-/// Returns true if `request`, the bytes received of a request, determines the reply: further bytes
-/// can't change it. It doesn't allocate.
+/// Returns true if `request`, the bytes of a request received so far, determines the reply: further bytes
+/// can't change which row of the table of HTTP statuses applies. The call doesn't allocate.
 ///
-/// The program doesn't call it: it finds the row once, by [`row_for`], and uses that.
+/// The program doesn't call this function: it calls [`row_for`] once, and uses the row.
 pub fn enough(request: &[u8]) -> bool
     ensures { (row : rows.ReplyRow) × IsRow request.now row × (result ≡ is_settled row) }
 {
     row_for(request).is_settled()
 }
 
-/// Writes the reply to `request`, a whole request, to the empty `out` and returns true, if it doesn't
-/// depend on tides: the request is rejected. If the predictor has to answer `request`, returns false
-/// and writes nothing. It doesn't allocate.
+/// Returns true and writes the reply to the empty `out` if `request`, the bytes of a whole request, is
+/// rejected. Returns false and writes nothing if the predictor of tides answers `request`. The call
+/// doesn't allocate.
 ///
-/// The program doesn't call it: it finds the row once, by [`row_for`], and uses that.
+/// The program doesn't call this function: it calls [`row_for`] once, and uses the row.
 pub fn fixed_reply(request: &[u8], out: &mut ArrayString<256>) -> bool
     requires { out.old.bytes ≡ [] }
     ensures { (row : rows.ReplyRow) × IsRow request.now row
@@ -38,10 +38,11 @@ pub fn fixed_reply(request: &[u8], out: &mut ArrayString<256>) -> bool
     }
 }
 
-/// Writes to the empty `out` the reply with status 503 (Service Unavailable) to `request`, which
-/// replaces any other reply if memory runs out. It doesn't allocate.
+/// Writes to the empty `out` the reply to `request` with status 503 (Service Unavailable), which replaces
+/// any other reply if memory runs out. The reply has no body if the method is HEAD. The call doesn't
+/// allocate.
 ///
-/// The program doesn't call it: it finds the row once, by [`row_for`], and uses that.
+/// The program doesn't call this function: it calls [`row_for`] once, and uses the row.
 pub fn unavailable_reply(request: &[u8], out: &mut ArrayString<256>)
     requires { out.old.bytes ≡ [] }
     ensures { (row : rows.ReplyRow) × IsRow request.now row × (out.new.bytes ≡ unavailable_of row) }

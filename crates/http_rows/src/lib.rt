@@ -1,9 +1,9 @@
 //! HTTP requests, and the replies to them that don't need the predictor.
 //!
-//! [`row_for`] returns the row of the table of statuses that applies to the bytes of a request: it finds
-//! the end of the head, its fields, the path and method, and the length of the body. [`write_rejection`]
-//! writes the reply of a fixed row, and [`Response`] is any other. [`enough`], [`fixed_reply`] and
-//! [`unavailable_reply`] do so for the bytes of a request.
+//! [`row_for`] returns the row of the server's table of HTTP statuses that applies to the bytes of a
+//! request: the first reason to reject it, or the path, query and body for the predictor of tides.
+//! [`write_rejection`] writes the fixed reply to a rejected request; a [`Response`] holds the predictor's
+//! answer. [`enough`], [`fixed_reply`] and [`unavailable_reply`] start from a request's bytes.
 #![tactic(auto)]
 
 mod asking;

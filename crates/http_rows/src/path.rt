@@ -1,6 +1,6 @@
 //! The paths of the server.
 
-/// A path that the server serves, one for each command.
+/// A path of the server, one for each command of the program, such as `/predict` for `predict`.
 #[derive(Clone, Copy, PartialEq, Eq)]
 pub enum Path {
     Predict,

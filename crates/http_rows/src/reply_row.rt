@@ -11,11 +11,12 @@ use crate::head_lines::{head_end, line_feeds};
 use crate::limits::{MOST_HEAD, MOST_LINES};
 use crate::request_rejection::RequestRejection;
 
-/// The row of the server's table of HTTP statuses that applies to a request.
+/// The row of the server's table of HTTP statuses that applies to a request: the request is rejected, or
+/// the predictor of tides answers it.
 #[derive(Clone, Copy)]
 pub enum ReplyRow<'a> {
     /// The request is rejected, by a reply with a fixed text. The second field is true if the reply has
-    /// no body (a request by HEAD).
+    /// no body, because the request's method is HEAD.
     Rejects(RequestRejection, bool),
     /// The predictor of tides answers the request.
     Asks(Asking<'a>),
@@ -27,8 +28,8 @@ impl ReplyRow<'_> {
     ghost use Rattle.http_rows.specs.Rows.{is_settled};
     ghost use Rattle.http_rows.specs.Workings.Views.{row_seen};
 
-    /// Returns true if further bytes of the request can't change which row of the table of HTTP
-    /// statuses applies.
+    /// Returns true if further bytes of the request can't change which row of the table of HTTP statuses
+    /// applies to it.
     pub fn is_settled(&self) -> bool
         ensures { result ≡ is_settled (row_seen self.now) }
     {
@@ -38,7 +39,7 @@ impl ReplyRow<'_> {
         }
     }
 
-    /// Returns true if the reply has no body, because the request's method is HEAD.
+    /// Returns true if the reply to this row's request has no body, because the request's method is HEAD.
     pub fn is_bodiless(&self) -> bool
         ensures { result ≡ is_bodiless (row_seen self.now) }
     {
@@ -49,7 +50,9 @@ impl ReplyRow<'_> {
     }
 }
 
-/// Returns the row of the table of HTTP statuses that applies to `request`, the whole of a request.
+/// Returns the row of the table of HTTP statuses that applies to `request`, all bytes of a request: the
+/// first reason to reject it, or the path, query and body for the predictor of tides. A body is at most
+/// 4,194,304 bytes long.
 pub fn row_for(request: &[u8]) -> ReplyRow<'_>
     ensures row { rows.IsRow request.now (row_seen result) }
     ensures answered { IsAskingRow (row_seen result) }

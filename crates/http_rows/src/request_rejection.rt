@@ -9,13 +9,14 @@ pub enum RequestRejection {
     HeadTooLarge,
     /// The request ended before its head did.
     HeadCutShort,
-    /// The head isn't a valid head of HTTP/1.x, or its fields contradict each other.
+    /// The head isn't a valid head of HTTP/1.x with at most 64 fields, its target doesn't begin with `/`,
+    /// or its Host, Content-Length or Transfer-Encoding is bad.
     BadRequest,
-    /// The server has no such path as the request's.
+    /// The server doesn't have the request's path.
     NotFound,
-    /// The path is for GET and HEAD, and the method is another one.
+    /// The path is for GET and HEAD, and the request has another method.
     RequiresGet,
-    /// The path is for POST, and the method is another one.
+    /// The path is for POST, and the request has another method.
     RequiresPost,
     /// The request is a POST without a Content-Length.
     LengthRequired,

@@ -7,8 +7,8 @@ use decimal_text::Bytes;
 use std::alloc::{AllocError, Global};
 use std::marker::Model;
 
-/// A response in two parts, its head and its body, which isn't copied. In contracts its value is the bytes
-/// of both.
+/// An HTTP response, with the head and the body stored separately, so that the body isn't copied. In
+/// contracts its value is the bytes of the head, followed by the body's bytes.
 #[derive(Drop)]
 pub struct Response {
     head: ArrayString<256>,
@@ -28,8 +28,9 @@ impl Response {
     ghost use Rattle.std.specs.Prelude.{◌≡◌, ◌≤◌, ◌++◌, [], length, IfOk};
     ghost use Rattle.http_rows.specs.Responses.{response};
 
-    /// Returns the response with the status `code` and `body`, of the media type `kind`, of at most 40
-    /// bytes, in UTF-8. `is_head_request` leaves the body out, but not its length. It doesn't allocate.
+    /// Returns the response with status `code` and the UTF-8 text `body`. `kind` is the media type of the
+    /// body, such as `text/plain`, of at most 40 bytes. If `is_head_request` is true, the body is left
+    /// out, but the head still gives the body's length. The call doesn't allocate.
     pub fn new(code: Code, kind: &str, body: Bytes, is_head_request: bool) -> Response
         requires { length kind.now ≤ 40 }
         ensures { result ≡ response code kind.now [] body is_head_request }
@@ -40,7 +41,7 @@ impl Response {
         Response { head, body }
     }
 
-    /// Returns the head and the body. The body is empty in a response to `HEAD`.
+    /// Returns the bytes of the head and of the body; the body is empty in a response to HEAD.
     pub fn parts(&self) -> (&[u8], &[u8])
         ensures { result.0.now ++ result.1.now ≡ self.now }
     {
@@ -51,7 +52,7 @@ impl Response {
         }
     }
 
-    /// Returns a copy of both parts as one list of bytes.
+    /// Returns a list of the bytes of the head, followed by a copy of the body's bytes.
     ///
     /// # Errors
     /// [`AllocError`] if memory runs out.

@@ -127,8 +127,9 @@ fn write_plain(
     }
 }
 
-/// Writes the reply to a request that is rejected with `rejection` to the empty `out`; `is_head_request`
-/// leaves the body out, but not its length. It doesn't allocate.
+/// Writes to the empty `out` the reply to a request that is rejected for the reason `rejection`: a
+/// response with a fixed text. If `is_head_request` is true, the body is left out, but the head still
+/// gives the body's length. The call doesn't allocate.
 pub fn write_rejection(
     rejection: RequestRejection,
     is_head_request: bool,
@@ -147,8 +148,8 @@ pub fn write_rejection(
 }
 
 /// Writes to the empty `out` the reply with status 503 (Service Unavailable), which replaces any other
-/// reply if memory runs out; `is_head_request` leaves the body out, but not its length. It doesn't
-/// allocate.
+/// reply if memory runs out. If `is_head_request` is true, the body is left out, but the head still gives
+/// the body's length. The call doesn't allocate.
 pub fn write_unavailable(is_head_request: bool, out: &mut ArrayString<256>)
     requires { out.old.bytes ≡ [] }
     ensures { out.new.bytes ≡ unavailable_to is_head_request }

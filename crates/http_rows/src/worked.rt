@@ -10,8 +10,11 @@ ghost use Rattle.http_rows.specs.declared.limits.TheConstants.{MOST_BODY, MOST_D
 use crate::path::Path;
 use crate::request_rejection::RequestRejection;
 
-/// Proves examples of where a request's head ends, of which texts are paths of the server, of the path
-/// and query of a target, and of the length of a body by its Content-Length.
+/// Proves examples of parsing a request. A head ends with the first empty line (LF or CR LF), which
+/// counts in its length of 14 or 3 bytes; without an empty line it has no length. The path of a target
+/// ends before the first `?`, and the query follows it. A head with two Content-Lengths or with a
+/// Transfer-Encoding gives no length of the body. A path is compared with its case, so `/Clock` isn't
+/// one.
 #[tactic(auto, unfolding(crate::specs::Heads::empty_line, crate::specs::Heads::head_length))]
 pub fn sample_requests()
     ensures ended { head_length (codes "G / H\r\nA:b\r\n\r\nxy") ≡ Some 14 }
@@ -28,8 +31,11 @@ pub fn sample_requests()
     ensures unknown { path_named (codes "/Clock") ≡ None }
 {}
 
-/// Proves examples of which row of the table of HTTP statuses applies to a request, where several
-/// could, and of the bytes of a reply.
+/// Proves examples of the first rejection that applies to a head, or `None` (`head_of` takes a method, a
+/// target, the minor version of HTTP and fields). HTTP/1.1 without a Host is a bad request, even if the
+/// path is unknown; an unknown path precedes a wrong method; a POST without a Content-Length requires
+/// one, even if it has a Transfer-Encoding; two Content-Lengths are a bad request. Also proves the bytes
+/// of a reply to HEAD (so without a body) at a path that requires POST.
 pub fn worked_replies()
     ensures host_first { first_row (field_rows (head_of (codes "PUT") (codes "/tides") 1 [])) ≡ Some RequestRejection.BadRequest }
     ensures path_before_method { first_row (field_rows (head_of (codes "PUT") (codes "/tides") 0 [])) ≡ Some RequestRejection.NotFound }
@@ -43,8 +49,8 @@ pub fn worked_replies()
         ≡ codes "HTTP/1.1 405 Method Not Allowed\r\nContent-Type: text/plain; charset=utf-8\r\nContent-Length: 19\r\nAllow: POST\r\nConnection: close\r\n\r\n" }
 {}
 
-/// Proves the values of the limits on requests: the most bytes, lines and fields of a head, digits of a
-/// Content-Length, and bytes of a body.
+/// Proves the values of the limits on requests: the greatest numbers of bytes, lines and fields of a
+/// head, of digits of a Content-Length, and of bytes of a body.
 pub fn worked_limits()
     ensures head { MOST_HEAD ≡ 8192 }
     ensures lines { MOST_LINES ≡ 66 }

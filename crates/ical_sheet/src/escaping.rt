@@ -6,10 +6,13 @@ ghost use Rattle.ical_sheet.specs.Escaping.{escaped, is_special};
 use decimal_text::{Bytes, Text};
 use std::alloc::{AllocError, Global};
 
-/// Returns `text` with a backslash before each backslash, semicolon and comma (RFC 5545, 3.3.11).
-/// `text` has no CR and no LF.
+/// Returns `text` with a backslash inserted before each backslash, semicolon and comma (RFC 5545,
+/// section 3.3.11). `text` has no CR and no LF.
 ///
-/// The program doesn't call it: a sheet appends to one text.
+/// The program itself appends to an existing text and doesn't call this function.
+///
+/// # Errors
+/// [`AllocError`] if memory runs out.
 pub fn escape(alloc: Global, text: &Text) -> Result<Bytes, AllocError>
     requires { All (λ octet. (octet ≢ 13) × (octet ≢ 10)) text.now }
     ensures { IfOk result (λ bytes. bytes ≡ escaped text.now) }

@@ -20,11 +20,14 @@ use std::alloc::{AllocError, Global};
 /// The greatest number of octets of a physical line without its CR LF (RFC 5545, 3.1).
 const MOST_OCTETS: usize = 75;
 
-/// Returns the content line `line` folded into physical lines (RFC 5545, 3.1) of at most 75 octets: each
-/// ends with a CR LF, and each after the first begins with a space. No character is split. `line` is
-/// text in UTF-8 without CR and LF, and doesn't begin with a space or a tab.
+/// Returns the content line `line` folded (RFC 5545, section 3.1): split into physical lines that end
+/// with CR LF and have at most 75 bytes before it; each but the first begins with a space. No UTF-8
+/// character is split. `line` is UTF-8 text without CR and LF that doesn't begin with a space or a tab.
 ///
-/// The program doesn't call it: a sheet appends to one text.
+/// The program itself appends to an existing text and doesn't call this function.
+///
+/// # Errors
+/// [`AllocError`] if memory runs out.
 pub fn fold(alloc: Global, line: &[u8]) -> Result<Bytes, AllocError>
     requires { IsContentLine line.now }
     ensures text { IfOk result (λ text. text ≡ folded line.now) }

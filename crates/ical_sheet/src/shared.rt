@@ -27,7 +27,11 @@ pub(crate) struct Shared<'a> {
 }
 
 impl<'a> Shared<'a> {
-    /// Returns the parts that follow from `head`.
+    /// Returns what all entries of a calendar with this `head` have in common: the station's name in
+    /// hexadecimal digits and with escapes, and the time at which the calendar was made.
+    ///
+    /// # Errors
+    /// [`AllocError`] if memory runs out.
     pub fn new(alloc: Global, head: &'a Head) -> Result<Shared<'a>, AllocError>
         ensures { IfOk result (λ shared. shared.head.now ≡ head.entry.now) }
     {

@@ -9,11 +9,11 @@ use decimal_text::Bytes;
 use report_sheets::{Head, Layout, SheetOf};
 use std::alloc::{AllocError, Global};
 
-/// The sheet `ical`: a calendar with an entry for each event, in universal time. Its text is a file
-/// of type `text/calendar`, and empty if there is no event.
+/// The sheet (page of a report) called `ical`: a calendar file of type `text/calendar` with an entry
+/// for each event, in universal time. Its text is empty if there are no events.
 pub type IcalSheet = SheetOf<IcalPage>;
 
-/// The layout of the sheet `ical`, [`IcalSheet`].
+/// Defines the text of the sheet (page of a report) called `ical`; see [`IcalSheet`].
 #[derive(Drop)]
 pub struct IcalPage;
 

@@ -6,10 +6,13 @@ ghost use Rattle.ical_sheet.specs.Folding.{is_fold, unfolded};
 use decimal_text::Bytes;
 use std::alloc::{AllocError, Global};
 
-/// Returns `text` with its lines unfolded (RFC 5545, 3.1): without each CR LF that a space or a tab
-/// directly follows, and without this space or tab.
+/// Returns `text` unfolded (RFC 5545, section 3.1): each CR LF directly before a space or a tab is
+/// removed, together with this space or tab.
 ///
-/// The program doesn't call it: it writes calendars and reads none.
+/// The program writes calendars but reads none, so it doesn't call this function.
+///
+/// # Errors
+/// [`AllocError`] if memory runs out.
 pub fn unfold(alloc: Global, text: &[u8]) -> Result<Bytes, AllocError>
     ensures { IfOk result (λ line. line ≡ unfolded text.now) }
 {

@@ -14,44 +14,48 @@ use Rattle.zone_time.specs.Locals.{time_text}
 use Rattle.zone_time.specs.Moments.{moment_text}
 use Rattle.zone_time.specs.Zones.{local_in}
 
--- fields as one record with its LF
+-- fields as one record of comma-separated values, with LF at its end
 abbrev pub record_of : List (List ℕ) → List ℕ
 record_of fields = row_text default_writer fields
 
--- a minute in the local time of a zone, without a label
+-- the local time of a minute in `zone`, such as `2000-01-10 11:59`, without the zone's label
 abbrev pub time_in : Zone → ℤ → List ℕ
 time_in zone minute = time_text (local_in zone minute).minute
 
--- a level in millionths of the unit, as a number of units with six decimals
+-- `level`, in millionths of the unit, as a number of units with six decimals, such as `-1.000000`
 abbrev pub millionths_text : ℤ → List ℕ
 millionths_text level = write_of level 6
 
--- the names of the fields of an event's record
+-- the names of the fields in the record of an event
 abbrev pub event_header : List (List ℕ)
 event_header =
     codes "station" ∷ codes "moment" ∷ codes "local" ∷ codes "event" ∷ codes "level" ∷ codes "units" ∷ []
 
--- the fields of an event's record, in the order of their names
+-- the fields in the record of an event of the station `name`: the name, the moment in universal time,
+-- the local time in `zone`, the event's name, the level with six decimals, and the unit
 abbrev pub event_fields : List ℕ → Units → Zone → Event → List (List ℕ)
 event_fields name units zone event =
     name ∷ moment_text event.minute ∷ time_in zone event.minute ∷ word_text (word_of units event.kind event.level)
     ∷ millionths_text event.level ∷ text_of_unit units ∷ []
 
--- the names of the fields of a level's record
+-- the names of the fields in the record of a level
 abbrev pub row_header : List (List ℕ)
 row_header = codes "station" ∷ codes "moment" ∷ codes "local" ∷ codes "level" ∷ codes "units" ∷ []
 
--- the fields of a level's record, in the order of their names
+-- the fields in the record of a level (`row`) of the station `name`: the name, the moment in universal
+-- time, the local time in `zone`, the level with six decimals, and the unit
 abbrev pub row_fields : List ℕ → Units → Zone → Row → List (List ℕ)
 row_fields name units zone row =
     name ∷ moment_text row.minute ∷ time_in zone row.minute ∷ millionths_text row.level ∷ text_of_unit units ∷ []
 
--- the header, and a record for each event
+-- comma-separated values: the header, and a record for each event of the station `name`, with the local
+-- time in `zone`
 unfoldable pub csv_events_of : List ℕ → Units → List Event → Zone → List ℕ
 csv_events_of name units events zone =
     record_of event_header ++ flat_map (λ event. record_of (event_fields name units zone event)) events
 
--- the header, and a record for each level
+-- comma-separated values: the header, and a record for each of `rows` (minutes with levels of the
+-- station `name`), with the local time in `zone`
 unfoldable pub csv_heights_of : List ℕ → Units → List Row → Zone → List ℕ
 csv_heights_of name units rows zone =
     record_of row_header ++ flat_map (λ row. record_of (row_fields name units zone row)) rows

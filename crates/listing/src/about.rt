@@ -8,11 +8,14 @@ use event_text::unit_text;
 use harmonics_book::Units;
 use std::alloc::{AllocError, Global};
 
-/// Returns five lines about a station: its `name`; the word `reference` and its reference's name; the
-/// word `units` and the unit of its levels; the word `constituents` and their number; and the word
-/// `agreement` and a bound on the difference between the station's slope and the steps of its levels
-/// from minute to minute, in units of which about 1.4257 * 10^35 are one of `units` a minute
-/// (docs/FORMATS.md).
+/// Returns five lines about a station: its `name`; the word `reference` and the name `reference`, the
+/// station on which its predictions are based; the word `units` and the unit of its levels; the word
+/// `constituents` and their number; and the word `agreement` and the number `agreement`, which bounds
+/// the difference between the station's slope and the changes of its level from one minute to the next.
+/// About 1.4257 * 10^35 units of this number are one of `units` a minute (docs/FORMATS.md).
+///
+/// # Errors
+/// [`AllocError`] if memory runs out.
 #[tactic(auto, unfolding(crate::specs::Abouts::about_text_of))]
 pub fn about_text(
     alloc: Global,

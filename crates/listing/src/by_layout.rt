@@ -15,11 +15,12 @@ use question::Layout;
 use std::alloc::{AllocError, Global};
 use zone_time::Zone;
 
-/// Returns the listing of the events of the station `name` in `layout`: the same as [`plain_events`] or
-/// [`csv_events`].
+/// Returns the listing of `events` of the station `name`, with local times in `zone`: for
+/// [`Layout::Plain`] the name and a line for each event, for [`Layout::Csv`] a header and a record of
+/// comma-separated values for each.
 ///
-/// Each event has a [`word`](event_text::word) in `units`, a level in millionths of `units`, and a
-/// minute, counted from 1970-01-01T00:00Z, in the years 2 to 9300 or on the day before them.
+/// Each event has a name in `units` ([`word`](event_text::word)) and a level in millionths of `units`.
+/// Minutes are counted from 1970-01-01T00:00Z and are in the years 2 to 9300 or on the day before them.
 ///
 /// # Errors
 /// [`AllocError`] if memory runs out.
@@ -41,9 +42,12 @@ pub fn events_text(
     }
 }
 
-/// Returns the listing of the levels of the station `name` in `layout`: the same as [`plain_heights`] or
-/// [`csv_heights`]. The levels are in millionths of `units`, and the minutes, counted from
-/// 1970-01-01T00:00Z, are in the years 2 to 9300 or on the day before them.
+/// Returns the listing of the levels `rows` of the station `name`, with local times in `zone`: for
+/// [`Layout::Plain`] the name and a line for each level, for [`Layout::Csv`] a header and a record of
+/// comma-separated values for each.
+///
+/// Levels are in millionths of `units`. Minutes are counted from 1970-01-01T00:00Z and are in the years
+/// 2 to 9300 or on the day before them.
 ///
 /// # Errors
 /// [`AllocError`] if memory runs out.

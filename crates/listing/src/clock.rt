@@ -14,12 +14,16 @@ use harmonics_book::Units;
 use std::alloc::{AllocError, Global};
 use zone_time::{Zone, ZoneClock};
 
-/// Returns the station's `name`, a line such as `Now 2000-01-10 03:00 UTC       0.00 feet Falling`,
-/// and the line of each event, as [`event_line`](crate::event_line) writes it.
+/// Returns lines with local times in `zone`: the station's `name`; the current level, such as
+/// `Now 2000-01-10 03:00 UTC       0.00 feet  Falling`; and each of `events`, such as
+/// `2000-01-10 06:00 UTC      -1.00 feet  Low Tide`.
 ///
-/// `now` is in minutes since 1970-01-01T00:00Z and `level` in millionths of `units`. Each event has
-/// a [`word`](event_text::word) in this unit, and each minute is in the years 2 to 9300 or on the
-/// day before them.
+/// `level` is the level at the minute `now`, in millionths of `units`; `rising` says whether it rises.
+/// Each event has a name in `units` ([`word`](event_text::word)) and a level in millionths of `units`.
+/// Minutes are counted from 1970-01-01T00:00Z and are in the years 2 to 9300 or on the day before them.
+///
+/// # Errors
+/// [`AllocError`] if memory runs out.
 #[tactic(auto, unfolding(crate::specs::Listings::clock_text_of))]
 pub fn clock_text(
     alloc: Global,

@@ -12,10 +12,14 @@ use harmonics_book::Units;
 use std::alloc::{AllocError, Global};
 use zone_time::{Zone, ZoneClock};
 
-/// Returns the station's `name`, and a line such as `Highest 2000-01-10 00:00 UTC       1.00 feet`.
+/// Returns two lines: the station's `name`, and its highest level with the local time in `zone`, such
+/// as `Highest 2000-01-10 00:00 UTC       1.00 feet`.
 ///
-/// `level` is in millionths of `units`. `minute` is since 1970-01-01T00:00Z, in the years 2 to 9300
-/// or on the day before them.
+/// `level` is in millionths of `units`. `minute` is counted from 1970-01-01T00:00Z, in the years 2 to
+/// 9300 or on the day before them.
+///
+/// # Errors
+/// [`AllocError`] if memory runs out.
 #[tactic(auto, unfolding(crate::specs::Listings::highest_text_of))]
 pub fn highest_text(
     alloc: Global,

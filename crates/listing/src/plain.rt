@@ -16,11 +16,14 @@ use harmonics_book::Units;
 use std::alloc::{AllocError, Global};
 use zone_time::{Zone, ZoneClock};
 
-/// Returns the station's `name`, and the line of each event in the zone's local time, as
-/// [`event_line`] writes it.
+/// Returns a line with the station's `name`, and a line for each event with its local time in `zone`,
+/// such as `2000-01-10 06:00 UTC      -1.00 feet  Low Tide`.
 ///
-/// Each event has a [`word`](event_text::word) in `units`, a level in millionths of `units`, and a
-/// minute, counted from 1970-01-01T00:00Z, in the years 2 to 9300 or on the day before them.
+/// Each event has a name in `units` ([`word`](event_text::word)) and a level in millionths of `units`.
+/// Minutes are counted from 1970-01-01T00:00Z and are in the years 2 to 9300 or on the day before them.
+///
+/// # Errors
+/// [`AllocError`] if memory runs out.
 ///
 /// # Examples
 /// ```
@@ -43,9 +46,14 @@ pub fn plain_events(
     Ok(Bytes::from_vec(text))
 }
 
-/// Appends a listing to `text`: the station's `name`, and the line of each event in the zone's local
-/// time. Each event has a [`word`](event_text::word) in `units`, a level in millionths of `units`, and a
-/// minute, counted from 1970-01-01T00:00Z, in the years 2 to 9300 or on the day before them.
+/// Appends to `text` a line with the station's `name`, and a line for each event with its local time in
+/// `zone`, such as `2000-01-10 06:00 UTC      -1.00 feet  Low Tide`.
+///
+/// Each event has a name in `units` ([`word`](event_text::word)) and a level in millionths of `units`.
+/// Minutes are counted from 1970-01-01T00:00Z and are in the years 2 to 9300 or on the day before them.
+///
+/// # Errors
+/// [`AllocError`] if memory runs out; then it isn't specified what was appended.
 #[tactic(auto, unfolding(crate::specs::Listings::plain_events_of))]
 pub fn push_plain_events(
     text: &mut Vec<u8>,
@@ -63,9 +71,14 @@ pub fn push_plain_events(
     push_events(text, units, events.as_slice(), &zone.clock())
 }
 
-/// Returns the station's `name`, and the line of each level in the zone's local time, as [`height_line`]
-/// writes it, with LF. The levels are in millionths of `units`, and the minutes, counted from
-/// 1970-01-01T00:00Z, are in the years 2 to 9300 or on the day before them.
+/// Returns a line with the station's `name`, and a line for each of `rows` with the local time in
+/// `zone` and the level, such as `2000-01-10 03:00 UTC       1.00 feet`.
+///
+/// Levels are in millionths of `units`. Minutes are counted from 1970-01-01T00:00Z and are in the years
+/// 2 to 9300 or on the day before them.
+///
+/// # Errors
+/// [`AllocError`] if memory runs out.
 #[tactic(auto, unfolding(crate::specs::Listings::plain_heights_of))]
 pub fn plain_heights(
     alloc: Global,

@@ -30,12 +30,15 @@ use harmonics_book::Units;
 use std::alloc::{AllocError, Global};
 use zone_time::{Zone, ZoneClock, write_moment, write_time};
 
-/// Returns the header `station,moment,local,event,level,units` and a record for each event. The moment
-/// is in universal time, such as `2000-01-10T11:59Z`, and the local time is in the zone, such as
-/// `2000-01-10 11:59`. A record has the level in `units`, with six decimals.
+/// Returns the header `station,moment,local,event,level,units` and a record of comma-separated values
+/// for each event. The field `moment` is in universal time, such as `2000-01-10T11:59Z`; `local` is in
+/// the local time of `zone`, such as `2000-01-10 11:59`; `level` is in `units`, with six decimals.
 ///
-/// Each event has a [`word`](event_text::word) in `units`, a level in millionths of `units`, and a
-/// minute, counted from 1970-01-01T00:00Z, in the years 2 to 9300 or on the day before them.
+/// Each event has a name in `units` ([`word`](event_text::word)) and a level in millionths of `units`.
+/// Minutes are counted from 1970-01-01T00:00Z and are in the years 2 to 9300 or on the day before them.
+///
+/// # Errors
+/// [`AllocError`] if memory runs out.
 #[tactic(auto, unfolding(crate::specs::Records::csv_events_of))]
 pub fn csv_events(
     alloc: Global,
@@ -57,11 +60,15 @@ pub fn csv_events(
     bytes_of(records)
 }
 
-/// Returns the header `station,moment,local,level,units` and a record for each level. The moment is in
-/// universal time, such as `2000-01-10T11:59Z`, and the local time is the zone's, such as
-/// `2000-01-10 11:59`. A record has the level in `units`, with six decimals. The levels are in
-/// millionths of `units`, and the minutes, counted from 1970-01-01T00:00Z, are in the years 2 to 9300 or
-/// on the day before them.
+/// Returns the header `station,moment,local,level,units` and a record of comma-separated values for
+/// each of `rows`. The field `moment` is in universal time, such as `2000-01-10T11:59Z`; `local` is in
+/// the local time of `zone`, such as `2000-01-10 11:59`; `level` is in `units`, with six decimals.
+///
+/// In `rows` levels are in millionths of `units`. Minutes are counted from 1970-01-01T00:00Z and are in
+/// the years 2 to 9300 or on the day before them.
+///
+/// # Errors
+/// [`AllocError`] if memory runs out.
 #[tactic(auto, unfolding(crate::specs::Records::csv_heights_of))]
 pub fn csv_heights(
     alloc: Global,

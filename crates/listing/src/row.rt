@@ -1,6 +1,7 @@
 //! A level at a minute.
 
-/// A row of a listing of heights: a station's level at a minute.
+/// A row of a listing of water levels or current speeds: a minute, and a station's level at this
+/// minute.
 #[derive(Clone, Copy, PartialEq, Eq)]
 pub struct Row {
     /// The minute, counted from 1970-01-01T00:00Z.

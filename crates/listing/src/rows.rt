@@ -5,7 +5,8 @@ ghost use Rattle.std.specs.Prelude.{◌≡◌};
 use crate::row::Row;
 use std::marker::Model;
 
-/// Levels in the order of their listing. In contracts its value is the list of the levels.
+/// The rows of a listing of levels, in the order in which they are listed: minutes with a station's
+/// levels. In contracts the value is the list of the rows.
 #[derive(Drop)]
 pub struct Rows {
     items: Vec<Row>,
@@ -21,14 +22,14 @@ impl Model for Rows {
 }
 
 impl Rows {
-    /// Returns the list of the levels in `items`. It doesn't allocate.
+    /// Returns `items` as the rows of a listing, in the same order. It doesn't allocate.
     pub fn from_vec(items: Vec<Row>) -> Rows
         ensures { result ≡ items.items }
     {
         Rows { items }
     }
 
-    /// Borrows the levels as a slice.
+    /// Borrows the rows as a slice, in the order of the listing.
     pub fn as_slice(&self) -> &[Row]
         ensures { result.now ≡ self.now }
     {

@@ -12,9 +12,13 @@ use station_table::{OffsetTable, Offsets};
 use std::alloc::{AllocError, Global};
 use std::collections::BTreeMap;
 
-/// Returns a line such as `Ref feet Pier` for each station of `book`, and then a line such as `Sub feet
-/// Dock (Pier)` for each row of `table`. The unit in a row's line is the unit of the first station of
-/// `book` with the name of the row's reference, or `-` if there isn't one.
+/// Returns a line such as `Ref feet Pier` for each station of `book`, then a line such as
+/// `Sub feet Dock (Pier)` for each row of `table`, which names a subordinate station and its reference
+/// station. The unit in a row's line is the unit of the first station of `book` with the reference's
+/// name, or `-` if `book` has no such station.
+///
+/// # Errors
+/// [`AllocError`] if memory runs out.
 #[tactic(auto, unfolding(crate::specs::StationLists::stations_text_of))]
 pub fn stations_text(alloc: Global, book: &Book, table: &OffsetTable) -> Result<Bytes, AllocError>
     ensures { IfOk result (λ text. text ≡ stations_text_of book.now table.now) }

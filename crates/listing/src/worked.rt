@@ -11,8 +11,14 @@ ghost use Rattle.listing.specs.StationLists.{stations_text_of};
 ghost use Rattle.event_text.specs.Worked.{high_tide, low_tide};
 ghost use Rattle.listing.specs.Worked.{level_now};
 
-/// Proves examples of listings in lines: two events; a level in a zone west of Greenwich; the level now
-/// with the next event; and a highest water.
+/// Proves examples of listings in lines, for a station `Pier` with levels in feet.
+///
+/// - `events`: a low water at 06:00 and a high water at 11:59 on 2000-01-10, in universal time.
+/// - `heights`: a level of 1 foot at 03:00 UTC, in a zone 300 minutes (5 hours) behind UTC: 22:00 on
+///   the date before. `negsuc 299` is -300.
+/// - `clock`: minute 15791220 is 2000-01-10T03:00Z; the level at this minute is 1 foot (1,000,000
+///   millionths) and falls; then there is the next low water.
+/// - `highest`: minute 15791040 is 2000-01-10T00:00Z; the highest level is 1 foot.
 pub fn worked_listings()
     ensures events { plain_events_of (codes "Pier") Units.Feet (low_tide ∷ high_tide ∷ []) Zone.Utc
         ≡ codes "Pier\n2000-01-10 06:00 UTC      -1.00 feet  Low Tide\n2000-01-10 11:59 UTC       1.00 feet  High Tide\n" }
@@ -24,8 +30,13 @@ pub fn worked_listings()
         ≡ codes "Pier\nHighest 2000-01-10 00:00 UTC       1.00 feet\n" }
 {}
 
-/// Proves examples of listings in records: a name that has a comma and quotes is quoted, and the moment is
-/// in universal time.
+/// Proves examples of listings as comma-separated values.
+///
+/// - `event`: a low water at 2000-01-10T06:00Z in a zone 300 minutes (5 hours) behind UTC (`negsuc 299`
+///   is -300): the field `moment` is in universal time and `local` in the zone's time.
+/// - `quoted`: a level of 1 knot at 03:00 UTC; a name with a comma and quotes is put in quotes, and
+///   each of its quotes is doubled.
+/// - `none`: without events there is only the header.
 pub fn worked_records()
     ensures event { csv_events_of (codes "Pier") Units.Feet (low_tide ∷ []) (Zone.Fixed (negsuc 299))
         ≡ codes "station,moment,local,event,level,units\nPier,2000-01-10T06:00Z,2000-01-10 01:00,Low Tide,-1.000000,feet\n" }
@@ -34,8 +45,9 @@ pub fn worked_records()
     ensures none { csv_events_of (codes "Pier") Units.Feet [] Zone.Utc ≡ codes "station,moment,local,event,level,units\n" }
 {}
 
-/// Proves an example of a list of stations, in which the harmonics file lacks a reference station of the
-/// table.
+/// Proves an example of the list of stations: `Pier` of the harmonics file, and three rows of a table.
+/// The row `Lost` names the reference `Nowhere`, which the harmonics file doesn't have, so its unit is
+/// `-`.
 #[tactic(auto, unfolding(crate::specs::StationLists::stations_text_of, event_text::specs::Lines::text_of_unit))]
 pub fn worked_stations()
     ensures { stations_text_of pier_book dock_rows

@@ -44,8 +44,12 @@ fn are_listed(units: Units, events: &[Event]) -> bool
     events.iter().all(|event| is_listed(units, event))
 }
 
-/// Returns minutes since 1970-01-01T00:00Z, kinds and levels in millionths of `units` as events, or an
-/// error if one can't be listed.
+/// Returns the events with the given minutes (since 1970-01-01T00:00Z), kinds and levels (in millionths
+/// of `units`), in the same order.
+///
+/// # Errors
+/// [`AllocError`] if memory runs out, or if an event has no name in `units` or has a minute that isn't
+/// in the years 2 to 9300 or on the day before them.
 pub fn events_of(
     alloc: Global,
     units: Units,
@@ -90,7 +94,8 @@ fn rows_of(alloc: Global, items: &[(i64, i64)]) -> Result<Rows, AllocError>
     }
 }
 
-/// Returns the zone `utc_offset` minutes ahead of universal time, or universal time if `utc_offset` is 0.
+/// Returns the zone that is `utc_offset` minutes ahead of universal time, or universal time if
+/// `utc_offset` is 0 or isn't from -1,560 to 1,560.
 pub fn zone_of(utc_offset: i32) -> Zone
     ensures { IsZone result }
 {
@@ -115,7 +120,7 @@ const CURRENT: &[(i64, Kind, i64)] = &[
     (15791580, Kind::FloodBegins, 0),
 ];
 
-/// Returns true if a text was made, and is the expected one.
+/// Returns true if `made` is a text equal to `expected`, and false if it differs or is an error.
 pub fn is_text(made: Result<Bytes, AllocError>, expected: &str) -> bool {
     match made {
         Ok(text) => text.as_slice() == expected.as_bytes(),

@@ -9,7 +9,8 @@ use itoa::Buffer;
 use report_sheets::{Collected, Head, Sheet, Taken};
 use std::alloc::{AllocError, Global};
 
-/// A sheet with the given word; its text is this word and the number of events that it has accepted.
+/// A sheet (page of a report) for tests: its text is its word and the number of events that it has
+/// accepted.
 #[derive(Drop)]
 pub struct Counter {
     word: Text,
@@ -62,7 +63,7 @@ impl Sheet for Counter {
     }
 }
 
-/// The call of a sheet that fails.
+/// A call of a [`Refusing`] sheet: the call that runs out of memory.
 #[derive(Clone, Copy, PartialEq)]
 pub enum Refusal {
     Open,
@@ -70,7 +71,7 @@ pub enum Refusal {
     Text,
 }
 
-/// A sheet that runs out of memory at one of its calls, or at none.
+/// A sheet (page of a report) for tests: one kind of its calls, or none, runs out of memory.
 #[derive(Drop)]
 pub struct Refusing {
     at: Option<Refusal>,

@@ -14,8 +14,8 @@ use Rattle.rate_bound.specs.Rates.{predicted_slope_rate, predicted_level_rate}
 
 -- the curve whose value is the slope of a station, by every constituent of the book: it rises past 0 at
 -- a low water, and falls to 0 or below at a high water; in billionths of a millionth of the station's
--- unit a minute, times 34,377,467,708 (the units of angle in a radian) and 4,147,200,000 (the total
--- weight of a blend)
+-- unit a minute, multiplied by 34,377,467,708 (the units of angle in a radian) and by 4,147,200,000
+-- (the total weight of a blend)
 abbrev pub predicted_turn : Version → Book → Station → CurveSpec
 predicted_turn version b s = record {
   first = year_start_of b.first_year;
@@ -25,8 +25,8 @@ predicted_turn version b s = record {
 }
 
 -- `level` times `times` millionths, plus `plus` less `mark`; `plus` and `mark` are in millionths of the
--- station's unit, `level` in billionths of a millionth of that unit, times 4,147,200,000 (the total
--- weight of a blend), and the result in millionths of the unit of `level`
+-- station's unit, `level` in billionths of a millionth of that unit, multiplied by 4,147,200,000 (the
+-- total weight of a blend), and the result in millionths of the unit of `level`
 abbrev pub over_mark : ℤ → ℤ → ℤ → ℤ → ℤ
 over_mark times plus mark level =
     (times *ℤ level) +ℤ (pos (10 ^ 6 * total_weight * 10 ^ 9) *ℤ (plus -ℤ mark))

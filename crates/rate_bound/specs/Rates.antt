@@ -16,31 +16,36 @@ use Rattle.year_blend.specs.Weights.{total_weight}
 use Rattle.rate_bound.specs.declared.version.Version.{Version}
 use Rattle.rate_bound.specs.declared.version.Version.TheVariants.{First, Second}
 
--- a bound on the change in a minute of the later year's weight in a blend, which grows from 0 to
--- 4,147,200,000
+-- a bound on the change of the later year's weight from one minute of a blend to the next; the weight
+-- grows from 0 to 4,147,200,000
 abbrev pub most_rise : ℕ
 most_rise = 64800000
 
--- a bound on the change in a minute of the slope of the later year's weight in a blend, per minute
+-- a bound on the change, from one minute of a blend to the next, of the slope of the later year's
+-- weight; the slope is the change of the weight per minute, and the weight grows from 0 to
+-- 4,147,200,000
 abbrev pub most_bend : ℕ
 most_bend = 1663000
 
--- a bound on the change of the slope in a minute outside the blends at new years, from `year`, the sums
--- over the waves in that year; the slope is in billionths of a millionth of the station's unit a minute,
--- times 34,377,467,708 (the units of angle in a radian) and 4,147,200,000 (the total weight of a blend)
+-- a bound on the change of the slope in a minute, outside the blends at new years: the total weight of
+-- a blend multiplied by the `far` of `year`, the four sums over the station's waves in one year. The
+-- slope is in billionths of a millionth of the station's unit a minute, multiplied by 34,377,467,708
+-- (the units of angle in a radian) and by 4,147,200,000 (the total weight of a blend)
 abbrev pub plain_slope_rate : Sums → ℤ
 plain_slope_rate year = pos total_weight *ℤ year.far
 
--- a bound on the change of the level in a minute outside the blends at new years, from `year`, the sums
--- over the waves in that year; the level is in billionths of a millionth of the station's unit, times
--- 4,147,200,000 (the total weight of a blend)
+-- a bound on the change of the level in a minute, outside the blends at new years: the total weight of
+-- a blend multiplied by the `near` of `year`, the four sums over the station's waves in one year. The
+-- level is in billionths of a millionth of the station's unit, multiplied by 4,147,200,000 (the total
+-- weight of a blend)
 abbrev pub plain_level_rate : Sums → ℤ
 plain_level_rate year = pos total_weight *ℤ year.near
 
--- a bound on the change of the slope in a minute in the blend at a new year, from the sums over the
--- waves in the earlier and the later year: the greater of both years' bounds, plus what the changing
--- weight adds; the slope is in billionths of a millionth of the station's unit a minute, times
--- 34,377,467,708 (the units of angle in a radian) and 4,147,200,000 (the total weight of a blend)
+-- a bound on the change of the slope in a minute in the blend at a new year, from the four sums over
+-- the station's waves in the years before (`earlier`) and after it (`later`): the greater of both
+-- years' bounds, plus what the change of the weights adds. The slope is in billionths of a millionth of
+-- the station's unit a minute, multiplied by 34,377,467,708 (the units of angle in a radian) and by
+-- 4,147,200,000 (the total weight of a blend)
 abbrev pub blended_slope_rate : Sums → Sums → ℤ
 blended_slope_rate earlier later =
     (pos total_weight *ℤ int_max earlier.far later.far)
@@ -48,30 +53,32 @@ blended_slope_rate earlier later =
     +ℤ (pos (most_rise * radian) *ℤ (earlier.near +ℤ later.near))
     +ℤ (pos (most_bend * radian * 10 ^ 9) *ℤ (earlier.amount +ℤ later.amount))
 
--- a bound on the change of the level in a minute in the blend at a new year, from the sums over the
--- waves in the earlier and the later year; the level is in billionths of a millionth of the station's
--- unit, times 4,147,200,000 (the total weight of a blend)
+-- a bound on the change of the level in a minute in the blend at a new year, from the four sums over
+-- the station's waves in the years before (`earlier`) and after it (`later`): the greater of both
+-- years' bounds, plus what the change of the weights adds. The level is in billionths of a millionth of
+-- the station's unit, multiplied by 4,147,200,000 (the total weight of a blend)
 abbrev pub blended_level_rate : Sums → Sums → ℤ
 blended_level_rate earlier later =
     (pos total_weight *ℤ int_max earlier.near later.near)
     +ℤ (pos (most_rise * 10 ^ 9) *ℤ (earlier.amount +ℤ later.amount))
 
--- Some rate (a bound on a curve's change in a minute), or None if it exceeds 4 * 10^34, which is too
--- great for a cell of 1,024 minutes
+-- Some with the bound `rate` on the change of a curve in a minute, or None if it exceeds 4 * 10^34,
+-- which is too great for a cell of 1,024 minutes
 abbrev pub limited : ℤ → Option ℤ
 limited rate = if int_le rate (pos (4 * 10 ^ 34)) then Some rate else None
 
--- a bound on the change of the slope in a minute, over minutes of one year (Within) or with some in the
--- blend at a new year (Across); None if there is no bound: by the first version there is none across a
--- new year
+-- a bound on the change of the slope in a minute, over minutes that use one year's constants (Within)
+-- or that reach the blend at the start of a year (Across); `sums` gives each year's four sums, by the
+-- year's index. Across a new year the version First has no bound (None), and Second has none if it
+-- exceeds 4 * 10^34
 abbrev pub slope_rate_in : Version → (ℕ → Sums) → Stretch → Option ℤ
 slope_rate_in version sums (Within year) = Some (plain_slope_rate (sums year))
 slope_rate_in First sums (Across year) = None
 slope_rate_in Second sums (Across year) = limited (blended_slope_rate (sums (year - 1)) (sums year))
 
--- a bound on the change in a minute of `times` times the level, over minutes of one year (Within) or
--- with some in the blend at a new year (Across); None if there is no bound: by the first version there
--- is none across a new year
+-- a bound on the change in a minute of `times` multiplied by the level, over minutes that use one
+-- year's constants (Within) or that reach the blend at the start of a year (Across); `sums` gives each
+-- year's four sums, by the year's index. Across a new year the version First has no bound (None)
 abbrev pub level_rate_in : Version → ℤ → (ℕ → Sums) → Stretch → Option ℤ
 level_rate_in version times sums (Within year) = Some (times *ℤ plain_level_rate (sums year))
 level_rate_in First times sums (Across year) = None
@@ -82,14 +89,19 @@ level_rate_in Second times sums (Across year) = Some (times *ℤ blended_level_r
 abbrev pub book_sums : Book → Station → ℕ → Sums
 book_sums b s year = sums_of (waves_of b s year)
 
--- a bound on the change of a station's slope in a minute, over the `n` minutes from `a` on, by every
--- constituent of the book; None if there is no bound
+-- a bound on the change of a station's slope in a minute, over the n minutes from minute `a` on, or
+-- None. If some of them are in a blend, less than an hour from a new year, the version First has no
+-- bound, and Second has none if it exceeds 4 * 10^34. The slope is in billionths of a millionth of the
+-- station's unit a minute, multiplied by 34,377,467,708 (the units of angle in a radian) and by
+-- 4,147,200,000 (the total weight of a blend)
 unfoldable pub predicted_slope_rate : Version → Book → Station → ℤ → ℕ → Option ℤ
 predicted_slope_rate version b s a n =
     slope_rate_in version (book_sums b s) (stretch_of b.first_year b.years a n)
 
--- a bound on the change in a minute of `times` times a station's level, over the `n` minutes from `a`
--- on, by every constituent of the book; None if there is no bound
+-- a bound on the change in a minute of `times` multiplied by a station's level, over the n minutes from
+-- minute `a` on, or None: the version First has no bound if some of them are in a blend, less than an
+-- hour from a new year. The level is in billionths of a millionth of the station's unit, multiplied by
+-- 4,147,200,000 (the total weight of a blend)
 unfoldable pub predicted_level_rate : Version → ℤ → Book → Station → ℤ → ℕ → Option ℤ
 predicted_level_rate version times b s a n =
     level_rate_in version times (book_sums b s) (stretch_of b.first_year b.years a n)

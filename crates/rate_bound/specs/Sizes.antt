@@ -2,13 +2,15 @@
 use Rattle.std.specs.Prelude.{ℕ, ◌*◌, ◌^◌, ◌<◌, ℤ, unsigned_abs}
 use Rattle.curve_law.specs.CurveSpec.{CurveSpec, IsMinute}
 
--- the size of each slope is less than this; in billionths of a millionth of the station's unit a minute,
--- times 34,377,467,708 (the units of angle in a radian) and 4,147,200,000 (the total weight of a blend)
+-- the size of each slope is less than this; in billionths of a millionth of the station's unit a
+-- minute, multiplied by 34,377,467,708 (the units of angle in a radian) and by 4,147,200,000 (the total
+-- weight of a blend)
 abbrev pub slope_limit : ℕ
 slope_limit = 10 ^ 37
 
 -- the size of each level less a mark is less than this; in millionths of a level's unit, which is
--- billionths of a millionth of the station's unit, times 4,147,200,000 (the total weight of a blend)
+-- billionths of a millionth of the station's unit, multiplied by 4,147,200,000 (the total weight of a
+-- blend)
 abbrev pub mark_limit : ℕ
 mark_limit = 5 * 10 ^ 36
 

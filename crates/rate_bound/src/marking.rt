@@ -10,8 +10,9 @@ use year_blend::TOTAL_WEIGHT;
 const MILLIONTH: i128 = TOTAL_WEIGHT as i128 * 1_000_000_000_000_000;
 
 /// Returns `level` times `times` millionths, plus `plus` less `mark`. `plus` and `mark` are in
-/// millionths of the station's unit, `level` is in billionths of a millionth of that unit, times
-/// 4,147,200,000 (the total weight of a blend), and the result is in millionths of the unit of `level`.
+/// millionths of the station's unit, `level` is in billionths of a millionth of that unit, multiplied
+/// by 4,147,200,000 (the total weight of a blend), and the result is in millionths of the unit of
+/// `level`.
 pub fn over_mark(times: i64, plus: i64, mark: i64, level: i128) -> i128
     requires times { unsigned_abs times ≤ 10 ^ 8 }
     requires plus { unsigned_abs plus ≤ 10 ^ 10 }
@@ -34,7 +35,7 @@ pub fn scaled(times: i64, level: i128) -> i128
 }
 
 /// Converts `millionths`, in millionths of the station's unit, to the unit of the curve of a level less
-/// a mark: 10^-21 of the station's unit, times 4,147,200,000 (the total weight of a blend).
+/// a mark: 10^-21 of the station's unit, multiplied by 4,147,200,000 (the total weight of a blend).
 fn raised(millionths: i64) -> i128
     requires { unsigned_abs millionths ≤ 2 * 10 ^ 10 }
     ensures value { result ≡ pos (10 ^ 6 * total_weight * 10 ^ 9) *ℤ millionths }

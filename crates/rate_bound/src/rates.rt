@@ -34,10 +34,11 @@ const BILLION: i128 = 1_000_000_000;
 /// The greatest rate of a slope across a new year.
 const MOST_RATE: i128 = 40_000_000_000_000_000_000_000_000_000_000_000;
 
-/// Returns a bound on the change of the slope in a minute outside the blends at new years, from `year`,
-/// the sums over the waves in that year. The slope is in billionths of a millionth of the station's unit
-/// a minute, times 34,377,467,708 (the units of angle in a radian) and 4,147,200,000 (the total weight
-/// of a blend).
+/// Returns a bound on the change of the slope in a minute, outside the blends at new years:
+/// 4,147,200,000 (the total weight of a blend) multiplied by `year.far`. `year` has the four sums over
+/// the station's waves in one year. The slope is in billionths of a millionth of the station's unit a
+/// minute, multiplied by 34,377,467,708 (the units of angle in a radian) and by 4,147,200,000 (the
+/// total weight of a blend).
 pub fn plain_slope_rate(year: &Sums) -> i128
     requires { AreWithinLimits year.now }
     ensures value { result ≡ plain_slope_rate year.now }
@@ -45,9 +46,10 @@ pub fn plain_slope_rate(year: &Sums) -> i128
     WEIGHT * year.far
 }
 
-/// Returns a bound on the change of the level in a minute outside the blends at new years, from `year`,
-/// the sums over the waves in that year. The level is in billionths of a millionth of the station's
-/// unit, times 4,147,200,000 (the total weight of a blend).
+/// Returns a bound on the change of the level in a minute, outside the blends at new years:
+/// 4,147,200,000 (the total weight of a blend) multiplied by `year.near`. `year` has the four sums over
+/// the station's waves in one year. The level is in billionths of a millionth of the station's unit,
+/// multiplied by 4,147,200,000 (the total weight of a blend).
 pub fn plain_level_rate(year: &Sums) -> i128
     requires { AreWithinLimits year.now }
     ensures value { result ≡ plain_level_rate year.now }
@@ -56,10 +58,15 @@ pub fn plain_level_rate(year: &Sums) -> i128
     WEIGHT * year.near
 }
 
-/// Returns a bound on the change of the slope in a minute in the blend at a new year, from the sums over
-/// the waves in the `earlier` and in the `later` year. The slope is in billionths of a millionth of the
-/// station's unit a minute, times 34,377,467,708 (the units of angle in a radian) and 4,147,200,000 (the
-/// total weight of a blend).
+/// Returns a bound on the change of the slope in a minute in the blend at a new year. `earlier` and
+/// `later` have the four sums over the station's waves in the years before and after it. The bound is
+/// 4,147,200,000 (the total weight of a blend) multiplied by the greater `far`, plus what the change of
+/// the weights adds: 64,800,000 (the greatest change of a weight in a minute) multiplied by 10^9 and by
+/// the sum of both `steep`, and by 34,377,467,708 (the units of angle in a radian) and by the sum of
+/// both `near`; and 1,663,000 (the greatest change of the weight's slope in a minute) multiplied by
+/// 34,377,467,708 (the units of angle in a radian), by 10^9 and by the sum of both `amount`. The slope
+/// is in billionths of a millionth of the station's unit a minute, multiplied by 34,377,467,708 (the
+/// units of angle in a radian) and by 4,147,200,000 (the total weight of a blend).
 #[cold]
 #[inline(never)]
 pub fn blended_slope_rate(earlier: &Sums, later: &Sums) -> i128
@@ -73,9 +80,12 @@ pub fn blended_slope_rate(earlier: &Sums, later: &Sums) -> i128
         + MOST_BEND * RADIAN as i128 * BILLION * (earlier.amount + later.amount)
 }
 
-/// Returns a bound on the change of the level in a minute in the blend at a new year, from the sums over
-/// the waves in the `earlier` and in the `later` year. The level is in billionths of a millionth of the
-/// station's unit, times 4,147,200,000 (the total weight of a blend).
+/// Returns a bound on the change of the level in a minute in the blend at a new year. `earlier` and
+/// `later` have the four sums over the station's waves in the years before and after it. The bound is
+/// 4,147,200,000 (the total weight of a blend) multiplied by the greater `near`, plus 64,800,000 (the
+/// greatest change of a weight in a minute) multiplied by 10^9 and by the sum of both `amount`. The
+/// level is in billionths of a millionth of the station's unit, multiplied by 4,147,200,000 (the total
+/// weight of a blend).
 #[cold]
 #[inline(never)]
 pub fn blended_level_rate(earlier: &Sums, later: &Sums) -> i128

@@ -6,10 +6,10 @@ use Rattle.zone_time.specs.declared.zone.Zone.TheVariants.{Utc}
 use Rattle.report_sheets.specs.declared.head.Head.{Head}
 use Rattle.report_sheets.specs.Sheets.{SheetSpec}
 
--- the plain listing in universal time
+-- the station's name, and a line for each event in universal time
 abbrev pub lines_of : Head → List Event → List ℕ
 lines_of head events = plain_events_of head.name head.units events Utc
 
--- the definition of the sheet `first` that accepts at most `limit` events
+-- the sheet called `first`, which lists at most `limit` events, line by line in universal time
 abbrev pub first_sheet : ℕ → SheetSpec
 first_sheet limit = record { word = codes "first"; limit = limit; layout = lines_of }

@@ -6,22 +6,25 @@ use Rattle.curve_law.specs.declared.event.Event.{Event}
 use Rattle.report_sheets.specs.declared.head.Head.{Head}
 use Rattle.report_sheets.specs.Sheets.{SheetSpec}
 
--- the page of a sheet: its text for the head and the first events, up to its limit
+-- the page of a report that `sheet` writes: its layout for `head` and the first `sheet.limit` of
+-- `events`
 unfoldable pub page_of : Head → List Event → SheetSpec → List ℕ
 page_of head events sheet = sheet.layout head (take sheet.limit events)
 
--- the word of a sheet is one of the requested words
+-- the word of `sheet` is one of the words in `wanted`
 abbrev pub is_wanted : List (List ℕ) → SheetSpec → Bool
 is_wanted wanted sheet = list_any (λ word. bytes_eq word sheet.word) wanted
 
--- the pages of the requested sheets, one after the other, in the order of `sheets`, not of the request
+-- the text of a report: the pages of those `sheets` that have a word in `wanted`, one after the other,
+-- in the order of `sheets`
 unfoldable pub pages_of : List SheetSpec → List (List ℕ) → Head → List Event → List ℕ
 pages_of sheets wanted head events = flat_map (page_of head events) (filter (is_wanted wanted) sheets)
 
--- one of the sheets has the word
+-- `word` is the word of one of `sheets`
 abbrev pub has_sheet : List SheetSpec → List ℕ → Bool
 has_sheet sheets word = list_any (λ sheet. bytes_eq word sheet.word) sheets
 
--- the index of the first requested word that no sheet has, or None
+-- the index, counted from 0, of the first word in `wanted` that isn't the word of one of `sheets`, or
+-- None if each is
 unfoldable pub missing_of : List SheetSpec → List (List ℕ) → Option ℕ
 missing_of sheets wanted = position (λ word. not (has_sheet sheets word)) wanted

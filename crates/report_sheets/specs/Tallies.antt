@@ -20,11 +20,11 @@ use Rattle.harmonics_book.specs.declared.book.Units.{Units}
 use Rattle.report_sheets.specs.declared.head.Head.{Head}
 use Rattle.report_sheets.specs.Sheets.{SheetSpec}
 
--- the names of events, in the order of the lines of a tally
+-- the names that events can have, in the order of the lines of a tally
 abbrev pub names : List EventWord
 names = HighTide ∷ LowTide ∷ MaxFlood ∷ MinFlood ∷ MaxEbb ∷ MinEbb ∷ SlackFloodBegins ∷ SlackEbbBegins ∷ MarkRising ∷ MarkFalling ∷ []
 
--- the index of a name in `names`, the order of the lines
+-- the index of an event's name in the order of the lines of a tally, from 0 to 9
 abbrev pub word_index : EventWord → ℕ
 word_index HighTide = 0
 word_index LowTide = 1
@@ -37,19 +37,21 @@ word_index SlackEbbBegins = 7
 word_index MarkRising = 8
 word_index MarkFalling = 9
 
--- the number of events whose name is the one at this index of `names`
+-- the number of `events` with the name at `index` in the order of a tally (0 for High Tide, 9 for Mark
+-- Falling)
 abbrev pub count_at : Units → List Event → ℕ → ℕ
 count_at units events index = count_by (λ event. word_index (word_of units event.kind event.level) == index) events
 
--- the line of a name with its count; no line if the count is 0
+-- the line with `count` and a name of events, such as `2 High Tide`; no line if `count` is 0
 abbrev pub count_line : ℕ → EventWord → List ℕ
 count_line count word = if count == 0 then [] else decimal count ++ codes " " ++ word_text word ++ codes "\n"
 
--- the station's name, and a line for each name that occurs
+-- a line with the station's name, and a line such as `2 High Tide` for each name that at least one of
+-- `events` has
 unfoldable pub tally_of : Head → List Event → List ℕ
 tally_of head events =
     head.name ++ codes "\n" ++ flat_map (λ word. count_line (count_at head.units events (word_index word)) word) names
 
--- the definition of the sheet `tally` that accepts at most `limit` events
+-- the sheet called `tally`, which counts the events with each name and accepts at most `limit` events
 abbrev pub tally_sheet : ℕ → SheetSpec
 tally_sheet limit = record { word = codes "tally"; limit = limit; layout = tally_of }

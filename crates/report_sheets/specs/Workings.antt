@@ -4,7 +4,8 @@ use Rattle.curve_law.specs.declared.event.Event.{Event}
 use Rattle.report_sheets.specs.declared.extreme.Extreme.{Extreme}
 use Rattle.report_sheets.specs.Ranges.{reaches}
 
--- the more extreme of an event and the best until now, or the latter if they are equal
+-- the more extreme of `event` and `best`, or `best` if their levels are equal; `event` if there is no
+-- best yet (None)
 abbrev pub better_of : Extreme → Option Event → Event → Option Event
 better_of extreme None event = Some event
 better_of extreme (Some best) event = if reaches extreme best.level event.level then Some best else Some event

@@ -11,8 +11,7 @@ use decimal_text::Text;
 use harmonics_book::Units;
 use std::alloc::{AllocError, Global};
 
-/// The events of a sheet that writes its text at the end: the head with which the sheet was opened, and
-/// the events that it accepted since then.
+/// The head and the events of one page of a report, collected until the page's text is written.
 #[derive(Drop)]
 pub struct Collected {
     /// The greatest number of events that the sheet accepts, from 1 to 1,000,000.
@@ -32,8 +31,8 @@ impl Collected {
     ghost use Rattle.std.specs.Prelude.{◌≡◌, [], IfOk, OnOk, OnErr};
     ghost use Rattle.report_sheets.specs.Sheets.{first_head, taken_of, list_after};
 
-    /// Returns a collection without events; its head has an empty name, the unit feet and minute 0. It
-    /// doesn't allocate.
+    /// Returns a collection that accepts at most `limit` events, from 1 to 1,000,000. It has no events
+    /// yet, and a head with an empty name, the unit feet and minute 0. The call doesn't allocate.
     pub fn new(alloc: Global, limit: u32) -> Collected
         requires { IsLimit limit }
         ensures limit { result.limit ≡ limit }
@@ -51,7 +50,11 @@ impl Collected {
         }
     }
 
-    /// Removes all events and stores a copy of `head`, as [`Sheet::open`](crate::Sheet::open) requires.
+    /// Removes all events and stores a copy of `head`, in which the name has no control characters and
+    /// the unit isn't knots squared.
+    ///
+    /// # Errors
+    /// [`AllocError`] if memory runs out: then all events are removed too, and the old head stays.
     pub fn open(&mut self, head: &Head) -> Result<(), AllocError>
         requires { IsHead head.now }
         ensures limit { self.new.limit ≡ self.old.limit }
@@ -64,8 +67,12 @@ impl Collected {
         Ok(())
     }
 
-    /// Appends `event`, unless there are as many events as the limit; then it changes nothing and
-    /// returns [`Taken::Full`].
+    /// Appends `event` and returns [`Taken::Kept`], or changes nothing and returns [`Taken::Full`] if
+    /// there are as many events as the limit. The event has a name in the head's unit, and a minute in
+    /// the years 2 to 9300 or on the day before them.
+    ///
+    /// # Errors
+    /// [`AllocError`] if memory runs out: then nothing changes.
     pub fn take(&mut self, event: &Event) -> Result<Taken, AllocError>
         requires { IsListed self.old.head.units event.now }
         ensures limit { self.new.limit ≡ self.old.limit }

@@ -2,7 +2,7 @@
 
 use curve_law::Kind;
 
-/// An end of the range of a station's levels: the highest or the lowest water.
+/// One of the two extremes of a station's levels: the highest high water or the lowest low water.
 #[derive(Clone, Copy, PartialEq, Eq)]
 pub enum Extreme {
     /// The highest of the high waters.
@@ -15,8 +15,8 @@ impl Extreme {
     ghost use Rattle.std.specs.Prelude.{◌≡◌, ◌≤◌, length, not};
     ghost use Rattle.report_sheets.specs.Ranges.{is_of, label_of, reaches};
 
-    /// Returns true if `kind` is the kind of this end's events: a high water for the highest, a low
-    /// water for the lowest.
+    /// Returns true if this extreme occurs at events of this `kind`: the highest level at high waters,
+    /// the lowest at low waters.
     pub fn is_of(self, kind: Kind) -> bool
         ensures { result ≡ is_of self kind }
     {
@@ -26,8 +26,8 @@ impl Extreme {
         }
     }
 
-    /// Returns true if `other` is more extreme than `level`: above it for the highest water, below it
-    /// for the lowest.
+    /// Returns true if the level `other` is more extreme than `level`: above it for
+    /// [`Extreme::Highest`], below it for [`Extreme::Lowest`].
     pub fn is_passed(self, level: i64, other: i64) -> bool
         ensures { result ≡ not (reaches self level other) }
     {
@@ -37,7 +37,8 @@ impl Extreme {
         }
     }
 
-    /// Returns the first word of the line for this end, `Highest` or `Lowest`, in at most 8 bytes.
+    /// Returns `Highest ` or `Lowest `, the beginning of the line of this extreme, with a space at its
+    /// end. It has at most 8 bytes.
     pub fn label(self) -> &'static str
         ensures text { result.now ≡ label_of self }
         ensures length_bound { length result.now ≤ 8 }

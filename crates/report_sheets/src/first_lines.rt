@@ -16,11 +16,11 @@ use harmonics_book::Units;
 use std::alloc::{AllocError, Global};
 use zone_time::Zone;
 
-/// The sheet `first`: the station's name, and the line of each event in universal time, as
-/// [`event_line`] writes it.
+/// The sheet (page of a report) called `first`: the station's name, and a line for each event in
+/// universal time, such as `2000-01-10 06:00 UTC      -1.00 feet  Low Tide`.
 pub type FirstLines = SheetOf<FirstLinesPage>;
 
-/// The layout of the sheet `first`, [`FirstLines`].
+/// Defines the text of the sheet (page of a report) called `first`; see [`FirstLines`].
 pub struct FirstLinesPage;
 
 impl Layout for FirstLinesPage {

@@ -6,7 +6,8 @@ use decimal_text::Text;
 use harmonics_book::Units;
 use std::alloc::{AllocError, Global};
 
-/// The head of a report: the station's name, its unit and the minute at which the report is made.
+/// What all pages of a report have in common: the station's name, the unit of its levels, and the
+/// minute at which the report is made.
 #[derive(Drop)]
 pub struct Head {
     /// The name of the station that the report is about.
@@ -18,7 +19,10 @@ pub struct Head {
 }
 
 impl Head {
-    /// Returns a copy of the head.
+    /// Returns a copy of this head of a report.
+    ///
+    /// # Errors
+    /// [`AllocError`] if memory runs out.
     pub fn copy(&self) -> Result<Head, AllocError>
         ensures { IfOk result (λ head. head ≡ self.entry.now) }
     {
@@ -29,7 +33,10 @@ impl Head {
         })
     }
 
-    /// Returns the first line of a sheet's page, which is the station's name.
+    /// Returns the first line of a report's page: the station's name, with LF.
+    ///
+    /// # Errors
+    /// [`AllocError`] if memory runs out.
     pub fn name_line(&self, alloc: Global) -> Result<Vec<u8>, AllocError>
         ensures { IfOk result (λ text. text.items ≡ self.entry.now.name ++ codes "\n") }
     {

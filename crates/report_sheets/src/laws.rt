@@ -14,8 +14,8 @@ use crate::layout::Layout;
 use crate::ranges::RangesPage;
 use crate::tally::TallyPage;
 
-/// Proves that a sheet shows all events if they don't exceed its limit, and otherwise exactly the first
-/// events up to the limit.
+/// Proves that a page of a report shows all events if there are at most as many as the sheet's limit,
+/// and otherwise exactly the first `limit` events.
 #[tactic(auto, unfolding(crate::specs::Pages::page_of))]
 pub fn pages_show_the_first_events()
     ensures all { (sheet : SheetSpec) (head : Head) (events : List Event)
@@ -25,7 +25,8 @@ pub fn pages_show_the_first_events()
         × (length (take sheet.limit events) ≡ sheet.limit) }
 {}
 
-/// Proves that the sheets `tally`, `range` and `first` have the layouts that `specs/` defines for them.
+/// Proves that the code of the sheets (pages of a report) `tally`, `range` and `first` writes the texts
+/// that `tally_sheet`, `range_sheet` and `first_sheet` define.
 pub fn sheets_write_their_layouts()
     ensures tally { ⟦<TallyPage as Layout>⟧.sheet ≡ tally_sheet }
     ensures range { ⟦<RangesPage as Layout>⟧.sheet ≡ range_sheet }

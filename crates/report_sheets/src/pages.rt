@@ -14,8 +14,8 @@ use curve_law::{Event, Events};
 use decimal_text::{Bytes, Text, Words};
 use std::alloc::{AllocError, Global};
 
-/// Returns the index of the first word in `wanted` that no sheet has, or `None` if each word has a
-/// sheet. It doesn't allocate.
+/// Returns the index, counted from 0, of the first word in `wanted` that isn't the word of a sheet in
+/// `sheets`, or `None` if each is. It doesn't allocate.
 pub fn missing(sheets: &Vec<Box<dyn Sheet>>, wanted: &Words) -> Option<u64>
     ensures { result ≡ missing_of (map sheet_spec sheets.now.items) wanted.now }
 {
@@ -46,12 +46,15 @@ fn is_named(sheet: &Box<dyn Sheet>, word: &Text) -> bool
     sheet.named(word)
 }
 
-/// Returns the text of a report: the page of each sheet in `sheets` with a word in `wanted`, in the order
-/// of `sheets`. A page shows the head and the first events, up to the limit of its sheet.
+/// Returns the text of a report: one page for each sheet in `sheets` with a word in `wanted`, in the
+/// order of `sheets`. A page shows `head` and the first of `events`, up to the limit of its sheet.
 ///
-/// The name has no control characters, and the unit isn't knots squared. Each event has a
-/// [`word`](event_text::word) in the head's unit, a level in millionths of this unit, and a minute in
-/// the years 2 to 9300 or on the day before them.
+/// The name in `head` has no control characters, and the unit isn't knots squared. Each event has a
+/// name in the unit of `head` ([`word`](event_text::word)), a level in millionths of this unit, and a
+/// minute in the years 2 to 9300 or on the day before them.
+///
+/// # Errors
+/// [`AllocError`] if memory runs out.
 #[tactic(auto, using(crate::proofs::PageLemmas::pages_more, crate::proofs::PageLemmas::pages_kept), unfolding(crate::specs::Pages::pages_of))]
 pub fn fill(
     alloc: Global,

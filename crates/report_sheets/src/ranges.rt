@@ -18,12 +18,13 @@ use harmonics_book::Units;
 use std::alloc::{AllocError, Global};
 use zone_time::write_moment;
 
-/// The sheet `range`: the station's name; a line such as `Highest 1.00 feet 2000-01-10T11:59Z` for the
-/// first of the highest high waters; and a line such as `Lowest -1.00 feet 2000-01-10T06:00Z` for the
-/// first of the lowest low waters.
+/// The sheet (page of a report) called `range`: the station's name; a line such as
+/// `Highest 1.00 feet 2000-01-10T11:59Z` for the highest high water; and a line such as
+/// `Lowest -1.00 feet 2000-01-10T06:00Z` for the lowest low water. Of equal ones the first counts;
+/// without high or low waters the line is absent.
 pub type Ranges = SheetOf<RangesPage>;
 
-/// The layout of the sheet `range`, [`Ranges`].
+/// Defines the text of the sheet (page of a report) called `range`; see [`Ranges`].
 pub struct RangesPage;
 
 impl Layout for RangesPage {

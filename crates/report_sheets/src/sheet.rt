@@ -13,10 +13,10 @@ use curve_law::Event;
 use decimal_text::{Bytes, Text};
 use std::alloc::AllocError;
 
-/// A listing of events in some layout. A sheet is opened with a head, accepts events up to its limit,
-/// and returns the text for this head and these events.
+/// A page of a report. It is opened with a head (the station's name, the unit and the minute of the
+/// report), accepts events up to its limit, and returns its text for this head and these events.
 ///
-/// Its word, its limit and its layout never change.
+/// The word that requests the sheet, its limit and its layout never change.
 pub trait Sheet: Drop {
     /// The word, the limit and the layout of the sheet.
     ghost sheet_spec: { Self → SheetSpec };
@@ -28,16 +28,16 @@ pub trait Sheet: Drop {
     /// accepted them.
     ghost list: { Self → List Event };
 
-    /// Returns true if `word` is the sheet's word. It doesn't allocate.
+    /// Returns true if `word` is the word that requests this sheet. It doesn't allocate.
     fn named(&self, word: &Text) -> bool
         ensures { result ≡ bytes_eq word.now (sheet_spec self.now).word };
 
-    /// Opens the sheet with `head` and an empty list.
+    /// Stores a copy of `head` and removes all events from the sheet.
     ///
-    /// The name has no control characters, and the unit isn't knots squared.
+    /// The name in `head` has no control characters, and the unit isn't knots squared.
     ///
     /// # Errors
-    /// [`AllocError`] if memory runs out: then the list is empty too, and the head is unchanged.
+    /// [`AllocError`] if memory runs out: then all events are removed too, and the old head stays.
     fn open(&mut self, head: &Head) -> Result<(), AllocError>
         requires { IsHead head.now }
         ensures unchanged { sheet_spec self.new ≡ sheet_spec self.old }
@@ -45,10 +45,11 @@ pub trait Sheet: Drop {
         ensures ok { OnOk result (heading self.new ≡ head.entry.now) }
         ensures err { OnErr result (heading self.new ≡ heading self.old) };
 
-    /// Appends `event`, or returns [`Taken::Full`] if the list has as many events as the limit.
+    /// Appends `event` to the sheet's events and returns [`Taken::Kept`], or changes nothing and
+    /// returns [`Taken::Full`] if there are as many events as the limit.
     ///
-    /// The event has a [`word`](event_text::word) in the head's unit, a level in millionths of this
-    /// unit, and a minute in the years 2 to 9300 or on the day before them.
+    /// The event has a name in the head's unit ([`word`](event_text::word)), a level in millionths of
+    /// this unit, and a minute in the years 2 to 9300 or on the day before them.
     ///
     /// # Errors
     /// [`AllocError`] if memory runs out: then nothing changes.
@@ -60,7 +61,10 @@ pub trait Sheet: Drop {
         ensures list { OnOk result (list self.new ≡ list_after (sheet_spec self.old).limit (list self.old) event.now) }
         ensures err { OnErr result (list self.new ≡ list self.old) };
 
-    /// Returns the text of the head and the list in the sheet's layout.
+    /// Returns the page's text for the sheet's head and events.
+    ///
+    /// # Errors
+    /// [`AllocError`] if memory runs out.
     fn text(&self) -> Result<Bytes, AllocError>
         ensures { IfOk result (λ text. text ≡ (sheet_spec self.now).layout (heading self.now) (list self.now)) };
 

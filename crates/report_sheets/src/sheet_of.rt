@@ -13,7 +13,7 @@ use decimal_text::{Bytes, Text};
 use std::alloc::{AllocError, Global};
 use std::marker::PhantomData;
 
-/// A sheet that collects its events, and writes them in the layout `L` at the end.
+/// A sheet (page of a report) that collects its events and writes its text by the layout `L`.
 #[derive(Drop)]
 pub struct SheetOf<L> {
     collected: Collected,
@@ -21,7 +21,8 @@ pub struct SheetOf<L> {
 }
 
 impl<L: Layout> SheetOf<L> {
-    /// Returns a sheet that accepts at most `limit` events; `limit` is from 1 to 1,000,000. It doesn't
+    /// Returns a sheet (page of a report) that accepts at most `limit` events, from 1 to 1,000,000. It
+    /// has no events yet, and a head with an empty name, the unit feet and minute 0. The call doesn't
     /// allocate.
     pub fn new(alloc: Global, limit: u32) -> SheetOf<L>
         requires { IsLimit limit }

@@ -1,6 +1,6 @@
 //! The answer of a sheet to an event.
 
-/// The result of passing an event to a sheet: whether the sheet took it.
+/// The answer of a report's sheet to one more event: whether it has appended the event.
 #[derive(Clone, Copy, PartialEq, Eq)]
 pub enum Taken {
     /// The event was appended to the sheet's list.

@@ -30,11 +30,11 @@ const NAMES: [EventWord; 10] = [
     EventWord::MarkFalling,
 ];
 
-/// The sheet `tally`, which counts events: the station's name, and a line such as `2 High Tide` for each
-/// name that an event has.
+/// The sheet (page of a report) called `tally`, which counts events: the station's name, and a line
+/// such as `2 High Tide` for each name that at least one event has.
 pub type Tally = SheetOf<TallyPage>;
 
-/// The layout of the sheet `tally`, [`Tally`].
+/// Defines the text of the sheet (page of a report) called `tally`; see [`Tally`].
 pub struct TallyPage;
 
 impl Layout for TallyPage {

@@ -5,34 +5,36 @@ use Rattle.year_blend.specs.Weights.{total_weight}
 use Rattle.station_curve.specs.Waves.{amount_of, steepness_of}
 use Rattle.station_curve.specs.Curves.{Prediction, waves_for}
 
--- the greatest of the first `count` values of a list, counted from 0; 0 if `count` is 0
+-- the greatest of the first `count` values, `value 0` to `value (count - 1)`; 0 if `count` is 0
 unfoldable pub greatest_of : (ℕ → ℕ) → ℕ → ℕ
 greatest_of value zero = 0
 greatest_of value (suc count) = max (greatest_of value count) (value count)
 
--- the greatest sum of the sizes of the amplitudes in any year that a prediction needs, in millionths of
--- the station's unit
+-- the greatest sum, in any year that the prediction c needs, of the absolute values of the waves'
+-- amplitudes, in millionths of the station's unit
 abbrev pub greatest_amount : Prediction → ℕ
 greatest_amount c = greatest_of (λ year. amount_of (waves_for c year)) c.book.years
 
--- the greatest sum of the sizes of the amplitudes times the speeds in any year that a prediction needs,
--- in millionths of the station's unit times units of 1/600,000,000 degree a minute
+-- the greatest sum, in any year that the prediction c needs, of the absolute value of a wave's
+-- amplitude, in millionths of the station's unit, multiplied by the wave's speed, in units of
+-- 1/600,000,000 degree a minute
 abbrev pub greatest_steepness : Prediction → ℕ
 greatest_steepness c = greatest_of (λ year. steepness_of (waves_for c year)) c.book.years
 
--- the most that an approximate level differs from the level, in billionths of a millionth of the
--- station's unit, times 4,147,200,000 (the total weight of a blend)
+-- a bound on the difference between the approximate level and the level at each minute of the
+-- prediction c, in billionths of a millionth of the station's unit, multiplied by 4,147,200,000 (the
+-- total weight of a blend)
 unfoldable pub level_error_of : Prediction → ℕ
 level_error_of c = total_weight * (approximate_error * greatest_amount c)
 
--- the most that a slope changes, for each millionth of an amplitude, because speeds are rounded down to
--- multiples of 2^9 units of 1/600,000,000 degree a minute: at most 2^9 - 1 units, times the greatest
--- sine of 10^9 billionths
+-- a bound on the change of a slope, for each millionth of an amplitude, because approximate slopes
+-- round speeds down to multiples of 2^9 units of 1/600,000,000 degree a minute: 2^9 units times the
+-- greatest sine, 10^9 billionths
 abbrev pub speed_error : ℕ
 speed_error = 2 ^ 9 * 10 ^ 9
 
--- the most that an approximate slope differs from the slope, in billionths of a millionth of the
--- station's unit a minute, times 34,377,467,708 (the units of angle in a radian) and 4,147,200,000 (the
--- total weight of a blend)
+-- a bound on the difference between the approximate slope and the slope at each minute of the
+-- prediction c, in billionths of a millionth of the station's unit a minute, multiplied by
+-- 34,377,467,708 (the units of angle in a radian) and by 4,147,200,000 (the total weight of a blend)
 unfoldable pub slope_error_of : Prediction → ℕ
 slope_error_of c = total_weight * (approximate_error * greatest_steepness c + speed_error * greatest_amount c)

@@ -6,20 +6,24 @@ use Rattle.year_blend.specs.declared.parts.Place.TheVariants.{Plain, Blend}
 use Rattle.year_blend.specs.Places.{start_of}
 use Rattle.year_blend.specs.Weights.{total_weight, weight_of, weight_slope_of}
 
--- the number of minutes from an hour before the start of year `year`, counted from 0, to minute m
+-- the number of minutes from one hour before the start of the year with index `year` (0 for
+-- `first_year`) to minute m
 abbrev pub minutes_into : ℤ → ℕ → ℤ → ℕ
 minutes_into first_year year m = unsigned_abs ((m -ℤ start_of first_year year) +ℤ pos 60)
 
--- A level or slope, times the total weight of a blend, at a position, from the values that each year's
--- constants give: outside the blends at new years the year's value times the total weight; in a blend the
--- sum of both years' values, each times its weight.
+-- a level or slope at a position, multiplied by the total weight of a blend. `value` gives each year's
+-- level or slope, by the year's index. Outside the blends at new years the result is the year's value
+-- times the total weight; in a blend it is the sum of the earlier and the later year's values, each
+-- times its weight.
 abbrev pub blended : (ℕ → ℤ) → Place → ℤ
 blended value (Plain year) = pos total_weight *ℤ value year
 blended value (Blend year x) =
     ((pos total_weight -ℤ weight_of x) *ℤ value (year - 1)) +ℤ (weight_of x *ℤ value year)
 
--- the part of the slope that is due to the changing weight in a blend, from each year's level; 0
--- outside the blends at new years
+-- what the change of the weights in a blend adds to the slope, in billionths of a millionth of the
+-- station's unit a minute, multiplied by 34,377,467,708 (the units of angle in a radian) and by
+-- 4,147,200,000 (the total weight of a blend); 0 outside the blends at new years. `level` gives each
+-- year's level, by the year's index, in billionths of a millionth of the station's unit
 abbrev pub drift : (ℕ → ℤ) → Place → ℤ
 drift level (Plain year) = pos 0
 drift level (Blend year x) =

@@ -3,18 +3,21 @@
 use Rattle.std.specs.Prelude.{ℕ, ◌*◌, ◌^◌, ◌≤◌, unsigned_abs}
 use Rattle.station_curve.specs.declared.year_sums.Sums.{Sums}
 
--- the greatest sum of the sizes of the amplitudes that a station may have in a year, in millionths of
--- its unit
+-- the limit on the sum of the absolute values of a station's amplitudes in one year, in millionths of
+-- the station's unit
 abbrev pub most_amount : ℕ
 most_amount = 10 ^ 9
 
--- the greatest sum of the sizes of the amplitudes times the speeds that a station may have in a year,
--- in millionths of its unit times units of 1/600,000,000 degree a minute
+-- the limit on the sum over a station's constituents in one year of the absolute value of the
+-- amplitude, in millionths of the station's unit, multiplied by the speed, in units of 1/600,000,000
+-- degree a minute
 abbrev pub most_steepness : ℕ
 most_steepness = 10 ^ 17
 
--- the four sums of a year are within the limits of a station with a curve: the amplitudes at most 10^9,
--- times the speeds at most 10^17; and so the changes in a minute of level and slope, too
+-- the four sums of a year are within the limits of a station with a curve: `amount`, the sum of the
+-- amplitudes in millionths, is at most 10^9, and `steep`, the sum of amplitude times speed, at most
+-- 10^17; it follows that `near` and `far`, the bounds on the change of the level and the slope in a
+-- minute, are limited too
 pub record AreWithinLimits (s : Sums) : Type 0 where
   pub amount : unsigned_abs s.amount ≤ most_amount
   pub steep : unsigned_abs s.steep ≤ most_steepness

@@ -13,58 +13,64 @@ use Rattle.year_blend.specs.Places.{start_of, place_of}
 use Rattle.year_blend.specs.Weights.{total_weight}
 use Rattle.station_curve.specs.Levels.{blended, drift}
 
--- the indices of a book's constituents, counted from 0, in its order
+-- the indices of the book's constituents, from 0 up to but not including their number
 abbrev pub constituents_of : Book → List ℕ
 constituents_of b = range_with_len 0 (length b.constituents)
 
--- the speed of constituent k, counted from 0, in units of 1/600,000,000 degree a minute
+-- the speed of the constituent with index k (0 for the book's first), in units of 1/600,000,000 degree
+-- a minute
 abbrev pub speed_of : Book → ℕ → ℤ
 speed_of b k = slice_index_or (map (λ c. c.speed) b.constituents) k (pos 0)
 
--- the amplitude of constituent k times the node factor of the year, both counted from 0, in whole
--- millionths of the station's unit, a half rounded away from 0
+-- the amplitude of the constituent with index k, multiplied by its node factor in the year with index
+-- `year` (both counted from 0), in whole millionths of the station's unit; a half is rounded away from
+-- 0
 abbrev pub amplitude_of : Book → Station → ℕ → ℕ → ℤ
 amplitude_of b s year k =
     rounded_of (slice_index_or s.amplitude k (pos 0) *ℤ slice_index_or b.factors (k * b.years + year) (pos 0)) 1000000
 
--- the angle of the cosine of constituent k at minute m, in units of 1/600,000,000 degree: from the
--- speed, the minutes since the year began, the meridian, the year's equilibrium argument and the epoch
+-- the angle, not reduced to one turn, of the cosine of the constituent with index k at minute m by the
+-- constants of the year with index `year` (both counted from 0), in units of 1/600,000,000 degree: the
+-- speed times the minutes since the year began at the station's meridian, plus the year's equilibrium
+-- argument, minus the epoch
 abbrev pub angle_of : Book → Station → ℕ → ℤ → ℕ → ℤ
 angle_of b s year m k =
     (speed_of b k *ℤ ((m -ℤ start_of b.first_year year) +ℤ s.meridian))
     +ℤ (pos 60 *ℤ (slice_index_or b.angles (k * b.years + year) (pos 0) -ℤ slice_index_or s.epoch k (pos 0)))
 
--- the angle of the cosine of constituent k at minute m, in units of 1/600,000,000 degree, reduced to
--- the circle
+-- the phase of the constituent with index k at minute m by the constants of the year with index `year`
+-- (both counted from 0): the angle of its cosine, reduced to one turn, in units of 1/600,000,000 degree
 abbrev pub phase_of : Book → Station → ℕ → ℤ → ℕ → ℕ
 phase_of b s year m k = unsigned_abs (int_rem_euclid (angle_of b s year m k) (pos circle))
 
--- the level at minute m by one year's constants, in billionths of a millionth of the station's unit
+-- the level at minute m by the constants of the year with index `year` (0 for the book's first), in
+-- billionths of a millionth of the station's unit
 unfoldable pub predicted_year_level : Book → Station → ℤ → ℕ → ℤ
 predicted_year_level b s m year =
     (pos (10 ^ 9) *ℤ s.datum)
     +ℤ fold (λ sum k. sum +ℤ (amplitude_of b s year k *ℤ icos_of (phase_of b s year m k))) (pos 0) (constituents_of b)
 
--- the slope at minute m by one year's constants, in billionths of a millionth of the station's unit a
--- minute, times 34,377,467,708 (the units of angle in a radian)
+-- the slope at minute m by the constants of the year with index `year` (0 for the book's first), in
+-- billionths of a millionth of the station's unit a minute, multiplied by 34,377,467,708 (the units of
+-- angle in a radian)
 unfoldable pub predicted_year_slope : Book → Station → ℤ → ℕ → ℤ
 predicted_year_slope b s m year =
     neg_ℤ (fold (λ sum k. sum +ℤ ((amplitude_of b s year k *ℤ speed_of b k) *ℤ isin_of (phase_of b s year m k))) (pos 0)
     (constituents_of b))
 
--- the level at minute m, in billionths of a millionth of the station's unit, times 4,147,200,000 (the
--- total weight of a blend)
+-- the level at minute m, in billionths of a millionth of the station's unit, multiplied by
+-- 4,147,200,000 (the total weight of a blend)
 unfoldable pub predicted_level : Book → Station → ℤ → ℤ
 predicted_level b s m = blended (predicted_year_level b s m) (place_of b.first_year b.years m)
 
 -- the slope at minute m, the change of the level per minute, in billionths of a millionth of the
--- station's unit a minute, times 34,377,467,708 (the units of angle in a radian) and 4,147,200,000 (the
--- total weight of a blend)
+-- station's unit a minute, multiplied by 34,377,467,708 (the units of angle in a radian) and by
+-- 4,147,200,000 (the total weight of a blend)
 unfoldable pub predicted_slope : Book → Station → ℤ → ℤ
 predicted_slope b s m =
     blended (predicted_year_slope b s m) (place_of b.first_year b.years m)
     +ℤ drift (predicted_year_level b s m) (place_of b.first_year b.years m)
 
--- the level at minute m in whole millionths of the station's unit, a half rounded away from 0
+-- the level at minute m in whole millionths of the station's unit; a half is rounded away from 0
 unfoldable pub predicted_millionths : Book → Station → ℤ → ℤ
 predicted_millionths b s m = rounded_of (predicted_level b s m) (total_weight * 10 ^ 9)

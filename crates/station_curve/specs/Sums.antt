@@ -1,33 +1,34 @@
--- Sums over the waves of a year: bounds on their size, and on their change in a minute (this project, by
--- the sine's rate law).
+-- Sums over the waves of a year that bound the level and the slope, and the change of each in a minute
+-- (this project, by the sine's rate law).
 use Rattle.std.specs.Prelude.{ℕ, ◌*◌, List, pos, unsigned_abs, sum_by}
 use Rattle.fixed_sine.specs.Rate.{step_of}
 use Rattle.station_curve.specs.declared.year_sums.Sums.{Sums}
 use Rattle.station_curve.specs.Waves.{WaveSpec, amount_of, steepness_of}
 
--- the most that a wave's height (its part of the level) changes in a minute, in billionths of a
+-- a bound on the change of a wave's height (what it adds to the level) in a minute, in billionths of a
 -- millionth of the station's unit
 abbrev pub height_rate_of : WaveSpec → ℕ
 height_rate_of h = unsigned_abs h.amplitude * step_of h.speed
 
--- the most that a wave's fall (minus its part of the slope) changes in a minute; a fall is in
--- billionths of a millionth of the station's unit a minute, times 34,377,467,708 (the units of angle in
--- a radian)
+-- a bound on the change of a wave's fall (what it adds to the slope, negated) in a minute; a fall is in
+-- billionths of a millionth of the station's unit a minute, multiplied by 34,377,467,708 (the units of
+-- angle in a radian)
 abbrev pub fall_rate_of : WaveSpec → ℕ
 fall_rate_of h = unsigned_abs h.amplitude * h.speed * step_of h.speed
 
--- the most that the sum of the waves' heights changes in a minute, in billionths of a millionth of the
--- station's unit
+-- a bound on the change in a minute of the sum of the waves' heights (the level less the mean level),
+-- in billionths of a millionth of the station's unit
 abbrev pub near_of : List WaveSpec → ℕ
 near_of hs = sum_by height_rate_of hs
 
--- the most that the sum of the waves' falls (minus the slope) changes in a minute; a fall is in
--- billionths of a millionth of the station's unit a minute, times 34,377,467,708 (the units of angle in
--- a radian)
+-- a bound on the change in a minute of the sum of the waves' falls (the negated slope); a fall is in
+-- billionths of a millionth of the station's unit a minute, multiplied by 34,377,467,708 (the units of
+-- angle in a radian)
 abbrev pub far_of : List WaveSpec → ℕ
 far_of hs = sum_by fall_rate_of hs
 
--- the four sums (`amount`, `steep`, `near`, `far`) of a year's waves
+-- the four sums (`amount`, `steep`, `near`, `far`) over a year's waves `hs`; the fields of `Sums` say
+-- the units
 abbrev pub sums_of : List WaveSpec → Sums
 sums_of hs = record {
   amount = pos (amount_of hs);

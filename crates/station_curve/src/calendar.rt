@@ -5,8 +5,11 @@ ghost use Rattle.station_curve.specs.Workings.NumberRanges.{IsPlainYear};
 
 use year_blend::{Place, place};
 
-/// Returns the year, counted from 0 among `years` years from `first_year` on, whose plain part contains
-/// minute `m`. Returns `None` if `m` is less than an hour from a new year between two of these years.
+/// Returns the index (0 for `first_year`) of the year that contains minute `m`, or `None` if `m` is
+/// less than an hour from a new year between two of the years. There are `years` calendar years from
+/// `first_year` on; `first_year` is from 2 to 8800 and `years` from 1 to 500. `m` is counted from
+/// 1970-01-01T00:00Z, and is in these years or the first minute after them, which belongs to the last
+/// year.
 #[cold]
 #[inline(never)]
 pub fn calendar_year_of(first_year: i32, years: u32, m: i64) -> Option<u32>

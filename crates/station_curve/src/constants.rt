@@ -39,17 +39,17 @@ use fixed_sine::reduce;
 use harmonics_book::{Station, ValidBook};
 use std::alloc::{AllocError, Global};
 
-/// The greatest sum of the sizes of the amplitudes that a station may have in a year, in millionths of
+/// The limit on the sum of the absolute values of a station's amplitudes in one year, in millionths of
 /// the station's unit.
 pub const MOST_AMOUNT: u64 = 1_000_000_000;
 
-/// The greatest sum of the sizes of the amplitudes times the speeds that a station may have in a year.
-/// Amplitudes are in millionths of the station's unit, speeds in units of 1/600,000,000 degree a
-/// minute.
+/// The limit on the sum, over a station's constituents in one year, of the absolute value of the
+/// amplitude multiplied by the speed. Amplitudes are in millionths of the station's unit, speeds in
+/// units of 1/600,000,000 degree a minute.
 pub const MOST_STEEPNESS: u128 = 100_000_000_000_000_000;
 
-/// Returns the indices, in the book's list and in its order, of the constituents that have an amplitude
-/// other than 0 at `station`.
+/// Returns the indices (0 for the first) of the book's constituents that have an amplitude other than 0
+/// at `station`, in ascending order.
 ///
 /// # Errors
 /// [`AllocError`] if memory runs out.
@@ -71,13 +71,14 @@ pub fn present_places(
     Ok(places)
 }
 
-/// Checks that the constants of year `year`, counted from 0 in the book, don't exceed [`MOST_AMOUNT`]
-/// or [`MOST_STEEPNESS`]. `present` are the indices of the constituents with an amplitude other than 0.
+/// Checks that the constants of `station` in the year with index `year` (0 for the book's first year)
+/// don't exceed [`MOST_AMOUNT`] or [`MOST_STEEPNESS`]. `present` holds the indices of the constituents
+/// with an amplitude other than 0.
 ///
 /// # Errors
-/// [`CurveFault::TooLarge`] if the sizes of the amplitudes sum to more than 1,000,000,000 millionths of
-/// the station's unit; otherwise [`CurveFault::TooSteep`] if the sizes times the speeds, in units of
-/// 1/600,000,000 degree a minute, sum to more than 10^17.
+/// [`CurveFault::TooLarge`] if the absolute values of the amplitudes sum to more than 1,000,000,000
+/// millionths of the station's unit; otherwise [`CurveFault::TooSteep`] if, each multiplied by the
+/// constituent's speed in units of 1/600,000,000 degree a minute, they sum to more than 10^17.
 pub fn check_year(
     book: &ValidBook<'_>,
     station: &Station,
@@ -103,8 +104,9 @@ pub fn check_year(
     Ok(())
 }
 
-/// Returns the calendar year, such as 2000, of the book's year `year`, counted from 0; `year` may be
-/// one past the last.
+/// Returns the calendar year, such as 2000, of the year with index `year` (0 for the book's first
+/// year). `year` is at most the number of the book's years, for which the result is the year after the
+/// last.
 pub fn calendar_year(book: &ValidBook<'_>, year: u32) -> i32
     requires { year ≤ book.now.years }
     ensures value { result ≡ book.now.first_year +ℤ pos year }
@@ -121,8 +123,9 @@ fn count(book: &ValidBook<'_>) -> usize
     book.get().constituents.as_slice().len()
 }
 
-/// Returns the sum of the sizes of the amplitudes in year `year`, counted from 0, in millionths of the
-/// station's unit, and the sum of each size times the speed in units of 1/600,000,000 degree a minute.
+/// Returns the sum of the absolute values of the amplitudes in the year with index `year` (0 for the
+/// book's first year), in millionths of the station's unit, and the sum of each size times the speed in
+/// units of 1/600,000,000 degree a minute.
 fn sums(book: &ValidBook<'_>, station: &Station, present: &[usize], year: u32) -> (u64, u128)
     requires station { IsStation (length book.now.constituents) station.now }
     requires present { present.now ≡ present_in book.now station.now }
@@ -142,9 +145,9 @@ fn sums(book: &ValidBook<'_>, station: &Station, present: &[usize], year: u32) -
     (amount, steepness)
 }
 
-/// Returns the waves of year `year`, counted from 0, if `is_asked`, and otherwise no waves. `is_asked`
-/// says that the year is needed for the minutes of the curve. `present` are the indices of the
-/// constituents with an amplitude other than 0.
+/// Returns the waves of `station` in the year with index `year` (0 for the book's first year) with an
+/// amplitude other than 0, or no waves if `is_asked` is false: then the curve's minutes don't need this
+/// year. `present` holds the indices of the constituents with an amplitude other than 0.
 ///
 /// # Errors
 /// [`AllocError`] if memory runs out.
@@ -169,8 +172,9 @@ pub fn waves_if_asked(
     }
 }
 
-/// Returns the waves of year `year`, counted from 0, except for constituents without an
-/// amplitude. The year's constants don't exceed `MOST_AMOUNT` or `MOST_STEEPNESS`.
+/// Returns the waves of the year with index `year` (0 for the book's first year), except for
+/// constituents without an amplitude. The year's constants don't exceed `MOST_AMOUNT` or
+/// `MOST_STEEPNESS`.
 fn year_waves(
     alloc: Global,
     book: &ValidBook<'_>,
@@ -233,8 +237,8 @@ fn place_in_table(book: &ValidBook<'_>, year: u32, k: usize) -> usize
     k * book.get().years as usize + year as usize
 }
 
-/// Returns the speed of the constituent at index `k` in the book, in units of 1/600,000,000 degree a
-/// minute.
+/// Returns the speed of the constituent with index `k` (0 for the book's first), in units of
+/// 1/600,000,000 degree a minute.
 pub fn speed(book: &ValidBook<'_>, k: usize) -> u64
     requires place { k < length book.now.constituents }
     ensures value { pos result ≡ speed_of book.now k }

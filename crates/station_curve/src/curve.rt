@@ -38,13 +38,14 @@ use std::alloc::{AllocError, Global};
 use std::marker::Model;
 use year_blend::{Place, TOTAL_WEIGHT, weight};
 
-/// The predicted tide of a station: its level and slope at each minute of a book's years, or of a part of
-/// them.
+/// The predicted tide of a station: its level and slope at each minute of a book's years, or of a range
+/// of minutes in these years.
 ///
-/// Minutes are counted from 1970-01-01T00:00Z. Levels are in billionths of a millionth of the station's
-/// unit, times 4,147,200,000, the total weight of a blend ([`TOTAL_WEIGHT`]). Slopes are the change of
-/// such a level in a minute, times 34,377,467,708 (the units of angle in a radian). Only `new` and
-/// `over` allocate.
+/// Minutes are counted from 1970-01-01T00:00Z. A level is in billionths of a millionth of the station's
+/// unit, multiplied by [`TOTAL_WEIGHT`] (4,147,200,000, the total weight of a blend). A slope, the
+/// change of the level per minute, is in billionths of a millionth of the station's unit a minute,
+/// multiplied by [`TOTAL_WEIGHT`] and by 34,377,467,708 (the units of angle in a radian). Only `new`
+/// and `over` allocate.
 #[derive(Drop)]
 pub struct StationCurve {
     origin: Origin,
@@ -77,13 +78,14 @@ impl StationCurve {
     ghost use Rattle.station_curve.specs.Limits.{AreWithinLimits};
     ghost use Rattle.station_curve.specs.Workings.NumberRanges.{IsPlaceUsed, IsPlainYearOf};
 
-    /// Returns the curve, for all minutes of the book's years, of the station with index `station` in
-    /// the book's list.
+    /// Returns the curve of the station with index `station` (0 for the book's first station), for all
+    /// minutes of the book's years and the first minute after them.
     ///
     /// # Errors
-    /// [`CurveFault::Hydraulic`] for a hydraulic current; otherwise the fault of the first year with
-    /// constants beyond a limit: [`CurveFault::TooLarge`], which precedes [`CurveFault::TooSteep`];
-    /// [`CurveFault::NoMemory`] if memory runs out.
+    /// [`CurveFault::Hydraulic`] if the station is a hydraulic current; otherwise
+    /// [`CurveFault::TooLarge`] or [`CurveFault::TooSteep`] for the first year of the book with
+    /// constants beyond a limit (`TooLarge` if the year exceeds both limits); [`CurveFault::NoMemory`]
+    /// if memory runs out.
     ///
     /// # Examples
     /// ```
@@ -106,17 +108,18 @@ impl StationCurve {
         StationCurve::of_station(alloc, &book, station, all_minutes(&book))
     }
 
-    /// Returns the curve of the station with index `station` in the book's list, for the minutes from
-    /// `first` to `last`, both included. Each of the two is in the book's years or the first minute
-    /// after them.
+    /// Returns the curve of the station with index `station` (0 for the book's first station), for the
+    /// minutes from `first` to `last`, both included. `first` and `last` are counted from
+    /// 1970-01-01T00:00Z, and are in the book's years or the first minute after them.
     ///
-    /// A year that is more than an hour from these minutes has no waves, so the curve has no other
-    /// minutes. It is made faster than the curve of all minutes.
+    /// The curve has no waves for a year that is more than an hour from these minutes, so it is made
+    /// faster than the curve of all minutes.
     ///
     /// # Errors
-    /// [`CurveFault::Hydraulic`] for a hydraulic current; otherwise the fault of the first year of the
-    /// book with constants beyond a limit: [`CurveFault::TooLarge`], which precedes
-    /// [`CurveFault::TooSteep`]; [`CurveFault::NoMemory`] if memory runs out.
+    /// [`CurveFault::Hydraulic`] if the station is a hydraulic current; otherwise
+    /// [`CurveFault::TooLarge`] or [`CurveFault::TooSteep`] for the first year of the book with
+    /// constants beyond a limit (`TooLarge` if the year exceeds both limits); [`CurveFault::NoMemory`]
+    /// if memory runs out.
     pub fn over(
         alloc: Global,
         book: &Book,
@@ -189,16 +192,16 @@ impl StationCurve {
         }
     }
 
-    /// Returns the first minute, since 1970-01-01T00:00Z, that has a level. For a curve of all minutes
-    /// this is the first minute of the book's years.
+    /// Returns the first minute, since 1970-01-01T00:00Z, at which the curve has a level. For a curve
+    /// of all minutes of its book this is the first minute of the book's years.
     pub fn first(&self) -> i64
         ensures { result ≡ self.now.first }
     {
         self.minutes.first
     }
 
-    /// Returns the last minute, since 1970-01-01T00:00Z, that has a level. For a curve of all minutes
-    /// this is the first minute after the book's years.
+    /// Returns the last minute, since 1970-01-01T00:00Z, at which the curve has a level. For a curve of
+    /// all minutes of its book this is the first minute after the book's years.
     pub fn last(&self) -> i64
         ensures { result ≡ self.now.last }
     {
@@ -219,9 +222,9 @@ impl StationCurve {
         self.years.len() as u32
     }
 
-    /// Returns the four sums (`amount`, `steep`, `near`, `far`) over the waves of the year with index
-    /// `year`, counted from 0. All are 0 if the year is more than an hour from the curve's minutes. The
-    /// units are at the fields of [`Sums`].
+    /// Returns the four sums (`amount`, `steep`, `near`, `far`) over the station's waves in the year
+    /// with index `year` (0 for the book's first year). All four are 0 if the year is more than an hour
+    /// from the curve's minutes. The fields of [`Sums`] say the units.
     pub fn sums(&self, year: u32) -> Sums
         requires { year < self.now.book.years }
         ensures value { result ≡ sums_for self.now year }
@@ -230,17 +233,18 @@ impl StationCurve {
         self.years[year as usize].sums
     }
 
-    /// Does nothing. Its contract says that the station's constants are within the limits of
-    /// [`CurveFault`] in each year, and that the minutes are in the book's years or the first minute
-    /// after them.
+    /// Does nothing at run time. Its contract states that the station's constants are within the limits
+    /// of a curve in each year (the sums that [`CurveFault::TooLarge`] and [`CurveFault::TooSteep`]
+    /// name), and that the curve's minutes are in the book's years or the first minute after them.
     pub fn limits_hold(&self)
         ensures { IsPrediction self.now }
     {
         let _first_year = self.first_year;
     }
 
-    /// Returns the level at minute `m`, from `first()` to `last()`, in billionths of a millionth of the
-    /// station's unit, times [`TOTAL_WEIGHT`] (4,147,200,000).
+    /// Returns the level at minute `m`, counted from 1970-01-01T00:00Z, from `first()` to `last()`. The
+    /// level is in billionths of a millionth of the station's unit, multiplied by [`TOTAL_WEIGHT`]
+    /// (4,147,200,000).
     pub fn level(&self, m: i64) -> i128
         requires { IsPredicted self.now m }
         ensures value { result ≡ predicted_level self.now.book self.now.station m }
@@ -256,9 +260,10 @@ impl StationCurve {
         }
     }
 
-    /// Returns the slope at minute `m`, from `first()` to `last()`: the change of the level in a
-    /// minute, in billionths of a millionth of the station's unit, times [`TOTAL_WEIGHT`]
-    /// (4,147,200,000) and 34,377,467,708 (the units of angle in a radian).
+    /// Returns the slope at minute `m`, counted from 1970-01-01T00:00Z, from `first()` to `last()`. The
+    /// slope is the change of the level in billionths of a millionth of the station's unit a minute,
+    /// multiplied by [`TOTAL_WEIGHT`] (4,147,200,000) and by 34,377,467,708 (the units of angle in a
+    /// radian).
     pub fn slope(&self, m: i64) -> i128
         requires { IsPredicted self.now m }
         ensures value { result ≡ predicted_slope self.now.book self.now.station m }
@@ -277,8 +282,10 @@ impl StationCurve {
         }
     }
 
-    /// Returns the level at minute `m` in the unit of [`level`](StationCurve::level), but faster, and
-    /// to within [`level_error`](StationCurve::level_error). In the blends at new years it is exact.
+    /// Returns an approximation of the level at minute `m`, faster than [`level`](StationCurve::level).
+    /// It differs from the level by at most [`level_error`](StationCurve::level_error), and is exact
+    /// less than an hour from a new year between two of the book's years. It is in billionths of a
+    /// millionth of the station's unit, multiplied by [`TOTAL_WEIGHT`] (4,147,200,000).
     #[inline(always)]
     pub fn approximate_level(&self, m: i64) -> i128
         requires { IsPredicted self.now m }
@@ -292,8 +299,11 @@ impl StationCurve {
         }
     }
 
-    /// Returns the slope at minute `m` in the unit of [`slope`](StationCurve::slope), but faster, and
-    /// to within [`slope_error`](StationCurve::slope_error). In the blends at new years it is exact.
+    /// Returns an approximation of the slope at minute `m`, faster than [`slope`](StationCurve::slope).
+    /// It differs from the slope by at most [`slope_error`](StationCurve::slope_error), and is exact
+    /// less than an hour from a new year between two of the book's years. It is in billionths of a
+    /// millionth of the station's unit a minute, multiplied by [`TOTAL_WEIGHT`] (4,147,200,000) and by
+    /// 34,377,467,708 (the units of angle in a radian).
     #[inline(always)]
     pub fn approximate_slope(&self, m: i64) -> i128
         requires { IsPredicted self.now m }
@@ -307,8 +317,9 @@ impl StationCurve {
         }
     }
 
-    /// Returns a bound on the difference between an approximate level of the curve and the level, in
-    /// billionths of a millionth of the station's unit, times [`TOTAL_WEIGHT`] (4,147,200,000).
+    /// Returns a bound on the difference between the curve's approximate level and its level at each
+    /// minute, in billionths of a millionth of the station's unit, multiplied by [`TOTAL_WEIGHT`]
+    /// (4,147,200,000).
     pub fn level_error(&self) -> i128
         ensures value { result ≡ pos (level_error_of self.now) }
         ensures size { unsigned_abs result ≤ 2 * 10 ^ 24 }
@@ -316,9 +327,9 @@ impl StationCurve {
         error_of(self.greatest.amount)
     }
 
-    /// Returns a bound on the difference between an approximate slope of the curve and the slope, in
-    /// billionths of a millionth of the station's unit a minute, times [`TOTAL_WEIGHT`] (4,147,200,000)
-    /// and 34,377,467,708 (the units of angle in a radian).
+    /// Returns a bound on the difference between the curve's approximate slope and its slope at each
+    /// minute, in billionths of a millionth of the station's unit a minute, multiplied by
+    /// [`TOTAL_WEIGHT`] (4,147,200,000) and by 34,377,467,708 (the units of angle in a radian).
     pub fn slope_error(&self) -> i128
         ensures value { result ≡ pos (slope_error_of self.now) }
         ensures size { unsigned_abs result ≤ 2 * 10 ^ 32 }
@@ -326,8 +337,8 @@ impl StationCurve {
         error_of(self.greatest.steepness) + speed_error_of(self.greatest.amount)
     }
 
-    /// Returns the level at minute `m` in whole millionths of the station's unit, a half rounded away
-    /// from 0.
+    /// Returns the level at minute `m`, counted from 1970-01-01T00:00Z, in whole millionths of the
+    /// station's unit; a half is rounded away from 0.
     pub fn millionths(&self, m: i64) -> i64
         requires { IsPredicted self.now m }
         ensures value { result ≡ predicted_millionths self.now.book self.now.station m }

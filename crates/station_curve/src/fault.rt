@@ -7,19 +7,19 @@ use harmonics_book::Units;
 use std::alloc::{AllocError, AllocFailed};
 use thiserror::Error;
 
-/// The reason why a station has no curve: it can't be predicted.
+/// The reason why a station has no curve, and so no predictions.
 #[derive(Clone, Copy, Debug, PartialEq, Eq, Error)]
 pub enum CurveFault {
     /// The station's unit is `knots^2`: it is a hydraulic current.
     #[error("a hydraulic current")]
     Hydraulic,
-    /// In the calendar year `year`, the first beyond a limit, the sizes of the amplitudes sum to more
-    /// than 1,000,000,000 millionths of the station's unit.
+    /// The absolute values of the amplitudes in the calendar year `year` sum to more than 1,000,000,000
+    /// millionths of the station's unit. It is the book's first year beyond a limit.
     #[error("too large in {year}")]
     TooLarge { year: i32 },
-    /// In the calendar year `year`, the first beyond a limit, the sizes of the amplitudes in millionths
-    /// of the station's unit, times the speeds in units of 1/600,000,000 degree a minute, sum to more
-    /// than 10^17.
+    /// The absolute values of the amplitudes in the calendar year `year`, in millionths of the
+    /// station's unit, each multiplied by the speed in units of 1/600,000,000 degree a minute, sum to
+    /// more than 10^17. It is the book's first year beyond a limit.
     #[error("too steep in {year}")]
     TooSteep { year: i32 },
     #[error("no memory")]
@@ -48,8 +48,8 @@ impl<T: Drop> From<AllocFailed<T>> for CurveFault {
     }
 }
 
-/// Returns true if `units` is the unit of a hydraulic current, whose speed is the square root of the
-/// predicted value.
+/// Returns true if `units` is `knots^2`, the unit of a hydraulic current: its speed is the square root
+/// of the predicted value.
 pub fn is_hydraulic(units: Units) -> bool
     ensures { result ≡ is_hydraulic units }
 {

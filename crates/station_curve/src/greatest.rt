@@ -6,18 +6,20 @@ ghost use Rattle.station_curve.specs.Errors.{greatest_of};
 
 use crate::years::Year;
 
-/// For each of two sums over a station's waves in a year, the greatest value in any of its years; 0 if
-/// there is no year. The two can be of different years.
+/// The greatest amplitude sum and the greatest steepness sum of a station in any year; each is 0 if
+/// there is no year, and they can be of different years.
 #[derive(Clone, Copy)]
 pub struct Greatest {
-    /// The greatest sum of the sizes of the amplitudes, in millionths of the station's unit.
+    /// The greatest sum over a year's waves of the absolute value of the amplitude, in millionths of
+    /// the station's unit.
     pub amount: i128,
-    /// The greatest sum of the sizes of the amplitudes times the speeds. Amplitudes are in millionths
-    /// of the station's unit, speeds in units of 1/600,000,000 degree a minute.
+    /// The greatest sum over a year's waves of the absolute value of the amplitude, in millionths of
+    /// the station's unit, multiplied by the speed, in units of 1/600,000,000 degree a minute.
     pub steepness: i128,
 }
 
-/// Returns the greatest value of each sum in any of `years`, 0 if there is no year.
+/// Returns the greatest `amount` and the greatest `steep` of the sums of any of `years`; each is 0 if
+/// there is no year.
 pub fn greatest_of_years(years: &[Year]) -> Greatest
     ensures amount { (value : ℕ → ℕ)
         → ((k : ℕ) (d : Year) → k < length years.now → (slice_index_or years.now k d).sums.amount ≡ pos (value k))

@@ -12,10 +12,13 @@ ghost use Rattle.station_curve.specs.Errors.{level_error_of, slope_error_of};
 ghost use Rattle.station_curve.specs.Sums.{sums_of};
 ghost use Rattle.station_curve.specs.Worked.{small_book, small_station, small_wave, pier_book, shifted_book, pier, harbour_book, harbour};
 
-/// Proves heights and falls of a wave with an amplitude of one unit that turns by half a degree a
-/// minute. Heights are in billionths of a millionth of the station's unit. A fall, minus the wave's
-/// part of the slope, is in billionths of a millionth of the station's unit a minute, times
-/// 34,377,467,708 (the units of angle in a radian).
+/// Proves heights (what a wave adds to the level) and falls (what it adds to the slope, negated) of a
+/// wave with an amplitude of one unit that turns by half a degree a minute from phase 0 on. Its height
+/// is 1 unit at 0 minutes, a half at 120 minutes (60 degrees) and 0 at 180 (90 degrees); two such waves
+/// have -2 units at 360 (180 degrees). Its fall is 0 at 360 minutes and greatest at 180. Heights are in
+/// billionths of a millionth of the station's unit, falls in billionths of a millionth of the station's
+/// unit a minute, multiplied by 34,377,467,708 (the units of angle in a radian); `negsuc n` is -(n +
+/// 1).
 pub fn worked_waves()
     ensures top { heights_of 0 (small_wave ∷ []) ≡ pos (10 ^ 15) }
     ensures sixty_degrees { heights_of 120 (small_wave ∷ []) ≡ pos (5 * 10 ^ 14) }
@@ -25,8 +28,12 @@ pub fn worked_waves()
     ensures steepest { falls_of 180 (small_wave ∷ []) ≡ pos (3 * 10 ^ 23) }
 {}
 
-/// Proves examples of stations that have a curve, with the greatest amplitudes and speeds that one may
-/// have, and of each reason why a station has none.
+/// Proves which stations have a curve, for a book from 1999 to 2001 with one constituent (`small_book`,
+/// with its speed) and a station (`small_station`, with its amplitude and unit). At 30 degrees an hour
+/// an amplitude of 333.333333 feet is within the limit on amplitude times speed, and a millionth of a
+/// foot more is too steep, in 1999. At 10 degrees an hour 1,000 feet are within both limits, and a
+/// millionth more is too large, in 1999. For a hydraulic current (`KnotsSquared`) the reason is
+/// `Hydraulic`, even if a year exceeds a limit.
 pub fn worked_limits()
     ensures steepest { curve_of (small_book (pos 300000000) (pos 0)) (small_station (pos 333333333) Feet)
         ≡ Ok (prediction_of (small_book (pos 300000000) (pos 0)) (small_station (pos 333333333) Feet)) }
@@ -40,9 +47,10 @@ pub fn worked_limits()
         ≡ Err Hydraulic }
 {}
 
-/// Proves which of the years 1999 (year 0) to 2001 (year 2) are needed for some minutes: from an hour
-/// after the first minute of 2000 to an hour before the first of 2001, both included, and for these
-/// without the first one or the last one. A year is needed if it is at most an hour from these minutes.
+/// Proves which of the years 1999 (index 0) to 2001 (index 2) a curve needs: those at most an hour from
+/// its minutes. A curve from 01:00 UTC on 1 January 2000 to 23:00 on 31 December 2000 needs all three.
+/// If it begins at 01:01 it doesn't need 1999, which has no waves then; if it ends at 22:59 it doesn't
+/// need 2001.
 pub fn worked_reach()
     ensures hour_after { is_touched pier_book (pos 15778140) (pos 16305060) 0 ≡ true }
     ensures between { is_touched pier_book (pos 15778140) (pos 16305060) 1 ≡ true }
@@ -52,9 +60,12 @@ pub fn worked_reach()
     ensures no_waves { waves_over pier_book pier (pos 15778141) (pos 16305060) 0 ≡ [] }
 {}
 
-/// Proves amplitudes in millionths of a foot, each times the node factor of its year, and phases in
-/// units of 1/600,000,000 degree: one of 75.5 degrees, and one of 60 degrees that has turned by half a
-/// degree a minute later.
+/// Proves amplitudes and phases of two constituents, M2 (index 0) and S2 (index 1), in 2000 (year 0)
+/// and 2001 (year 1). Amplitudes are in millionths of a foot, multiplied by the year's node factor:
+/// 1.234 * 0.985 and 1.234 * 1.012345 feet for M2, 0.4 * 0.5 feet for S2. Phases are in units of
+/// 1/600,000,000 degree at 05:00 UTC on 1 January 2000, midnight at the station's meridian: 75.5
+/// degrees (the argument 120.5 less the epoch 45) for M2, 60 (0 less 300, plus 360) for S2, and half a
+/// degree more a minute later.
 pub fn worked_constants()
     ensures first_year { amplitude_of harbour_book harbour 0 0 ≡ pos 1215490 }
     ensures second_year { amplitude_of harbour_book harbour 1 0 ≡ pos 1249234 }
@@ -64,9 +75,14 @@ pub fn worked_constants()
     ensures a_minute_later { phase_of harbour_book harbour 0 (pos 15778381) 1 ≡ 36300000000 }
 {}
 
-/// Proves levels that another program computed, most in millionths of the station's unit, at minutes
-/// outside the blends at new years and inside them. The `predicted_level` is in billionths of a
-/// millionth of the station's unit, times 4,147,200,000 (the total weight of a blend).
+/// Proves levels that another program computed; times are UTC. The tide of `pier`, of 12 hours with an
+/// amplitude of one foot, is at 0.999962 feet at 11:59 on 10 January 2000. If it is 60 degrees ahead
+/// from 2000 on (`shifted_book`), its level is 0.5 feet at 22:00 and 0.866025 at 23:00 on 31 December
+/// 1999, 0.75 at the new year (the mean of both years' levels), 0 at 01:00 and -0.5 at 02:00; 23:01 is
+/// the first minute of the blend. The other station, `harbour`, is at 3.004334 feet at 05:00 on 1
+/// January 2000, in the blend at 00:20 on 1 January 2001, and at 1.303827 feet at 00:00 on 1 March
+/// 2001. `predicted_millionths` is in millionths of a foot; `predicted_level` is in billionths of a
+/// millionth of a foot, multiplied by 4,147,200,000 (the total weight of a blend).
 pub fn worked_levels()
     ensures noon { predicted_millionths pier_book pier (pos 15791759) ≡ pos 999962 }
     ensures two_hours_before { predicted_millionths shifted_book pier (pos 15777960) ≡ pos 500000 }
@@ -80,9 +96,13 @@ pub fn worked_levels()
     ensures harbour_2001 { predicted_millionths harbour_book harbour (pos 16390080) ≡ pos 1303827 }
 {}
 
-/// Proves slopes that another program computed, at minutes outside the blends at new years and inside
-/// them. They are in billionths of a millionth of the station's unit a minute, times 34,377,467,708
-/// (the units of angle in a radian) and 4,147,200,000 (the total weight of a blend).
+/// Proves slopes that another program computed; times are UTC. The tide of `pier`, highest at noon,
+/// rises at 11:59 on 10 January 2000, and its slope is 0 at 12:00. If it is 60 degrees ahead from 2000
+/// on (`shifted_book`), it still rises at 23:27 on 31 December 1999 and falls at 23:28, both in the
+/// blend at the new year. At the other station, `harbour`, the level falls at 05:00 on 1 January 2000
+/// and at 00:20 on 1 January 2001 (in the blend), and rises at 00:00 on 1 March 2001. Slopes are in
+/// billionths of a millionth of a foot a minute, multiplied by 34,377,467,708 (the units of angle in a
+/// radian) and by 4,147,200,000 (the total weight of a blend); `negsuc n` is -(n + 1).
 pub fn worked_slopes()
     ensures before_noon { predicted_slope pier_book pier (pos 15791759) ≡ pos 10857205785600000000000000000000 }
     ensures noon { predicted_slope pier_book pier (pos 15791760) ≡ pos 0 }
@@ -93,8 +113,9 @@ pub fn worked_slopes()
     ensures harbour_2001 { predicted_slope harbour_book harbour (pos 16390080) ≡ pos 802828425453686744053872844800000 }
 {}
 
-/// Proves the four sums (`amount`, `steep`, `near`, `far`) over the waves of a year, for one wave, for
-/// no wave, and for two waves in each of two years. The units are at the fields of `Sums`.
+/// Proves the four sums (`amount`, `steep`, `near`, `far`) over the waves of a year: for one wave with
+/// an amplitude of one unit and a speed of half a degree a minute, for no wave, and for the two waves
+/// of `harbour` in 2000 (year 0) and in 2001 (year 1). The fields of `Sums` say the units.
 pub fn worked_sums()
     ensures one_wave { sums_of (small_wave ∷ [])
         ≡ record { amount = pos 1000000; steep = pos (3 * 10 ^ 14); near = pos 8727001000000; far = pos 2618100300000000000000 } }
@@ -105,9 +126,11 @@ pub fn worked_sums()
         ≡ record { amount = pos 1449234; steep = pos 422079284261828; near = pos 12278286689384; far = pos 3576482855350780498128 } }
 {}
 
-/// Proves approximate levels: of one wave a minute before noon, at noon, and in a blend at a new year,
-/// where it is exact; and of two waves, in 2000 below the exact level and in 2001 above it. They are in
-/// billionths of a millionth of the station's unit, times 4,147,200,000 (the total weight of a blend).
+/// Proves approximate levels; times are UTC. They are of `pier`, highest at noon with one foot, at
+/// 11:59 and at 12:00 on 10 January 2000; of `shifted_book` at 23:01 on 31 December 1999, in the blend
+/// at a new year, where the approximate level is exact; and of `harbour` at 05:00 on 1 January 2000,
+/// below the exact level, and at 00:00 on 1 March 2001, above it. Levels are in billionths of a
+/// millionth of a foot, multiplied by 4,147,200,000 (the total weight of a blend).
 pub fn worked_approximate_levels()
     ensures before_noon { approximate_level_of pier_book pier (pos 15791759) ≡ pos 4146985539993600000000000 }
     ensures noon { approximate_level_of pier_book pier (pos 15791760) ≡ pos 4147257330892800000000000 }
@@ -116,10 +139,12 @@ pub fn worked_approximate_levels()
     ensures harbour_2001 { approximate_level_of harbour_book harbour (pos 16390080) ≡ pos 5407510534932765081600000 }
 {}
 
-/// Proves approximate slopes: of one wave a minute before noon and at noon; and of two waves in a blend
-/// at a new year, where it is exact, and outside it. They are in billionths of a millionth of the
-/// station's unit a minute, times 34,377,467,708 (the units of angle in a radian) and 4,147,200,000
-/// (the total weight of a blend).
+/// Proves approximate slopes; times are UTC. They are of `pier`, highest at noon, at 11:59 and at 12:00
+/// on 10 January 2000 (the exact slope at 12:00 is 0); and of `harbour` at 00:20 on 1 January 2001, in
+/// the blend at a new year, where the approximate slope is exact, at 05:00 on 1 January 2000, and at
+/// 00:00 on 1 March 2001. Slopes are in billionths of a millionth of a foot a minute, multiplied by
+/// 34,377,467,708 (the units of angle in a radian) and by 4,147,200,000 (the total weight of a blend);
+/// `negsuc n` is -(n + 1).
 pub fn worked_approximate_slopes()
     ensures before_noon { approximate_slope_of pier_book pier (pos 15791759) ≡ pos 10966753424415758745600000000000 }
     ensures noon { approximate_slope_of pier_book pier (pos 15791760) ≡ negsuc 489223201089178828799999999999 }
@@ -129,8 +154,12 @@ pub fn worked_approximate_slopes()
     ensures harbour_2001 { approximate_slope_of harbour_book harbour (pos 16390080) ≡ pos 802807544580466355289980928000000 }
 {}
 
-/// Proves the greatest errors of approximate levels and slopes, each in the unit of the level or slope:
-/// for one wave, and for two waves by the year with the larger amplitudes.
+/// Proves bounds on the errors of approximate levels and slopes at all minutes: for `pier`, with one
+/// wave of one foot, and for `harbour`, with two waves, by the amplitudes of 2000, which are larger
+/// than those in 2001. Level errors are in billionths of a millionth of a foot, multiplied by
+/// 4,147,200,000 (the total weight of a blend); slope errors are in billionths of a millionth of a foot
+/// a minute, multiplied by 34,377,467,708 (the units of angle in a radian) and by 4,147,200,000 (the
+/// total weight of a blend).
 pub fn worked_errors()
     ensures pier_level { level_error_of (prediction_of pier_book pier) ≡ 1658880000000000000000 }
     ensures pier_slope { slope_error_of (prediction_of pier_book pier) ≡ 499787366400000000000000000000 }

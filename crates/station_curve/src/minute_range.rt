@@ -8,7 +8,8 @@ use crate::years::HOUR;
 use harmonics_book::ValidBook;
 use year_blend::year_start;
 
-/// The minutes that a curve must have: from `first` to `last`, both included, since 1970-01-01T00:00Z.
+/// A range of minutes for which a curve is made: from `first` to `last`, both included, since
+/// 1970-01-01T00:00Z.
 #[derive(Clone, Copy, Debug)]
 pub struct MinuteRange {
     pub first: i64,
@@ -16,8 +17,9 @@ pub struct MinuteRange {
 }
 
 impl MinuteRange {
-    /// Returns true if a minute of this range is in the year from `start` up to but not including `end`, or
-    /// at most 60 minutes before or after that year.
+    /// Returns true if a minute of this range is in the year from `start` up to but not including
+    /// `end`, or at most 60 minutes before `start` or after `end`. `start` and `end` are minutes since
+    /// 1970-01-01T00:00Z.
     pub fn touches(self, start: i64, end: i64) -> bool
         requires last { unsigned_abs self.last ≤ 10 ^ 12 }
         requires end { unsigned_abs end ≤ 10 ^ 12 }
@@ -35,8 +37,8 @@ fn is_within_hour(minute: i64, other: i64) -> bool
     minute <= other + HOUR
 }
 
-/// Returns the range of all minutes of a book's years and the first minute after them, which is the
-/// last of the range.
+/// Returns the range from the first minute of the book's years to the first minute after them, both
+/// included.
 pub fn all_minutes(book: &ValidBook<'_>) -> MinuteRange
     ensures first { result.first ≡ year_start_of book.now.first_year }
     ensures last { result.last ≡ year_start_of (book.now.first_year +ℤ pos book.now.years) }

@@ -8,7 +8,7 @@ ghost use Rattle.harmonics_book.specs.declared.book.Station.{Station};
 use harmonics_book::{Book, Station};
 use std::marker::Model;
 
-/// A harmonics file and a station of it, for contracts only. It allocates and copies nothing.
+/// The book (harmonics file) and the station of a curve, for contracts only: at run time it is empty.
 #[derive(Drop)]
 pub struct Origin {
     pub ghost book: { Book },

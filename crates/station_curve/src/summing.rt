@@ -15,8 +15,10 @@ const HEIGHT_UNIT: i128 = 1 << 15;
 /// The unit of an approximate fall, in a fall's unit.
 const FALL_UNIT: i128 = 1 << 24;
 
-/// Returns the sum of the waves' heights (their parts of the level) `minutes` minutes after the time an
-/// hour before the year's start, in billionths of a millionth of the station's unit.
+/// Returns the sum of the heights of `waves` (what each wave adds to the level) at `minutes`, the time
+/// in minutes counted from one hour before the year's start, from 0 to 600,000. The result is in
+/// billionths of a millionth of the station's unit. The absolute values of the amplitudes sum to at
+/// most 10^9 millionths.
 pub fn heights(waves: &[Wave], minutes: u64) -> i64
     requires time { minutes ≤ 600000 }
     requires amount { amount_of waves.now ≤ 10 ^ 9 }
@@ -30,9 +32,10 @@ pub fn heights(waves: &[Wave], minutes: u64) -> i64
     sum
 }
 
-/// Returns the sum of the waves' falls (minus the slope of each) `minutes` minutes after the time an
-/// hour before the year's start, in billionths of a millionth of the station's unit a minute, times
-/// 34,377,467,708 (the units of angle in a radian).
+/// Returns the sum of the falls of `waves` (a wave's fall is what it adds to the slope, negated) at
+/// `minutes`, the time in minutes counted from one hour before the year's start, from 0 to 600,000. The
+/// result is in billionths of a millionth of the station's unit a minute, multiplied by 34,377,467,708
+/// (the units of angle in a radian).
 pub fn falls(waves: &[Wave], minutes: u64) -> i128
     requires time { minutes ≤ 600000 }
     requires steepness { steepness_of waves.now ≤ 10 ^ 17 }
@@ -46,8 +49,9 @@ pub fn falls(waves: &[Wave], minutes: u64) -> i128
     sum
 }
 
-/// Returns the sum of the waves' approximate heights (their parts of the level) `minutes` minutes after
-/// the time an hour before the year's start, in units of 2^15 * 10^-15 of the station's unit.
+/// Returns the sum of the approximate heights of `waves` (what each wave adds to the level) at
+/// `minutes`, the time in minutes counted from one hour before the year's start, from 0 to 600,000. The
+/// result is in units of 2^15 * 10^-15 of the station's unit.
 #[inline(never)]
 pub fn approximate_heights(waves: &[Wave], minutes: u64) -> i64
     requires time { minutes ≤ 600000 }
@@ -62,9 +66,10 @@ pub fn approximate_heights(waves: &[Wave], minutes: u64) -> i64
     sum
 }
 
-/// Returns the sum of the waves' approximate falls (minus the slope of each) `minutes` minutes after
-/// the time an hour before the year's start. The unit is 2^24 times the unit of a fall, which is 10^-15
-/// of the station's unit a minute, divided by 34,377,467,708 (the units of angle in a radian).
+/// Returns the sum of the approximate falls of `waves` (a wave's fall is what it adds to the slope,
+/// negated) at `minutes`, the time in minutes counted from one hour before the year's start, from 0 to
+/// 600,000. The result is in units of 2^24 / 34,377,467,708 of 10^-15 of the station's unit a minute
+/// (34,377,467,708 units of angle are a radian).
 #[inline(never)]
 pub fn approximate_falls(waves: &[Wave], minutes: u64) -> i64
     requires time { minutes ≤ 600000 }
@@ -80,7 +85,7 @@ pub fn approximate_falls(waves: &[Wave], minutes: u64) -> i64
 }
 
 /// Converts `heights`, a sum of approximate heights in units of 2^15 * 10^-15 of the station's unit, to
-/// billionths of a millionth of the station's unit: returns 2^15 times `heights`.
+/// billionths of a millionth (10^-15) of the station's unit: returns `heights` multiplied by 2^15.
 pub fn in_billionths(heights: i64) -> i128
     requires { unsigned_abs heights ≤ 30518 * 10 ^ 9 }
     ensures value { result ≡ pos (2 ^ 15) *ℤ heights }
@@ -89,9 +94,10 @@ pub fn in_billionths(heights: i64) -> i128
     HEIGHT_UNIT * i128::from(heights)
 }
 
-/// Converts `falls`, a sum of approximate falls in 2^24 times the unit of a fall, to the unit of a
-/// fall: returns 2^24 times `falls`. The unit of a fall is 10^-15 of the station's unit a minute,
-/// divided by 34,377,467,708 (the units of angle in a radian).
+/// Returns `falls` multiplied by 2^24. `falls` is a sum of approximate falls (a wave's fall is what it
+/// adds to the slope, negated), in units of 2^24 / 34,377,467,708 of 10^-15 of the station's unit a
+/// minute (34,377,467,708 units of angle are a radian); the result is in the same unit without the
+/// factor 2^24.
 pub fn in_fall_units(falls: i64) -> i128
     requires { unsigned_abs falls ≤ 6 * 10 ^ 18 }
     ensures value { result ≡ pos (2 ^ 24) *ℤ falls }
@@ -100,8 +106,8 @@ pub fn in_fall_units(falls: i64) -> i128
     FALL_UNIT * i128::from(falls)
 }
 
-/// Converts the mean level `datum`, in millionths of the station's unit, to billionths of a millionth
-/// of the station's unit: returns 10^9 times `datum`.
+/// Returns the mean level `datum`, in millionths of the station's unit, converted to billionths of a
+/// millionth of it: `datum` multiplied by 10^9.
 pub fn mean_level(datum: i64) -> i128
     requires { unsigned_abs datum ≤ 10 ^ 10 }
     ensures value { result ≡ pos (10 ^ 9) *ℤ datum }

@@ -13,7 +13,8 @@ use std::marker::Model;
 /// The unit of a speed in approximate falls, so that their sum fits 64 bits.
 const COARSE_UNIT: u64 = 512;
 
-/// A constituent in one year at one station: a wave.
+/// A wave: one constituent at one station in one year. Products of its amplitude and speed, and its
+/// angles one hour before the year begins, are prepared for fast sums.
 #[derive(Drop)]
 pub struct Wave {
     /// The amplitude in millionths of the station's unit.
@@ -47,9 +48,9 @@ impl Model for Wave {
 }
 
 impl Wave {
-    /// Returns the wave of a constituent with this `amplitude`, in millionths of the station's unit,
-    /// this `speed`, in units of 1/600,000,000 degree a minute, and this `phase` an hour before the
-    /// year begins, in units of 1/600,000,000 degree.
+    /// Returns the wave with `amplitude` in millionths of the station's unit, `speed` in units of
+    /// 1/600,000,000 degree a minute, and `phase`, the angle one hour before the year begins, in units
+    /// of 1/600,000,000 degree.
     pub fn new(amplitude: i64, speed: u64, phase: u64) -> Wave
         requires amplitude { unsigned_abs amplitude ≤ 10 ^ 9 }
         requires speed { speed ≤ 3600000000 }
@@ -69,8 +70,9 @@ impl Wave {
         }
     }
 
-    /// Returns the wave's height, its part of the level, `minutes` minutes after the time an hour
-    /// before the year's start, in billionths of a millionth of the station's unit.
+    /// Returns the wave's height (what it adds to the level) at `minutes`, the time in minutes counted
+    /// from one hour before the year's start, from 0 to 600,000. The height is in billionths of a
+    /// millionth of the station's unit.
     pub fn height(&self, minutes: u64) -> i64
         requires { minutes ≤ 600000 }
         ensures value { result ≡ height_at minutes self.now }
@@ -79,9 +81,10 @@ impl Wave {
         self.by_amplitude(binary_angle_sine(self.binary_angle_ahead(minutes)))
     }
 
-    /// Returns the wave's fall, minus its part of the slope, `minutes` minutes after the time an hour
-    /// before the year's start, in billionths of a millionth of the station's unit a minute, times
-    /// 34,377,467,708 (the units of angle in a radian).
+    /// Returns the wave's fall (what it adds to the slope, negated) at `minutes`, the time in minutes
+    /// counted from one hour before the year's start, from 0 to 600,000. The fall is in billionths of a
+    /// millionth of the station's unit a minute, multiplied by 34,377,467,708 (the units of angle in a
+    /// radian).
     pub fn fall(&self, minutes: u64) -> i128
         requires { minutes ≤ 600000 }
         ensures value { result ≡ fall_at minutes self.now }
@@ -91,8 +94,9 @@ impl Wave {
         self.by_steepness(binary_angle_sine(self.binary_angle_after(minutes)))
     }
 
-    /// Returns the wave's approximate height, its part of the level, `minutes` minutes after the time
-    /// an hour before the year's start, in units of 2^15 * 10^-15 of the station's unit.
+    /// Returns the wave's approximate height (what it adds to the level) at `minutes`, the time in
+    /// minutes counted from one hour before the year's start, from 0 to 600,000. The height is in units
+    /// of 2^15 * 10^-15 of the station's unit.
     pub fn approximate_height(&self, minutes: u64) -> i64
         requires { minutes ≤ 600000 }
         ensures value { result ≡ approximate_height_at minutes self.now }
@@ -101,9 +105,10 @@ impl Wave {
         self.by_amplitude(approximate_sine(self.binary_angle_ahead(minutes)))
     }
 
-    /// Returns the wave's approximate fall, minus its part of the slope, `minutes` minutes after the
-    /// time an hour before the year's start. The unit is 2^24 times the unit of a fall, which is 10^-15
-    /// of the station's unit a minute, divided by 34,377,467,708 (the units of angle in a radian).
+    /// Returns the wave's approximate fall (what it adds to the slope, negated) at `minutes`, the time
+    /// in minutes counted from one hour before the year's start, from 0 to 600,000. The fall is in
+    /// units of 2^24 / 34,377,467,708 of 10^-15 of the station's unit a minute (34,377,467,708 units of
+    /// angle are a radian).
     pub fn approximate_fall(&self, minutes: u64) -> i64
         requires { minutes ≤ 600000 }
         ensures value { result ≡ approximate_fall_at minutes self.now }
@@ -112,8 +117,8 @@ impl Wave {
         self.factor * approximate_sine(self.binary_angle_after(minutes))
     }
 
-    /// Returns what the wave adds to each of the four sums (`amount`, `steep`, `near`, `far`) of its
-    /// year.
+    /// Returns the wave's addends to the four sums over the waves of a year (`amount`, `steep`, `near`,
+    /// `far`). The fields of [`Sums`] say the units.
     pub fn sums(&self) -> Sums
         ensures amount { result.amount ≡ pos (unsigned_abs self.now.amplitude) }
         ensures steep { result.steep ≡ pos (unsigned_abs self.now.amplitude * self.now.speed) }
@@ -155,8 +160,8 @@ impl Wave {
         i128::from(self.steepness) * i128::from(sine)
     }
 
-    /// Returns the phase `minutes` minutes after the time an hour before the year's start, in 2^-64 of
-    /// a turn.
+    /// Returns the phase at `minutes`, the time in minutes counted from one hour before the year's
+    /// start, in 2^-64 of a turn.
     fn binary_angle_after(&self, minutes: u64) -> u64
         requires { minutes ≤ 600000 }
         ensures { result ≡ binary_angle_after self.now minutes }
@@ -164,8 +169,8 @@ impl Wave {
         self.start.wrapping_add(self.pace.wrapping_mul(minutes))
     }
 
-    /// Returns the phase `minutes` minutes after the time an hour before the year's start, plus a
-    /// quarter of a turn, in 2^-64 of a turn.
+    /// Returns the phase at `minutes`, the time in minutes counted from one hour before the year's
+    /// start, plus a quarter of a turn, in 2^-64 of a turn.
     fn binary_angle_ahead(&self, minutes: u64) -> u64
         requires { minutes ≤ 600000 }
         ensures { result ≡ binary_angle_ahead self.now minutes }

@@ -10,10 +10,10 @@ ghost use Rattle.station_curve.specs.Workings.YearLimits.{factors_of};
 use crate::constants::{MOST_AMOUNT, MOST_STEEPNESS, speed};
 use harmonics_book::{Station, ValidBook};
 
-/// Returns true if the greatest node factor of each constituent proves that the station's constants are
-/// within the limits `MOST_AMOUNT` and `MOST_STEEPNESS` in each year of the book. False doesn't mean
-/// that a year exceeds them. `present` are the indices of the constituents with an amplitude other than
-/// 0.
+/// Returns true if a quick test shows that the constants of `station` are within the limits
+/// `MOST_AMOUNT` and `MOST_STEEPNESS` in each year of the book: it uses the greatest node factor of
+/// each constituent for all years. If the result is false, a year may still be within them. `present`
+/// holds the indices of the constituents with an amplitude other than 0.
 pub fn are_years_within(book: &ValidBook<'_>, station: &Station, present: &[usize]) -> bool
     requires station { IsStation (length book.now.constituents) station.now }
     requires present { present.now ≡ present_in book.now station.now }

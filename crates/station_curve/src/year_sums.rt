@@ -6,31 +6,32 @@ ghost use Rattle.station_curve.specs.Sums.{sums_of};
 
 use crate::wave::Wave;
 
-/// Sums over the waves of one year at one station: bounds on the size of the level and of the slope,
-/// and on their change in a minute. None is negative.
+/// Four sums over the waves of one station in one year. They bound the level and the slope by the
+/// year's constants, and the change of each in a minute. None is negative.
 #[derive(Clone, Copy, PartialEq, Eq)]
 pub struct Sums {
-    /// The sum of the sizes of the amplitudes, in millionths of the station's unit. The level by the
-    /// year's constants, in billionths of a millionth of the station's unit, differs from the mean
-    /// level by at most 10^9 times this sum.
+    /// The sum of the absolute values of the amplitudes, in millionths of the station's unit. The level
+    /// by the year's constants, in billionths of a millionth of the station's unit, differs from the
+    /// mean level by at most 10^9 times this sum.
     pub amount: i128,
-    /// The sum of the sizes of the amplitudes, in millionths of the station's unit, times the speeds,
-    /// in units of 1/600,000,000 degree a minute. The slope by the year's constants, in billionths of a
-    /// millionth of the station's unit a minute, times 34,377,467,708 (the units of angle in a radian),
-    /// is at most 10^9 times this sum in size.
+    /// The sum of the absolute value of the amplitude, in millionths of the station's unit, multiplied
+    /// by the speed, in units of 1/600,000,000 degree a minute. The slope by the year's constants, in
+    /// billionths of a millionth of the station's unit a minute, multiplied by 34,377,467,708 (the
+    /// units of angle in a radian), is at most 10^9 times this sum in absolute value.
     pub steep: i128,
-    /// The sum of the sizes of the amplitudes times the sine's greatest change in a minute: a bound on
-    /// the change in a minute of the level by the year's constants, in billionths of a millionth of the
-    /// station's unit.
+    /// The sum of the absolute value of the amplitude, in millionths of the station's unit, multiplied
+    /// by the greatest change of the wave's sine in a minute, in billionths. It bounds the change in a
+    /// minute of the level by the year's constants, in billionths of a millionth of the station's unit.
     pub near: i128,
-    /// The sum of the sizes of the amplitudes times the speed times the sine's greatest change in a
-    /// minute: a bound on the change in a minute of the slope by the year's constants, which is in
-    /// billionths of a millionth of the station's unit a minute, times 34,377,467,708 (the units of
-    /// angle in a radian).
+    /// The sum of the absolute value of the amplitude multiplied by the speed and by the greatest
+    /// change of the wave's sine in a minute. It bounds the change in a minute of the slope by the
+    /// year's constants, in billionths of a millionth of the station's unit a minute, multiplied by
+    /// 34,377,467,708 (the units of angle in a radian).
     pub far: i128,
 }
 
-/// Returns the four sums over `waves`, which are the waves of one year at one station.
+/// Returns the four sums (`amount`, `steep`, `near`, `far`) over `waves`, the waves of one station in
+/// one year.
 pub fn sums_of_waves(waves: &[Wave]) -> Sums
     requires amount { amount_of waves.now ≤ 10 ^ 9 }
     requires steepness { steepness_of waves.now ≤ 10 ^ 17 }

@@ -16,10 +16,11 @@ use harmonics_book::{Station, ValidBook};
 use std::alloc::Global;
 use year_blend::year_start;
 
-/// Half the length of a blend at a new year, in minutes.
+/// The minutes from a new year to each end of its blend: half the length of a blend.
 pub const HOUR: i64 = 60;
 
-/// A calendar year of the harmonics file, with the waves of one station in this year.
+/// A calendar year of the book, with the waves of one station in this year, or without waves if the
+/// curve doesn't need the year.
 #[derive(Drop)]
 pub struct Year {
     /// The first minute of the year, since 1970-01-01T00:00Z.
@@ -27,13 +28,13 @@ pub struct Year {
     /// The first minute of the next year, since 1970-01-01T00:00Z.
     pub end: i64,
     pub waves: Vec<Wave>,
-    /// The sums over the waves of the year.
+    /// The four sums over `waves`; all 0 without waves.
     pub sums: Sums,
 }
 
 impl Year {
-    /// Returns the number of minutes from an hour before the year's first minute to minute `m`, which
-    /// is no earlier.
+    /// Returns the number of minutes from one hour before the year's first minute to minute `m`. It is
+    /// from 0 to 600,000; `m` is counted from 1970-01-01T00:00Z.
     pub fn minutes_to(&self, m: i64) -> u64
         requires least { pos 0 ≤ℤ ((m -ℤ self.now.start) +ℤ pos 60) }
         requires most { ((m -ℤ self.now.start) +ℤ pos 60) ≤ℤ pos 600000 }
@@ -43,8 +44,8 @@ impl Year {
         (m - self.start + HOUR) as u64
     }
 
-    /// Returns true if the minutes from `first` to `last`, both included, are in the year, at least 60
-    /// minutes after its first minute and at least 60 minutes before the next year's.
+    /// Returns true if the minutes from `first` to `last`, both included, are at least 60 minutes after
+    /// the year's first minute and at least 60 minutes before the next year's first minute.
     pub fn surrounds(&self, first: i64, last: i64) -> bool
         requires first { unsigned_abs first ≤ 4000000000 }
         requires last { unsigned_abs last ≤ 4000000000 }
@@ -55,13 +56,13 @@ impl Year {
     }
 }
 
-/// Returns each year of the book with the waves of `station`, if in no year the constants exceed
-/// `MOST_AMOUNT` or `MOST_STEEPNESS`. A year that is more than an hour from the minutes of
-/// `minute_range` isn't needed, and has no waves.
+/// Returns one [`Year`] with the waves of `station` for each year of the book. A year that is more than
+/// an hour from the minutes of `minute_range` has no waves, because the curve doesn't need them.
 ///
 /// # Errors
-/// The fault of the first year with constants beyond a limit: [`CurveFault::TooLarge`], which precedes
-/// [`CurveFault::TooSteep`]; [`CurveFault::NoMemory`] if memory runs out.
+/// [`CurveFault::TooLarge`] or [`CurveFault::TooSteep`] for the first year of the book with constants
+/// beyond `MOST_AMOUNT` or `MOST_STEEPNESS` (`TooLarge` if the year exceeds both limits);
+/// [`CurveFault::NoMemory`] if memory runs out.
 pub fn years_of(
     alloc: Global,
     book: &ValidBook<'_>,
@@ -88,9 +89,9 @@ pub fn years_of(
     Ok(years)
 }
 
-/// Returns year `year`, counted from 0, with its waves, if its constants don't exceed `MOST_AMOUNT` or
-/// `MOST_STEEPNESS`. `present` are the indices of the constituents with an amplitude other than 0.
-/// `is_within` says that no year exceeds these limits.
+/// Returns the year with index `year` (0 for the book's first year), with its waves, if its constants
+/// don't exceed `MOST_AMOUNT` or `MOST_STEEPNESS`. `present` are the indices of the constituents with
+/// an amplitude other than 0. `is_within` says that no year exceeds these limits.
 ///
 /// # Errors
 /// The limit that the year exceeds; [`CurveFault::NoMemory`] if memory runs out.
@@ -131,8 +132,8 @@ fn year_of(
     })
 }
 
-/// Checks that the constants of year `year`, counted from 0, don't exceed `MOST_AMOUNT` or
-/// `MOST_STEEPNESS`, unless `is_within` says that no year does.
+/// Checks that the constants of the year with index `year` (0 for the book's first year), don't exceed
+/// `MOST_AMOUNT` or `MOST_STEEPNESS`, unless `is_within` says that no year does.
 ///
 /// # Errors
 /// [`CurveFault::TooLarge`] or [`CurveFault::TooSteep`] if the year exceeds a limit.

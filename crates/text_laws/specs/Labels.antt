@@ -7,25 +7,27 @@ use Rattle.zone_time.specs.declared.zone.Zone.{Zone}
 use Rattle.zone_time.specs.Locals.{local_text}
 use Rattle.zone_time.specs.Zones.{local_in}
 
--- the minutes by which a clock with this label is ahead of universal time
+-- the number of minutes by which a clock with this label is ahead of universal time, negative if it is
+-- behind
 abbrev pub ahead_of : Label → ℤ
 ahead_of Utc = pos 0
 ahead_of (Minutes utc_offset) = utc_offset
 
--- the minute of universal time that a local time and its label mean
+-- the minute of universal time, counted from 1970-01-01T00:00Z, at which a clock shows this local time
+-- with its label
 abbrev pub minute_of : Local → ℤ
 minute_of local = local.minute -ℤ ahead_of local.label
 
--- two lines of one minute in the local times of two zones, which differ only in the local time that
--- begins them
+-- Two lines show the same minute, `line` in the local time of `zone` and `line_there` in the local time
+-- of `other`. Each begins with the local time and its label, and the rest is the same.
 pub record DifferInLabel (zone other : Zone) (line line_there : List ℕ) : Type 0 where
   pub minute : ℤ
   pub rest : List ℕ
   pub here : line ≡ local_text (local_in zone minute) ++ rest
   pub there : line_there ≡ local_text (local_in other minute) ++ rest
 
--- two lines of one minute in the local times of two zones, which differ only in the local time after
--- `words`
+-- Two lines show the same minute, `line` in the local time of `zone` and `line_there` in the local time
+-- of `other`. Each begins with `words` and then the local time and its label, and the rest is the same.
 pub record DifferInLabelAfter (words : List ℕ) (zone other : Zone) (line line_there : List ℕ) : Type 0 where
   pub minute : ℤ
   pub rest : List ℕ

@@ -2,22 +2,23 @@
 use Rattle.std.specs.Prelude.{◌≡◌, ◌≤◌, ◌^◌, ℕ, ℤ, unsigned_abs, List, ◌∷◌, ◌++◌, All, codes}
 use Rattle.std.specs.List.{flat_map, AllZip}
 
--- a line: bytes of which none is below 32, and then an LF
+-- `line` is one line: bytes of which none is below 32 (a control character), and then LF
 pub record IsLine (line : List ℕ) : Type 0 where
   pub bytes : List ℕ
   pub ends : line ≡ bytes ++ codes "\n"
   pub no_control : All (λ byte. 32 ≤ byte) bytes
 
--- a level in millionths of the unit that is at most 2^63 in size
+-- `level`, in millionths of the unit, is at most 2^63 in absolute value
 abbrev pub IsLevel : ℤ → Type 0
 IsLevel level = unsigned_abs level ≤ 2 ^ 63
 
--- the text of a station's name on a line, and of lines that end with an LF
+-- a line with the station's `name`, followed by `lines`, each of which ends with LF
 abbrev pub listing_of : List ℕ → List (List ℕ) → List ℕ
 listing_of name lines = name ++ codes "\n" ++ flat_map (λ line. line) lines
 
--- two listings of one station with equally many lines, of which each line of the one is related to the
--- line at the same index of the other
+-- Two texts list the same station with equally many lines: `text` is a line with the station's `name`
+-- and then `lines`, `other` is a line with the same name and then `others`, and `Related` holds for the
+-- two lines at each index.
 pub record AreListings (name : List ℕ) (Related : List ℕ → List ℕ → Type 0) (text other : List ℕ) : Type 0 where
   pub lines : List (List ℕ)
   pub others : List (List ℕ)
@@ -27,9 +28,9 @@ pub record AreListings (name : List ℕ) (Related : List ℕ → List ℕ → Ty
   pub single_there : All IsLine others
   pub related : AllZip Related lines others
 
--- two listings of one station, with equally many lines after a first line: the first lines are related
--- in one way, and each later line is related in another way to the line at the same index of the other
--- listing
+-- Two texts list the same station with equally many lines: `text` is a line with the station's `name`,
+-- then `first`, then `lines`; `other` is a line with the same name, then `first_there`, then `others`.
+-- `First` holds for the two first lines, and `Related` for the two later lines at each index.
 pub record AreListingsAfter (name : List ℕ) (First Related : List ℕ → List ℕ → Type 0) (text other : List ℕ) : Type 0 where
   pub first : List ℕ
   pub first_there : List ℕ

@@ -29,39 +29,40 @@ use Rattle.text_laws.specs.Lines.{listing_of, IsLine}
 use Rattle.zone_time.specs.declared.zone.Zone.{Zone}
 use Rattle.zone_time.specs.Dates.{date_text}
 
--- a local date, by its day number, and the events of its line
+-- what one line of a calendar shows: a local date, as a day number with 1970-01-01 as 0, and events
 pub record CalendarLine : Type 0 where
   pub day : ℤ
   pub events : List Event
 
--- the line of a local date: the date, and the local time, the level and the name of each of its events
+-- the text of a line of a calendar: the date, and the local time in `zone`, the level and the name of
+-- each of its events
 abbrev pub line_of : Zone → Units → CalendarLine → List ℕ
 line_of zone units calendar_line = date_text calendar_line.day ++ flat_map (entry_in zone units) calendar_line.events ++ codes "\n"
 
--- the events of the lines, line after line
+-- the events of all lines of a calendar, line after line
 abbrev pub all_events : List CalendarLine → List Event
 all_events calendar_lines = flat_map (λ calendar_line. calendar_line.events) calendar_lines
 
--- the local dates of the first and the last minute of a span, from `begin` up to but not including
--- `end`, and of events
+-- the local dates in `zone` of the minutes `begin` and `end` - 1 and of `events`, as day numbers with
+-- 1970-01-01 as 0
 abbrev pub dates_of : Zone → List Event → ℤ → ℤ → List ℤ
 dates_of zone events begin end = day_in zone begin ∷ day_in zone (end -ℤ pos 1) ∷ event_days zone events
 
--- the least of some days
+-- `day` is the smallest number in the list `days`
 pub record IsLeast (days : List ℤ) (day : ℤ) : Type 0 where
   pub among : Contains days day
   pub least : All (λ other. day ≤ℤ other) days
 
--- the greatest of some days
+-- `day` is the greatest number in the list `days`
 pub record IsGreatest (days : List ℤ) (day : ℤ) : Type 0 where
   pub among : Contains days day
   pub greatest : All (λ other. other ≤ℤ day) days
 
--- the day that is `index` days after the first day, or None if it is later than the last day
+-- the day `index` days after the day `first`, or None if it is after the day `last`
 abbrev pub day_until : ℤ → ℤ → ℕ → Option ℤ
 day_until first last index = if int_le (first +ℤ pos index) last then Some (first +ℤ pos index) else None
 
--- consecutive days, from the least of some dates to the greatest
+-- `days` are the consecutive day numbers from the smallest of `dates` to the greatest
 pub record RunThrough (dates days : List ℤ) : Type 0 where
   pub first : ℤ
   pub last : ℤ
@@ -69,12 +70,15 @@ pub record RunThrough (dates days : List ℤ) : Type 0 where
   pub greatest : IsGreatest dates last
   pub each : (index : ℕ) → slice_get days index ≡ day_until first last index
 
--- no event has an earlier local date than an event before it in the list
+-- no event in the list has an earlier local date in `zone` than an event before it in the list
 abbrev pub DatesAscend : Zone → List Event → Type 0
 DatesAscend zone events = AllPairs (λ event later. day_in zone event.minute ≤ℤ day_in zone later.minute) events
 
--- a calendar that has each event once, on the line of its local date: `dated` has the events of each line,
--- in their order, and `once` says that all lines together have exactly the events
+-- `text` is a calendar of the station `name` that has each event once, on the line of its local date:
+-- it has a line for each date from the earliest to the latest local date of `begin`, `end` - 1 and
+-- `events`. `dated` says that a line has the events of its date, in their order; `once`, that all lines
+-- together have exactly `events`; and `in_order`, that they have them in the same order if the local
+-- dates ascend.
 pub record IsCalendar (name : List ℕ) (units : Units) (zone : Zone) (events : List Event) (begin end : ℤ) (text : List ℕ) : Type 0 where
   pub calendar_lines : List CalendarLine
   pub text_is : text ≡ listing_of name (map (line_of zone units) calendar_lines)

@@ -13,19 +13,21 @@ use Rattle.zone_time.specs.Locals.{label_text}
 use Rattle.zone_time.specs.Moments.{moment_text}
 use Rattle.zone_time.specs.Zones.{local_in}
 
--- the records of a text without its byte order mark
+-- the records that a reader of comma-separated values finds in `text`, without a byte order mark at its
+-- beginning
 abbrev pub records_in : List ℕ → List (List (List ℕ))
 records_in text = records default_config (strip_bom text)
 
--- the line of a minute and a level, in millionths of the unit, from its local time without a label and
--- its unit; the level is rounded to hundredths of the unit
+-- The line of a minute and a level: the text `local` (a local time without its label), the label of the
+-- local time of `minute` in `zone`, `level` rounded from millionths to hundredths, and the text `unit`.
 abbrev pub line_by : Zone → ℤ → ℤ → List ℕ → List ℕ → List ℕ
 line_by zone minute level local unit =
     local ++ codes " " ++ label_text (local_in zone minute).label ++ codes "  "
     ++ padded 9 (write_of (rounded_of level 10000) 2) ++ codes " " ++ unit
 
--- a record and a line of one event: the record has the minute and the level in millionths, and the line has
--- the record's local time, unit and event
+-- A record of comma-separated values (`row`, its fields) and a line of the plain listing show the same
+-- event of the station `name`: the record has its minute and its level in millionths; the line has the
+-- same minute, the level rounded to hundredths, and the record's local time, unit and event name.
 pub record ShowOneEvent (name : List ℕ) (zone : Zone) (row : List (List ℕ)) (line : List ℕ) : Type 0 where
   pub minute : ℤ
   pub level : ℤ
@@ -34,8 +36,9 @@ pub record ShowOneEvent (name : List ℕ) (zone : Zone) (row : List (List ℕ)) 
   pub millionths : field_of row 4 ≡ write_of level 6
   pub line_is : line ≡ line_by zone minute level (field_of row 2) (field_of row 5) ++ codes "  " ++ field_of row 3 ++ codes "\n"
 
--- a record and a line of one level: the record has the minute and the level in millionths, and the line
--- has the record's local time and unit
+-- A record of comma-separated values (`row`, its fields) and a line of the plain listing show the same
+-- level of the station `name`: the record has its minute and the level in millionths; the line has the
+-- same minute, the level rounded to hundredths, and the record's local time and unit.
 pub record ShowOneLevel (name : List ℕ) (zone : Zone) (row : List (List ℕ)) (line : List ℕ) : Type 0 where
   pub minute : ℤ
   pub level : ℤ
@@ -44,8 +47,9 @@ pub record ShowOneLevel (name : List ℕ) (zone : Zone) (row : List (List ℕ)) 
   pub millionths : field_of row 3 ≡ write_of level 6
   pub line_is : line ≡ line_by zone minute level (field_of row 2) (field_of row 4) ++ codes "\n"
 
--- equally many records after the header of one text and lines after the name of the other, each record
--- related to the line at the same index
+-- Two texts show one list: reading `csv` as comma-separated values gives `header` and `rows`; `plain`
+-- is a line with the station's `name` and then `lines`; there are equally many, and `Related` holds for
+-- each record and the line with the same index.
 pub record AreOneList (header : List (List ℕ)) (name : List ℕ) (Related : List (List ℕ) → List ℕ → Type 0)
     (csv plain : List ℕ) : Type 0 where
   pub rows : List (List (List ℕ))

@@ -5,15 +5,17 @@ use Rattle.jiff_tz.specs.TzifText.{TypeText}
 use Rattle.zone_time.specs.declared.zone.Zone.{Zone}
 use Rattle.zone_time.specs.declared.zone.Zone.TheVariants.{File}
 
--- the type of a clock that is an hour ahead of universal time
+-- local time one hour ahead of universal time, without daylight saving time, with the abbreviation
+-- AHEAD
 abbrev pub hour_ahead : TypeText
 hour_ahead = record { seconds = pos 3600; dst = No; name = codes "AHEAD" }
 
--- the type of a clock that shows universal time
+-- local time equal to universal time, without daylight saving time
 abbrev pub universal : TypeText
 universal = record { seconds = pos 0; dst = No; name = codes "UTC" }
 
--- a zone with a clock that goes back from 00:59 of a date to 23:59 of the date before, at 1970-01-01T23:59Z
+-- a zone with a clock that goes back one hour at 1970-01-01T23:59Z, from 00:59 on 2 January to 23:59 on
+-- 1 January
 abbrev pub goes_back : Zone
 goes_back = File (record {
   version = 50;

@@ -15,10 +15,15 @@ ghost use Rattle.zone_time.specs.Zones.{local_in};
 
 use zone_time::{Label, Local};
 
-/// Proves that in two zones listings of events and of levels, and the texts of the commands `clock` and
-/// `highest`, have the same minutes in the same order. The lines differ only in their local times, and
-/// the label of each local time determines the minute that it means. A record differs only in its third
-/// field.
+/// Proves that changing the zone changes only the local times in the listings of events and levels and
+/// in the texts of the commands `clock` and `highest`.
+///
+/// - `minute`: a local time with its label determines the minute of universal time.
+/// - `events`, `heights`, `clock`, `highest`: for two zones the texts have the station's name and then
+///   equally many lines; lines at the same index show the same minute and differ only in its local
+///   time.
+/// - `event_record`, `row_record`: two records of comma-separated values differ only in the field at
+///   index 2, the local time.
 pub fn zones_only_label()
     ensures minute { (zone : Zone) (minute : ℤ) → minute_of (local_in zone minute) ≡ minute }
     ensures events { (name : List ℕ) (units : Units) (events : List Event) (zone other : Zone) → All (λ event. IsLevel event.level) events →
@@ -38,10 +43,11 @@ pub fn zones_only_label()
         row_fields name units other row ≡ slice_set (row_fields name units zone row) 2 (time_in other row.minute) }
 {}
 
-/// Returns the minute of universal time, since 1970-01-01T00:00Z, that a local time with its label
-/// means.
+/// Returns the minute of universal time, counted from 1970-01-01T00:00Z, at which a clock shows
+/// `local`: the minute shown minus the minutes by which the clock is ahead of universal time, according
+/// to the label.
 ///
-/// The program doesn't call it.
+/// The program doesn't call this function.
 pub fn minute_of_local(local: Local) -> i64
     requires { IsLocal local }
     ensures { result ≡ minute_of local }
@@ -52,7 +58,12 @@ pub fn minute_of_local(local: Local) -> i64
     }
 }
 
-/// Proves an example of one minute in universal time and by a clock five hours behind UTC.
+/// Proves examples of local times for minute 15791759, which is 2000-01-10T11:59Z.
+///
+/// - `universal`: universal time shows this minute unchanged.
+/// - `behind`: a clock 300 minutes (5 hours) behind UTC shows 15791459 with the label -300
+///   (`negsuc 299`).
+/// - `same`: this local time with its label determines minute 15791759 again.
 pub fn worked_labels()
     ensures universal { minute_of (local_in Zone.Utc (pos 15791759)) ≡ pos 15791759 }
     ensures behind { local_in (Zone.Fixed (negsuc 299)) (pos 15791759)

@@ -10,8 +10,9 @@ ghost use Rattle.text_laws.specs.Lines.{IsLevel, IsLine};
 ghost use Rattle.text_laws.specs.Pages.{line_of, CalendarLine};
 ghost use Rattle.zone_time.specs.declared.zone.Zone.{Zone};
 
-/// Proves that the line of an event, of a level or of a date ends with its only LF and has no other byte
-/// below 32, so that it is one line of its text.
+/// Proves that the line of an event, of a level (`heights`) or of a calendar's date (`dates`) ends with
+/// LF and has no other byte below 32, so it is one line. Levels are at most 2^63 millionths in absolute
+/// value.
 pub fn lines_end_once()
     ensures events { (zone : Zone) (units : Units) (event : Event) → IsLevel event.level → IsLine (event_line_in zone units event) }
     ensures heights { (zone : Zone) (units : Units) (row : Row) → IsLevel row.level → IsLine (row_line_in zone units row) }

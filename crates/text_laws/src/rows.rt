@@ -10,8 +10,8 @@ ghost use Rattle.text_laws.specs.Lines.{IsLevel};
 ghost use Rattle.text_laws.specs.Rows.{records_in, AreOneList, ShowOneEvent, ShowOneLevel};
 ghost use Rattle.zone_time.specs.declared.zone.Zone.{Zone};
 
-/// Proves that a reader of comma-separated values finds the header, and then the fields of each event or
-/// level as they were written.
+/// Proves that a reader of comma-separated values (RFC 4180) gets back what was written: the header,
+/// and then the fields of each event or level, whatever bytes the station's name has.
 pub fn records_read_back()
     ensures events { (name : List ℕ) (units : Units) (events : List Event) (zone : Zone) →
         records_in (csv_events_of name units events zone) ≡ event_header ∷ map (event_fields name units zone) events }
@@ -19,9 +19,10 @@ pub fn records_read_back()
         records_in (csv_heights_of name units rows zone) ≡ row_header ∷ map (row_fields name units zone) rows }
 {}
 
-/// Proves that after the header there is one record for each line of the plain listing, in the same order.
-/// Both have the same minute, local time, name and unit, and the level of the line is the level of the
-/// record, rounded to hundredths.
+/// Proves that the comma-separated listing and the plain listing show the same list: after the header
+/// there is one record for each line after the station's name, in the same order. A record and its line
+/// have the same minute, local time and unit, and the same name of the event, if there is one; the line
+/// has the record's level, rounded to hundredths. Each record has the station's name.
 pub fn csv_and_plain_show_one_list()
     ensures events { (name : List ℕ) (units : Units) (events : List Event) (zone : Zone) → All (λ event. IsLevel event.level) events →
         AreOneList event_header name (ShowOneEvent name zone) (csv_events_of name units events zone)
@@ -30,7 +31,8 @@ pub fn csv_and_plain_show_one_list()
         AreOneList row_header name (ShowOneLevel name zone) (csv_heights_of name units rows zone) (plain_heights_of name units rows zone) }
 {}
 
-/// Proves an example of a record: the name of its station has a comma and quotes.
+/// Proves an example of reading comma-separated values: a header and one record, in which the station's
+/// name has a comma and quotes and is therefore written in quotes.
 #[tactic(auto, unfolding(csv::specs::Machine::next_record, csv::specs::Reading::records_from, csv::specs::Reading::strip_bom))]
 pub fn worked_records()
     ensures { records_in (codes "station,level\n\"Pier, \"\"old\"\"\",1.000000\n")

@@ -13,10 +13,15 @@ ghost use Rattle.station_table.specs.Bases.{basis_of, basis_over};
 ghost use Rattle.station_table.specs.Worked.{dock_rows};
 ghost use Rattle.text_laws.specs.Stations.{station_lines, FindsRow, FindsStation, SaysUnit};
 
-/// Proves that the list has one line for each station of the harmonics file and then one for each row of
-/// the table. A listed name finds a station or a row: a station's name finds a station of this name, and
-/// a row's name finds a row of this name if the file has no such station. A row's line has the unit of
-/// its reference, or `-`, which isn't a unit, exactly if the file doesn't have the reference.
+/// Proves what the list of stations shows, and that each listed name can be requested.
+///
+/// - `lines`: the list has a line for each station of the harmonics file `book`, then one for each row
+///   of `table`.
+/// - `references`: a request by a listed station's name finds a station of `book` with this name.
+/// - `rows`: a request by a row's name finds a station of `book` or else a row with this name.
+/// - `units`: a row's line has the unit of its reference station, or `-` exactly if `book` lacks this
+///   station.
+/// - `dash`: `-` isn't the text of a unit.
 pub fn stations_list_what_can_be_requested()
     ensures lines { (book : Book) (table : List Offsets) →
         stations_text_of book table ≡ flat_map (λ line. line) (station_lines book table) }
@@ -28,8 +33,9 @@ pub fn stations_list_what_can_be_requested()
     ensures dash { (units : Units) → text_of_unit units ≢ codes "-" }
 {}
 
-/// Proves an example of a row without its reference station in the harmonics file: a request by its name
-/// finds the row, and its line has `-`.
+/// Proves an example of a missing reference station: the row `Lost`, at index 2 of the table, names a
+/// reference that the harmonics file doesn't have. So a request for `Lost` finds the row but is
+/// refused.
 #[tactic(auto, unfolding(station_table::specs::Bases::basis_of, station_table::specs::Bases::basis_in, station_table::specs::Bases::basis_over))]
 pub fn worked_missing_reference()
     ensures { basis_of pier_book dock_rows (codes "Lost") ≡ Err (FindFault.NoReference 2) }

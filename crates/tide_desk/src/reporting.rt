@@ -16,14 +16,16 @@ use std::alloc::{AllocError, Global};
 use tide_answer::{Answer, Given, Listed, StationData, station_events};
 use tide_fault::Refusal;
 
-/// Returns the answer of the command `report`: the pages of those `sheets` that `question` names, with
-/// the events of its station, span and mark. The head of each page has the present minute of `inputs`.
+/// Returns the answer of the command `report`: a page for each of `sheets` that `question` requests,
+/// with the events of the station, span and mark of `question`. Each page's head has the station's
+/// name, the unit and the current minute, taken from `inputs`.
 ///
 /// # Errors
-/// The first [`Refusal`] in this order: the station isn't found, it is a hydraulic current, the span is
-/// backward or outside the file's years, the station's constants exceed a limit ([`Refusal::TooLarge`]
-/// or [`Refusal::TooSteep`]), the span is longer than 5,270,400 minutes, or the request has a mark but
-/// the offsets of the station's high and low waters differ.
+/// [`Refusal::NoMemory`] if memory runs out; otherwise the first [`Refusal`] in this order: the station
+/// isn't found, it is a hydraulic current, the span is backward or outside the file's years, the
+/// station's constants exceed a limit ([`Refusal::TooLarge`] or [`Refusal::TooSteep`]), the span is
+/// longer than 5,270,400 minutes, or the request has a mark but the offsets of the station's high and
+/// low waters differ.
 #[tactic(auto, unfolding(crate::specs::Answers::reported))]
 pub fn report(
     alloc: Global,

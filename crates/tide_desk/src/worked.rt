@@ -22,9 +22,15 @@ pub fn worked_minutes()
     ensures no_clock { minute_for Command.Heights (pos 7) ≡ pos 0 }
 {}
 
-/// Proves examples of checking the sheets that a command line names: the fault has the first named sheet
-/// that doesn't exist; a command line that names no sheet passes; and an argument that isn't valid is
-/// reported before a missing sheet.
+/// Proves examples of checking the sheets (pages of a report) that a command line requests.
+///
+/// - `no_sheet`: the program has no sheets, so the fault names `first`.
+/// - `second`: the only sheet is `first` (`first_sheet 10` shows at most 10 events). The fault names
+///   `graph`, the first requested sheet that doesn't exist.
+/// - `none_wanted`: a command line that requests no sheet passes.
+/// - `words_first`: an invalid argument is reported before a missing sheet. `first,first` is invalid,
+///   since a sheet may be requested only once; 2 is the argument's number, counted from 1 after the
+///   command.
 #[tactic(auto, unfolding(crate::specs::Answers::question_of_words, report_sheets::specs::Pages::missing_of, question::specs::Questions::question_of, question::specs::Questions::with_items, question::specs::Questions::with_item, question::specs::Forms::some_text, question::specs::Forms::sheets_of))]
 pub fn worked_sheets()
     ensures no_sheet { found_in (codes "first" ∷ []) (missing_of [] (codes "first" ∷ [])) ≡ Err (Fault.NoSheet (codes "first")) }

@@ -48,22 +48,25 @@ use Rattle.tide_fault.specs.declared.status.Status.TheVariants as status
 
 -- ---- statuses
 
--- the exit status for a command line or query that isn't a request
+-- the exit status for a command line or query that isn't a request, or if memory ran out while it was
+-- read
 abbrev pub status_of_ask : AskFault → Status
 status_of_ask ask.NoMemory = status.NoMemory
 status_of_ask _ = status.Words
 
--- the exit status for a file of harmonic constants that can't be read as a book
+-- the exit status for a file of harmonic constants that isn't in its format, or if memory ran out while
+-- it was read
 abbrev pub status_of_form : BookFault → Status
 status_of_form form.NoMemory = status.NoMemory
 status_of_form (form.At line why) = status.FileRefused
 
--- the exit status for a table of subordinate stations that can't be read
+-- the exit status for a table of subordinate stations that isn't in its format, or if memory ran out
+-- while it was read
 abbrev pub status_of_table : OffsetFault → Status
 status_of_table table.NoMemory = status.NoMemory
 status_of_table (table.At row why) = status.FileRefused
 
--- the exit status for a refusal after the files were read
+-- the exit status for a request that has no answer with the files that were read, or if memory ran out
 abbrev pub status_of_refusal : Refusal → Status
 status_of_refusal NoMemory = status.NoMemory
 status_of_refusal (NotACertificate line) = status.FileRefused
@@ -74,7 +77,7 @@ status_of_refusal (SpanTooLong minutes) = status.Limit
 status_of_refusal (TooManyRows rows) = status.Limit
 status_of_refusal _ = status.Refused
 
--- the exit status for a fault
+-- the exit status of a run that ends with each fault
 abbrev pub status_of : Fault → Status
 status_of (Ask fault) = status_of_ask fault
 status_of (NoSheet word) = status.Refused
@@ -86,18 +89,20 @@ status_of (Refused refusal) = status_of_refusal refusal
 
 -- ---- lines
 
--- the word for a file in the lines that report faults, such as `offsets`
+-- the word for each kind of file in the lines that report faults, such as `offsets`
 abbrev pub slot_name : Slot → List ℕ
 slot_name slots.File = codes "file"
 slot_name slots.Offsets = codes "offsets"
 slot_name slots.Zone = codes "zone"
 slot_name slots.Certificate = codes "certificate"
 
--- the line about an argument, or a pair of a query, by its number, counted from 1
+-- the start of a line about the argument, or the pair of a query, with the number `pair`, counted from
+-- 1, and then `what`
 abbrev pub pair_line : ℕ → List ℕ → List ℕ
 pair_line pair what = codes "words: pair " ++ decimal pair ++ what
 
--- the line for a command line or query that isn't a request
+-- the line, with its LF, for a command line or query that isn't a request, or if memory ran out while
+-- it was read
 unfoldable pub ask_line : AskFault → List ℕ
 ask_line ask.NoMemory = codes "no memory\n"
 ask_line ask.NoCommand = codes "words: no command\n"
@@ -108,48 +113,56 @@ ask_line (ask.RepeatedKey pair) = pair_line pair (codes " repeats a key\n")
 ask_line (ask.BadValue pair) = pair_line pair (codes " has a bad value\n")
 ask_line (ask.MissingKey key) = codes "words: " ++ name_of key ++ codes " is missing\n"
 
--- the line for a bad line of a harmonics file, with its number, the reason and the reason's number
+-- the line, with its LF, for the line of a harmonics file with the number `line`, which is bad for the
+-- reason `why`; it ends with the reason's text and number
 abbrev pub file_line : ℕ → Why → List ℕ
 file_line line why =
     (codes "file: line " ++ decimal line ++ codes ": ") ++ text_of why ++ (codes " (" ++ decimal (fault_number why) ++ codes ")\n")
 
--- the line for a file of harmonic constants that can't be read as a book
+-- the line, with its LF, for a file of harmonic constants that isn't in its format, or if memory ran
+-- out while it was read
 unfoldable pub form_line : BookFault → List ℕ
 form_line form.NoMemory = codes "no memory\n"
 form_line (form.At line why) = file_line line why
 
--- the line for a bad row of a table, with its number, the reason and the reason's number
+-- the line, with its LF, for the row of a table of subordinate stations with the number `row`, which is
+-- bad for the reason `why`; it ends with the reason's text and number
 abbrev pub row_line : ℕ → OffsetWhy → List ℕ
 row_line row why =
     (codes "offsets: row " ++ decimal row ++ codes ": ") ++ text_of_row why ++ (codes " (" ++ decimal (number_of_row why) ++ codes ")\n")
 
--- the line for a table of subordinate stations that can't be read
+-- the line, with its LF, for a table of subordinate stations that isn't in its format, or if memory ran
+-- out while it was read
 unfoldable pub table_line : OffsetFault → List ℕ
 table_line table.NoMemory = codes "no memory\n"
 table_line (table.At row why) = row_line row why
 
--- the name of the reference station of the row at an index of the table, counted from 0
+-- the name of the reference station in the row with this index, counted from 0, or no bytes if there is
+-- no such row
 abbrev pub reference_at : List TableRow → ℕ → List ℕ
 reference_at rows index = option_map_or (λ row. row.reference) (slice_get rows index) []
 
--- a line that ends with a name
+-- the line of `what` and then a name, with its LF
 abbrev pub naming_line : List ℕ → List ℕ → List ℕ
 naming_line what name = what ++ name ++ codes "\n"
 
--- true for the minutes of the years 1 to 9999, since 1970-01-01T00:00Z
+-- the minute, counted from 1970-01-01T00:00Z, is in the years 1 to 9999
 abbrev pub is_moment : ℤ → Bool
 is_moment minute = int_le (negsuc 1035593279) minute && int_le minute (pos 4223371679)
 
--- the text of a minute; no byte outside the years 1 to 9999
+-- the text of a minute counted from 1970-01-01T00:00Z, such as `2000-01-10T00:00Z`; no bytes if it
+-- isn't in the years 1 to 9999
 abbrev pub minute_text : ℤ → List ℕ
 minute_text minute = if is_moment minute then moment_text minute else []
 
--- the line for a span outside the file's years: their first minute, and the minute after their last
+-- the line, with its LF, for a span outside the file's years: `first` is the first minute of these
+-- years, and `last` the minute after their last
 abbrev pub years_line : ℤ → ℤ → List ℕ
 years_line first last =
     codes "refused: out of years: file has " ++ minute_text first ++ codes " to " ++ minute_text last ++ codes "\n"
 
--- the line of a refusal; `rows` has the rows of the table that was read
+-- the line, with its LF, of a refusal; `rows` are the rows of the table of subordinate stations that
+-- was read
 unfoldable pub refusal_line : List TableRow → Refusal → List ℕ
 refusal_line rows NoMemory = codes "no memory\n"
 refusal_line rows (NotACertificate line) = codes "certificate: line " ++ decimal line ++ codes "\n"
@@ -167,7 +180,8 @@ refusal_line rows MarkNotHere = codes "refused: mark not here\n"
 refusal_line rows LevelNotHere = codes "refused: level not here\n"
 refusal_line rows (TooManyRows count) = codes "limit: " ++ signed_decimal count ++ codes " rows\n"
 
--- the line of a fault; `rows` has the rows of the table that was read
+-- the line, with its LF, of a fault; `rows` are the rows of the table of subordinate stations that was
+-- read
 unfoldable pub line_of : List TableRow → Fault → List ℕ
 line_of rows (Ask fault) = ask_line fault
 line_of rows (NoSheet word) = naming_line (codes "refused: no sheet ") word
@@ -179,31 +193,31 @@ line_of rows (Refused refusal) = refusal_line rows refusal
 
 -- ---- out of memory, and faults of the crates below
 
--- a refusal is that memory ran out
+-- true if the refusal is that memory ran out
 abbrev pub refusal_is_out_of_memory : Refusal → Bool
 refusal_is_out_of_memory NoMemory = true
 refusal_is_out_of_memory _ = false
 
--- the status is the one of a run that ran out of memory
+-- true for the exit status of a run in which memory ran out
 abbrev pub is_memory : Status → Bool
 is_memory status.NoMemory = true
 is_memory _ = false
 
--- a fault is that memory ran out
+-- true if the fault is that memory ran out
 abbrev pub is_out_of_memory : Fault → Bool
 is_out_of_memory fault = is_memory (status_of fault)
 
--- the refusal of bytes that aren't the text of a certificate
+-- the refusal for each reason why bytes can't be read as a certificate
 abbrev pub refusal_of_cert : CertFault → Refusal
 refusal_of_cert cert.NoMemory = NoMemory
 refusal_of_cert (cert.NotACertificate line) = NotACertificate line
 
--- the refusal of a name for which no station is found
+-- the refusal for each reason why no station is found for a name
 abbrev pub refusal_of_find : FindFault → Refusal
 refusal_of_find find.NoStation = NoStation
 refusal_of_find (find.NoReference row) = NoReference row
 
--- the refusal of a station that has no curve
+-- the refusal for each reason why a station has no curve
 abbrev pub refusal_of_curve : CurveFault → Refusal
 refusal_of_curve curve.NoMemory = NoMemory
 refusal_of_curve curve.Hydraulic = Hydraulic

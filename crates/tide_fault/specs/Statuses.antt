@@ -13,7 +13,7 @@ use Rattle.tide_fault.specs.declared.status.Status.TheVariants.{
   NoMemory,
 }
 
--- the number of an exit status, from 0 to 8
+-- the number of each exit status, from 0 to 8
 abbrev pub status_number : Status → ℕ
 status_number Done = 0
 status_number Rejected = 1

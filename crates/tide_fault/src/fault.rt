@@ -11,7 +11,7 @@ use harmonics_text::BookFault;
 use question::AskFault;
 use station_table::OffsetFault;
 
-/// The reason why a request has no answer. The variants are in the order in which a run looks for them.
+/// The reason why a request has no answer. A run looks for them in the order of these variants.
 #[derive(Drop)]
 pub enum Fault {
     /// The command line or query isn't a request.
@@ -30,7 +30,7 @@ pub enum Fault {
     Refused(Refusal),
 }
 
-/// Returns the exit status of a run that ends with `fault`. It doesn't allocate.
+/// Returns the exit status of a run that ends with `fault`. Nothing is allocated.
 pub fn fault_status(fault: &Fault) -> Status
     ensures { result ≡ status_of fault.now }
 {

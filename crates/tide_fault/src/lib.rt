@@ -1,8 +1,8 @@
 //! Refusals and faults, with their lines and exit statuses.
 //!
 //! A [`Refusal`] is a reason why a request has no answer with the files that were read. A [`Fault`] is
-//! also an error of the command line or of a file. [`fault_line`] and [`fault_status`] return the line
-//! and the exit status of each; no other crate makes them.
+//! a refusal, or an error of the command line or of a file. [`fault_line`] returns the line that
+//! reports a fault, and [`fault_status`] the exit status; no other crate makes them.
 #![tactic(auto)]
 
 mod fault;

@@ -28,10 +28,11 @@ use station_table::{OffsetFault, OffsetTable, OffsetWhy};
 use std::alloc::{AllocError, Global};
 use zone_time::write_moment;
 
-/// Returns the line that reports `fault`, with its LF. `table` is the table of subordinate stations that
-/// was read; it has the name of the reference in the row of [`NoReference`](Refusal::NoReference). If the
-/// table doesn't have this row, the line ends without a name. A minute of
-/// [`OutOfYears`](Refusal::OutOfYears) that isn't in the years 1 to 9999 has no text.
+/// Returns the line that reports `fault`, with its LF. `table` is the table of subordinate stations
+/// that was read. For [`NoReference`](Refusal::NoReference) the line ends with the name of the
+/// reference station in the fault's row of `table`, or without a name if there is no such row. A minute
+/// of [`OutOfYears`](Refusal::OutOfYears) outside the years 1 to 9999 is left out. Fails only if memory
+/// runs out.
 pub fn fault_line(alloc: Global, fault: &Fault, table: &OffsetTable) -> Result<Bytes, AllocError>
     ensures { IfOk result (λ line. line ≡ line_of table.now fault.now) }
 {

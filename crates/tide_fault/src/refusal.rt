@@ -6,20 +6,22 @@ use station_curve::CurveFault;
 use station_table::FindFault;
 use std::alloc::AllocError;
 
-/// The reason why a request has no answer with the harmonics file and the table that were read.
+/// The reason why a request has no answer with the harmonics file and the table of subordinate stations
+/// that were read.
 #[derive(Clone, Copy, Debug)]
 pub enum Refusal {
     /// Memory ran out while the request was answered.
     NoMemory,
     /// The bytes aren't a certificate. `line`, counted from 1, is the first line such that no
-    /// certificate begins with the lines up to it.
+    /// certificate begins with the lines up to and including it.
     NotACertificate { line: u32 },
     /// The file made from a seed can't be read as a book: `line`, counted from 1, is the first line that
     /// breaks a rule, and `why` the first reason.
     BadSample { line: u32, why: Why },
     /// Neither the harmonics file nor the table has a station with the requested name.
     NoStation,
-    /// The harmonics file doesn't have the reference station of the table's row at index `row`.
+    /// The harmonics file doesn't have the reference station of the table's row with the index `row`,
+    /// counted from 0.
     NoReference { row: u32 },
     /// The station is a hydraulic current: its speed is the square root of the sum of its
     /// constituents.
@@ -34,17 +36,16 @@ pub enum Refusal {
     /// In a year the sizes of the amplitudes of the station's constituents sum to more than
     /// 1,000,000,000 millionths of its unit; `year` is the first such year.
     TooLarge { year: i32 },
-    /// In a year the sizes of the amplitudes times the speeds of the station's constituents sum to more
-    /// than 10^17 millionths of its unit times ten-millionths of a degree an hour; `year` is the first
-    /// such year.
+    /// In a year the sum, over the station's constituents, of the size of the amplitude in millionths
+    /// of the station's unit times the size of the speed in ten-millionths of a degree an hour exceeds
+    /// 10^17; `year` is the first such year.
     TooSteep { year: i32 },
     /// The span has `minutes` minutes, more than the 5,270,400 that the program answers.
     SpanTooLong { minutes: i64 },
-    /// The request has a mark, and the offsets of the station's high waters differ from those of its low
-    /// waters.
+    /// The request has a mark, and the station's high and low waters have different offsets.
     MarkNotHere,
-    /// The request is for levels at any minute, and the offsets of the station's high waters differ from
-    /// those of its low waters.
+    /// The request is for levels at any minute, and the station's high and low waters have different
+    /// offsets.
     LevelNotHere,
     /// The request is for `rows` heights, more than the 100,000 that the program lists.
     TooManyRows { rows: i64 },

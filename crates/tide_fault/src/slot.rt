@@ -2,7 +2,7 @@
 
 ghost use Rattle.std.specs.Prelude.{◌≡◌, ◌≤◌, length};
 
-/// The purpose for which a named file is read: the kind of file that it should be.
+/// The kind of a named file: what the program reads the file as.
 #[derive(Clone, Copy, PartialEq, Eq)]
 pub enum Slot {
     /// The file of harmonic constants.
@@ -18,7 +18,7 @@ pub enum Slot {
 impl Slot {
     ghost use Rattle.tide_fault.specs.Faults.{slot_name};
 
-    /// Returns the word for the file in the lines that report faults, such as `offsets`.
+    /// Returns the word for this kind of file in the lines that report faults, such as `offsets`.
     pub fn text(self) -> &'static str
         ensures { result.now ≡ slot_name self }
     {

@@ -2,7 +2,7 @@
 
 ghost use Rattle.std.specs.Prelude.{◌≡◌};
 
-/// The result of a run. Its number is the exit status of the program.
+/// The result of a run. The number of this status is the exit status of the program.
 #[derive(Clone, Copy, Debug, PartialEq, Eq)]
 pub enum Status {
     /// The whole answer was written.
@@ -28,7 +28,7 @@ pub enum Status {
 impl Status {
     ghost use Rattle.tide_fault.specs.Statuses.{status_number};
 
-    /// Returns the exit status of the program as a number, 0 to 8.
+    /// Returns the number of this status, which is the exit status of the program, from 0 to 8.
     pub fn number(&self) -> u8
         ensures { result ≡ status_number self.now }
     {

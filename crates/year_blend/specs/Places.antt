@@ -1,5 +1,5 @@
--- The minutes of a run of years: the plain part of each year, and the blends at the new years between
--- them (this project).
+-- Where a minute is in consecutive calendar years: in one year, or in the blend at a new year between
+-- two of them (this project).
 use Rattle.std.specs.Prelude.{
   ◌≡◌,
   ℕ,
@@ -25,26 +25,26 @@ use Rattle.year_blend.specs.declared.parts.Place.{Place}
 use Rattle.year_blend.specs.declared.parts.Place.TheVariants.{Plain, Blend}
 use Rattle.year_blend.specs.Years.{year_start_of}
 
--- the ranges of a file's years: the first year is from 2 to 8800, and the number of years from 1 to 500
+-- the ranges for consecutive calendar years: `first_year` is from 2 to 8800, and `years`, the number of
+-- years, from 1 to 500
 pub record AreYears (first_year : ℤ) (years : ℕ) : Type 0 where
   pub least : pos 2 ≤ℤ first_year
   pub most : first_year ≤ℤ pos 8800
   pub some : 1 ≤ years
   pub few : years ≤ 500
 
--- the first minute, since 1970-01-01T00:00Z, of year `year`, counted from 0 among the years from
--- `first_year` on
+-- the first minute, since 1970-01-01T00:00Z, of the year with index `year` (0 for `first_year`)
 abbrev pub start_of : ℤ → ℕ → ℤ
 start_of first_year year = year_start_of (first_year +ℤ pos year)
 
--- minute m, since 1970-01-01T00:00Z, is in the domain of `years` years from `first_year` on: from the
--- first minute of the first year to the first minute after the last year, both included
+-- minute m, since 1970-01-01T00:00Z, is in the `years` years from `first_year` on, or is the first
+-- minute after them
 pub record InDomain (first_year : ℤ) (years : ℕ) (m : ℤ) : Type 0 where
   pub least : year_start_of first_year ≤ℤ m
   pub most : m ≤ℤ year_start_of (first_year +ℤ pos years)
 
--- minute m is in the blend at the start of year `year`, counted from 0: less than an hour from that
--- start, and x minutes after it (before it, if x is negative); the first year has no blend
+-- minute m is in the blend at the start of the year with index `year` (0 for the first, which has no
+-- blend): less than an hour from that start, and x minutes after it (before it, if x is negative)
 pub record IsInBlend (first_year : ℤ) (years : ℕ) (m : ℤ) (year : ℕ) (x : ℤ) : Type 0 where
   pub later : 0 < year
   pub inner : year < years
@@ -52,27 +52,31 @@ pub record IsInBlend (first_year : ℤ) (years : ℕ) (m : ℤ) (year : ℕ) (x 
   pub above : negsuc 59 <ℤ x
   pub below : x <ℤ pos 60
 
--- minute m is in year `year`, counted from 0: from its start up to but not including the next year's
--- start; the last year also has the first minute after it
+-- minute m is in the year with index `year` (0 for `first_year`): from its start up to but not
+-- including the next year's start; the first minute after the `years` years is in the last one
 pub record IsInYear (first_year : ℤ) (years : ℕ) (m : ℤ) (year : ℕ) : Type 0 where
   pub one_of : year < years
   pub begun : start_of first_year year ≤ℤ m
   pub ongoing : (m <ℤ start_of first_year (suc year)) ⊎ ((suc year ≡ years) × (m ≡ start_of first_year years))
 
--- the rule for positions: a minute in no blend is plain, in the year that contains it
+-- the rule for the position of minute m in `years` years from `first_year` on: Blend with the year and
+-- x if m is in the blend at the year's start, x minutes after it; Plain with the year that contains m
+-- if m is in no blend
 abbrev pub IsPlaceOf : ℤ → ℕ → ℤ → Place → Type 0
 IsPlaceOf first_year years m (Plain year) =
     IsInYear first_year years m year
     × ((other : ℕ) (x : ℤ) → ¬ IsInBlend first_year years m other x)
 IsPlaceOf first_year years m (Blend year x) = IsInBlend first_year years m year x
 
--- the index of the last of the first n years that has begun at minute m, counted from 0
+-- the index, counted from 0, of the last of the first n years from `first_year` on that starts at
+-- minute m or earlier; 0 if there is none
 unfoldable pub year_at : ℤ → ℕ → ℤ → ℕ
 year_at first_year zero m = 0
 year_at first_year (suc n) m = if int_le (start_of first_year n) m then n else year_at first_year n m
 
--- the position of minute m, which is in year `year`: the blend at a new year between two of the years
--- if the minute is less than an hour from it, else the plain part of `year`
+-- the position of minute m, which is in the year with index `year`: Blend if m is less than an hour
+-- after this year's start, or before the next year's, and that start is between two of the `years`
+-- years; else Plain with this year
 unfoldable pub place_in : ℤ → ℕ → ℤ → ℕ → Place
 place_in first_year years m year =
     let since = m -ℤ start_of first_year year in
@@ -81,13 +85,14 @@ place_in first_year years m year =
     else (if nat_lt (suc year) years && int_lt (negsuc 59) left then Blend (suc year) left
     else Plain year)
 
--- the position of minute m among `years` years from `first_year` on: in the plain part of a year, or in
--- the blend at a new year
+-- the position of minute m in `years` years from `first_year` on: Blend, if m is less than an hour from
+-- a new year between two of them, else Plain with the year that contains m
 unfoldable pub place_of : ℤ → ℕ → ℤ → Place
 place_of first_year years m = place_in first_year years m (year_at first_year years m)
 
--- the last minute of the plain part of year `year`, counted from 0: an hour before the next year starts
--- or, for the last year, the first minute after it
+-- the last minute of the year with index `year` (0 for `first_year`) that isn't in the blend at the
+-- next new year: an hour before the next year starts or, for the last of the `years` years, the first
+-- minute after it
 unfoldable pub plain_end_of : ℤ → ℕ → ℕ → ℤ
 plain_end_of first_year years year =
     if nat_lt (suc year) years then start_of first_year (suc year) -ℤ pos 60 else start_of first_year (suc year)

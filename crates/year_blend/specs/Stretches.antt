@@ -1,5 +1,5 @@
--- The stretch of consecutive minutes: which years they are in, the plain part of one year, or both sides
--- of one new year (this project).
+-- Which years' constants consecutive minutes use: one year's, or two years' around a new year (this
+-- project).
 use Rattle.std.specs.Prelude.{◌≡◌, ℕ, suc, ◌≤◌, ◌⊎◌, ℤ, pos, ◌+ℤ◌, int_le, if◌then◌else◌}
 use Rattle.year_blend.specs.declared.parts.Place.{Place}
 use Rattle.year_blend.specs.declared.parts.Place.TheVariants.{Plain, Blend}
@@ -7,14 +7,15 @@ use Rattle.year_blend.specs.declared.parts.Stretch.{Stretch}
 use Rattle.year_blend.specs.declared.parts.Stretch.TheVariants.{Within, Across}
 use Rattle.year_blend.specs.Places.{IsInBlend, place_of, plain_end_of}
 
--- a position in the blend at the start of year `year`, or in the plain part of that year or of the year
--- before
+-- the position is in the blend at the start of the year with index `year`, or outside the blends in
+-- this year or in the year before
 abbrev pub IsBeside : ℕ → Place → Type 0
 IsBeside year (Plain other) = (suc other ≡ year) ⊎ (other ≡ year)
 IsBeside year (Blend other x) = other ≡ year
 
--- the rule for the minutes from `a` to `a + n`, both included: all are in the plain part of one year;
--- or some are in the blend at a new year, and the others in the plain parts next to it
+-- the rule for the minutes from `a` to `a + n`, both included: Within a year if each is in this year,
+-- outside the blends at new years; Across a year if some are in the blend at its start, and the others
+-- are outside the blends in this year or the year before
 abbrev pub IsStretchOf : ℤ → ℕ → ℤ → ℕ → Stretch → Type 0
 IsStretchOf first_year years a n (Within year) =
     (k : ℕ) → k ≤ n → place_of first_year years (a +ℤ pos k) ≡ Plain year
@@ -22,15 +23,16 @@ IsStretchOf first_year years a n (Across year) =
     ((k : ℕ) × (x : ℤ) × (k ≤ n) × IsInBlend first_year years (a +ℤ pos k) year x)
     × ((k : ℕ) → k ≤ n → IsBeside year (place_of first_year years (a +ℤ pos k)))
 
--- the stretch of the minutes up to `end`, from the position of the first one: the plain part of a year
--- contains them if it ends no earlier; else they are across a new year
+-- which years' constants the minutes up to `end` use, if the first one has the given position: Within
+-- its year if it isn't in a blend and `end` is no later than the year's last minute outside the blends,
+-- else Across the new year
 abbrev pub stretch_from : ℤ → ℕ → ℤ → Place → Stretch
 stretch_from first_year years end (Plain year) =
     if int_le end (plain_end_of first_year years year) then Within year else Across (suc year)
 stretch_from first_year years end (Blend year x) = Across year
 
--- which years' constants the minutes from `a` to `a + n`, both included, use: those of one year, or
--- those of the two years around one new year; n is at most 1,024
+-- which years' constants the minutes from `a` to `a + n`, both included, use: Within one year, or
+-- Across the start of a year (the constants of this year and of the year before); n is at most 1,024
 unfoldable pub stretch_of : ℤ → ℕ → ℤ → ℕ → Stretch
 stretch_of first_year years a n =
     stretch_from first_year years (a +ℤ pos n) (place_of first_year years a)

@@ -11,11 +11,11 @@ use crate::years::{DAY, year_of_day, year_start};
 /// Half the minutes of a blend.
 const HOUR: i64 = 60;
 
-/// Returns the position of minute `m` among `years` years from `first_year` on. Less than an hour
-/// before or after the start of a year other than the first, this is the blend at that start; elsewhere
-/// it is the plain part of the minute's year. `first_year` is from 2 to 8800 and `years` from 1 to 500.
-/// `m`, since 1970-01-01T00:00Z, is from the first minute of the first year to the first minute after
-/// the last year, both included.
+/// Returns the position of minute `m` among `years` calendar years from `first_year` on: `Blend`, if
+/// `m` is less than an hour before or after the start of a year other than the first, and otherwise
+/// `Plain`, with the year that contains `m`. `first_year` is from 2 to 8800 and `years` from 1 to 500.
+/// `m`, counted from 1970-01-01T00:00Z, is from the first minute of the first year to the first minute
+/// after the last year, both included; this minute belongs to the last year.
 pub fn place(first_year: i32, years: u32, m: i64) -> Place
     requires years { AreYears first_year years }
     requires domain { InDomain first_year years m }
@@ -36,8 +36,8 @@ pub fn place(first_year: i32, years: u32, m: i64) -> Place
     }
 }
 
-/// Returns the last minute of the plain part of year `year`, counted from 0 among `years` years from
-/// `first_year` on. This is the minute 60 minutes before the next year starts or, for the last year,
+/// Returns the last minute of the year with index `year` (0 for `first_year`) that isn't in the blend
+/// at the next new year: 60 minutes before the next year starts or, for the last of the `years` years,
 /// the first minute after it. Minutes are counted from 1970-01-01T00:00Z.
 pub fn plain_end(first_year: i32, years: u32, year: u32) -> i64
     requires years { AreYears first_year years }

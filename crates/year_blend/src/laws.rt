@@ -10,8 +10,9 @@ ghost use Rattle.year_blend.specs.declared.spanning.TheConstants.{LONGEST_SPAN};
 ghost use Rattle.year_blend.specs.Stretches.{IsStretchOf, stretch_of};
 ghost use Rattle.year_blend.specs.Weights.{weight_of, weight_slope_of, total_weight, IsWithinHourOfNewYear};
 
-/// Proves for each UTC year from 2 to 9300 that the next one starts 365 or 366 days later, and bounds
-/// on the year's first minute, counted from 1970-01-01T00:00Z.
+/// Proves for each UTC year from 2 to 9300 that the next year starts 525,600 or 527,040 minutes (365 or
+/// 366 days) later, and that the year's first minute, counted from 1970-01-01T00:00Z, is from
+/// -1,035,067,680 to 3,855,208,320.
 pub fn year_lengths()
     ensures lengths { (y : ℤ) → IsYearInReach y
         → ((year_start_of (y +ℤ pos 1) -ℤ year_start_of y) ≡ pos 525600)
@@ -20,8 +21,9 @@ pub fn year_lengths()
     ensures most { (y : ℤ) → IsYearInReach y → year_start_of y ≤ℤ pos 3855208320 }
 {}
 
-/// Proves that each minute of a run of years, and the first minute after them, has exactly one
-/// position: the plain part of one year, or the blend at one new year.
+/// Proves that each minute of `years` years from `first_year` on, and the first minute after them, has
+/// exactly one position by the rule `IsPlaceOf`: in one year outside the blends, or in the blend at one
+/// new year. `place_of` gives this position.
 pub fn unique_places()
     ensures some { (first_year : ℤ) (years : ℕ) (m : ℤ) → AreYears first_year years → InDomain first_year years m
         → IsPlaceOf first_year years m (place_of first_year years m) }
@@ -29,8 +31,8 @@ pub fn unique_places()
         → (p : Place) → IsPlaceOf first_year years m p → p ≡ place_of first_year years m }
 {}
 
-/// Proves for a minute outside the blends at new years that each minute from it to the last one of its
-/// year's plain part is in the same plain part, and that this last minute isn't before it.
+/// Proves for a minute `m` in a year, outside the blends at new years, that `plain_end_of` the year
+/// isn't before `m`, and that each minute from `m` to it is in the same year, outside the blends.
 pub fn plain_parts()
     ensures rest { (first_year : ℤ) (years : ℕ) (m later : ℤ) (year : ℕ) → AreYears first_year years → InDomain first_year years m
         → place_of first_year years m ≡ Plain year → m ≤ℤ later → later ≤ℤ plain_end_of first_year years year
@@ -39,9 +41,10 @@ pub fn plain_parts()
         → place_of first_year years m ≡ Plain year → m ≤ℤ plain_end_of first_year years year }
 {}
 
-/// Proves that the minutes from `m` to `m + n`, both included, are in exactly one stretch: in the plain
-/// part of one year, or across one new year. Both ends are in the years or the first minute after them,
-/// and `n` is at most `LONGEST_SPAN`.
+/// Proves that the minutes from `m` to `m + n`, both included, use the constants of exactly one year,
+/// or of exactly one pair of years around a new year, by the rule `IsStretchOf`; `stretch_of` gives
+/// which. `m` and `m + n` are in the years or the first minute after them, and `n` is at most
+/// `LONGEST_SPAN` (1,024).
 pub fn unique_stretches()
     ensures some { (first_year : ℤ) (years : ℕ) (m : ℤ) (n : ℕ) → AreYears first_year years → InDomain first_year years m
         → InDomain first_year years (m +ℤ pos n) → n ≤ LONGEST_SPAN → IsStretchOf first_year years m n (stretch_of first_year years m n) }
@@ -50,9 +53,10 @@ pub fn unique_stretches()
         → (s : Stretch) → IsStretchOf first_year years m n s → s ≡ stretch_of first_year years m n }
 {}
 
-/// Proves that from 60 minutes before a new year to 60 minutes after it the weight of the later year is
-/// from 0 to 4,147,200,000, its slope, in weight per minute, from 0 to 64,800,000, and that in a minute
-/// the weight changes by at most 64,800,000 and the slope by at most 1,663,000.
+/// Proves bounds on the weight of the later year in a blend, `x` minutes after the new year, from -60
+/// to 60. The weight is from 0 to 4,147,200,000 (the total weight); its slope, the change of the weight
+/// per minute, is from 0 to 64,800,000. From one minute to the next the weight changes by at most
+/// 64,800,000, and the slope by at most 1,663,000.
 pub fn weight_steps()
     ensures weight { (x : ℤ) → IsWithinHourOfNewYear x → (pos 0 ≤ℤ weight_of x) × (weight_of x ≤ℤ pos total_weight) }
     ensures slope { (x : ℤ) → IsWithinHourOfNewYear x → (pos 0 ≤ℤ weight_slope_of x) × (weight_slope_of x ≤ℤ pos 64800000) }
@@ -62,8 +66,11 @@ pub fn weight_steps()
         → unsigned_abs (weight_slope_of (x +ℤ pos 1) -ℤ weight_slope_of x) ≤ 1663000 }
 {}
 
-/// Proves examples of positions of minutes among the years 1999 to 2001: the first minute of 2000 and
-/// minutes near it, the first minute of 1999, and the first minute after 2001.
+/// Proves positions of minutes in the years 1999 (index 0) to 2001 (index 2); times are UTC. The first
+/// minute of 1999 is in 1999 (`Plain 0`), and 23:00 on 31 December 1999 is too. 23:01, 59 minutes
+/// before the new year (`negsuc 58` is -59), is the first minute of the blend at the start of 2000, and
+/// 00:59 on 1 January 2000 the last. 01:00 is in 2000 (`Plain 1`). The first minute after 2001 is in
+/// 2001.
 pub fn worked_places()
     ensures first { place_of (pos 1999) 3 (pos 15252480) ≡ Place.Plain 0 }
     ensures hour_before { place_of (pos 1999) 3 (pos 15778020) ≡ Place.Plain 0 }
@@ -74,9 +81,11 @@ pub fn worked_places()
     ensures last { place_of (pos 1999) 3 (pos 16830720) ≡ Place.Plain 2 }
 {}
 
-/// Proves examples of stretches of minutes among the years 1999 to 2001: up to the end of the plain
-/// part of 1999, a minute past it, over the blend at the start of 2000, from its last minute on, from
-/// the minute after it on, and up to the first minute after 2001.
+/// Proves which of the years 1999 (index 0) to 2001 (index 2) the minutes use from a first one to one
+/// that is 1,024, 1,000 or 1 minutes later; times are UTC. From 05:56 to 23:00 on 31 December 1999 they
+/// are in 1999 (`Within 0`). From 05:57 to 23:01 they reach the blend at the start of 2000 (`Across
+/// 1`), as do the minutes from 16:00 to 08:40 on 1 January 2000, and from 00:59 to 01:00. From 01:00 on
+/// they are in 2000, and up to the first minute of 2002 in 2001.
 pub fn worked_stretches()
     ensures up_to_the_end { stretch_of (pos 1999) 3 (pos 15776996) 1024 ≡ Stretch.Within 0 }
     ensures past_the_end { stretch_of (pos 1999) 3 (pos 15776997) 1024 ≡ Stretch.Across 1 }
@@ -86,8 +95,10 @@ pub fn worked_stretches()
     ensures up_to_the_last { stretch_of (pos 1999) 3 (pos 16829696) 1024 ≡ Stretch.Within 2 }
 {}
 
-/// Proves examples that another program computed: first minutes of years since 1970-01-01T00:00Z, and
-/// the weight of the later year in a blend and its slope.
+/// Proves examples that another program computed: the first minutes of 1970 and 2000, since
+/// 1970-01-01T00:00Z; the weight of the later year in a blend, of 4,147,200,000 in all, at -60, 0, 30
+/// and 60 minutes after the new year (`negsuc 59` is -60); and the weight's slope, its change per
+/// minute, at -60, 0 and 60.
 #[tactic(auto, unfolding(crate::specs::Weights::weight_of, crate::specs::Weights::weight_slope_of))]
 pub fn sample_weights()
     ensures epoch { year_start_of (pos 1970) ≡ pos 0 }
@@ -101,8 +112,8 @@ pub fn sample_weights()
     ensures last_slope { weight_slope_of (pos 60) ≡ pos 0 }
 {}
 
-/// Proves that `LONGEST_SPAN`, the most minutes from the first minute of a stretch to its last, is
-/// 1,024.
+/// Proves that `LONGEST_SPAN`, the greatest number of minutes from the first minute of a stretch
+/// (consecutive minutes) to its last one, is 1,024.
 pub fn worked_limits()
     ensures minutes { LONGEST_SPAN ≡ 1024 }
 {}

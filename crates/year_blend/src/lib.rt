@@ -1,9 +1,10 @@
-//! The years of a file, and the blend from one year to the next.
+//! The years of a harmonics file, and the blend from one year's constants to the next year's.
 //!
-//! Harmonic constants hold for one year. Within an hour of a new year between two years the constants of
-//! both count: a [`weight`] moves smoothly from the earlier year to the later one. [`place`] returns the
-//! year or the blend of a minute, [`stretch`] the years of consecutive minutes, [`plain_end`] the last
-//! minute of a year outside blends, and [`year_start`] the first minute of a year.
+//! Harmonic constants hold for one calendar year. In the blend at a new year, less than an hour from
+//! it, the constants of both years count: a [`weight`] moves smoothly from the earlier year to the
+//! later one. [`place`] returns the year or the blend of a minute, [`stretch`] the year or the two
+//! years of consecutive minutes, [`plain_end`] a year's last minute before the next blend, and
+//! [`year_start`] the first minute of a year.
 #![tactic(auto)]
 
 mod finding;

@@ -1,4 +1,4 @@
-//! The stretch of consecutive minutes.
+//! Which years' constants consecutive minutes use.
 
 ghost use Rattle.std.specs.Prelude.{◌≡◌, ◌≤◌, pos, ◌+ℤ◌};
 ghost use Rattle.year_blend.specs.declared.spanning.TheConstants.{LONGEST_SPAN};
@@ -8,15 +8,15 @@ ghost use Rattle.year_blend.specs.Stretches.{IsStretchOf, stretch_of};
 use crate::finding::{place, plain_end};
 use crate::parts::{Place, Stretch};
 
-/// The most minutes from the first minute of a stretch to its last one: the greatest `n` that
-/// [`stretch`] accepts.
+/// The greatest number of minutes from the first minute of a stretch (consecutive minutes) to its last
+/// one: the greatest `n` that [`stretch`] accepts.
 pub const LONGEST_SPAN: u32 = 1024;
 
-/// Returns which years' constants the minutes from `m` to `m + n`, both included, use, among `years`
-/// years from `first_year` on. It is one year if none of these minutes is less than an hour from a new
-/// year between two of the years, and otherwise the two years around that new year. `m` and `m + n` are
-/// from the first minute of the years to the first minute after them, and `n` is at most
-/// [`LONGEST_SPAN`].
+/// Returns the year or years with the constants that the minutes from `m` to `m + n`, both included,
+/// use, among `years` calendar years from `first_year` on: one year if each of these minutes is at
+/// least an hour from every new year between two of the years, and otherwise the two years around that
+/// new year. `m` and `m + n`, counted from 1970-01-01T00:00Z, are from the first minute of the years to
+/// the first minute after them; `n` is at most [`LONGEST_SPAN`] (1,024).
 #[cold]
 #[inline(never)]
 pub fn stretch(first_year: i32, years: u32, m: i64, n: u32) -> Stretch

@@ -3,12 +3,12 @@
 ghost use Rattle.std.specs.Prelude.{◌≡◌, ◌≤◌, pos, ◌-ℤ◌, ◌≤ℤ◌};
 ghost use Rattle.year_blend.specs.Weights.{weight_of, weight_slope_of, total_weight, IsWithinHourOfNewYear};
 
-/// The total weight of a blend at a new year: the sum of the weights of the earlier and the later year,
-/// which is the same at each minute.
+/// The sum of the weights of the earlier and the later year in a blend at a new year, the same at each
+/// minute.
 pub const TOTAL_WEIGHT: i64 = 4_147_200_000;
 
-/// Returns the weight of the later year in a blend, from 0 to [`TOTAL_WEIGHT`], at `x` minutes from the
-/// new year; `x` is from -60 to 60, and negative before the new year.
+/// Returns the weight of the later year in a blend, from 0 to [`TOTAL_WEIGHT`] (4,147,200,000), `x`
+/// minutes after the new year. `x` is from -60 to 60, negative before the new year.
 pub fn weight(x: i64) -> i64
     requires { IsWithinHourOfNewYear x }
     ensures value { result ≡ weight_of x }
@@ -18,9 +18,9 @@ pub fn weight(x: i64) -> i64
     weight_after((x + 60) as u64) as i64
 }
 
-/// Returns the slope of the weight of the later year in a blend, in weight per minute, from 0 to
-/// 64,800,000, at `x` minutes from the new year; `x` is from -60 to 60, and negative before the new
-/// year.
+/// Returns the change per minute of the later year's weight in a blend, from 0 to 64,800,000, `x`
+/// minutes after the new year. `x` is from -60 to 60, negative before the new year. The weight grows
+/// from 0 to 4,147,200,000.
 pub fn weight_slope(x: i64) -> i64
     requires { IsWithinHourOfNewYear x }
     ensures value { result ≡ weight_slope_of x }

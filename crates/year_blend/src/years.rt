@@ -9,8 +9,8 @@ use jiff_core::civil::Date;
 /// The number of minutes in a day.
 pub const DAY: i64 = 1_440;
 
-/// Returns the first minute of the UTC year `y`, from 2 to 9300, in minutes since 1970-01-01T00:00Z; it
-/// is negative before 1970.
+/// Returns the first minute of the UTC year `y`, in minutes since 1970-01-01T00:00Z (negative before
+/// 1970). `y` is from 2 to 9300.
 pub fn year_start(y: i32) -> i64
     requires { IsYearInReach y }
     ensures { result ≡ year_start_of y }
@@ -18,7 +18,8 @@ pub fn year_start(y: i32) -> i64
     DAY * new_years_day(y)
 }
 
-/// Returns the day number of 1 January of year `y`, with 1970-01-01 as 0.
+/// Returns the day number of 1 January of the year `y`, in days since 1970-01-01 (negative before
+/// 1970).
 pub fn new_years_day(y: i32) -> i64
     requires { IsYear y }
     ensures value { result ≡ days_from_civil y 1 1 }
@@ -27,7 +28,8 @@ pub fn new_years_day(y: i32) -> i64
     Date::constrain(y as i16, 1, 1).to_unix_epoch_day() as i64
 }
 
-/// Returns the year that contains the day number `day`, with 1970-01-01 as 0.
+/// Returns the calendar year that contains the day with the number `day`, in days since 1970-01-01
+/// (negative before 1970).
 pub fn year_of_day(day: i64) -> i32
     requires { IsEpochDay day }
     ensures begun { days_from_civil result 1 1 ≤ℤ day }

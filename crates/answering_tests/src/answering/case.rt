@@ -15,7 +15,8 @@ use tide_answer::{Given, Ready, answer_into, prepare};
 use tide_edge::MemorySink;
 use zone_time::Zone;
 
-/// A request with all inputs of its answer.
+/// A request with all that its answer depends on: the harmonic constants, the table of subordinate
+/// stations, and the zone, certificate and current minute.
 #[derive(Drop)]
 pub struct Case {
     pub book: Book,
@@ -25,7 +26,8 @@ pub struct Case {
 }
 
 impl Case {
-    /// Returns the case of a request in universal time.
+    /// Returns the case of `question` over the constants `book` and the offsets `table`, in universal
+    /// time, with an empty certificate, at 2000-01-10T03:00Z.
     pub fn new(alloc: Global, book: Book, table: OffsetTable, question: Question) -> Case
         requires book { IsBook book }
         requires question { IsAsked question }
@@ -45,7 +47,12 @@ impl Case {
         }
     }
 
-    /// Streams the answer to `sink`, and returns the number of bytes sent before a write that failed.
+    /// Streams the answer to `sink`. Returns `None` if all of it was written, or the number of bytes
+    /// that `sink` had accepted when a write failed.
+    ///
+    /// # Errors
+    /// [`AllocError`] if memory runs out, the command is neither `predict` nor `certify`, the request
+    /// is refused, or its answer isn't one that is streamed.
     pub fn send(&self, alloc: Global, sink: &mut MemorySink) -> Result<Option<u64>, AllocError>
         requires book { IsBook self.now.book }
         requires question { IsAsked self.now.question }
@@ -70,7 +77,10 @@ fn written(ready: &Ready, sink: &mut MemorySink) -> Result<Option<u64>, AllocErr
     Ok(written.err().map(|fault| fault.sent))
 }
 
-/// Returns the request of the arguments in `line`.
+/// Returns the request that the arguments in `line` make.
+///
+/// # Errors
+/// [`AskFault`] if they aren't a request, or memory runs out.
 pub fn asked(alloc: Global, line: &str) -> Result<Question, AskFault>
     ensures { IfOk result IsAsked }
 {

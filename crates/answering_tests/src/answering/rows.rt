@@ -5,7 +5,8 @@ use question::{AskFault, Key};
 use station_table::{OffsetFault, OffsetWhy};
 use tide_answer::Refusal;
 
-/// Examples of faults of arguments: a fault, its exit status and its line.
+/// Examples of invalid arguments: a fault, the exit status of the program for it, and the line that it
+/// prints.
 pub const ASK_FAULTS: &[(AskFault, u8, &str)] = &[
     (AskFault::UnknownCommand, 2, "words: unknown command\n"),
     (AskFault::NotAPair(1), 2, "words: pair 1 is not key=value\n"),
@@ -23,7 +24,7 @@ pub const ASK_FAULTS: &[(AskFault, u8, &str)] = &[
     ),
 ];
 
-/// The fault of a harmonics file that ends too early.
+/// The error that a harmonics file ends too early, reported at line 16.
 pub const CUT_SHORT: BookFault = BookFault::At {
     line: 16,
     why: Why::CutShort,
@@ -34,7 +35,8 @@ pub const HALF_SLACK: OffsetFault = OffsetFault::At {
     why: OffsetWhy::HalfSlack,
 };
 
-/// Examples of refusals: a refusal, its exit status and its line.
+/// Examples of refused requests: a refusal, the exit status of the program for it, and the line that it
+/// prints.
 pub const REFUSALS: &[(Refusal, u8, &str)] = &[
     (Refusal::Hydraulic, 4, "refused: hydraulic\n"),
     (
@@ -63,9 +65,9 @@ pub const REFUSALS: &[(Refusal, u8, &str)] = &[
     (Refusal::NoMemory, 8, "no memory\n"),
 ];
 
-/// Examples of streamed answers: arguments of an answer that is longer than a buffer of 4,096 bytes;
-/// then the greatest number of bytes of a write, the number of the write that fails, or 0 if none does,
-/// and the number of bytes sent before it.
+/// Examples of answers that are streamed through a buffer of 4,096 bytes: the arguments, and for each
+/// run the greatest number of bytes that one write accepts, the number of the write that fails, counted
+/// from 1 (0 if none fails), and the number of bytes accepted before it (`None` if none fails).
 pub const STREAMS: &[(&str, &[(u64, u64, Option<u64>)])] = &[
     (
         "predict|file=f|station=Pier|begin=2000-01-10T00:00Z|end=2000-02-24T00:00Z",

@@ -7,7 +7,8 @@ use Rattle.curve_law.specs.CurveSpec.{IsApproximateValue, IsLawful}
 use Rattle.curve_law.specs.CurveStates.{CurveModel}
 use Rattle.highest_water.specs.Samples.{hill, hills}
 
--- the model of the curve with two maxima: each approximate value is exact
+-- what is fixed about the curve `hills at top other_at other_top rate`: its definition, and approximate
+-- values that are equal to the values
 abbrev pub hills_model : ℤ → ℤ → ℤ → ℤ → ℤ → CurveModel
 hills_model at top other_at other_top rate = record {
   curve_spec = hills at top other_at other_top rate;

@@ -27,8 +27,8 @@ const TABLE: &str =
 const SHORT: &str =
     "name,reference,high_add,low_add,high_times,low_times,high_plus,low_plus\nDock,Pier,0:30,-0:10,1.1,0.9,0.1\n";
 
-/// Runs with files other than the harmonic constants, each with the first fault in the order of the
-/// files.
+/// Runs that also read an offsets table, a zone file, a certificate or the clock, each with the first
+/// fault in the order of reading.
 pub static FILES: [Case<'static>; 12] = [
     Case {
         words: OFFSETS,
@@ -130,7 +130,8 @@ pub static FILES: [Case<'static>; 12] = [
     },
 ];
 
-/// Runs over files that are as long as they may be, and over longer ones.
+/// Runs with a harmonics file of the greatest length, 67,108,864 bytes, and with files one byte too
+/// long, which are refused: a harmonics file, an offsets table, and a zone file of 1,048,577 bytes.
 pub static LIMITS: [Case<'static>; 4] = [
     Case {
         file: Source::Behind(67_108_864, PIER),

@@ -16,7 +16,8 @@ const STEADY_YEARS: &str =
 const STEEP_YEARS: &str =
     "1\nS2 30\n1999\n3\nS2\n0 0 0\n*END*\n3\nS2\n1 1 1\n*END*\nPier\n0:00\n0 feet\nS2 800 0\n";
 
-/// Runs that are refused, in the order of the refusals, and runs that check false certificates.
+/// Runs with invalid arguments or refused requests, in the order in which the program checks them, and
+/// runs that check false certificates.
 pub static REFUSALS: [Case<'static>; 34] = [
     Case {
         words: "",

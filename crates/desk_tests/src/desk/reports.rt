@@ -27,7 +27,8 @@ const RANGE_CALENDAR_STAMP: &str = "Pier\n\
 
 const CURRENT: &str = "Pier\n2 Max Flood\n2 Max Ebb\n2 Slack Flood Begins\n2 Slack Ebb Begins\n";
 
-/// Runs that report, and runs whose report is refused, in the order of the refusals.
+/// Runs of the command `report` with what they print, and refused ones, in the order in which the
+/// program checks them.
 pub static REPORTS: [Case<'static>; 12] = [
     Case {
         words: "report|file=pier.txt|station=Pier|begin=2000-01-10T00:00Z|end=2000-01-11T00:00Z|sheets=first,tally,range",

@@ -21,7 +21,7 @@ pub const LATE: &str =
 pub const OUT_OF_YEARS: &str =
     "refused: out of years: file has 1999-01-01T00:00Z to 2002-01-01T00:00Z\n";
 
-/// Runs that are answered, with what they print.
+/// Runs that succeed, each with the text that it prints.
 pub static ANSWERS: [Case<'static>; 17] = [
     CASE,
     Case {

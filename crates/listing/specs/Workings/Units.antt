@@ -8,10 +8,11 @@ use Rattle.harmonics_book.specs.declared.book.Station.{Station}
 use Rattle.harmonics_book.specs.declared.book.Units.{Units}
 use Rattle.listing.specs.StationLists.{unit_in}
 
--- the unit that a map has for a name
+-- the unit that the map `units` has for the key `name`, or None if it doesn't have this key
 abbrev pub unit_for : BTreeMap (Bor (List ℕ)) Units → List ℕ → Option Units
 unit_for units name = get_by (λ key. slice_cmp nat_cmp name key.now) units
 
--- a map that has the unit of the first station of each name
+-- the map `units` has, for each name, the unit of the first of the stations with this name; no other
+-- name is a key
 abbrev pub AreUnitsOf : List Station → BTreeMap (Bor (List ℕ)) Units → Type 0
 AreUnitsOf stations units = (name : List ℕ) → unit_for units name ≡ unit_in stations name

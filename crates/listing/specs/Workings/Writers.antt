@@ -4,11 +4,12 @@ use Rattle.std.specs.Global.{Vec}
 use Rattle.csv.specs.Writing.{default_writer, fields_written, has_written, writer_pending, writer_setup, writer_under}
 use Rattle.csv.specs.declared.writer.Writer.{Writer}
 
--- the bytes in the writer's vector, and the bytes that are still to be added to it
+-- all bytes that a writer of comma-separated values was told to write: those in its vector, then those
+-- in its buffer
 abbrev pub written : Writer (Vec ℕ) → List ℕ
 written writer = (writer_under writer).items ++ writer_pending writer
 
--- a writer with the defaults of its crate, at the end of a record
+-- the writer of comma-separated values has the default settings, and the next field begins a record
 pub record IsAtRecord (writer : Writer (Vec ℕ)) : Type 0 where
   pub fields : fields_written writer ≡ 0
   pub wrote : has_written writer ≡ false

@@ -7,7 +7,8 @@ ghost use Rattle.tide_edge.specs.Memory.{are_pieces};
 use decimal_text::Bytes;
 use std::alloc::{AllocError, Global};
 
-/// A request that is sent in one piece, as a text or as bytes, or byte by byte.
+/// A request as a client sends it: all of a text at once, all of a byte string at once, or a text one
+/// byte at a time.
 #[derive(Clone, Copy)]
 pub enum Coming<'a> {
     Whole(&'a str),

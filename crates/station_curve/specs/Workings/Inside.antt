@@ -5,11 +5,13 @@ use Rattle.station_curve.specs.Curves.{Prediction, IsPrediction, prediction_over
 use Rattle.station_curve.specs.Errors.{greatest_amount, greatest_steepness}
 use Rattle.station_curve.specs.Workings.Prepared.{AreReady}
 
--- the station, and the minutes for which the curve was made
+-- the prediction that a stored curve stands for: its book, its station, and the minutes for which it
+-- was made
 abbrev pub prediction_in : Inside → Prediction
 prediction_in s = prediction_over s.origin.book s.origin.station s.minutes.first s.minutes.last
 
--- the invariant of a station's curve
+-- the invariant of a stored curve: its prediction is valid, and its fields hold the book's first year,
+-- the station's mean level, the prepared years, and the greatest sums of any year
 pub record IsReady (s : Inside) : Type 0 where
   pub valid : IsPrediction (prediction_in s)
   pub first_year : s.first_year ≡ s.origin.book.first_year

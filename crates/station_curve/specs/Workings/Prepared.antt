@@ -9,23 +9,26 @@ use Rattle.station_curve.specs.Schureman.{constituents_of}
 use Rattle.station_curve.specs.Waves.{WaveSpec}
 use Rattle.station_curve.specs.Sums.{sums_of}
 
--- a wave has an amplitude
+-- the amplitude of the wave h isn't 0
 abbrev pub is_present : WaveSpec → Bool
 is_present h = not (unsigned_abs h.amplitude == 0)
 
--- the waves of a year that are stored: those with an amplitude
+-- the waves that a curve of the minutes from `first` to `last` stores for the year with index `year`:
+-- those with an amplitude other than 0; none if the year is more than an hour from these minutes
 abbrev pub stored_over : Book → Station → ℤ → ℤ → ℕ → List WaveSpec
 stored_over b s first last year = filter is_present (waves_over b s first last year)
 
--- the station has an amplitude for constituent k
+-- the amplitude of the constituent with index k at the station s isn't 0
 abbrev pub has_amplitude : Station → ℕ → Bool
 has_amplitude s k = not (unsigned_abs (slice_index_or s.amplitude k (pos 0)) == 0)
 
--- the indices of the constituents with an amplitude
+-- the indices of the constituents that have an amplitude other than 0 at the station s, ascending
 abbrev pub present_in : Book → Station → List ℕ
 present_in b s = filter (has_amplitude s) (constituents_of b)
 
--- a year within the limits, with its stored waves for the minutes from `first` to `last`
+-- y is the stored form of the year with index `year`, for a curve of the minutes from `first` to
+-- `last`: the station's constants are within the limits, and y has the year's first minute, the next
+-- year's first minute, the stored waves and their sums
 pub record IsReadyYear (b : Book) (s : Station) (first last : ℤ) (year : ℕ) (y : Year) : Type 0 where
   pub within : year_fault b s year ≡ None
   pub start : y.start ≡ start_of b.first_year year
@@ -33,8 +36,9 @@ pub record IsReadyYear (b : Book) (s : Station) (first last : ℤ) (year : ℕ) 
   pub waves : y.waves.items ≡ stored_over b s first last year
   pub sums : y.sums ≡ sums_of (waves_over b s first last year)
 
--- the first `count` years, all within the limits, with their stored waves for the minutes from `first`
--- to `last`
+-- `years` are the stored forms of the first `count` years of the book, for a curve of the minutes from
+-- `first` to `last`: each has its first minute, the next year's first minute, its stored waves and
+-- their sums, and none exceeds a limit
 pub record AreReady (b : Book) (s : Station) (first last : ℤ) (count : ℕ) (years : List Year) : Type 0 where
   pub counted : length years ≡ count
   pub waves : (k : ℕ) (d : Year) → k < count → (slice_index_or years k d).waves.items ≡ stored_over b s first last k

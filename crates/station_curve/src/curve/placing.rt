@@ -16,10 +16,10 @@ impl StationCurve {
     ghost use Rattle.station_curve.specs.Curves.{IsPredicted, IsPrediction};
     ghost use Rattle.station_curve.specs.Workings.NumberRanges.{IsPlaceUsed, IsPlainYearOf, IsAround};
 
-    /// Returns which years' constants the minutes from `m` to `m + n`, both included, use. It is one
-    /// year if none of them is less than an hour from a new year between two of the book's years, and
-    /// otherwise the two years around it. `m` and `m + n` are minutes of the curve, and `n` is at most
-    /// `LONGEST_SPAN`.
+    /// Returns the year or years with the constants that the minutes from `m` to `m + n`, both
+    /// included, use: one year if each of these minutes is at least an hour from every new year between
+    /// two of the book's years, and otherwise the two years around that new year. `m` and `m + n` are
+    /// minutes of the curve, and `n` is at most `LONGEST_SPAN` (1,024).
     #[inline(always)]
     pub fn stretch(&self, m: i64, n: u32) -> Stretch
         requires first { IsPredicted self.now m }
@@ -34,8 +34,8 @@ impl StationCurve {
         }
     }
 
-    /// Returns the position of minute `m` among the book's years: in the plain part of a year, or in
-    /// the blend at a new year.
+    /// Returns the position of minute `m` among the book's years: the blend at a new year if `m` is
+    /// less than an hour from it, and otherwise the year that contains `m`.
     pub(super) fn place(&self, m: i64) -> Place
         requires { IsPredicted self.now m }
         ensures value { result ≡ place_of self.now.book.first_year self.now.book.years m }
@@ -48,8 +48,8 @@ impl StationCurve {
         }
     }
 
-    /// Returns the year, counted from 0, whose plain part contains minute `m`, or `None` if `m` is less
-    /// than an hour from a new year between two of the book's years.
+    /// Returns the index (0 for the book's first year) of the year that contains minute `m`, or `None`
+    /// if `m` is less than an hour from a new year between two of the book's years.
     #[inline(always)]
     pub(super) fn plain_year(&self, m: i64) -> Option<u32>
         requires { IsPredicted self.now m }

@@ -25,8 +25,8 @@ impl StationCurve {
     ghost use Rattle.station_curve.specs.Workings.Prepared.{is_present};
     ghost use Rattle.station_curve.specs.Workings.NumberRanges.{IsUsed};
 
-    /// Returns the level at minute `m` by the constants of year `year`, counted from 0, in billionths
-    /// of a millionth of the station's unit.
+    /// Returns the level at minute `m` by the constants of the year with index `year` (0 for the book's
+    /// first year), in billionths of a millionth of the station's unit.
     pub(super) fn year_level(&self, year: u32, m: i64) -> i128
         requires { IsUsed self.now year m }
         ensures value { result ≡ predicted_year_level self.now.book self.now.station m year }
@@ -35,8 +35,8 @@ impl StationCurve {
         mean_level(self.datum) + i128::from(self.year_heights(year, m))
     }
 
-    /// Returns the approximate level at minute `m` by the constants of year `year`, counted from 0, in
-    /// billionths of a millionth of the station's unit.
+    /// Returns the approximate level at minute `m` by the constants of the year with index `year` (0
+    /// for the book's first year), in billionths of a millionth of the station's unit.
     #[inline(always)]
     pub(super) fn approximate_year_level(&self, year: u32, m: i64) -> i128
         requires { IsUsed self.now year m }
@@ -47,9 +47,9 @@ impl StationCurve {
         mean_level(self.datum) + in_billionths(approximate_heights(at.waves, at.minutes))
     }
 
-    /// Returns the approximate slope at minute `m` by the constants of year `year`, counted from 0, in
-    /// billionths of a millionth of the station's unit a minute, times 34,377,467,708 (the units of
-    /// angle in a radian).
+    /// Returns the approximate slope at minute `m` by the constants of the year with index `year` (0
+    /// for the book's first year), in billionths of a millionth of the station's unit a minute,
+    /// multiplied by 34,377,467,708 (the units of angle in a radian).
     #[inline(always)]
     pub(super) fn approximate_year_slope(&self, year: u32, m: i64) -> i128
         requires { IsUsed self.now year m }
@@ -60,9 +60,9 @@ impl StationCurve {
         -in_fall_units(approximate_falls(at.waves, at.minutes))
     }
 
-    /// Returns the slope at minute `m` by the constants of year `year`, counted from 0, in billionths
-    /// of a millionth of the station's unit a minute, times 34,377,467,708 (the units of angle in a
-    /// radian).
+    /// Returns the slope at minute `m` by the constants of the year with index `year` (0 for the book's
+    /// first year), in billionths of a millionth of the station's unit a minute, multiplied by
+    /// 34,377,467,708 (the units of angle in a radian).
     pub(super) fn year_slope(&self, year: u32, m: i64) -> i128
         requires { IsUsed self.now year m }
         ensures value { result ≡ predicted_year_slope self.now.book self.now.station m year }
@@ -72,8 +72,9 @@ impl StationCurve {
         -falls(at.waves, at.minutes)
     }
 
-    /// Returns the sum of the heights of the waves of year `year`, counted from 0, at minute `m`: the
-    /// level less the mean level, in billionths of a millionth of the station's unit.
+    /// Returns the sum of the heights of the waves of the year with index `year` (0 for the book's
+    /// first year), at minute `m`: the level less the mean level, in billionths of a millionth of the
+    /// station's unit.
     pub(super) fn year_heights(&self, year: u32, m: i64) -> i64
         requires { IsUsed self.now year m }
         ensures value { result ≡ heights_of (minutes_into self.now.book.first_year year m) (waves_of self.now.book self.now.station year) }
@@ -83,8 +84,8 @@ impl StationCurve {
         heights(at.waves, at.minutes)
     }
 
-    /// Returns the stored waves of year `year`, counted from 0, and minute `m`, counted from an hour
-    /// before the year's start.
+    /// Returns the stored waves of the year with index `year` (0 for the book's first year), and minute
+    /// `m`, counted from an hour before the year's start.
     #[inline(always)]
     fn waves_at(&self, year: u32, m: i64) -> WavesAt<'_>
         requires { IsUsed self.now year m }
