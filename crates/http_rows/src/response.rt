@@ -41,7 +41,7 @@ impl Response {
         Response { head, body }
     }
 
-    /// Returns the bytes of the head and of the body; the body is empty in a response to HEAD.
+    /// Returns the bytes of the response in two parts, which are to be sent one after the other.
     pub fn parts(&self) -> (&[u8], &[u8])
         ensures { result.0.now ++ result.1.now ≡ self.now }
     {

@@ -1,4 +1,5 @@
 pub mod OpenedLemmas
 pub mod ReadingLemmas
+pub mod RequestLemmas
 pub mod SettledLemmas
 pub mod ReportingLemmas

@@ -20,7 +20,8 @@ use Rattle.named_files.specs.declared.run_fault.RunFault.TheVariants.{Faulty}
 use Rattle.named_files.specs.RunFaults.{IsOf, file_of, source_of, faulty}
 use Rattle.named_files.specs.Opened.{AreShown, AreShownFor, IsResultOf, Opened, failing_file}
 use Rattle.named_files.specs.Readings.{Folders, book_named, table_named}
-use Rattle.named_files.proofs.OpenedLemmas.{all_named, as_many, book_shown, last_all, last_names, names_on, shown_first, shown_second, shows_itself, shows_own, table_shown}
+use Rattle.named_files.proofs.OpenedLemmas.{all_named, as_many, last_all, last_names, names_on, shown_first, shown_second, shows_itself, shows_own}
+use Rattle.named_files.proofs.RequestLemmas.{book_shown, table_shown}
 use Rattle.std.proofs.lemmas.List.Elements.{All-tail}
 use Rattle.tide_edge.proofs.ReadingLemmas.{all_of_store, go_on}
 use Rattle.named_files.proofs.ReadingLemmas.{meets_at, faulty_excuses}

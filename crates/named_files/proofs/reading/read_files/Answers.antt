@@ -1,7 +1,7 @@
 use Rattle.std.proofs.Common.{false}
 use Rattle.tide_fault.specs.declared.slot.Slot.TheVariants.{File, Offsets, Zone, Certificate}
-use Rattle.named_files.proofs.OpenedLemmas.{all_opened, stopped_at_book, stopped_at_certificate, stopped_at_table, stopped_at_zone}
 use Rattle.named_files.proofs.ReadingLemmas.{last_at, read_of_last, to_certificate, to_table, to_zone}
+use Rattle.named_files.proofs.RequestLemmas.{all_opened, stopped_at_book, stopped_at_certificate, stopped_at_table, stopped_at_zone}
 use Rattle.named_files.proofs.reading.read_files.Goals as goal
 
 pub returns-in_err-book-clause-opened : goal.returns-in_err-book-clause-opened
