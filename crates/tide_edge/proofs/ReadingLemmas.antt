@@ -190,7 +190,9 @@ module _ (failed : Failed) (limit : ℕ) (name : List ℕ) (s : FilesState) wher
       let over : limit < length {A = ℕ} [] = subst (λ (o : Opening). limit < length o.bytes) (sym one) has.2 in
       omega (arith, over)
 
--- another result over the same opening
+-- If `result` meets the expected result for one call of `open` (`OpenedOnce`), so does `other`,
+-- which is made from it: it meets its own expected result whenever `result` does, and is out of
+-- memory whenever `result` is.
 pub once_as : {T E S F : Type 0} (source : E → Source) (expected : Option (List ℕ) → Result T E) (also : F → Source)
     (expected_also : Option (List ℕ) → Result S F) (limit : ℕ) (name : List ℕ) (before after : Openings) (result : Result T E)
     (other : Result S F)
@@ -206,7 +208,7 @@ once_as source expected also expected_also limit name before after result other 
 
 -- ---- Within an allowance
 
--- reading nothing is within each allowance
+-- If nothing is called, files are read within any limit on opened files and read bytes.
 pub read_none : (allowed : Allowance) (s : FilesState) → ReadWithin allowed false s s
 read_none allowed s = record {
   open_log = [];
@@ -218,13 +220,15 @@ read_none allowed s = record {
   faults = refl;
 }
 
--- openings follow those before
+-- If the calls of `open` are extended by `first` and then by `second`, they are extended by both in
+-- order.
 pub go_on : (before between after : Openings) (first second : List Opening) → openings_of between ≡ openings_of before ++ first
     → openings_of after ≡ openings_of between ++ second → openings_of after ≡ openings_of before ++ (first ++ second)
 go_on before between after first second is next =
     next ∙ ap (λ o. o ++ second) is ∙ append_assoc (openings_of before) first second
 
--- one reading, and then another
+-- Two readings of files in turn, each within its limit on opened files and read bytes, are one
+-- reading within the sum of the limits. The first doesn't fail.
 pub read_then : (a b : Allowance) (failed : Bool) (before between after : FilesState)
     → ReadWithin a false before between → ReadWithin b failed between after → ReadWithin (both a b) failed before after
 read_then a b failed before between after first second = record {
@@ -253,7 +257,8 @@ absent_as false failed G absent reads t = absent refl
 absent_as true true G absent reads t = never (sym reads)
 absent_as true false G absent reads t = never t
 
--- an opening shows the contents of the file that it opened
+-- By the law of files, what was read after a call of `open` agrees with the file's contents
+-- (`Shows`), if `firm` is true only for steady files (calls on existing files never fail).
 pub shows_by_law : (limit : ℕ) (firm : Bool) (file_contents : FileContents) (o : Opening) → (IsTrue firm → IsTrue file_contents.is_steady) → IsOfStore file_contents o
     → Shows limit firm o (file_contents.folder o.name)
 shows_by_law limit firm file_contents o steady (left, is) = record {
@@ -262,7 +267,8 @@ shows_by_law limit firm file_contents o steady (left, is) = record {
   absent = λ f out why. absent_as o.is_open o.read_failed (file_contents.folder o.name ≡ None) (is.absent (steady f)) (is.steady (steady f)) why;
 }
 
--- all openings are of the files that they opened
+-- By the law of files, what was read after each call of `open`, earlier ones and the latest, agrees
+-- with the contents of the files.
 pub all_of_store : (s : FilesState) → AreOfStore s → All (IsOfStore s.file_contents) (openings_of s.open_log)
 all_of_store s of =
     All-append (IsOfStore s.file_contents) s.open_log.earlier (as_list s.open_log.latest) of.earlier
@@ -273,7 +279,8 @@ memory_meets : {T E : Type 0} (source : E → Source) (firm : Type 0) (expected 
 memory_meets source firm expected (Ok value) out = absurd out
 memory_meets source firm expected (Err fault) out = rw out tt
 
--- the result of reading one file of observable files is the expected one for its contents
+-- If the files are observable (the state has their contents), the result of reading one file
+-- (`OpenedOnce`) meets the expected one for the contents that the file has in the state.
 pub own_once : {T E : Type 0} (source : E → Source) (expected : Option (List ℕ) → Result T E) (limit : ℕ) (name : List ℕ)
     (before after : FilesState) (result : Result T E) → after.file_contents ≡ before.file_contents → IsLawful after
     → OpenedOnce source expected limit name before.open_log after.open_log result → IsTrue before.file_contents.is_observable

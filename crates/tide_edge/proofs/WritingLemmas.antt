@@ -3,15 +3,16 @@ use Rattle.std.proofs.Common.{◌≡◌, ℕ, ◌+◌, List, [], ◌++◌, take,
 use Rattle.std.proofs.Math.Seq.{take-add}
 use Rattle.tide_edge.specs.SinkStates.{SinkState, put}
 
--- writing no byte changes nothing
+-- A sink that accepts no byte is unchanged.
 pub put_none : (s : SinkState) → put [] s ≡ s
 put_none s = ap (λ accepted. record s { accepted = accepted }) (append-nil s.accepted)
 
--- two texts written in turn are one text
+-- Accepting `first` and then `second` is accepting both as one text.
 pub put_put : (first second : List ℕ) (s : SinkState) → put second (put first s) ≡ put (first ++ second) s
 put_put first second s = ap (λ accepted. record s { accepted = accepted }) (append_assoc s.accepted first second)
 
--- the bytes accepted after one more piece
+-- If the first `sent` bytes were accepted, and then `count` more, the first `sent + count` bytes
+-- were accepted.
 pub sent_on : (bytes : List ℕ) (sent count : ℕ) (before now after : SinkState) → now ≡ put (take sent bytes) before
     → after ≡ put (take count (drop sent bytes)) now → after ≡ put (take (sent + count) bytes) before
 sent_on bytes sent count before now after so_far next =

@@ -32,9 +32,10 @@ use Rattle.std.specs.Option.{option_map}
 use Rattle.tide_edge.specs.Faults.{counted, faults_after}
 use Rattle.tide_edge.specs.FileStates.{as_list}
 
--- The part of a door's state that is always observable: the port passed to `listen`, and whether the
--- door listens; the number of connections accepted, which saturates at the greatest `u64`; whether one
--- is open; and whether `next` has returned false, so that there are no more connections.
+-- The part of a door's state that contracts know for every door. `port`: the port passed to
+-- `listen`, None before this call; `listens`: the call succeeded; `accepted`: the number of
+-- connections accepted, which saturates at the greatest `u64`; `is_open`: a connection is open;
+-- `is_over`: `next` has returned false, so that there are no more connections.
 pub record ListenerState : Type 0 where
   pub port : Option ℕ
   pub listens : Bool
@@ -42,18 +43,19 @@ pub record ListenerState : Type 0 where
   pub is_open : Bool
   pub is_over : Bool
 
--- the observable part of a door's state before `listen` is called
+-- The listener's port, flags and count of connections before `listen` is called.
 abbrev pub not_listening : ListenerState
 not_listening = record { port = None; listens = false; accepted = 0; is_open = false; is_over = false }
 
--- the observable part of a door's state after `listen` with this port; the Bool says whether the call
--- succeeded
+-- The listener's port, flags and count of connections after `listen` with this port; the Bool is
+-- true if the call succeeded. No connection was accepted yet.
 abbrev pub listen_requested : ℕ → Bool → ListenerState
 listen_requested port listens =
     record { port = Some port; listens = listens; accepted = 0; is_open = false; is_over = false }
 
--- the observable part of a door's state after `next` with this result: another connection is open, or
--- there are no more, or it failed and nothing has changed
+-- The listener's port, flags and count of connections after `next` with this result: another
+-- connection is counted, and it is open; or there are no more connections; or the call failed and
+-- nothing changed.
 abbrev pub after_next : Result Bool Failed → ListenerState → ListenerState
 after_next (Ok true) d =
     record { port = d.port; listens = d.listens; accepted = counted d.accepted; is_open = true; is_over = d.is_over }
@@ -61,23 +63,24 @@ after_next (Ok false) d =
     record { port = d.port; listens = d.listens; accepted = d.accepted; is_open = d.is_open; is_over = true }
 after_next (Err failed) d = d
 
--- the observable part of a door's state after `close`: no connection is open
+-- The listener's port, flags and count of connections after `close`: no connection is open.
 abbrev pub closed : ListenerState → ListenerState
 closed d =
     record { port = d.port; listens = d.listens; accepted = d.accepted; is_open = false; is_over = d.is_over }
 
--- the first list, or the empty list if there is none
+-- The first of the lists, or the empty list if there is none.
 abbrev pub first_or_empty : {A : Type 0} → List (List A) → List A
 first_or_empty [] = []
 first_or_empty (first ∷ more) = first
 
--- the pieces without the first `count` bytes of all of them; a piece of which no byte is left is dropped
+-- The pieces without the first `count` bytes of all of them. A piece of which all bytes are taken
+-- away is dropped.
 abbrev pub left_after : ℕ → List (List ℕ) → List (List ℕ)
 left_after count [] = []
 left_after count (piece ∷ more) =
     if count == 0 || nat_lt count (length piece) then drop count piece ∷ more else left_after (count - length piece) more
 
--- the replies with `bytes` appended to the last one
+-- The replies with `bytes` appended to the last one; no replies if there are none.
 abbrev pub append_to_last : List (List ℕ) → List ℕ → List (List ℕ)
 append_to_last [] bytes = []
 append_to_last (reply ∷ []) bytes = (reply ++ bytes) ∷ []
@@ -85,9 +88,10 @@ append_to_last (reply ∷ next ∷ more) bytes = reply ∷ append_to_last (next 
 
 -- ---- the bytes read and written over each connection
 
--- One connection: the bytes received; how many of them the last read returned, 0 if it failed or there
--- was none; whether the end was found; the bytes of its reply that were accepted; and whether a read or
--- a write of it has failed.
+-- One connection. `came`: the bytes received; `last`: how many of them the last read returned, 0 if
+-- it failed or there was none; `is_ended`: a read has returned 0, the end of the request; `sent`:
+-- the bytes of the reply that were accepted; `read_failed` and `write_failed`: a read or a write
+-- has failed.
 pub record Connection : Type 0 where
   pub came : List ℕ
   pub last : ℕ
@@ -96,34 +100,36 @@ pub record Connection : Type 0 where
   pub read_failed : Bool
   pub write_failed : Bool
 
--- all connections in the order in which they were accepted, in two parts: all but the last, and the last
+-- All connections of a door, in the order in which they were accepted. `earlier`: all but the last;
+-- `latest`: the last, or None if there is none.
 pub record Connections : Type 0 where
   pub earlier : List Connection
   pub latest : Option Connection
 
+-- No connection was accepted.
 abbrev pub no_connections : Connections
 no_connections = record { earlier = []; latest = None }
 
--- all connections in the order in which they were accepted
+-- All connections of a door as one list, in the order in which they were accepted.
 abbrev pub connections_of : Connections → List Connection
 connections_of c = c.earlier ++ as_list c.latest
 
--- a door before `listen`: it has accepted no connection, has none open, and `next` hasn't returned
+-- A door before `listen` is called: it has no port, and it has accepted no connection.
 abbrev pub IsUntouched : ListenerState → Connections → Type 0
 IsUntouched listener_state connections = (listener_state ≡ not_listening) × (connections ≡ no_connections)
 
--- a connection that was just accepted: no byte was read or written yet
+-- A connection that was just accepted: no byte was read or written yet.
 abbrev pub just_taken : Connection
 just_taken = record { came = []; last = 0; is_ended = false; sent = []; read_failed = false; write_failed = false }
 
--- the connections after `next`: another one if it returned true
+-- The connections after `next` with this result: another one if it returned true, else the same.
 abbrev pub connections_after_next : Result Bool Failed → Connections → Connections
 connections_after_next (Ok true) c = record { earlier = connections_of c; latest = Some just_taken }
 connections_after_next (Ok false) c = c
 connections_after_next (Err failed) c = c
 
--- the connection after a read: the first bytes of `buffer`, as many as the result says, were received; or
--- the read failed
+-- The connection after a read with this result: the first bytes of `buffer`, as many as the count
+-- says, were received, and a count of 0 is the end of the request; or the read failed.
 abbrev pub connection_after_read : Result ℕ Failed → List ℕ → Connection → Connection
 connection_after_read (Ok count) buffer c = record c {
   came = c.came ++ take count buffer;
@@ -132,23 +138,25 @@ connection_after_read (Ok count) buffer c = record c {
 }
 connection_after_read (Err failed) buffer c = record c { last = 0; read_failed = true }
 
--- the connection after a write: the first bytes of `piece`, as many as the result says, were accepted;
--- or the write failed
+-- The connection after a write of `piece` with this result: the first bytes of `piece`, as many as
+-- the count says, were accepted; or the write failed.
 abbrev pub connection_after_write : Result ℕ Failed → List ℕ → Connection → Connection
 connection_after_write (Ok count) piece c = record c { sent = c.sent ++ take count piece }
 connection_after_write (Err failed) piece c = record c { write_failed = true }
 
--- the connections with a change applied to the last one
+-- The connections of a door with the function `change` applied to the last one.
 abbrev pub change_latest : (Connection → Connection) → Connections → Connections
 change_latest change c = record c { latest = option_map change c.latest }
 
 -- ---- the whole state
 
--- A door: whether its requests are observable; whether, if they are, a `read` returns bytes of one piece
--- only; all requests, each as the nonempty pieces in which it arrives, which no call changes and which
--- are meaningful only if they are observable; the observable part; the connections with their bytes; and
--- two counts of failures, of `listen` and `next` and of `read` and `write`. Both counts saturate at the
--- greatest `u64`.
+-- The state of a door. `is_observable`: it has all requests that will arrive, as for a door in
+-- memory; false for a TCP port of the machine. `keeps_pieces`: a `read` returns bytes of one piece
+-- only. `requests`: all requests, each as the nonempty pieces in which it arrives. No call changes
+-- these three, and the last two mean something only if `is_observable`. `listener_state`: the port,
+-- the flags and the count of connections. `connections`: the bytes read and written over each.
+-- `faults` counts the failures of `listen` and `next`, `line_faults` of `read` and `write`, up to
+-- the greatest `u64`.
 pub record DoorState : Type 0 where
   pub is_observable : Bool
   pub keeps_pieces : Bool
@@ -158,29 +166,33 @@ pub record DoorState : Type 0 where
   pub faults : ℕ
   pub line_faults : ℕ
 
--- the pending requests: all but the first ones, of which each accepted connection has one
+-- The requests without a connection: all but the first n, if n connections were accepted. They mean
+-- something only if the state has all requests (`is_observable`).
 abbrev pub waiting_of : DoorState → List (List (List ℕ))
 waiting_of d = drop (length (connections_of d.connections)) d.requests
 
--- the replies, one for each connection
+-- The replies: for each connection, in order, the bytes of its reply that were accepted.
 abbrev pub replies_of : DoorState → List (List ℕ)
 replies_of d = map (λ c. c.sent) (connections_of d.connections)
 
--- the unread pieces of the connection accepted last, from all requests and connections
+-- The unread pieces of the connection that was accepted last, from all requests (each in pieces)
+-- and all connections, in order; no pieces if there is no connection, or no request for it.
 unfoldable pub unread_of : List (List (List ℕ)) → List Connection → List (List ℕ)
 unread_of requests [] = []
 unread_of [] (c ∷ more) = []
 unread_of (request ∷ requests) (c ∷ []) = left_after (length c.came) request
 unread_of (request ∷ requests) (c ∷ next ∷ more) = unread_of requests (next ∷ more)
 
--- the state of a door after `listen` on `port` with this result
+-- The state of a door after `listen` on `port` with this result: the listener has this port, and a
+-- failure is counted.
 abbrev pub door_after_listen : {T : Type 0} → Result T Failed → ℕ → DoorState → DoorState
 door_after_listen result port s = record s {
   listener_state = listen_requested port (is_ok result);
   faults = faults_after (is_err result) s.faults;
 }
 
--- the state of a door after `next` with this result
+-- The state of a door after `next` with this result: another connection, no more connections, or a
+-- failure, which is counted.
 abbrev pub door_after_next : Result Bool Failed → DoorState → DoorState
 door_after_next result s = record s {
   listener_state = after_next result s.listener_state;
@@ -188,20 +200,22 @@ door_after_next result s = record s {
   faults = faults_after (is_err result) s.faults;
 }
 
--- the state of a door after `read` with this result; `buffer` is the caller's buffer after the call
+-- The state of a door after `read` with this result; `buffer` is the caller's buffer after the
+-- call. The read is recorded for the latest connection, and a failure is counted.
 abbrev pub door_after_read : Result ℕ Failed → List ℕ → DoorState → DoorState
 door_after_read result buffer s = record s {
   connections = change_latest (connection_after_read result buffer) s.connections;
   line_faults = faults_after (is_err result) s.line_faults;
 }
 
--- the state of a door after `write` of `piece` with this result
+-- The state of a door after `write` of `piece` with this result: the write is recorded for the
+-- latest connection, and a failure is counted.
 abbrev pub door_after_write : Result ℕ Failed → List ℕ → DoorState → DoorState
 door_after_write result piece s = record s {
   connections = change_latest (connection_after_write result piece) s.connections;
   line_faults = faults_after (is_err result) s.line_faults;
 }
 
--- the state of a door after `close`
+-- The state of a door after `close`: no connection is open, and nothing else has changed.
 abbrev pub door_after_close : DoorState → DoorState
 door_after_close s = record s { listener_state = closed s.listener_state }

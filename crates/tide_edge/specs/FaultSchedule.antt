@@ -4,22 +4,26 @@ use Rattle.std.specs.List.{list_any}
 use Rattle.tide_edge.specs.declared.failed.Failed.{Failed}
 use Rattle.tide_edge.specs.Faults.{counted, faults_after}
 
--- the calls on an object in memory: the numbers of the calls that are to fail, counted from 1; the
--- number of calls made; and the number of failures
+-- The calls on an object in memory. `fails`: the numbers of the calls that are to fail, counted
+-- from 1; `made`: the number of calls made; `faults`: the number of failures. Both counts saturate
+-- at the greatest `u64`.
 pub record HeldCalls : Type 0 where
   pub fails : List ℕ
   pub made : ℕ
   pub faults : ℕ
 
--- no call was made yet; the calls with these numbers are to fail
+-- The calls on an object in memory before the first one; the calls with these numbers, counted from
+-- 1, are to fail.
 abbrev pub schedule_of : List ℕ → HeldCalls
 schedule_of fails = record { fails = fails; made = 0; faults = 0 }
 
--- the next call is to fail; calls are counted from 1
+-- True if the next call is to fail: its number is one of `fails`. Calls are counted from 1, up to
+-- the greatest `u64`.
 abbrev pub is_to_fail : HeldCalls → Bool
 is_to_fail fault_schedule = list_any (λ n. n == counted fault_schedule.made) fault_schedule.fails
 
--- the calls with another one counted; the Bool says whether it failed
+-- The calls after one more call, which is counted; the Bool is true if it failed, and then the
+-- failure is counted too.
 abbrev pub after_call : Bool → HeldCalls → HeldCalls
 after_call failed fault_schedule = record {
   fails = fault_schedule.fails;
@@ -27,7 +31,7 @@ after_call failed fault_schedule = record {
   faults = faults_after failed fault_schedule.faults;
 }
 
--- the result of a call: a failure if the first argument is true, else the value
+-- The result of a call: the error if the Bool is true, else the value.
 abbrev pub answer : {T : Type 0} → Bool → T → Result T Failed
 answer true value = Err record {}
 answer false value = Ok value

@@ -1,4 +1,5 @@
--- The contents of files, what was opened and read of them, and the effect of the calls (this project).
+-- The contents of files, the calls of `open` with the bytes read after each, and what calls change
+-- (this project).
 use Rattle.std.specs.Prelude.{
   ℕ,
   ◌+◌,
@@ -27,20 +28,22 @@ use Rattle.std.specs.Option.{option_map}
 use Rattle.tide_edge.specs.declared.failed.Failed.{Failed}
 use Rattle.tide_edge.specs.Faults.{counted, faults_after}
 
--- the contents of the file of each name, or None if there is no such file
+-- The contents of the file with a name, or None if there is no such file.
 abbrev pub Folder : Type 0
 Folder = List ℕ → Option (List ℕ)
 
--- The part of the state of files that no call changes: whether the contents are observable, the files by
--- their names, and whether the files are steady, so that opening and reading an existing one doesn't
--- fail. If the contents aren't observable, folder and steadiness are meaningless.
+-- The part of the state of files that no call changes. `is_observable`: the state has the contents
+-- of the files, as for files in memory; false for the machine's files. `folder`: the contents of
+-- the file with each name. `is_steady`: opening and reading an existing file never fails. The last
+-- two mean something only if `is_observable`.
 pub record FileContents : Type 0 where
   pub is_observable : Bool
   pub folder : Folder
   pub is_steady : Bool
 
--- One call of `open`: the name; whether a file was opened; the bytes read of it; how many calls of
--- `read` found its end; and whether one has failed.
+-- One call of `open`. `name`: the name of the file; `is_open`: the call succeeded; `bytes`: the
+-- bytes read of the file; `ends`: how many calls of `read` returned 0, the end of the file;
+-- `read_failed`: a call of `read` has failed.
 pub record Opening : Type 0 where
   pub name : List ℕ
   pub is_open : Bool
@@ -48,66 +51,75 @@ pub record Opening : Type 0 where
   pub ends : ℕ
   pub read_failed : Bool
 
--- all calls of `open`, the earliest first, in two parts: all but the last, and the last
+-- All calls of `open`, the earliest first. `earlier`: all but the last; `latest`: the last, or None
+-- if there is none.
 pub record Openings : Type 0 where
   pub earlier : List Opening
   pub latest : Option Opening
 
+-- No call of `open`.
 abbrev pub no_openings : Openings
 no_openings = record { earlier = []; latest = None }
 
--- the list of a value, or the empty list
+-- The list with the value as its only item, or the empty list if there is no value.
 abbrev pub as_list : {A : Type 0} → Option A → List A
 as_list None = []
 as_list (Some value) = value ∷ []
 
--- all calls of `open`, the earliest first
+-- All calls of `open` as one list, the earliest first.
 abbrev pub openings_of : Openings → List Opening
 openings_of o = o.earlier ++ as_list o.latest
 
--- an opening before any byte is read; `is_open` says whether a file was opened
+-- A call of `open` for the file `name`, before any byte is read; `is_open` is true if the call
+-- succeeded.
 abbrev pub just_opened : Bool → List ℕ → Opening
 just_opened is_open name = record { name = name; is_open = is_open; bytes = []; ends = 0; read_failed = false }
 
--- the openings after another call of `open` for `name`; `is_open` says whether it opened a file
+-- The calls of `open` with another one for the file `name`; `is_open` is true if it succeeded.
 abbrev pub openings_after_open : Bool → List ℕ → Openings → Openings
 openings_after_open is_open name o = record { earlier = openings_of o; latest = Some (just_opened is_open name) }
 
--- the opening after `count` bytes were read into the first bytes of `buffer`; a count of 0 is the end of
--- the file
+-- An opening (a call of `open` with the bytes read after it) after `count` more bytes were read
+-- into the first bytes of `buffer`; a count of 0 is the end of the file.
 abbrev pub opening_after_read : ℕ → List ℕ → Opening → Opening
 opening_after_read count buffer opening = record opening {
   bytes = opening.bytes ++ take count buffer;
   ends = (if count == 0 then opening.ends + 1 else opening.ends);
 }
 
--- the openings after a `read` of `count` bytes, which belong to the latest opening
+-- The openings (calls of `open` with the bytes read after each) after `count` more bytes were read
+-- into the first bytes of `buffer`; they belong to the latest opening.
 abbrev pub openings_after_read : ℕ → List ℕ → Openings → Openings
 openings_after_read count buffer o = record o { latest = option_map (opening_after_read count buffer) o.latest }
 
--- the opening after a `read` that failed
+-- An opening (a call of `open` with the bytes read after it) after a `read` that failed.
 abbrev pub opening_after_failure : Opening → Opening
 opening_after_failure opening = record opening { read_failed = true }
 
--- the openings after a `read` that failed, which belongs to the latest opening
+-- The openings (calls of `open` with the bytes read after each) after a `read` that failed, which
+-- is recorded for the latest opening.
 abbrev pub openings_after_failure : Openings → Openings
 openings_after_failure o = record o { latest = option_map opening_after_failure o.latest }
 
--- Files: the part that no call changes; the unread bytes of the open file, none if no file is open,
--- meaningful only if the contents are observable; the openings with the bytes read; and the number of
--- failures, which saturates at the greatest `u64`.
+-- The state of files. `file_contents`: the part that no call changes; `unread_bytes`: the unread
+-- bytes of the open file, none if no file is open, which mean something only if the state has the
+-- contents of the files (`file_contents.is_observable`); `open_log`: the calls of `open` with the
+-- bytes read after each; `faults`: the number of failures, which saturates at the greatest `u64`.
 pub record FilesState : Type 0 where
   pub file_contents : FileContents
   pub unread_bytes : List ℕ
   pub open_log : Openings
   pub faults : ℕ
 
--- the unread bytes after `open`: the whole file, or none if the call failed
+-- The unread bytes after `open` with this result, for a file with these contents: all of them, or
+-- none if the call failed or there is no such file.
 abbrev pub begun : {T : Type 0} → Result T Failed → Option (List ℕ) → List ℕ
 begun (Ok opened) file = unwrap_or file []
 begun (Err failed) file = []
 
--- the state of files after `open` of `name` with this result
+-- The state of files after `open` of `name` with this result: the call is recorded, and a failure
+-- is counted. Only if the files are observable (the state has their contents), the unread bytes
+-- change: to all bytes of the file, or to none if the call failed.
 abbrev pub files_after_open : {T : Type 0} → Result T Failed → List ℕ → FilesState → FilesState
 files_after_open result name s = record s {
   unread_bytes = (if s.file_contents.is_observable then begun result (s.file_contents.folder name) else s.unread_bytes);
@@ -115,7 +127,10 @@ files_after_open result name s = record s {
   faults = faults_after (is_err result) s.faults;
 }
 
--- the state of files after `read` with this result; `buffer` is the caller's buffer after the call
+-- The state of files after `read` with this result; `buffer` is the caller's buffer after the call.
+-- The bytes that were read, the first of `buffer`, are recorded for the latest call of `open`, and,
+-- only if the files are observable (the state has their contents), as many unread bytes are
+-- dropped. A failure is recorded and counted.
 abbrev pub files_after_read : Result ℕ Failed → List ℕ → FilesState → FilesState
 files_after_read (Ok count) buffer s = record s {
   unread_bytes = (if s.file_contents.is_observable then drop count s.unread_bytes else s.unread_bytes);

@@ -35,61 +35,68 @@ use Rattle.tide_edge.specs.declared.read_all_fault.ReadAllFault.{ReadAllFault}
 use Rattle.tide_edge.specs.declared.read_all_fault.ReadAllFault.TheVariants.{Failed, TooLong, NoMemory}
 use Rattle.tide_edge.specs.declared.piece.TheConstants.{PIECE}
 
--- the expected result of reading a whole file with these contents, if it exists: its bytes if there are
--- at most `limit`
+-- The expected result of reading a whole file with these contents (None if there is no such file):
+-- its bytes if there are at most `limit`, else TooLong; Failed if there is no file.
 abbrev pub whole : ℕ → Option (List ℕ) → Result (List ℕ) ReadAllFault
 whole limit None = Err Failed
 whole limit (Some bytes) = (if nat_le (length bytes) limit then Ok bytes else Err TooLong)
 
--- enough of a file was read to know the result: its end was found, or more than `limit` bytes were read
+-- True if enough of a file was read after a call of `open` to know the result: the file was opened,
+-- and its end was found or more than `limit` bytes were read.
 abbrev pub is_read_out : ℕ → Opening → Bool
 is_read_out limit opening = opening.is_open && (nat_lt 0 opening.ends || nat_lt limit (length opening.bytes))
 
--- The contents that an opening shows: the bytes read, if their end was found or they are more than
--- `limit`. Otherwise the file couldn't be opened or read, which counts as no file.
+-- The contents that a call of `open` and the reads after it show: the bytes read, if the end was
+-- found or they are more than `limit`. Otherwise None, as if there were no file: it couldn't be
+-- opened, or not read far enough.
 abbrev pub as_came : ℕ → Opening → Option (List ℕ)
 as_came limit opening = if is_read_out limit opening then Some opening.bytes else None
 
--- The contents of a file agree with what an opening shows of them. If enough was read to know the
--- result, the contents begin with the bytes read, and equal them if the end was found. Otherwise the
--- file doesn't exist if it couldn't be opened or a read failed, as long as this is the only reason
--- (`firm`).
+-- The contents `file` (None if there is no file) agree with what was read after a call of `open`.
+-- If enough was read to know the result (the end, or more than `limit` bytes), they begin with the
+-- bytes read, and equal them if the end was found. If too little was read, and opening or a read
+-- failed, there is no file, provided that `firm` is true: calls on existing files never fail. If
+-- `firm` is false, such a failure says nothing about the file.
 pub record Shows (limit : ℕ) (firm : Bool) (opening : Opening) (file : Option (List ℕ)) : Type 0 where
   pub read : IsTrue (is_read_out limit opening)
       → (left : List ℕ) × (file ≡ Some (opening.bytes ++ left)) × (0 < opening.ends → left ≡ [])
   pub absent : IsTrue firm → is_read_out limit opening ≡ false → IsTrue (not opening.is_open || opening.read_failed) → file ≡ None
 
--- one more file was opened since `before`, and more than `limit` bytes were read of it
+-- `HasPassed limit before after`: `open` was called exactly once from `before` to `after`, and more
+-- than `limit` bytes were read after this call.
 abbrev pub HasPassed : ℕ → Openings → Openings → Type 0
 HasPassed limit before after =
     (opening : Opening) × (after ≡ record { earlier = openings_of before; latest = Some opening }) × (limit < length opening.bytes)
 
--- the cause of each fault of reading a whole file: the outside, the given file, or memory
+-- The cause of each error of reading a whole file: a failed call on the files, a file that is too
+-- long, or memory that ran out.
 abbrev pub source_of : ReadAllFault → Source
 source_of Failed = outside
 source_of TooLong = given
 source_of NoMemory = memory
 
--- the most files that a call may open, and the most bytes that it may read of them
+-- A limit on reading: the most files that may be opened, and the most bytes that may be read of
+-- them.
 pub record Allowance : Type 0 where
   pub files : ℕ
   pub bytes : ℕ
 
--- the allowance of opening and reading nothing
+-- The limit that allows opening no file and reading no byte.
 abbrev pub no_file : Allowance
 no_file = record { files = 0; bytes = 0 }
 
--- the allowance of opening one file and reading at most `limit` bytes and a piece of 65,536 bytes
+-- The limit that allows opening one file and reading at most `limit` bytes and 65,536 more.
 abbrev pub one_file : ℕ → Allowance
 one_file limit = record { files = 1; bytes = limit + PIECE }
 
--- the sum of two allowances: of the files, and of the bytes
+-- The sum of two limits on reading: of the numbers of files, and of the numbers of bytes.
 abbrev pub both : Allowance → Allowance → Allowance
 both first second = record { files = first.files + second.files; bytes = first.bytes + second.bytes }
 
--- Files were read within an allowance: no more files were opened and no more ends found than it has
--- files, and no more bytes read than it has. The count of faults is one more if a call failed, else
--- unchanged. The contents are unchanged.
+-- From `before` to `after`, files were read within the limit `allowed`: there were at most
+-- `allowed.files` calls of `open`, at most `allowed.files` ends of files were found, and at most
+-- `allowed.bytes` bytes were read. If `failed` is true, the count of failures is one more (up to
+-- the greatest `u64`), else it is the same. The contents of the files are unchanged.
 pub record ReadWithin (allowed : Allowance) (failed : Bool) (before after : FilesState) : Type 0 where
   pub open_log : List Opening
   pub all : openings_of after.open_log ≡ openings_of before.open_log ++ open_log
@@ -99,13 +106,16 @@ pub record ReadWithin (allowed : Allowance) (failed : Bool) (before after : File
   pub file_contents : after.file_contents ≡ before.file_contents
   pub faults : after.faults ≡ faults_after failed before.faults
 
--- a result is the error that memory ran out
+-- The result is an error, and by the function `source` its cause is that memory ran out.
 abbrev pub IsOutOfMemory : {T E : Type 0} → (E → Source) → Result T E → Type 0
 IsOutOfMemory source (Ok value) = ⊥
 IsOutOfMemory source (Err fault) = source fault ≡ memory
 
--- One file `name` was opened, and the result is the expected one for any contents of it that agree with
--- what was read; or memory ran out before that.
+-- `OpenedOnce source expected limit name before after result`: either memory ran out before any
+-- call of `open`; or `open` was called once, for `name`, and the result meets (`Meets`) the
+-- `expected` one for any contents of the file that agree with what was read (`Shows`). Here `firm`
+-- is true if calls on existing files never fail: a failed call then means that there is no file. If
+-- it is false, a failed call says nothing about the file. `source` gives the cause of an error.
 abbrev pub OpenedOnce : {T E : Type 0} → (E → Source) → (Option (List ℕ) → Result T E) → ℕ → List ℕ → Openings → Openings → Result T E
     → Type 0
 OpenedOnce source expected limit name before after result =

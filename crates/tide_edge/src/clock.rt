@@ -7,13 +7,16 @@ use crate::failed::Failed;
 
 /// A clock that shows the present minute.
 ///
-/// In contracts the state of a clock has the minutes that it has returned, and says whether its future
-/// minutes are observable. No call changes the future minutes.
+/// In contracts, `state` has the minutes returned until now, and the numbers of readings and
+/// failures. If its flag `is_observable` is true, as for a clock in memory, it also has the minute
+/// that each later reading returns. The machine's clock isn't observable: its later minutes aren't
+/// known. No call changes the flag or these later minutes.
 pub trait Clock {
     ghost state: { Self → ClockState };
 
-    /// Returns the present minute, in minutes since 1970-01-01T00:00Z, from -10,000,000,000 to
-    /// 10,000,000,000.
+    /// Reads the clock, and returns the present minute: whole minutes since 1970-01-01T00:00Z, from
+    /// -10,000,000,000 to 10,000,000,000. If the clock is observable (its state has the minute of
+    /// each reading), a reading that succeeds returns the minute that the state has.
     ///
     /// # Errors
     /// [`Failed`] if the clock can't be read or shows a minute out of this range.

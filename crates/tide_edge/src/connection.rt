@@ -7,8 +7,9 @@ use crate::failed::Failed;
 use ghost_log::Log;
 use std::marker::Model;
 
-/// One connection: the bytes received, and how many of them the last read returned; whether their end was
-/// found; the bytes of its reply that were accepted; and whether a read or a write of it has failed.
+/// One connection of a door: the bytes received and how many of them the last read returned;
+/// whether the end of the request was found; the bytes of the reply that were accepted; and whether
+/// a read or a write has failed. The bytes are kept in proofs only.
 #[derive(Drop)]
 pub(crate) struct OneConnection {
     came: Log<u8>,
@@ -38,7 +39,7 @@ impl OneConnection {
     ghost use Rattle.std.specs.Prelude.{IfOk};
     ghost use Rattle.tide_edge.specs.Doors.{connection_after_read, connection_after_write, just_taken};
 
-    /// Returns a connection that was just accepted: no byte was read or written yet.
+    /// Returns a connection that was just accepted: no byte of it has been read or written.
     pub(crate) fn new() -> OneConnection
         ensures { result ≡ just_taken }
     {
@@ -52,7 +53,8 @@ impl OneConnection {
         }
     }
 
-    /// Records a read: its bytes are the first of `buffer`, as many as `outcome` says, or it failed.
+    /// Records a call of `read` with its `outcome`: the first bytes of `buffer`, as many as the
+    /// count says, were received (a count of 0 is the end of the request), or the call failed.
     pub(crate) fn read(&mut self, buffer: &[u8], outcome: &Result<usize, Failed>)
         requires { IfOk outcome.now (λ count. count ≤ length buffer.now) }
         ensures { self.new ≡ connection_after_read outcome.now buffer.now self.old }
@@ -70,8 +72,8 @@ impl OneConnection {
         }
     }
 
-    /// Records a write: the first bytes of `piece` were accepted, as many as `outcome` says, or it
-    /// failed.
+    /// Records a call of `write` with its `outcome`: the first bytes of `piece`, as many as the
+    /// count says, were accepted, or the call failed.
     pub(crate) fn write(&mut self, piece: &[u8], outcome: &Result<usize, Failed>)
         requires { IfOk outcome.now (λ count. count ≤ length piece.now) }
         ensures { self.new ≡ connection_after_write outcome.now piece.now self.old }

@@ -3,7 +3,7 @@
 ghost use Rattle.std.specs.Prelude.{◌≡◌};
 ghost use Rattle.tide_edge.specs.Faults.{counted};
 
-/// Returns `count + 1`, or `count` if that is the greatest `u64`.
+/// Returns `count + 1`, or `count` if it is already the greatest `u64`.
 pub(crate) fn one_more(count: u64) -> u64
     ensures { result ≡ counted count }
 {

@@ -15,14 +15,17 @@ ghost use Rattle.tide_edge.specs.Doors.{
 use crate::failed::Failed;
 
 /// A listening port: it accepts connections one after the other, reads the request of the open
-/// connection and writes its reply.
+/// connection, and writes its reply.
 ///
-/// In contracts the state of a door has the bytes read and written over each connection, the state of
-/// its port, and the requests, if they are observable: then the bytes read belong to them.
+/// In contracts, `state` has the listener's port and flags, and the bytes read and written over
+/// each connection. If its flag `is_observable` is true, as for a door in memory, it also has all
+/// requests that will arrive, and the bytes read over a connection are bytes of its request. A TCP
+/// port of the machine isn't observable: of it, only what was read and written is known.
 pub trait Door {
     ghost state: { Self → DoorState };
 
-    /// Listens on `port`. It is called once.
+    /// Listens on `port`. It can be called only once: a call that failed can't be repeated either.
+    /// No connection was accepted before it.
     ///
     /// # Errors
     /// [`Failed`] if the door can't listen on `port`.
@@ -31,7 +34,8 @@ pub trait Door {
         ensures after { state self.new ≡ door_after_listen result port (state self.old) }
         ensures untouched { IsUntouched (state self.old).listener_state (state self.old).connections };
 
-    /// Accepts the next connection and returns true, or returns false if no more will come.
+    /// Accepts the next connection and returns true, or returns false if there are no more
+    /// connections. It can be called while the door listens and no connection is open.
     ///
     /// # Errors
     /// [`Failed`] if no connection could be accepted.
@@ -40,9 +44,9 @@ pub trait Door {
         requires none_open { (state self.old).listener_state.is_open ≡ false }
         ensures { state self.new ≡ door_after_next result (state self.old) };
 
-    /// Reads the next bytes of the open connection into the first bytes of `buffer`, and returns their
-    /// count: 0 at the end of the request. If the door keeps pieces, one call reads bytes of one piece
-    /// only.
+    /// Reads the next bytes of the open connection's request into the first bytes of `buffer`,
+    /// which isn't empty, and returns their count: 0 at the end of the request. In a door that
+    /// keeps pieces (the parts in which a request arrives), one call reads bytes of one piece only.
     ///
     /// # Errors
     /// [`Failed`] if the connection can't be read.
@@ -52,7 +56,8 @@ pub trait Door {
         ensures after { state self.new ≡ door_after_read result buffer.new (state self.old) }
         ensures within { IfOk result (λ count. count ≤ length buffer.old) };
 
-    /// Writes the first bytes of `piece`, at least one, to the open connection, and returns their count.
+    /// Writes the first bytes of `piece`, which isn't empty, to the open connection, and returns
+    /// how many were accepted: at least one.
     ///
     /// # Errors
     /// [`Failed`] if no byte was accepted.
@@ -68,9 +73,10 @@ pub trait Door {
         requires { IsTrue (state self.old).listener_state.is_open }
         ensures { state self.new ≡ door_after_close (state self.old) };
 
-    /// If the requests are observable, each connection has one of them, in order: the bytes read over the
-    /// connection are a prefix of its request, and all of it if its end was found. If the door keeps
-    /// pieces, the last read returned bytes of one piece only. No request is pending once `next` has
-    /// returned false.
+    /// The law of doors. If the requests are observable (the state has all of them), each accepted
+    /// connection has one of them, in order: the bytes read over it are a prefix of its request,
+    /// and all of it if the end was found; and no request is pending once `next` has returned
+    /// false. If the door also keeps pieces (the parts in which a request arrives), the last read
+    /// returned bytes of one piece only.
     ghost lawful: { (door : Self) → IsLawful (state door) };
 }

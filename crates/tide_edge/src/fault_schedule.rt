@@ -6,8 +6,9 @@ use crate::count::one_more;
 use crate::failed::Failed;
 use std::marker::Model;
 
-/// The number of calls made, the numbers of the calls that fail on purpose, and the number of calls that
-/// have failed. Both counts saturate at the greatest `u64`.
+/// The calls on an object in memory: the numbers of the calls that fail on purpose (counted from
+/// 1), the number of calls made, and the number of calls that have failed. Both counts saturate at
+/// the greatest `u64`.
 #[derive(Drop)]
 pub(crate) struct FaultSchedule {
     fails: Vec<u64>,
@@ -27,8 +28,8 @@ impl FaultSchedule {
     ghost use Rattle.tide_edge.specs.FaultSchedule.{answer, is_to_fail, after_call, schedule_of};
     ghost use Rattle.tide_edge.specs.Faults.{counted};
 
-    /// Returns the counts before any call. `fails` has the numbers of the calls that are to fail, counted
-    /// from 1.
+    /// Returns a schedule before any call. `fails` has the numbers of the calls that are to fail,
+    /// counted from 1.
     pub(crate) fn new(fails: Vec<u64>) -> FaultSchedule
         ensures { result ≡ schedule_of fails.items }
     {
@@ -42,7 +43,7 @@ impl FaultSchedule {
     /// Counts a call.
     ///
     /// # Errors
-    /// [`Failed`] if the call's number is in `fails`.
+    /// [`Failed`] if the call's number is in `fails`; the failure is counted too.
     pub(crate) fn next(&mut self) -> Result<(), Failed>
         ensures answer { result ≡ answer (is_to_fail self.old) record {} }
         ensures after { self.new ≡ after_call (is_to_fail self.old) self.old }
@@ -53,7 +54,8 @@ impl FaultSchedule {
         Ok(())
     }
 
-    /// Counts a call, and returns true if its number is in `fails`. It counts no failure.
+    /// Counts a call, and returns true if its number is in `fails`. The count of failures doesn't
+    /// change.
     pub(crate) fn is_next_to_fail(&mut self) -> bool
         ensures answer { result ≡ is_to_fail self.old }
         ensures after { self.new ≡ record self.old { made = counted self.old.made } }
@@ -62,7 +64,8 @@ impl FaultSchedule {
         self.fails.contains(&self.made)
     }
 
-    /// Counts a failure of the latest call, and returns it.
+    /// Adds 1 to the count of failures, which saturates at the greatest `u64`, and returns the
+    /// error.
     pub(crate) fn fail(&mut self) -> Failed
         ensures { self.new ≡ record self.old { faults = counted self.old.faults } }
     {

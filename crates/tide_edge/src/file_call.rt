@@ -8,7 +8,8 @@ use ghost_log::Log;
 use std::marker::Model;
 use std::slice;
 
-/// A call on files in memory: `open` of a name, or `read` with a buffer of `more` bytes and one more.
+/// A call on files in memory: `open` of the file `name` if `opens` is true, else `read` with a
+/// buffer of `more + 1` bytes (a buffer isn't empty).
 #[derive(Drop)]
 pub(crate) struct OneFileCall {
     opens: bool,
@@ -25,7 +26,7 @@ impl Model for OneFileCall {
     ghost view = { λ c. if c.opens then Open c.name.items else Read c.more };
 }
 
-/// Returns the calls `history` and one of `open` of `name`.
+/// Returns the calls of `history` followed by a call of `open` for the file `name`.
 pub(crate) fn then_open(history: &Log<OneFileCall>, name: &Text) -> Log<OneFileCall>
     ensures { result.items ≡ history.now.items ++ Open name.now ∷ [] }
 {
@@ -37,7 +38,7 @@ pub(crate) fn then_open(history: &Log<OneFileCall>, name: &Text) -> Log<OneFileC
     history.then(slice::from_ref(&call))
 }
 
-/// Returns the calls `history` and one of `read` with a buffer of `more` bytes and one more.
+/// Returns the calls of `history` followed by a call of `read` with a buffer of `more + 1` bytes.
 pub(crate) fn then_read(history: &Log<OneFileCall>, more: usize) -> Log<OneFileCall>
     ensures { result.items ≡ history.now.items ++ Read more ∷ [] }
 {

@@ -7,31 +7,34 @@ ghost use Rattle.tide_edge.specs.StoreLaws.{IsLawful};
 use crate::failed::Failed;
 use decimal_text::Text;
 
-/// Files that are opened by name, at most one at a time.
+/// Files that are opened by name, at most one at a time, and read from beginning to end.
 ///
-/// In contracts the state of the files has what was opened and the bytes that were read, and says whether
-/// the files are observable: whether it also has their contents. No call changes the contents, nor
-/// whether the files are steady, which means that opening and reading an existing file doesn't fail.
+/// In contracts, `state` has each call of `open` with the bytes read after it. If its flag
+/// `is_observable` is true, as for files in memory, it also has the contents of the files, and says
+/// whether they are steady (opening and reading an existing file never fails). The machine's files
+/// aren't observable: only the calls and the bytes read are known. No call changes the contents or
+/// these two flags.
 pub trait Files {
     ghost state: { Self → FilesState };
 
     /// Opens the file `name` at its first byte. The file that was open before is closed.
     ///
     /// # Errors
-    /// [`Failed`] if the file can't be opened; then no file is open. If the files are steady, it fails
-    /// only if there is no file `name`.
+    /// [`Failed`] if the file can't be opened; then no file is open. Files that are observable
+    /// (their contents are in the state) and steady fail only if there is no file `name`.
     fn open(&mut self, name: &Text) -> Result<(), Failed>
         ensures after { state self.new ≡ files_after_open result name.now (state self.old) }
         ensures found { IsTrue (state self.old).file_contents.is_observable → OnOk result (IsSome ((state self.old).file_contents.folder name.now)) }
         ensures absent { IsTrue (state self.old).file_contents.is_observable → IsTrue (state self.old).file_contents.is_steady
             → OnErr result ((state self.old).file_contents.folder name.now ≡ None) };
 
-    /// Reads the next bytes of the open file into the first bytes of `buffer`, and returns their count: 0
-    /// at the end of the file, and if no file is open.
+    /// Reads the next bytes of the open file into the first bytes of `buffer`, which isn't empty,
+    /// and returns their count: 0 at the end of the file, or if no file is open.
     ///
     /// # Errors
-    /// [`Failed`] if the file can't be read; the count of faults grows, the opening is marked, and
-    /// nothing else changes. If the files are steady, it never fails.
+    /// [`Failed`] if the file can't be read: the failure is counted and recorded for the latest
+    /// call of `open`, and nothing else changes. Files that are observable (their contents are in
+    /// the state) and steady never fail.
     fn read(&mut self, buffer: &mut [u8]) -> Result<usize, Failed>
         requires { 0 < length buffer.old }
         ensures after { state self.new ≡ files_after_read result buffer.new (state self.old) }
@@ -41,8 +44,9 @@ pub trait Files {
         ensures end { IsTrue (state self.old).file_contents.is_observable → IfOk result (λ count. (count ≡ 0) ↔ ((state self.old).unread_bytes ≡ [])) }
         ensures reads { IsTrue (state self.old).file_contents.is_observable → IsTrue (state self.old).file_contents.is_steady → IsOk result };
 
-    /// If the files are observable, the bytes read after each opening are a prefix of the file's bytes,
-    /// and all of them if its end was found. If they are also steady, an opening has failed only if
-    /// there is no such file, and no read has failed.
+    /// The law of files. If the files are observable (the state has their contents), the bytes read
+    /// after each call of `open` are a prefix of the file's bytes, and all of them if its end was
+    /// found. If the files are also steady, a call of `open` has failed only if there is no such
+    /// file, and no read has failed.
     ghost lawful: { (files : Self) → IsLawful (state files) };
 }

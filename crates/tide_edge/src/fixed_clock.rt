@@ -10,7 +10,8 @@ use ghost_log::Log;
 use std::marker::Model;
 use std::slice;
 
-/// A clock that always shows the same minute; its future minutes are observable.
+/// A clock in memory that always shows the same minute. Contracts know the minute that each reading
+/// returns.
 #[derive(Drop)]
 pub struct FixedClock {
     minute: i64,
@@ -32,8 +33,8 @@ impl Model for FixedClock {
 impl FixedClock {
     ghost use Rattle.tide_edge.specs.FaultSchedule.{schedule_of};
 
-    /// Returns a clock that shows `minute`, in minutes since 1970-01-01T00:00Z. The calls with a number
-    /// in `fails`, counted from 1, fail.
+    /// Returns a clock that shows `minute`, in minutes since 1970-01-01T00:00Z, from
+    /// -10,000,000,000 to 10,000,000,000. The calls with a number in `fails`, counted from 1, fail.
     pub fn new(minute: i64, fails: Vec<u64>) -> FixedClock
         requires { IsClockMinute minute }
         ensures { result ≡ record {

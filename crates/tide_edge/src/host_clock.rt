@@ -14,10 +14,11 @@ use std::{rt, slice};
 
 const LAST_MINUTE: u64 = 10_000_000_000;
 
-/// The system clock. The minutes that it has returned are observable, its future minutes aren't.
+/// The clock of the machine. Contracts know the minutes that it has returned, but not the minute
+/// that a later reading returns.
 ///
-/// It fails for times before 1970, which the system can't represent, and after minute 10,000,000,000
-/// since 1970-01-01T00:00Z.
+/// A reading fails if the machine's clock can't be read, or if it shows a time before 1970 or more
+/// than 10,000,000,000 whole minutes after 1970-01-01T00:00Z.
 #[derive(Drop)]
 pub struct HostClock<R: rt::Clock + Drop> {
     system: R,
@@ -58,8 +59,8 @@ impl<R: rt::Clock + Drop> Clock for HostClock<R> {
     }
 }
 
-/// Returns the time `now` in whole minutes since 1970-01-01T00:00Z, or `None` if this exceeds
-/// 10,000,000,000.
+/// Returns the time `now` in whole minutes since 1970-01-01T00:00Z, rounded down, or `None` if
+/// these are more than 10,000,000,000.
 fn minute_at(now: SystemTime) -> Option<i64>
     ensures exact { MatchOption result (10000000000 < system_time_nanos now / 1000000000 / 60)
         (λ minute. minute ≡ pos (system_time_nanos now / 1000000000 / 60)) }
@@ -71,7 +72,8 @@ fn minute_at(now: SystemTime) -> Option<i64>
     }
 }
 
-/// Returns `seconds` since 1970-01-01T00:00Z in whole minutes, or `None` if this exceeds 10,000,000,000.
+/// Returns `seconds` since 1970-01-01T00:00Z in whole minutes, rounded down, or `None` if these are
+/// more than 10,000,000,000.
 fn minute_of(seconds: u64) -> Option<i64>
     ensures exact { MatchOption result (10000000000 < seconds / 60) (λ minute. minute ≡ pos (seconds / 60)) }
     ensures in_range { IfSome result IsClockMinute }

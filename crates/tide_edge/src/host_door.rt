@@ -15,19 +15,20 @@ use std::io::{self, ErrorKind};
 use std::net::{Ipv4Addr, Net, OpenListener, TcpListener};
 use std::rt;
 
-/// The most connections in a row that are skipped because they failed before they were accepted.
+/// The most connections in a row that one call of `next` skips because they failed before they were
+/// accepted.
 const GONE_IN_A_ROW: u32 = u32::MAX;
 
-/// Linux's numbers of the errors of a connection for which `ErrorKind` has no variant: ENONET, EPROTO,
-/// ENOPROTOOPT, EOPNOTSUPP and EHOSTDOWN.
+/// Linux's numbers of the errors of a connection for which `ErrorKind` has no variant: ENONET,
+/// EPROTO, ENOPROTOOPT, EOPNOTSUPP and EHOSTDOWN.
 const CONNECTION_ERRORS: [i32; 5] = [64, 71, 92, 95, 112];
 
-/// A TCP port of the machine, at 127.0.0.1 only. The bytes read and written over each connection are
-/// observable, the pending requests aren't.
+/// A TCP port of the machine, at the address 127.0.0.1 only. Contracts know the bytes read and
+/// written over each connection, but not the requests that will arrive.
 ///
-/// `next` waits without limit, so it never returns false. A peer has 60 seconds to send its whole request
-/// and 60 seconds to receive its whole reply; after that `read` or `write` fails. `close` waits at most 2
-/// seconds for the end of what the peer sends.
+/// `next` waits without limit, so it never returns false. A peer has 60 seconds to send its whole
+/// request and 60 seconds to receive its whole reply; after that `read` or `write` fails. `close`
+/// waits at most 2 seconds for the end of what the peer sends.
 #[derive(Drop)]
 pub struct HostDoor<R: Net + rt::Clock + Drop> {
     system: R,
@@ -43,7 +44,7 @@ pub struct HostDoor<R: Net + rt::Clock + Drop> {
 impl<R: Net + rt::Clock + Drop> HostDoor<R> {
     ghost use Rattle.tide_edge.specs.Doors.{no_connections, not_listening};
 
-    /// Returns a door that doesn't listen yet, for a port of `system`, the machine.
+    /// Returns a door for a TCP port of `system`, the machine. It doesn't listen yet.
     pub fn new(system: R) -> HostDoor<R>
         ensures listener_state { (⟦<HostDoor<R> as Door>⟧.state result).listener_state ≡ not_listening }
         ensures connections { (⟦<HostDoor<R> as Door>⟧.state result).connections ≡ no_connections }
@@ -146,7 +147,8 @@ impl<R: Net + rt::Clock + Drop> Door for HostDoor<R> {
     }
 }
 
-/// Accepts the next connection, skipping those that failed before they were accepted.
+/// Accepts the next connection. Connections that failed before they were accepted are skipped; any
+/// other error is returned.
 fn take_next<L: OpenListener>(listener: &L) -> io::Result<L::Stream> {
     for _ in 0..GONE_IN_A_ROW {
         match listener.accept() {
@@ -158,7 +160,8 @@ fn take_next<L: OpenListener>(listener: &L) -> io::Result<L::Stream> {
     Err(io::Error::from(ErrorKind::ConnectionAborted))
 }
 
-/// Returns true if `fault`, an error of accepting, is of that one connection, as accept(2) lists them.
+/// Returns true if `fault`, an error of `accept`, concerns only the one connection, so that later
+/// ones can still be accepted. The manual page accept(2) lists these errors.
 fn is_of_connection(fault: &io::Error) -> bool {
     let is_named = matches!(
         fault.kind(),

@@ -6,7 +6,8 @@ ghost use Rattle.tide_edge.specs.Faults.{counted};
 use crate::count::one_more;
 use crate::failed::Failed;
 
-/// Counts a failure in `faults`, and returns it.
+/// Adds 1 to `faults`, a count of failures that saturates at the greatest `u64`, and returns the
+/// error.
 pub(crate) fn count_fault(faults: &mut u64) -> Failed
     ensures { faults.new ≡ counted faults.old }
 {

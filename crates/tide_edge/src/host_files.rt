@@ -12,8 +12,8 @@ use crate::read_through::read_through;
 use decimal_text::Text;
 use std::{fs, rt};
 
-/// The files of the file system, by their paths. The calls of `open` and the bytes read are observable,
-/// the contents aren't.
+/// The files of the machine's file system, named by their paths. Contracts know each call of `open`
+/// and the bytes read after it, but not the contents of the files.
 ///
 /// `open` fails for a path that can't be opened, and `read` for one that can't be read, such as a
 /// directory. A file is closed once its end was read.
@@ -28,7 +28,7 @@ pub struct HostFiles<R: rt::Files + Drop> {
 impl<R: rt::Files + Drop> HostFiles<R> {
     ghost use Rattle.tide_edge.specs.Adapters.{file_of};
 
-    /// Returns the files of `system`, the machine; none is open.
+    /// Returns the files of `system`, the machine. No file is open.
     pub fn new(system: R) -> HostFiles<R>
         ensures none_open { file_of result ≡ None }
         ensures open_log { (⟦<HostFiles<R> as Files>⟧.state result).open_log ≡ no_openings }

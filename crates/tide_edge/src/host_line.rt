@@ -8,7 +8,8 @@ use std::net::{OpenStream, Shutdown};
 use std::rt;
 use std::time::{Duration, Instant};
 
-/// The seconds that a peer has to send its whole request, counted from when its connection was accepted.
+/// The seconds that a peer has to send its whole request, counted from the acceptance of its
+/// connection.
 const REQUEST_SECONDS: u64 = 60;
 
 /// The seconds that a peer has to receive its whole reply, counted from the first write.
@@ -48,8 +49,8 @@ impl Deadline {
     }
 }
 
-/// An accepted connection. It waits for its peer until one deadline for the whole request or reply, by a
-/// monotonic clock, and repeats calls that a signal interrupted.
+/// An accepted connection. All reads of a request share one deadline, and so do all writes of a
+/// reply, by a monotonic clock. A call that a signal interrupted is repeated.
 #[derive(Drop)]
 pub(crate) struct HostLine<S: OpenStream + Read + Write + Drop> {
     stream: S,
@@ -69,7 +70,8 @@ impl<S: OpenStream + Read + Write + Drop> HostLine<S> {
         }
     }
 
-    /// Reads the next bytes into the first bytes of `buffer`, and returns their count: 0 at their end.
+    /// Reads the next bytes that the peer has sent into the first bytes of `buffer`, and returns
+    /// their count: 0 after the last. It fails once the deadline has passed.
     pub(crate) fn read(&mut self, clock: &impl rt::Clock, buffer: &mut [u8]) -> io::Result<usize>
         ensures within { IfOk result (λ count. count ≤ length buffer.old) }
         ensures tied { ReadConsumes (S.remaining (stream_of self.old)) (S.remaining (stream_of self.new)) result buffer.new }
@@ -77,8 +79,8 @@ impl<S: OpenStream + Read + Write + Drop> HostLine<S> {
         read_in_time(&mut self.stream, self.deadline, clock, buffer)
     }
 
-    /// Writes the first bytes of `piece`, and returns their count. The time for the reply begins with the
-    /// first call.
+    /// Writes the first bytes of `piece`, and returns how many were accepted. The deadline of the
+    /// reply is set by the first call.
     pub(crate) fn write(&mut self, clock: &impl rt::Clock, piece: &[u8]) -> io::Result<usize>
         ensures within { IfOk result (λ count. count ≤ length piece.now) }
         ensures tied { WriteAppends (S.contents (stream_of self.old)) (S.contents (stream_of self.new)) result piece.now }

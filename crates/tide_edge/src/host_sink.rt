@@ -12,7 +12,8 @@ use std::io::Write;
 
 /// A sink over a writer of the machine, such as standard output or standard error.
 ///
-/// Bytes that a write accepts have been passed to the system: none are buffered.
+/// Each write is flushed: the bytes that it accepts have been passed to the system. A write that
+/// fails may also have passed some bytes to the system.
 #[derive(Drop)]
 pub struct HostSink<W: Write + Drop> {
     writer: W,

@@ -22,26 +22,30 @@ use crate::memory_files::MemoryFiles;
 use crate::memory_sink::MemorySink;
 use crate::sink::Sink;
 
-/// Proves that files in memory are observable, and steady if none of their calls is to fail: then
-/// opening and reading an existing file doesn't fail.
+/// Proves that contracts know the contents of files in memory (`is_observable` is true), and that
+/// the files are steady if no call is to fail: opening and reading an existing file then never
+/// fails.
 pub fn memory_files_are_observable()
     ensures state { (m : HeldFiles) → ⟦<MemoryFiles as Files>⟧.state m ≡ files_state m }
     ensures file_contents { (m : HeldFiles) → (files_state m).file_contents
         ≡ record { is_observable = true; folder = folder_of m.files; is_steady = length m.fails == 0 } }
 {}
 
-/// Proves that the bytes that a sink in memory has accepted are observable.
+/// Proves that the state of a sink in memory is given by `sink_state`: the bytes that it has
+/// accepted, and the number of its failed calls.
 pub fn memory_sink_is_observable()
     ensures { (s : HeldSink) → ⟦<MemorySink as Sink>⟧.state s ≡ sink_state s }
 {}
 
-/// Proves that the minute of a [`FixedClock`] is observable and the same for each reading.
+/// Proves that contracts know the minute of each reading of a [`FixedClock`] (`is_observable` is
+/// true): always the minute that the clock shows.
 pub fn fixed_clock_is_observable()
     ensures { (c : HeldClock) → ⟦<FixedClock as Clock>⟧.state c ≡ clock_state c }
 {}
 
-/// Proves that the requests and the replies of a door in memory are observable, and that a read of it
-/// returns bytes of one piece only.
+/// Proves that contracts know all requests of a door in memory (`is_observable` is true) and the
+/// bytes read and written over its connections, and that one read returns bytes of one piece (a
+/// part in which a request arrives) only.
 pub fn memory_door_is_observable()
     ensures { (d : MemoryDoor) → ⟦<MemoryDoor as Door>⟧.state d ≡ door_state (held_by d) }
 {}

@@ -1,9 +1,11 @@
-//! The outside of the program: files, sinks of bytes, the clock, and the door that accepts connections.
+//! The objects outside of the program: files, sinks of bytes, a clock, and a door (a listening port
+//! that accepts connections).
 //!
-//! Each is a trait with an observable implementation in memory and one over the machine, which contracts
-//! tie to the bytes of the system below it. [`pass_file`] passes the bytes of a file to a [`Receiver`]
-//! while they are read, [`read_all`] reads a whole file, and [`write_all`] writes all of its bytes, over
-//! any implementation.
+//! Each is a trait with two implementations. Of the one in memory, contracts know the contents; the
+//! one over the machine is tied by contracts to the bytes of the system below it. [`pass_file`]
+//! passes the bytes of a file to a [`Receiver`] while they are read, [`read_all`] returns the bytes
+//! of a whole file, and [`write_all`] writes all bytes of a slice. The three work with any
+//! implementation.
 #![tactic(auto)]
 
 mod clock;

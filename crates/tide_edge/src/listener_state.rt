@@ -1,12 +1,12 @@
-//! The part of a door's state that is observable for every door.
+//! The part of a door's state that contracts know for every door.
 
 ghost use Rattle.std.specs.Prelude.{◌≡◌, Ok, true, false};
 
 use crate::count::one_more;
 use std::marker::Model;
 
-/// The port that a door was to listen on, whether it listens, the number of connections accepted, and
-/// whether one is open.
+/// The port passed to `listen`, whether the door listens, the number of connections accepted (which
+/// saturates at the greatest `u64`), whether one is open, and whether `next` has returned false.
 #[derive(Drop)]
 pub(crate) struct ListenerState {
     port: Option<u16>,
@@ -59,7 +59,7 @@ impl ListenerState {
         }
     }
 
-    /// Counts a connection and marks it as open.
+    /// Records that another connection was accepted: it is counted, and it is open.
     pub(crate) fn open(&mut self)
         ensures { self.new ≡ after_next (Ok true) self.old }
     {
@@ -67,7 +67,7 @@ impl ListenerState {
         self.is_open = true;
     }
 
-    /// Records that no more connections will come.
+    /// Records that `next` has returned false: there are no more connections.
     pub(crate) fn end(&mut self)
         ensures { self.new ≡ after_next (Ok false) self.old }
     {

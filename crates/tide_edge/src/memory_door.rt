@@ -11,7 +11,8 @@ use crate::request_queue::RequestQueue;
 use decimal_text::Bytes;
 use std::alloc::{AllocError, Global};
 
-/// A door in memory: its requests and its replies are observable.
+/// A door in memory. Contracts know all requests that will arrive at it, and the bytes read and
+/// written over each connection.
 #[derive(Drop)]
 pub struct MemoryDoor {
     queue: RequestQueue,
@@ -22,9 +23,10 @@ impl MemoryDoor {
     ghost use Rattle.tide_edge.specs.Adapters.{held_by};
     ghost use Rattle.tide_edge.specs.Memory.{held_door};
 
-    /// Returns a door at which `requests` are pending, each as the pieces in which it arrives; no piece
-    /// is empty. All replies together have at most `capacity` bytes. The calls with a number in `fails`,
-    /// counted from 1 without calls of `close`, fail, and so does a write if `capacity` is used up.
+    /// Returns a door at which `requests` are pending, each as the pieces (parts) in which it
+    /// arrives; no piece is empty. All replies together have at most `capacity` bytes. The calls
+    /// with a number in `fails` fail (counted from 1; calls of `close` aren't counted), and so does
+    /// a write if `capacity` is used up.
     ///
     /// It allocates the memory for all replies here, and none later.
     ///
@@ -44,8 +46,8 @@ impl MemoryDoor {
         })
     }
 
-    /// Returns the reply of connection `i`, counted from 0, or `None` if at most `i` connections were
-    /// accepted.
+    /// Returns the bytes written until now as the reply of connection `i`, counted from 0, or
+    /// `None` if at most `i` connections were accepted.
     pub fn reply(&self, i: u64) -> Option<&[u8]>
         ensures { MatchOption result (length (held_by self.now).replies ≤ i)
             (λ reply. slice_get (held_by self.now).replies i ≡ Some reply.now) }

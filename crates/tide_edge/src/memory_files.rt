@@ -41,7 +41,8 @@ use decimal_text::Text;
 use ghost_log::Log;
 use std::marker::Model;
 
-/// Files in memory: their contents are observable. They are steady if none of their calls is to fail.
+/// Files in memory. Contracts know their contents. They are steady (opening and reading an existing
+/// file never fails) if no call is to fail.
 #[derive(Drop)]
 pub struct MemoryFiles {
     files: Vec<NamedFile>,
@@ -64,8 +65,9 @@ impl Model for MemoryFiles {
 }
 
 impl MemoryFiles {
-    /// Returns the files in memory `files`, none of them open. If two have the same name, the first is
-    /// used. The calls of `open` and `read` with a number in `fails`, counted from 1, fail.
+    /// Returns the files in memory `files`, none of them open. If two have the same name, the first
+    /// is used. The calls of `open` and `read` with a number in `fails`, counted together from 1,
+    /// fail.
     pub fn new(files: Vec<NamedFile>, fails: Vec<u64>) -> MemoryFiles
         ensures { result ≡ record { files = files.items; fails = fails.items; history = [] } }
     {
@@ -134,8 +136,8 @@ fn result_of(index: Option<usize>) -> Result<(), Failed>
     }
 }
 
-/// Counts a call, and returns the index of the first file called `name`, or `None` if the call is to fail
-/// or there is no such file.
+/// Counts a call, and returns the index (from 0) of the first file called `name`, or `None` if the
+/// call is to fail or there is no such file.
 fn find(fault_schedule: &mut FaultSchedule, files: &[NamedFile], name: &Text) -> Option<usize>
     ensures index { option_map (bytes_at files.now) result ≡ (if is_to_fail fault_schedule.old then None else folder_of files.now name.now) }
     ensures after { fault_schedule.new ≡ after_call (is_none result) fault_schedule.old }

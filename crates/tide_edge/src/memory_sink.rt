@@ -31,9 +31,9 @@ impl Model for MemorySink {
 impl MemorySink {
     ghost use Rattle.tide_edge.specs.FaultSchedule.{schedule_of};
 
-    /// Returns an empty sink that accepts at most `most` bytes a call and `capacity` bytes in all. The
-    /// calls with a number in `fails`, counted from 1, fail, and so does each call if `capacity` is
-    /// used up.
+    /// Returns an empty sink that accepts at most `most` bytes a call, at least 1, and `capacity`
+    /// bytes in all. The calls with a number in `fails`, counted from 1, fail, and so does each
+    /// call once `capacity` is used up.
     ///
     /// It allocates `capacity` bytes here, and none later.
     ///
@@ -61,7 +61,7 @@ impl MemorySink {
         })
     }
 
-    /// Borrows the bytes accepted until now.
+    /// Borrows the bytes that the sink has accepted.
     pub fn bytes(&self) -> &[u8]
         ensures { result.now ≡ self.now.accepted }
     {

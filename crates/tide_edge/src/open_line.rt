@@ -12,7 +12,9 @@ use std::io::{Read, Write};
 use std::net::OpenStream;
 use std::rt;
 
-/// Reads into the first bytes of `buffer` and returns the count; a failure is counted in `faults`.
+/// Reads the next bytes of the connection into the first bytes of `buffer`, and returns their
+/// count: 0 at the end. A failure, also if there is no connection, is counted in `faults` (up to
+/// the greatest `u64`).
 pub(crate) fn read_open<S: OpenStream + Read + Write + Drop>(
     line: &mut Option<HostLine<S>>,
     clock: &impl rt::Clock,
@@ -32,8 +34,9 @@ pub(crate) fn read_open<S: OpenStream + Read + Write + Drop>(
     }
 }
 
-/// Writes the first bytes of `piece` and returns their count; a failure is counted in `faults`. A write
-/// that accepts no byte is a failure.
+/// Writes the first bytes of `piece` to the connection, and returns how many were accepted, at
+/// least one. A failure, also if there is no connection or no byte was accepted, is counted in
+/// `faults` (up to the greatest `u64`).
 pub(crate) fn write_open<S: OpenStream + Read + Write + Drop>(
     line: &mut Option<HostLine<S>>,
     clock: &impl rt::Clock,

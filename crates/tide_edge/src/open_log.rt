@@ -1,4 +1,4 @@
-//! All openings of files, with the bytes read after each.
+//! All calls of `open` on files, with the bytes read after each.
 
 ghost use Rattle.std.specs.Prelude.{◌≡◌, ◌≤◌, length};
 
@@ -8,8 +8,8 @@ use ghost_log::Log;
 use std::marker::Model;
 use std::slice;
 
-/// All openings of files, with the bytes read after each. The bytes, names and lists are ghosts: none is
-/// kept at run time.
+/// All calls of `open` on files, with the bytes read after each: the latest call, and the earlier
+/// ones. The names, bytes and lists exist in proofs only: none is kept at run time.
 #[derive(Drop)]
 pub(crate) struct Openings {
     earlier: Log<OneOpening>,
@@ -32,7 +32,7 @@ impl Openings {
       openings_after_read,
     };
 
-    /// Returns the record of openings before any call of `open`.
+    /// Returns the record in which `open` hasn't been called.
     pub(crate) fn none() -> Openings
         ensures { result ≡ no_openings }
     {
@@ -42,7 +42,7 @@ impl Openings {
         }
     }
 
-    /// Records a call of `open` for `name`; `is_open` is true if it opened a file.
+    /// Records a call of `open` for the file `name`; `is_open` is true if the call succeeded.
     pub(crate) fn open(&mut self, name: &Text, is_open: bool)
         ensures { self.new ≡ openings_after_open is_open name.now self.old }
     {
@@ -52,7 +52,8 @@ impl Openings {
         self.latest = Some(OneOpening::new(name, is_open));
     }
 
-    /// Records a call of `read` that put `count` bytes into the first bytes of `buffer`.
+    /// Records a call of `read` that put `count` bytes of the file opened last into the first bytes
+    /// of `buffer`; a count of 0 is the end of the file.
     pub(crate) fn read(&mut self, buffer: &[u8], count: usize)
         requires { count ≤ length buffer.now }
         ensures { self.new ≡ openings_after_read count buffer.now self.old }
@@ -62,7 +63,7 @@ impl Openings {
         }
     }
 
-    /// Records a call of `read` that failed.
+    /// Records a call of `read` that failed, for the latest call of `open`.
     pub(crate) fn fail(&mut self)
         ensures { self.new ≡ openings_after_failure self.old }
     {

@@ -7,7 +7,7 @@ use ghost_log::Log;
 use std::marker::Model;
 
 /// One call of `open`: the name, whether a file was opened, the bytes read of it, how many calls of
-/// `read` found its end, and whether one has failed.
+/// `read` found its end, and whether a call of `read` has failed.
 #[derive(Drop)]
 pub(crate) struct OneOpening {
     name: Log<u8>,
@@ -35,7 +35,8 @@ impl Model for OneOpening {
 impl OneOpening {
     ghost use Rattle.tide_edge.specs.FileStates.{just_opened, opening_after_failure, opening_after_read};
 
-    /// Returns the opening of `name` before any byte is read; `is_open` is true if a file was opened.
+    /// Returns the record of a call of `open` for the file `name`, before any byte is read;
+    /// `is_open` is true if the call succeeded.
     pub(crate) fn new(name: &Text, is_open: bool) -> OneOpening
         ensures { result ≡ just_opened is_open name.now }
     {
@@ -48,7 +49,8 @@ impl OneOpening {
         }
     }
 
-    /// Records that the first `count` bytes of `buffer` were read.
+    /// Records a call of `read` that put `count` bytes into the first bytes of `buffer`; a count of
+    /// 0 is the end of the file.
     pub(crate) fn read(&mut self, buffer: &[u8], count: usize)
         requires { count ≤ length buffer.now }
         ensures { self.new ≡ opening_after_read count buffer.now self.old }

@@ -9,8 +9,8 @@ use ghost_log::Log;
 use std::marker::Model;
 use std::slice;
 
-/// All connections, with the bytes read and written over each. The bytes and lists are ghosts: none is
-/// kept at run time.
+/// All connections of a door, with the bytes read and written over each: the latest, and the
+/// earlier ones. The bytes and lists exist in proofs only: none is kept at run time.
 #[derive(Drop)]
 pub(crate) struct Connections {
     earlier: Log<OneConnection>,
@@ -34,7 +34,7 @@ impl Connections {
       change_latest,
     };
 
-    /// Returns the record of connections before any is accepted.
+    /// Returns the record in which no connection was accepted.
     pub(crate) fn none() -> Connections
         ensures { result ≡ no_connections }
     {
@@ -54,7 +54,8 @@ impl Connections {
         self.latest = Some(OneConnection::new());
     }
 
-    /// Records a call of `read` with `buffer` and its `outcome`.
+    /// Records a call of `read` on the latest connection: the buffer after the call, and the
+    /// outcome.
     pub(crate) fn read(&mut self, buffer: &[u8], outcome: &Result<usize, Failed>)
         requires { IfOk outcome.now (λ count. count ≤ length buffer.now) }
         ensures { self.new ≡ change_latest (connection_after_read outcome.now buffer.now) self.old }
@@ -64,7 +65,7 @@ impl Connections {
         }
     }
 
-    /// Records a call of `write` with `piece` and its `outcome`.
+    /// Records a call of `write` of `piece` on the latest connection, with its outcome.
     pub(crate) fn write(&mut self, piece: &[u8], outcome: &Result<usize, Failed>)
         requires { IfOk outcome.now (λ count. count ≤ length piece.now) }
         ensures { self.new ≡ change_latest (connection_after_write outcome.now piece.now) self.old }

@@ -10,7 +10,8 @@ use decimal_text::Bytes;
 use std::collections::VecDeque;
 use std::marker::Model;
 
-/// The unread pieces of a connection; none is empty.
+/// The unread bytes of a connection in memory, in the pieces (parts) in which they arrive. No piece
+/// is empty.
 #[derive(Drop)]
 pub(crate) struct Pieces {
     pieces: VecDeque<Bytes>,
@@ -30,7 +31,7 @@ impl Model for Pieces {
 }
 
 impl Pieces {
-    /// Returns all of `pieces` as unread.
+    /// Returns the bytes of a connection of which all `pieces` are unread; no piece is empty.
     pub(crate) fn new(pieces: Vec<Bytes>) -> Pieces
         requires { IsTrue (are_pieces pieces.items) }
         ensures { result ≡ pieces.items }
@@ -41,8 +42,8 @@ impl Pieces {
         }
     }
 
-    /// Copies the next bytes of the first piece into the first bytes of `buffer`, and returns their
-    /// count: 0 if none are left.
+    /// Copies the next bytes of the first piece into the first bytes of `buffer`, which isn't
+    /// empty, and returns their count: 0 if no byte is unread.
     pub(crate) fn read(&mut self, buffer: &mut [u8]) -> usize
         requires { 0 < length buffer.old }
         ensures end { (result ≡ 0) ↔ (concat self.old ≡ []) }

@@ -7,8 +7,11 @@ ghost use Rattle.tide_edge.specs.Adapters.{left_of};
 use crate::failed::Failed;
 use std::io::Read;
 
-/// Reads into the first bytes of `buffer` and returns the count: 0 at the end of the file, which is then
-/// closed, and if no file is open.
+/// Reads the next bytes of the open file into the first bytes of `buffer`, and returns their count:
+/// 0 at the end of the file, which is then closed, and if no file is open.
+///
+/// # Errors
+/// [`Failed`] if the file can't be read.
 pub(crate) fn read_through<F: Read + Drop>(
     opened: &mut Option<F>,
     buffer: &mut [u8],

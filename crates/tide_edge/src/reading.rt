@@ -12,14 +12,17 @@ use crate::receiver::Receiver;
 use decimal_text::{Bytes, Text};
 use std::alloc::{AllocError, Global};
 
-/// Returns all bytes of the file `name` if there are at most `limit`. The file is opened at most once,
-/// its end is found at most once, and at most 65,536 bytes past `limit` are read, whatever the result.
+/// Returns all bytes of the file `name` if there are at most `limit`. Whatever the result, the file
+/// is opened at most once, its end is found at most once, and at most 65,536 bytes past `limit` are
+/// read.
 ///
 /// # Errors
-/// [`ReadAllFault::Failed`] if opening or reading fails, which is exactly if the count of faults of
-/// `files` grows by one, and if the files are steady only if there is no file `name`;
-/// [`ReadAllFault::TooLong`] exactly if more than `limit` bytes were read; [`ReadAllFault::NoMemory`] if
-/// memory runs out.
+/// - [`ReadAllFault::Failed`]: opening or reading failed. Exactly then, the count of failures of
+///   `files` grows by one (unless it is the greatest `u64`). If contracts know the contents of the
+///   files, and the files are steady (opening and reading an existing file never fails), there is
+///   no file `name`.
+/// - [`ReadAllFault::TooLong`]: more than `limit` bytes were read.
+/// - [`ReadAllFault::NoMemory`]: memory ran out.
 pub fn read_all<F: Files>(
     alloc: Global,
     files: &mut F,
@@ -42,13 +45,14 @@ pub fn read_all<F: Files>(
     }
 }
 
-/// Passes all bytes of the file `name` to `receiver`, which has received none before, if there are at
-/// most `limit`. After an error, no clause says what `receiver` has received. The file is opened at most
-/// once, and at most 65,536 bytes past `limit` are read.
+/// Passes all bytes of the file `name` to `receiver`, which has received none before, if there are
+/// at most `limit`. After an error, the contract doesn't say what `receiver` has received. The file
+/// is opened at most once, and at most 65,536 bytes past `limit` are read.
 ///
 /// # Errors
-/// [`ReadAllFault::Failed`] if opening or reading fails; [`ReadAllFault::TooLong`] if more than `limit`
-/// bytes were read; [`ReadAllFault::NoMemory`] if memory runs out.
+/// - [`ReadAllFault::Failed`]: opening or reading failed.
+/// - [`ReadAllFault::TooLong`]: more than `limit` bytes were read.
+/// - [`ReadAllFault::NoMemory`]: memory ran out.
 pub fn pass_file<F: Files, R: Receiver>(
     alloc: Global,
     files: &mut F,
@@ -71,9 +75,8 @@ pub fn pass_file<F: Files, R: Receiver>(
     }
 }
 
-/// Passes the unread bytes of the open file to `receiver`, in pieces of at most the length of `buffer`,
-/// if at most `limit` bytes are unread. The file was just opened, and `receiver` has received none
-/// before.
+/// Passes the unread bytes of the file that was just opened to `receiver`, which has received none
+/// before, if there are at most `limit`. They are read into `buffer`, part by part.
 fn pass_rest<F: Files, R: Receiver>(
     files: &mut F,
     buffer: &mut [u8],

@@ -7,7 +7,8 @@ use crate::unread_bytes::rest_from;
 use std::alloc::{AllocError, Global};
 use std::marker::Model;
 
-/// The replies, one after the other in memory that was allocated for all of them.
+/// The replies of a door in memory, one after the other in one list of bytes. Its memory was
+/// allocated for all replies at once.
 #[derive(Drop)]
 pub(crate) struct Replies {
     bytes: Vec<u8>,
@@ -30,7 +31,8 @@ impl Model for Replies {
 }
 
 impl Replies {
-    /// Returns no replies, with memory for `capacity` bytes in `more` replies.
+    /// Returns an empty list of replies, with memory for `more` replies that have `capacity` bytes
+    /// in all.
     ///
     /// # Errors
     /// [`AllocError`] if memory runs out.
@@ -45,7 +47,7 @@ impl Replies {
         })
     }
 
-    /// Begins another reply.
+    /// Begins another reply, without any byte.
     pub(crate) fn begin(&mut self)
         requires { 0 < self.old.more }
         ensures { self.new ≡ record {
@@ -58,7 +60,8 @@ impl Replies {
         self.starts.push(self.bytes.len()).unwrap();
     }
 
-    /// Appends `piece` to the last reply.
+    /// Appends `piece` to the reply that was begun last. The piece has at most as many bytes as the
+    /// replies can still grow by.
     pub(crate) fn append(&mut self, piece: &[u8])
         requires { length piece.now ≤ self.old.capacity }
         ensures { self.new ≡ record {

@@ -91,9 +91,10 @@ impl RequestQueue {
       after_close,
     };
 
-    /// Returns a queue in which `requests` are pending, each as the pieces in which it arrives; no piece
-    /// is empty. All replies together have at most `capacity` bytes. The calls with a number in `fails`,
-    /// counted from 1 without calls of `close`, fail, and so does a write if `capacity` is used up.
+    /// Returns a queue in which `requests` are pending, each as the pieces (parts) in which it
+    /// arrives; no piece is empty. All replies together have at most `capacity` bytes. The calls
+    /// with a number in `fails` fail (counted from 1; calls of `close` aren't counted), and so does
+    /// a write if `capacity` is used up.
     ///
     /// It allocates the memory for all replies here, and none later.
     ///
@@ -120,8 +121,8 @@ impl RequestQueue {
         })
     }
 
-    /// Returns the reply of connection `i`, counted from 0, or `None` if at most `i` connections were
-    /// accepted.
+    /// Returns the bytes written until now as the reply of connection `i`, counted from 0, or
+    /// `None` if at most `i` connections were accepted.
     pub(crate) fn reply(&self, i: u64) -> Option<&[u8]>
         ensures { MatchOption result (length self.now.replies ≤ i)
             (λ reply. slice_get self.now.replies i ≡ Some reply.now) }
@@ -129,10 +130,10 @@ impl RequestQueue {
         self.replies.get(i)
     }
 
-    /// Records a call of `listen` with `port`, and returns its outcome.
+    /// Records a call of `listen` with `port`, and returns its outcome. It can be called only once.
     ///
     /// # Errors
-    /// [`Failed`] if this call is one of those that are to fail.
+    /// [`Failed`] if the call's number is among the numbers of the calls that are to fail.
     pub(crate) fn listen(&mut self, port: u16) -> Result<(), Failed>
         requires { self.old.listener_state.port ≡ None }
         ensures answer { result ≡ answer (is_to_fail self.old.fault_schedule) record {} }
@@ -147,7 +148,7 @@ impl RequestQueue {
     /// Accepts the next pending request, and returns true; returns false if none is pending.
     ///
     /// # Errors
-    /// [`Failed`] if this call is one of those that are to fail.
+    /// [`Failed`] if the call's number is among the numbers of the calls that are to fail.
     pub(crate) fn next(&mut self) -> Result<bool, Failed>
         requires listens { IsTrue self.old.listener_state.listens }
         requires none_open { self.old.listener_state.is_open ≡ false }
@@ -166,11 +167,12 @@ impl RequestQueue {
         Ok(true)
     }
 
-    /// Reads the next bytes of the current request into the first bytes of `buffer`, and returns their
-    /// count.
+    /// Reads the next bytes of the current request into the first bytes of `buffer`, which isn't
+    /// empty, and returns their count: 0 at the end of the request. They are bytes of one piece of
+    /// the request.
     ///
     /// # Errors
-    /// [`Failed`] if this call is one of those that are to fail.
+    /// [`Failed`] if the call's number is among the numbers of the calls that are to fail.
     pub(crate) fn read(&mut self, buffer: &mut [u8]) -> Result<usize, Failed>
         requires buffer { 0 < length buffer.old }
         requires open { IsTrue self.old.listener_state.is_open }
@@ -189,10 +191,12 @@ impl RequestQueue {
         outcome
     }
 
-    /// Appends the first bytes of `piece` to the current reply, and returns their count.
+    /// Appends the first bytes of `piece` to the current reply, and returns how many were accepted:
+    /// at least one.
     ///
     /// # Errors
-    /// [`Failed`] if this call is one of those that are to fail, or if the capacity is used up.
+    /// [`Failed`] if the call's number is among the numbers of the calls that are to fail, or if
+    /// the memory for all replies is used up.
     pub(crate) fn write(&mut self, piece: &[u8]) -> Result<usize, Failed>
         requires piece { 0 < length piece.now }
         requires open { IsTrue self.old.listener_state.is_open }

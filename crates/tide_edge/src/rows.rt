@@ -1,4 +1,4 @@
-//! Examples of the definitions that contracts cite.
+//! Computed examples of definitions that contracts use.
 
 ghost use Rattle.std.specs.Prelude.{◌≡◌, ◌-◌, ◌^◌, true, false, [], ◌∷◌, Some, None, Ok, Err};
 ghost use Rattle.tide_edge.specs.FaultSchedule.{is_to_fail};
@@ -10,8 +10,9 @@ ghost use Rattle.tide_edge.specs.declared.piece.TheConstants.{PIECE};
 
 use crate::read_all_fault::ReadAllFault;
 
-/// Proves examples of the definitions of outside objects: which files are read whole, and how each call
-/// changes the count of faults, the unread pieces of a connection, the connections and the clock.
+/// Proves computed examples: which contents are read whole within a limit, how counts of failures
+/// grow and saturate, which calls on objects in memory fail, and what `open`, `read`, `write` and
+/// `next` change.
 pub fn sample_states()
     ensures piece { PIECE ≡ 65536 }
     ensures fits { whole 3 (Some (7 ∷ 8 ∷ 9 ∷ [])) ≡ Ok (7 ∷ 8 ∷ 9 ∷ []) }

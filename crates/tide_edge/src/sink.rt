@@ -7,14 +7,16 @@ use crate::failed::Failed;
 
 /// A sink that accepts bytes, such as standard output.
 ///
-/// In contracts the state of a sink has all bytes that it has accepted.
+/// In contracts, `state` has all bytes that the sink has accepted and the number of its failed
+/// calls.
 pub trait Sink {
     ghost state: { Self → SinkState };
 
-    /// Writes the first bytes of `piece`, at least one, and returns their count.
+    /// Writes the first bytes of `piece`, which isn't empty, and returns how many were accepted: at
+    /// least one.
     ///
     /// # Errors
-    /// [`Failed`] if no byte was accepted.
+    /// [`Failed`] if the write failed: then no byte counts as accepted.
     fn write(&mut self, piece: &[u8]) -> Result<usize, Failed>
         requires { 0 < length piece.now }
         ensures after { state self.new ≡ sink_after_write result piece.now (state self.old) }

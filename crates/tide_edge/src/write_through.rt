@@ -6,7 +6,11 @@ ghost use Rattle.tide_edge.specs.Adapters.{WritesThrough};
 use crate::failed::Failed;
 use std::io::Write;
 
-/// Writes and flushes the first bytes of `piece`, at least one, and returns their count.
+/// Writes the first bytes of `piece`, flushes the writer, and returns how many bytes were accepted:
+/// at least one.
+///
+/// # Errors
+/// [`Failed`] if the writer accepted no byte, or if writing or flushing failed.
 pub(crate) fn write_through<W: Write>(writer: &mut W, piece: &[u8]) -> Result<usize, Failed>
     ensures some { IfOk result (λ count. 0 < count) }
     ensures within { IfOk result (λ count. count ≤ length piece.now) }

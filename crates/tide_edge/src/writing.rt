@@ -7,7 +7,7 @@ use crate::sink::Sink;
 use crate::unread_bytes::rest_from;
 use thiserror::Error;
 
-/// The error of a write that failed before all bytes were accepted.
+/// The error of [`write_all`]: a write failed before all bytes were accepted.
 #[derive(Clone, Copy, Debug, PartialEq, Eq, Error)]
 #[error("a write failed after {sent} bytes")]
 pub struct WriteFailed {
@@ -18,8 +18,8 @@ pub struct WriteFailed {
 /// Writes all of `bytes` to `sink`. It doesn't allocate.
 ///
 /// # Errors
-/// [`WriteFailed`] if a write failed: exactly the first `sent` bytes were accepted, and nothing was
-/// written after that.
+/// [`WriteFailed`] if a write failed: exactly the first `sent` bytes were accepted, fewer than all,
+/// and nothing was written after that.
 pub fn write_all<S: Sink>(sink: &mut S, bytes: &[u8]) -> Result<(), WriteFailed>
     ensures all { OnOk result (S.state sink.new ≡ put bytes.now (S.state sink.old)) }
     ensures sent { IfErr result (λ fault. S.state sink.new ≡ sink_failed (put (take fault.sent bytes.now) (S.state sink.old))) }

@@ -8,15 +8,18 @@ use Rattle.tide_edge.specs.DoorLaws.{AreOfRequests, IsOfRequest, IsOfRequests}
 use Rattle.tide_edge.specs.FileStates.{as_list}
 use Rattle.tide_edge.specs.Memory.{HeldDoor, door_state}
 
--- the connection accepted last belongs to the current request, and its other pieces are unread; or no
--- connection was accepted
+-- `IsCurrent passed current latest coming`: the latest connection received bytes of the current
+-- request, and `coming` are the pieces of it that are unread; or no connection was accepted, and no
+-- request is passed or current.
 abbrev pub IsCurrent : List (List (List ℕ)) → List (List (List ℕ)) → Option Connection → List (List ℕ) → Type 0
 IsCurrent passed current None coming = (passed ≡ []) × (current ≡ [])
 IsCurrent passed current (Some c) coming =
     (request : List (List ℕ)) × (current ≡ request ∷ []) × IsOfRequest true request c × (coming ≡ left_after (length c.came) request)
 
--- The requests are, in order, the earlier connections' requests, the current one and the pending ones.
--- Each connection belongs to its request, and the replies are the bytes sent over the connections.
+-- The requests of a door in memory are, in order: the requests of the earlier connections
+-- (`passed`), of the latest one (`current`), and the pending ones. Each connection received bytes
+-- of its request, `coming` are the unread pieces, and the replies are the bytes sent over the
+-- connections.
 pub record IsTied (requests pending : List (List (List ℕ))) (all : Connections) (coming replies : List (List ℕ)) : Type 0 where
   pub passed : List (List (List ℕ))
   pub current : List (List (List ℕ))
@@ -26,8 +29,8 @@ pub record IsTied (requests pending : List (List (List ℕ))) (all : Connections
   pub latest : IsCurrent passed current all.latest coming
   pub sent : replies ≡ map (λ c. c.sent) (connections_of all)
 
--- the requests of a door in memory are tied to its connections, and no request is pending if there are
--- no more connections
+-- The requests of a door in memory belong to its connections in order (`IsTied`), and no request is
+-- pending once `next` has returned false.
 abbrev pub IsTiedDoor : HeldDoor → Type 0
 IsTiedDoor contents =
     IsTied contents.requests contents.pending contents.connections contents.coming contents.replies × (IsTrue contents.listener_state.is_over → contents.pending ≡ [])
@@ -58,7 +61,7 @@ behind : (xs pending : List (List (List ℕ))) → drop (length xs) (xs ++ pendi
 behind [] pending = refl
 behind (x ∷ xs) pending = behind xs pending
 
--- as many requests aren't pending as connections were accepted
+-- The number of requests that aren't pending is the number of connections accepted.
 pub all_many : (requests pending : List (List (List ℕ))) (all : Connections) (coming replies : List (List ℕ))
     (t : IsTied requests pending all coming replies) → length (t.passed ++ t.current) ≡ length (connections_of all)
 all_many requests pending all coming replies t =

@@ -1,4 +1,4 @@
--- Files in memory are lawful: the bytes read after each opening belong to the file that it opened.
+-- Files in memory are lawful: what was read after each call of `open` agrees with their contents.
 use Rattle.std.specs.Prelude.{◌≡◌, ◌<◌, ◌==◌, ◌+◌, ℕ, zero, suc, min, Bool, true, false, if◌then◌else◌, IsTrue, IsSome, IfSome, IfOk, OnOk, OnErr, IsOk, All, List, [], ◌∷◌, ◌++◌, length, take, drop, fold, Option, Some, None, is_none, Result, Ok, Err, is_ok}
 use Rattle.std.proofs.Common.{refl, sym, ap, ◌∙◌, append_assoc, take-append-drop, arith}
 use Rattle.std.specs.Option.{option_map}
@@ -14,19 +14,20 @@ use Rattle.tide_edge.specs.StoreLaws.{AreOfStore, IsLawful, IsOfStore, IsReadOf}
 never : {G : Type 0} → false ≡ true → G
 never is = cc
 
--- files that aren't observable are lawful
+-- Files that aren't observable (the state doesn't have their contents) are lawful: the law says
+-- nothing about them.
 pub unobservable : {G : Type 0} → IsTrue false → G
 unobservable untrue = never untrue
 
 -- ---- One call keeps the law
 
--- the latest opening as a list
+-- What was read after the latest call of `open` agrees with the contents, stated of a list.
 pub listed_read : (file_contents : FileContents) (unread_bytes : List ℕ) (latest : Option Opening) → IfSome latest (λ o. IsReadOf file_contents unread_bytes o)
     → All (IsOfStore file_contents) (as_list latest)
 listed_read file_contents unread_bytes None is = All-nil (IsOfStore file_contents)
 listed_read file_contents unread_bytes (Some o) is = All-cons (IsOfStore file_contents) o [] (unread_bytes, is) (All-nil (IsOfStore file_contents))
 
--- an opening before any byte is read
+-- What was read after a call of `open` agrees with the contents if no byte was read yet.
 just_read : (file_contents : FileContents) (name : List ℕ) (result : Result (Unit {0}) Failed) → OnOk result (IsSome (file_contents.folder name))
     → (IsTrue file_contents.is_steady → OnErr result (file_contents.folder name ≡ None))
     → IsReadOf file_contents (begun result (file_contents.folder name)) (just_opened (is_ok result) name)
@@ -105,7 +106,7 @@ read_keeps s (Err failed) t end reads of =
 
 -- ---- The results of calls on files in memory
 
--- no call is to fail if the files are steady
+-- If the files are steady (opening and reading an existing file never fails), no call is to fail.
 abbrev IsSafe : FilesNow → Type 0
 IsSafe now = IsTrue now.state.file_contents.is_steady → now.fault_schedule.fails ≡ []
 
@@ -124,11 +125,12 @@ absent_by true file is = never (sym is)
 absent_by false None is = refl
 absent_by false (Some bytes) is = tt
 
--- a file that is opened exists
+-- If the next `open` of `name` succeeds, the file exists.
 pub opened_exists : (now : FilesNow) (name : List ℕ) → OnOk (open_result now name) (IsSome (now.state.file_contents.folder name))
 opened_exists now name = found_by (is_to_fail now.fault_schedule) (now.state.file_contents.folder name)
 
--- a file that couldn't be opened doesn't exist, if the files are steady
+-- If the next `open` of `name` fails and the files are steady (calls on existing files never fail),
+-- there is no such file.
 pub unopened_absent : (now : FilesNow) (name : List ℕ) → IsSafe now → IsTrue now.state.file_contents.is_steady
     → OnErr (open_result now name) (now.state.file_contents.folder name ≡ None)
 unopened_absent now name safe steady = absent_by (is_to_fail now.fault_schedule) (now.state.file_contents.folder name) (safe_call now safe steady)
@@ -152,19 +154,22 @@ call_store : (result : Result ℕ Failed) (buffer : List ℕ) (s : FilesState) �
 call_store (Ok count) buffer s = refl
 call_store (Err failed) buffer s = refl
 
--- no call changes the contents, or which calls are to fail
+-- No call on files in memory changes their contents.
 pub kept_store : (now : FilesNow) (calls : List FileCall) → (fold after_file_call now calls).state.file_contents ≡ now.state.file_contents
 kept_store now [] = refl
 kept_store now (Open name ∷ more) = kept_store (after_file_call now (Open name)) more
 kept_store now (Read n ∷ more) =
     kept_store (after_file_call now (Read n)) more ∙ call_store (read_result now (n + 1)) now.state.unread_bytes now.state
 
+-- No call on files in memory changes which calls are to fail.
 pub kept_fails : (now : FilesNow) (calls : List FileCall) → (fold after_file_call now calls).fault_schedule.fails ≡ now.fault_schedule.fails
 kept_fails now [] = refl
 kept_fails now (Open name ∷ more) = kept_fails (after_file_call now (Open name)) more
 kept_fails now (Read n ∷ more) = kept_fails (after_file_call now (Read n)) more
 
--- the part that no call changes
+-- The part of the state of files in memory that no call changes: contracts know the contents
+-- (`is_observable`), and the files are steady (calls on existing files never fail) if no call is to
+-- fail.
 pub memory_store : (contents : HeldFiles)
     → (files_state contents).file_contents ≡ record { is_observable = true; folder = folder_of contents.files; is_steady = length contents.fails == 0 }
 memory_store contents = kept_store (before_calls contents) contents.history

@@ -8,20 +8,22 @@ use Rattle.tide_edge.specs.declared.piece.TheConstants.{PIECE}
 use Rattle.tide_edge.specs.declared.read_all_fault.ReadAllFault.{ReadAllFault}
 use Rattle.tide_edge.specs.declared.read_all_fault.ReadAllFault.TheVariants.{TooLong}
 
--- all bytes that a receiver got, or the failure that happened before the end of the file
+-- All bytes that a receiver got, if the result is a success; else the error.
 abbrev pub all_taken : List ℕ → Result (Unit {0}) ReadAllFault → Result (List ℕ) ReadAllFault
 all_taken bytes (Ok done) = Ok bytes
 all_taken bytes (Err fault) = Err fault
 
--- an open file, of which these bytes were read and not yet the end
+-- A call of `open` that succeeded for the file `name`, after which `bytes` were read, and not yet
+-- the end.
 abbrev pub still_open : List ℕ → List ℕ → Opening
 still_open name bytes = record { name = name; is_open = true; bytes = bytes; ends = 0; read_failed = false }
 
--- the latest call of `open` opened a file, and no byte of it was read yet
+-- The latest call of `open` succeeded, and nothing was read after it.
 abbrev pub IsFresh : Openings → Type 0
 IsFresh o = (name : List ℕ) × (o.latest ≡ Some (just_opened true name))
 
--- since an open file was fresh, these bytes of it were read, and not yet the end
+-- From `before`, when a file was just opened, to `now`, only this file was read: `bytes` of it, not
+-- yet the end. No call failed.
 pub record IsSoFar (before now : FilesState) (bytes : List ℕ) : Type 0 where
   pub name : List ℕ
   pub fresh : before.open_log.latest ≡ Some (just_opened true name)
@@ -29,8 +31,11 @@ pub record IsSoFar (before now : FilesState) (bytes : List ℕ) : Type 0 where
   pub file_contents : now.file_contents ≡ before.file_contents
   pub faults : now.faults ≡ before.faults
 
--- the open file, of which no byte was read before, was read at most one piece past the limit and its end
--- found at most once; the result is the one for any contents of it that agree with what was read
+-- From `before`, when a file was just opened, to `after`, at most `limit` + 65,536 bytes of it were
+-- read, and its end was found at most once. The result is TooLong exactly if more than `limit`
+-- bytes were read, and it meets (`Meets`) the expected one for any contents that agree with what
+-- was read (`Shows`; `firm` is true if calls on existing files never fail: a failed call then means
+-- that there is no file).
 pub record HasCome (limit : ℕ) (before after : FilesState) (accepted : List ℕ) (result : Result (Unit {0}) ReadAllFault) : Type 0 where
   pub opening : Opening
   pub fresh : before.open_log.latest ≡ Some (just_opened true opening.name)
