@@ -17,6 +17,7 @@ use Rattle.question.specs.Asked.{IsZoneWord}
 use Rattle.question.specs.Forms.{some_text, parse_number, port_of, step_of, mark_from, mark_of, two_digits_of, clock_of, offset_of, file_zone, zone_of, after, is_colon}
 use Rattle.std.specs.List.{before_first, after_first}
 
+-- A moment that a text writes is in the years from 1 to 9999.
 pub moment_of-range : (text : List ℕ) (m : ℤ) → moment_of text ≡ Some m → IsMoment m
 moment_of-range text m h = (moment_text-moment_of text m h).0
 
@@ -25,6 +26,7 @@ if_some : {A : Type 0} (b : Bool) (x y : A) → (if b then Some x else None) ≡
 if_some true x y h = (refl, cc)
 if_some false x y h = absurd (cc)
 
+-- A number that a text writes is from `least` to `most`.
 pub parse_number-range : (digits least most : ℕ) (text : List ℕ) (n : ℕ) → parse_number digits least most text ≡ Some n → (least ≤ n) × (n ≤ most)
 unfolding parse_number
 parse_number-range digits least most text n h =
@@ -32,6 +34,7 @@ parse_number-range digits least most text n h =
     let last = and_parts _ _ is.0 in let front = and_parts _ _ last.0 in
     (rw (← is.1) (leb-true least (digits_value 10 text) front.1), rw (← is.1) (leb-true (digits_value 10 text) most last.1))
 
+-- A port that a text writes is from 1 to 65,535.
 pub port_of-range : (text : List ℕ) (n : ℕ) → port_of text ≡ Some n → (1 ≤ n) × (n ≤ 65535)
 port_of-range text n h = parse_number-range 5 1 65535 text n h
 
@@ -44,12 +47,14 @@ and_then-some : {A B : Type 0} (f : A → Option B) (o : Option A) (y : B) → o
 and_then-some f None y h = absurd (cc)
 and_then-some f (Some x) y h = (x, refl, h)
 
+-- A step that a text writes is from 1 to 44,640 minutes.
 pub step_of-range : (text : List ℕ) (m : ℤ) → step_of text ≡ Some m → (pos 1 ≤ℤ m) × (m ≤ℤ pos 44640)
 step_of-range text m h =
     let n = option_map-some pos (parse_number 6 1 44640 text) m h in
     let range = parse_number-range 6 1 44640 text n.0 n.1 in
     (rw (← n.2) (omega (arith, ints, range)), rw (← n.2) (omega (arith, ints, range)))
 
+-- A mark that a text writes is at most 10,000,000,000 millionths of the station's unit either way.
 pub mark_of-range : (text : List ℕ) (m : ℤ) → mark_of text ≡ Some m → unsigned_abs m ≤ 10000000000
 unfolding mark_of
 mark_of-range text m h =
@@ -97,6 +102,7 @@ file_zone-range : (origin : Origin) (name : List ℕ) (z : ZoneWord) → file_zo
 file_zone-range Line name z h = let n = option_map-some Named (some_text name) z h in rw (← n.2) tt
 file_zone-range Query name z h = absurd (cc)
 
+-- A zone's fixed offset that a text writes is at most 959 minutes either way.
 pub zone_of-range : (origin : Origin) (text : List ℕ) (z : ZoneWord) → zone_of origin text ≡ Some z → IsZoneWord z
 unfolding zone_of
 zone_of-range origin text z h =

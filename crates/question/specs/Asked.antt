@@ -26,20 +26,21 @@ use Rattle.question.specs.declared.question.Question.{Question}
 use Rattle.question.specs.declared.question.ZoneWord.{ZoneWord}
 use Rattle.question.specs.declared.question.ZoneWord.TheVariants.{Utc, Fixed, Named}
 
--- a zone's fixed offset from universal time is at most 15 hours and 59 minutes (959 minutes) either way
+-- `IsZoneWord zone`: if the zone is a fixed offset from universal time, the offset is at most 959
+-- minutes (15 hours and 59 minutes) either way.
 abbrev pub IsZoneWord : ZoneWord → Type 0
 IsZoneWord Utc = Unit {0}
 IsZoneWord (Fixed minutes) = unsigned_abs minutes ≤ 959
 IsZoneWord (Named name) = Unit {0}
 
--- the question names a station, the first minute of a span and the span's end
+-- The question has a station, the first minute of a span, and the end of the span.
 pub record HasSpan (q : Question) : Type 0 where
   pub station : IsSome q.station
   pub begin : IsSome q.begin
   pub end : IsSome q.end
 
--- the question has the values, other than files, that the command requires in a command line and in a
--- query
+-- The question has the values that the command requires, other than the names of files, which only
+-- a command line gives.
 abbrev pub HasNeeded : Command → Question → Type 0
 HasNeeded Predict q = HasSpan q
 HasNeeded Certify q = HasSpan q
@@ -57,7 +58,7 @@ HasNeeded Peak q = HasSpan q
 HasNeeded PeakCheck q = Unit {0}
 HasNeeded About q = IsSome q.station
 
--- the question has the files that the command requires in a command line
+-- The question has the names of the files that the command requires in a command line.
 abbrev pub HasFiles : Command → Question → Type 0
 HasFiles Check q = IsSome q.file × IsSome q.certificate
 HasFiles PeakCheck q = IsSome q.file × IsSome q.certificate
@@ -65,14 +66,15 @@ HasFiles Sample q = Unit {0}
 HasFiles Trial q = Unit {0}
 HasFiles _ q = IsSome q.file
 
--- a question from a command line names the files that its command requires
+-- If the question is from a command line, it has the names of the files that its command requires.
 abbrev pub NamesFiles : Origin → Question → Type 0
 NamesFiles Line q = HasFiles q.command q
 NamesFiles Query q = Unit {0}
 
--- each value that is given is in the range of its key: the span's first minute and its end in the years
--- from 1 to 9999, the mark at most 10,000,000,000 millionths of the station's unit either way, and the
--- step from 1 to 44,640 minutes
+-- Each of these values that the question has is in the range of its key: the first minute and the
+-- end of the span (minutes since 1970-01-01T00:00Z) in the years from 1 to 9999, the mark from
+-- -10,000,000,000 to 10,000,000,000 millionths of the station's unit, and the step from 1 to 44,640
+-- minutes.
 pub record AreInRange (q : Question) : Type 0 where
   pub begin : ForSome q.begin IsMoment
   pub end : ForSome q.end IsMoment
@@ -80,7 +82,9 @@ pub record AreInRange (q : Question) : Type 0 where
   pub step_first : pos 1 ≤ℤ q.step
   pub step_last : q.step ≤ℤ pos 44640
 
--- a question has all values that its command requires, and its values are in the ranges of their keys
+-- The question has all values that its command requires, other than the names of files. Its values
+-- are in the ranges of their keys: span, mark and step (`AreInRange`), a fixed offset of the zone
+-- of at most 959 minutes either way, and a port from 1 to 65,535.
 pub record IsAsked (q : Question) : Type 0 where
   pub whole : HasNeeded q.command q
   pub ranges : AreInRange q

@@ -23,6 +23,7 @@ use Rattle.question.specs.declared.command.Command.TheVariants.{
 use Rattle.question.specs.declared.origin.Origin.{Origin}
 use Rattle.question.specs.declared.origin.Origin.TheVariants.{Line, Query}
 
+-- All commands.
 abbrev pub all_commands : List Command
 all_commands =
     Predict ∷ Certify ∷ Check ∷ Heights ∷ Calendar ∷ Clock ∷ Stations ∷ Sample ∷ Trial ∷ Serve ∷ Report ∷ Highest ∷ Peak
@@ -32,7 +33,7 @@ all_commands =
 abbrev pub with_path : List Command
 with_path = Predict ∷ Certify ∷ Check ∷ Heights ∷ Calendar ∷ Clock ∷ Stations ∷ []
 
--- the name of each command
+-- The name of each command, as it is written in a command line.
 abbrev pub word_of : Command → List ℕ
 word_of Predict = codes "predict"
 word_of Certify = codes "certify"
@@ -50,16 +51,16 @@ word_of Peak = codes "peak"
 word_of PeakCheck = codes "peakcheck"
 word_of About = codes "about"
 
--- a command is in a list; commands are compared by their names
+-- True if the command is in the list. Commands are compared by their names.
 abbrev pub is_among : List Command → Command → Bool
 is_among commands command = list_any (λ c. bytes_eq (word_of c) (word_of command)) commands
 
--- a question of this origin can request the command: a command line each command, and a query the ones
--- with a path
+-- True if a question of this origin can have the command: a command line can have each command, and
+-- a web query each command for which the web server has a path.
 abbrev pub is_asked_in : Origin → Command → Bool
 is_asked_in Line command = true
 is_asked_in Query command = is_among with_path command
 
--- the command called `word` that a question of this origin can request, or None
+-- The command called `word`, or None if there isn't one or a question of this origin can't have it.
 abbrev pub command_named : Origin → List ℕ → Option Command
 command_named origin word = find (λ command. bytes_eq (word_of command) word && is_asked_in origin command) all_commands

@@ -34,13 +34,13 @@ use Rattle.question.specs.Origins.{is_one_of}
 use Rattle.question.specs.Forms.{some_text, mark_of, step_of, zone_of, seed_of, port_of, sheets_of}
 use Rattle.question.specs.Layouts.{layout_of}
 
--- all keys, in the order in which a missing one is reported
+-- All keys, in the order in which a missing one is reported.
 abbrev pub all_keys : List Key
 all_keys =
     key.File ∷ key.Offsets ∷ key.Certificate ∷ key.Station ∷ key.Begin ∷ key.End ∷ key.Mark ∷ key.Step ∷ key.Zone
     ∷ key.Layout ∷ key.Seed ∷ key.Port ∷ key.Sheets ∷ []
 
--- the name of each key
+-- The name of each key, as it is written before `=`.
 abbrev pub name_of : Key → List ℕ
 name_of key.File = codes "file"
 name_of key.Offsets = codes "offsets"
@@ -56,7 +56,7 @@ name_of key.Seed = codes "seed"
 name_of key.Port = codes "port"
 name_of key.Sheets = codes "sheets"
 
--- the type of a key's value
+-- The type of the value of each key.
 abbrev pub Value : Key → Type 0
 Value key.File = List ℕ
 Value key.Offsets = List ℕ
@@ -72,8 +72,8 @@ Value key.Seed = ℕ
 Value key.Port = ℕ
 Value key.Sheets = List (List ℕ)
 
--- the type of a question's field for a key: the key's value if the key has a default, else an optional
--- value
+-- The type of the question's field for each key: the value's type if the key has a default, else an
+-- optional value.
 abbrev pub Field : Key → Type 0
 Field key.Step = ℤ
 Field key.Zone = ZoneWord
@@ -81,61 +81,67 @@ Field key.Layout = Layout
 Field key.Port = ℕ
 Field k = Option (Value k)
 
--- how a command needs a key: whether the key is required, and the question's field for the key's value,
--- or for no value if the key isn't given
+-- How a command needs a key with values of type V and a question's field of type F. `is_needed`:
+-- the key is required; `field`: the question's field for the key's value, or for None if the key
+-- isn't given.
 pub record Need (V F : Type 0) : Type 0 where
   pub is_needed : Bool
   pub field : Option V → F
 
--- a required key
+-- A key that is required and has no default: the question's field is the value, or None if the key
+-- isn't given.
 abbrev pub needed : {V : Type 0} → Need V (Option V)
 needed = record { is_needed = true; field = λ value. value }
 
--- an optional key without a default
+-- A key that isn't required and has no default: the question's field is the value, or None.
 abbrev pub optional : {V : Type 0} → Need V (Option V)
 optional = record { is_needed = false; field = λ value. value }
 
--- an optional key with a default
+-- A key that isn't required: the question's field is the value, or the default if the key isn't
+-- given.
 abbrev pub otherwise : {V : Type 0} → V → Need V V
 otherwise default = record { is_needed = false; field = λ value. unwrap_or value default }
 
--- a row of the table of keys: the commands and the origins that have the key, the form of its value, and
--- how it is needed
+-- A row of the table of keys. `commands` and `origins`: the commands and the origins of questions
+-- (command line, web query) that have the key; `form`: the value that a text writes in a question
+-- of an origin, or None; `need`: whether the key is required, and the question's field.
 pub record KeyRow (V F : Type 0) : Type 0 where
   pub commands : List Command
   pub origins : List Origin
   pub form : Origin → List ℕ → Option V
   pub need : Need V F
 
+-- The row of the table of keys with these commands, origins, form and need.
 abbrev pub row : {V F : Type 0} → List Command → List Origin → (Origin → List ℕ → Option V) → Need V F → KeyRow V F
 row commands origins form need = record { commands = commands; origins = origins; form = form; need = need }
 
--- a form of values that is the same for each origin
+-- The form of values (the value that a text writes, or None) that is the same for each origin of
+-- questions.
 abbrev pub always : {V : Type 0} → (List ℕ → Option V) → Origin → List ℕ → Option V
 always form origin text = form text
 
--- the origins of questions that can name files: only a command line
+-- The origins of questions that can name files: only a command line.
 abbrev pub in_line : List Origin
 in_line = Line ∷ []
 
--- both origins of questions
+-- All origins of questions: a command line, and a web query.
 abbrev pub anywhere : List Origin
 anywhere = Line ∷ Query ∷ []
 
--- the commands that read a file of harmonic constants
+-- The commands that read a file of harmonic constants.
 abbrev pub of_file : List Command
 of_file =
     Predict ∷ Certify ∷ Check ∷ Heights ∷ Calendar ∷ Clock ∷ Stations ∷ Serve ∷ Report ∷ Highest ∷ Peak ∷ PeakCheck ∷ About ∷ []
 
--- the commands for one station
+-- The commands that have the key `station`.
 abbrev pub of_station : List Command
 of_station = Predict ∷ Certify ∷ Heights ∷ Calendar ∷ Clock ∷ Report ∷ Highest ∷ Peak ∷ About ∷ []
 
--- the commands over a span of time
+-- The commands that have the keys `begin` and `end`.
 abbrev pub of_span : List Command
 of_span = Predict ∷ Certify ∷ Heights ∷ Calendar ∷ Report ∷ Highest ∷ Peak ∷ []
 
--- the commands that check a certificate
+-- The commands that have the key `certificate`.
 abbrev pub of_check : List Command
 of_check = Check ∷ PeakCheck ∷ []
 
@@ -167,7 +173,8 @@ of_port = Serve ∷ []
 abbrev pub of_sheets : List Command
 of_sheets = Report ∷ []
 
--- the table of keys: for each key the commands, the origins, the form of the value, and how it is needed
+-- The table of keys: for each key the commands and the origins that have it, the form of its value,
+-- and whether it is required or its default.
 abbrev pub row_of : (k : Key) → KeyRow (Value k) (Field k)
 row_of key.File = row of_file in_line (always some_text) needed
 row_of key.Offsets = row of_file in_line (always some_text) optional
@@ -183,14 +190,16 @@ row_of key.Seed = row of_seed anywhere (always seed_of) needed
 row_of key.Port = row of_port anywhere (always port_of) (otherwise 8080)
 row_of key.Sheets = row of_sheets anywhere (always sheets_of) needed
 
--- the command has the key in questions of this origin
+-- True if the command has the key in questions of this origin.
 abbrev pub has_key : Origin → Command → Key → Bool
 has_key origin command k = is_one_of (row_of k).origins origin && is_among (row_of k).commands command
 
--- the command requires the key in questions of this origin
+-- True if the command requires the key in questions of this origin. A key that it doesn't have in
+-- such questions isn't required.
 abbrev pub is_needed : Origin → Command → Key → Bool
 is_needed origin command k = (row_of k).need.is_needed && has_key origin command k
 
--- the key called `name` that the command has in questions of this origin
+-- The key called `name` that the command has in questions of this origin, or None if there isn't
+-- one.
 abbrev pub key_named : Origin → Command → List ℕ → Option Key
 key_named origin command name = find (λ k. bytes_eq (name_of k) name && has_key origin command k) all_keys

@@ -10,18 +10,21 @@ use Rattle.question.specs.declared.question.ZoneWord.TheVariants.{Utc}
 use Rattle.question.specs.Questions.{question_of}
 use Rattle.question.specs.Words.{item_of, pairs_of}
 
+-- True if the byte is a space (32).
 abbrev pub is_space : ℕ → Bool
 is_space byte = byte == 32
 
--- the result of reading a command line, written with one space between two arguments
+-- The question of a command line, or its first fault; the arguments are written with one space
+-- between two of them.
 abbrev pub of_line : List ℕ → Result Question AskFault
 of_line words = question_of (pairs_of (slice_split is_space words))
 
--- the result of reading a web query: the command of its path, and its pairs written as `key=value`
+-- The question of a web query, or its first fault: of the command that its path names, and of its
+-- pairs, each written as `key=value`.
 abbrev pub of_query : List ℕ → List (List ℕ) → Result Question AskFault
 of_query command words = question_of (record { origin = Query; command = Some command; items = map item_of words })
 
--- a question in which all keys have their defaults
+-- The question of the command in which no key is given: each field is the key's default, or None.
 abbrev pub bare : Command → Question
 bare command = record {
   command = command;

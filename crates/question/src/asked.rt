@@ -1,4 +1,4 @@
-//! A question as its items are read.
+//! Putting the values of keys into a question.
 
 ghost use Rattle.std.specs.Prelude.{◌≡◌, IfOk, OnOk, is_some, unwrap_or};
 ghost use Rattle.question.specs.Forms.{some_text, zone_of, sheets_of};
@@ -23,7 +23,8 @@ const DEFAULT_STEP: i64 = 60;
 
 const DEFAULT_PORT: u16 = 8080;
 
-/// Returns the question of `command` in which each key has its default.
+/// Returns a question of `command` in which no key is given: each field is the key's default, or
+/// `None` if the key has none.
 pub fn bare_question(command: Command) -> Question
     ensures { (origin : Origin) → result ≡ question_from origin command no_key_texts }
 {
@@ -45,8 +46,9 @@ pub fn bare_question(command: Command) -> Question
     }
 }
 
-/// Parses `text` as the value of `key`, and puts it into `question`. Returns false if the text doesn't
-/// have the form of the key's values; the key then has its default.
+/// Parses `text` as the value of `key` in a question from `origin`, and puts it into `question`.
+/// Returns true if the text has the form of the key's values. Otherwise the field becomes the key's
+/// default, or `None` if the key has none.
 ///
 /// # Errors
 /// [`AllocError`] if memory runs out.
@@ -86,7 +88,8 @@ fn put<V: Copy>(value: Option<V>, field: &mut Option<V>) -> bool
     value.is_some()
 }
 
-/// Puts `value`, or `default` if that is `None`, into `field`, and returns true if `value` isn't `None`.
+/// Puts `value`, or `default` if `value` is `None`, into `field`, and returns true if `value` isn't
+/// `None`.
 fn put_or<V: Copy>(value: Option<V>, default: V, field: &mut V) -> bool
     ensures put { field.new ≡ unwrap_or value default }
     ensures is_some { result ≡ is_some value }

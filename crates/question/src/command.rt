@@ -5,38 +5,42 @@ ghost use Rattle.question.specs.Commands.{command_named};
 
 use crate::origin::Origin;
 
-/// The command of a question: the kind of answer that it requests.
+/// The command of a question, which says what is asked for. Each command is named by a word, such
+/// as `predict`.
 #[derive(Clone, Copy, PartialEq, Eq)]
 pub enum Command {
-    /// `predict`: the events of a station over a span.
+    /// `predict`: the events (such as high and low waters) of a station over a span.
     Predict,
-    /// `certify`: a certificate of the events of a station over a span.
+    /// `certify`: a certificate, which another program can check, of a station's events over a
+    /// span.
     Certify,
-    /// `check`: the check of a certificate of events.
+    /// `check`: whether a certificate of events is right.
     Check,
-    /// `heights`: the levels of a station at even steps of time.
+    /// `heights`: the levels of a station over a span, at a fixed step of time.
     Heights,
-    /// `calendar`: the events of a station day by day.
+    /// `calendar`: the events of a station over a span, with a line for each day.
     Calendar,
-    /// `clock`: the next events of a station from the present minute on.
+    /// `clock`: the level of a station at the present minute, and its next events.
     Clock,
-    /// `stations`: the list of the stations of a file.
+    /// `stations`: the list of the stations in a file of harmonic constants.
     Stations,
-    /// `sample`: a sample file drawn from a seed.
+    /// `sample`: a sample file of harmonic constants, drawn from a seed.
     Sample,
-    /// `trial`: a trial of the program on a sample file.
+    /// `trial`: counts of a trial run: predicting, certifying and checking a sample file drawn from
+    /// a seed.
     Trial,
     /// `serve`: the web server.
     Serve,
-    /// `report`: several sheets of one list of events.
+    /// `report`: several sheets (texts) made from one list of a station's events.
     Report,
     /// `highest`: the highest water of a station over a span.
     Highest,
-    /// `peak`: a certificate of a highest water.
+    /// `peak`: a certificate, which another program can check, of the highest water of a station
+    /// over a span.
     Peak,
-    /// `peakcheck`: the check of a certificate of a highest water.
+    /// `peakcheck`: whether a certificate of a highest water is right.
     PeakCheck,
-    /// `about`: the facts about a station.
+    /// `about`: facts about a station, such as its unit and its reference station.
     About,
 }
 
@@ -85,15 +89,15 @@ impl Command {
         }
     }
 
-    /// Returns true if both commands are the same.
+    /// Returns true if `other` is the same command.
     pub fn is(self, other: Command) -> bool
         ensures { result ≡ bytes_eq (word_of self) (word_of other) }
     {
         self == other
     }
 
-    /// Returns true if a question of this origin can request the command. A query can request only
-    /// commands for which the web server has a path.
+    /// Returns true if a question from `origin` can have this command. A command line can have each
+    /// command, a web query only one for which the web server has a path.
     fn is_asked_in(self, origin: Origin) -> bool
         ensures { result ≡ is_asked_in origin self }
     {
@@ -113,8 +117,8 @@ impl Command {
     }
 }
 
-/// Returns the command called `word` that a question of this origin can request, or `None` if there
-/// isn't one.
+/// Returns the command called `word`, or `None` if no command has this name or a question from
+/// `origin` can't have it (a web query can have only commands for which the server has a path).
 pub fn command_named(origin: Origin, word: &str) -> Option<Command>
     ensures { result ≡ command_named origin word.now }
 {

@@ -3,25 +3,27 @@
 use crate::key::Key;
 use std::alloc::AllocError;
 
-/// The first fault of a question: of its command, an item (an argument or a pair of a query), or a
-/// missing key. Items are counted from 1.
+/// The first fault of a question: of its command, of an item (an argument after the command, or a
+/// pair of a query; items are counted from 1), or that a required key is missing.
 #[derive(Clone, Copy, Debug, PartialEq, Eq)]
 pub enum AskFault {
     /// Memory ran out while the question was read.
     NoMemory,
-    /// The question has no command.
+    /// The question has no command, as a command line without arguments.
     NoCommand,
-    /// A question of this origin can't request this command.
+    /// No command has this name, or a question of this origin can't have it (a web query can have
+    /// only commands for which the server has a path).
     UnknownCommand,
-    /// The item with this number has no value.
+    /// The item with this number has no value: it is an argument without `=`.
     NotAPair(u64),
-    /// The command doesn't have the key of the item with this number.
+    /// The command doesn't have the key of the item with this number, or not in a question of this
+    /// origin (a web query has no keys for files).
     UnknownKey(u64),
-    /// An earlier item has the same key as the item with this number.
+    /// The item with this number has the same key as an earlier item.
     RepeatedKey(u64),
     /// The value of the item with this number isn't in the form of its key's values.
     BadValue(u64),
-    /// The command requires this key, and no item has it.
+    /// The command requires this key in a question of this origin, and no item has it.
     MissingKey(Key),
 }
 

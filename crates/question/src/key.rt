@@ -6,24 +6,39 @@ ghost use Rattle.question.specs.Keys.{row_of, has_key, is_needed, key_named};
 use crate::command::Command;
 use crate::origin::Origin;
 
-/// The keys of a question, in the order in which a missing one is reported.
+/// The keys of a question, in the order in which a missing one is reported. Each is written as a
+/// word, such as `file`, before `=`.
 #[derive(Clone, Copy, Debug, PartialEq, Eq)]
 pub enum Key {
+    /// `file`: the name of the file of harmonic constants.
     File,
+    /// `offsets`: the name of the file with the table of subordinate stations.
     Offsets,
+    /// `certificate`: the name of the file with the certificate to be checked.
     Certificate,
+    /// `station`: the name of the station.
     Station,
+    /// `begin`: the first minute of the span, such as `2000-01-10T00:00Z`.
     Begin,
+    /// `end`: the minute at which the span ends, such as `2000-01-11T00:00Z`.
     End,
+    /// `mark`: a level (or the speed of a current) in the station's unit, as a decimal.
     Mark,
+    /// `step`: the minutes from one height to the next.
     Step,
+    /// `zone`: the zone in which times are shown.
     Zone,
+    /// `layout`: the layout of a listing, `plain` or `csv`.
     Layout,
+    /// `seed`: the number from which a sample file is drawn.
     Seed,
+    /// `port`: the port of the web server.
     Port,
+    /// `sheets`: the names of a report's sheets, with commas between them.
     Sheets,
 }
 
+/// All keys, in the order in which a missing one is reported.
 pub static KEYS: [Key; 13] = [
     Key::File,
     Key::Offsets,
@@ -135,12 +150,12 @@ static IN_LINE: [Origin; 1] = [Origin::Line];
 
 static ANYWHERE: [Origin; 2] = [Origin::Line, Origin::Query];
 
-/// The row of a key in the table.
+/// The row of a key in the table of keys.
 #[derive(Clone, Copy)]
 struct KeyRow {
     /// The commands that have the key.
     commands: &'static [Command],
-    /// The origins that have the key: a query names no files.
+    /// The origins of questions that have the key: a web query has no keys for files.
     origins: &'static [Origin],
     is_needed: bool,
 }
@@ -162,7 +177,8 @@ impl KeyRow {
     }
 }
 
-/// Makes a row: the commands and the origins that have the key, and whether it is required.
+/// Makes a row of the table of keys: the commands and the origins that have the key, and whether it
+/// is required.
 macro_rules! row {
     ($commands:ident, $origins:ident, $is_needed:expr) => {
         KeyRow {
@@ -195,7 +211,7 @@ fn row_of(key: Key) -> KeyRow
     }
 }
 
-/// Returns true if the command has the key in questions of this origin.
+/// Returns true if `command` has the key in questions from `origin`.
 fn has_key(origin: Origin, command: Command, key: Key) -> bool
     ensures { result ≡ has_key origin command key }
 {
@@ -203,14 +219,15 @@ fn has_key(origin: Origin, command: Command, key: Key) -> bool
     row.has_origin(origin) && row.has_command(command)
 }
 
-/// Returns true if the command requires the key in questions of this origin.
+/// Returns true if `command` requires the key in questions from `origin`. A key that a command
+/// doesn't have in such questions isn't required.
 pub fn is_needed(origin: Origin, command: Command, key: Key) -> bool
     ensures { result ≡ is_needed origin command key }
 {
     row_of(key).is_needed && has_key(origin, command, key)
 }
 
-/// Returns the key called `name` that the command has in questions of this origin, or `None` if there
+/// Returns the key called `name` that `command` has in questions from `origin`, or `None` if there
 /// isn't one.
 pub fn key_named(origin: Origin, command: Command, name: &str) -> Option<Key>
     ensures { result ≡ key_named origin command name.now }

@@ -1,9 +1,11 @@
-//! The question that the arguments of a command line, or the pairs of a web query, make.
+//! Questions: what the arguments of a command line, or the path and the pairs of a web query, ask
+//! for.
 //!
-//! [`pairs_of_words`] splits arguments at their first `=`, and [`read_question`] makes a [`Question`] of
-//! such pairs or returns their first fault. The table of keys for both is in `specs/Keys.antt`, and the
-//! properties of each question that was read are in `specs/Asked.antt`. A [`ValidQuestion`] has values
-//! that are proved to be in range.
+//! [`pairs_of_words`] splits arguments at their first `=`, and [`read_question`] makes a
+//! [`Question`] of such pairs, or returns their first fault. The table of keys for command lines
+//! and queries is in `specs/Keys.antt`, and the properties of each question that was read are in
+//! `specs/Asked.antt`. A [`ValidQuestion`] has a span, a mark and a step that are proved to be in
+//! their ranges.
 #![tactic(auto)]
 
 mod asked;

@@ -1,10 +1,10 @@
 //! The origin of a question.
 
-/// The origin of a question: where its command and its keys are read from.
+/// The origin of a question: what its command and its keys are read from.
 #[derive(Clone, Copy, PartialEq, Eq)]
 pub enum Origin {
-    /// The arguments of a command line.
+    /// A command line: its arguments.
     Line,
-    /// The path and the pairs of a web query.
+    /// A web query: the path and the pairs of a request's target.
     Query,
 }

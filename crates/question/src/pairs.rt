@@ -1,4 +1,4 @@
-//! A command and its pairs, before they are read.
+//! A command and its items, before they are checked.
 
 ghost use Rattle.std.specs.Prelude.{◌≡◌};
 
@@ -6,7 +6,8 @@ use crate::origin::Origin;
 use decimal_text::Text;
 use std::marker::Model;
 
-/// A key with its value, as text: an argument of a command line, or a pair of a web query.
+/// A key with its value, both as text and not checked: an argument of a command line, or a pair of
+/// a web query.
 #[derive(Drop)]
 pub struct Item {
     pub key: Text,
@@ -14,7 +15,8 @@ pub struct Item {
     pub value: Option<Text>,
 }
 
-/// A list of items, each a key with its value as text. In contracts its value is the list of them.
+/// A list of items: keys with their values, as text. In contracts its value is the list of the
+/// items.
 #[derive(Drop)]
 pub struct Items {
     items: Vec<Item>,
@@ -45,7 +47,8 @@ impl Items {
     }
 }
 
-/// A command with its items, as they were given, before they are checked.
+/// A command with its items (keys with their values), as text and not checked. The command is
+/// `None` if the command line has no argument.
 #[derive(Drop)]
 pub struct Pairs {
     pub origin: Origin,

@@ -1,4 +1,4 @@
-//! Reading pairs as a question.
+//! Reading a command and its items as a question.
 
 ghost use Rattle.std.specs.Prelude.{◌≡◌, ◌+◌, ◌++◌, [], ◌∷◌, length, IfOk, OnOk};
 ghost use Rattle.decimal_text.specs.Expected.{EqualsUnlessNoMemory};
@@ -17,14 +17,17 @@ use crate::question::Question;
 use decimal_text::Text;
 use std::alloc::Global;
 
-/// Returns the question that `pairs`, a command and its items, make.
+/// Returns the question that `pairs`, a command and its items (arguments, or pairs of a query),
+/// make.
 ///
 /// # Errors
-/// The first of these: [`AskFault::NoCommand`] or [`AskFault::UnknownCommand`]; then for each item, from
-/// the left, [`AskFault::NotAPair`], [`AskFault::UnknownKey`] (the command doesn't have the key in a
-/// question of this origin), [`AskFault::RepeatedKey`] or [`AskFault::BadValue`]; then
-/// [`AskFault::MissingKey`] with the first key of the table that the command requires.
-/// [`AskFault::NoMemory`] if memory runs out.
+/// The first of these: [`AskFault::NoCommand`] (`pairs` has no command) or
+/// [`AskFault::UnknownCommand`] (no command that a question of this origin can have is called so);
+/// then for each item, from the left, [`AskFault::NotAPair`] (it has no value),
+/// [`AskFault::UnknownKey`] (the command doesn't have the key in a question of this origin),
+/// [`AskFault::RepeatedKey`] (an earlier item has the key) or [`AskFault::BadValue`] (the value
+/// doesn't have the key's form); then [`AskFault::MissingKey`] with the first key of the table that
+/// is required and missing. [`AskFault::NoMemory`] if memory runs out.
 ///
 /// # Examples
 /// ```
@@ -46,13 +49,14 @@ pub fn read_question(alloc: Global, pairs: &Pairs) -> Result<Question, AskFault>
     read_items(alloc, pairs.origin, command, &pairs.items)
 }
 
-/// Returns the question of `command` with `items`.
+/// Returns the question of `command` with `items` (arguments, or pairs of a query) from `origin`.
 ///
 /// # Errors
-/// For each item (an argument, or a pair of a query), from the left, [`AskFault::NotAPair`],
-/// [`AskFault::UnknownKey`], [`AskFault::RepeatedKey`] or [`AskFault::BadValue`]; then
-/// [`AskFault::MissingKey`] with the first key of the table that the command requires;
-/// [`AskFault::NoMemory`] if memory runs out.
+/// The first of these: for each item, from the left, [`AskFault::NotAPair`] (it has no value),
+/// [`AskFault::UnknownKey`] (`command` doesn't have the key in a question from `origin`),
+/// [`AskFault::RepeatedKey`] (an earlier item has the key) or [`AskFault::BadValue`] (the value
+/// doesn't have the key's form); then [`AskFault::MissingKey`] with the first key of the table that
+/// is required and missing. [`AskFault::NoMemory`] if memory runs out.
 pub fn read_items(
     alloc: Global,
     origin: Origin,
@@ -89,7 +93,8 @@ fn read_command(origin: Origin, word: &Option<Text>) -> Result<Command, AskFault
     }
 }
 
-/// Puts the values of `items` into `question`, in which all keys have their defaults.
+/// Puts the values of `items` into `question`, in which no key is given, and checks that no
+/// required key is missing.
 fn fill(
     alloc: Global,
     origin: Origin,
@@ -124,7 +129,8 @@ fn read_values(
     Ok(())
 }
 
-/// Puts the value of `item` into `question`, which has the values of the items `earlier`.
+/// Puts the value of `item` into `question`, which has the values of the items `earlier`. The fault
+/// of an item has its number, counted from 1.
 #[tactic(auto, unfolding(crate::specs::Questions::with_item))]
 fn read_value(
     alloc: Global,

@@ -1,4 +1,4 @@
-//! The names of sheets.
+//! The names of a report's sheets.
 
 ghost use Rattle.std.specs.Prelude.{◌≡◌, [], if◌then◌else◌, IfOk, Some, None, map};
 ghost use Rattle.std.specs.List.{list_all, slice_split};
@@ -21,14 +21,18 @@ fn are_letters(text: &[u8]) -> bool
     text.iter().all(|byte| byte.is_ascii_lowercase())
 }
 
-/// Returns true if `word` has from 1 to 16 letters, all from a to z.
+/// Returns true if `word` is the name of a sheet: from 1 to 16 letters from a to z.
 fn is_sheet(word: &str) -> bool
     ensures { result ≡ is_sheet word.now }
 {
     !word.is_empty() && word.len() <= 16 && are_letters(word.as_bytes())
 }
 
-/// Returns true if each of `words` is the name of a sheet, and none occurs twice.
+/// Returns true if each of `words` is the name of a sheet (1 to 16 letters from a to z), and no two
+/// are the same.
+///
+/// # Errors
+/// [`AllocError`] if memory runs out.
 fn are_sheets(alloc: Global, words: &[&str]) -> Result<bool, AllocError>
     ensures { IfOk result (λ b. b ≡ are_sheets [] (map (λ word. word.now) words.now)) }
 {
@@ -51,8 +55,8 @@ fn texts(alloc: Global, words: &[&str]) -> Result<Vec<Text>, AllocError>
     Ok(texts)
 }
 
-/// Returns the parts of `text` between single commas, or `None` unless each is the name of a sheet (1 to
-/// 16 letters from a to z) and none occurs twice.
+/// Returns the parts of `text` between its commas, or `None` unless each part is the name of a
+/// sheet (1 to 16 letters from a to z) and no two are the same.
 ///
 /// # Errors
 /// [`AllocError`] if memory runs out.

@@ -1,4 +1,4 @@
-//! A question with values that are proved to be in range.
+//! A question with a span, a mark and a step that are proved to be in their ranges.
 
 ghost use Rattle.std.specs.Prelude.{◌≡◌};
 ghost use Rattle.question.specs.Asked.{AreInRange};
@@ -6,9 +6,10 @@ ghost use Rattle.question.specs.Asked.{AreInRange};
 use crate::question::Question;
 use std::marker::Model;
 
-/// A borrowed question, proved to be valid: each of these that is given is in the range of its key: the
-/// span's first minute and end in the years from 1 to 9999, the mark at most 10,000,000,000 millionths
-/// either way, and the step from 1 to 44,640 minutes. In contracts its value is the question.
+/// A borrowed question, of which the following values, if they are given, are proved to be in
+/// range: the first minute and the end of the span in the years from 1 to 9999, the mark from
+/// -10,000,000,000 to 10,000,000,000 millionths of the station's unit, and the step from 1 to
+/// 44,640 minutes. In contracts its value is the question.
 #[derive(Drop)]
 pub struct ValidQuestion<'a> {
     question: &'a Question,
@@ -27,9 +28,9 @@ impl<'a> Model for ValidQuestion<'a> {
 }
 
 impl<'a> ValidQuestion<'a> {
-    /// Returns `question` as a valid question. The caller proves that its span, mark and step are in the
-    /// ranges of their keys, as they are in each question that [`read_question`](crate::read_question)
-    /// returns.
+    /// Returns `question` as a valid one. The caller proves that its span, mark and step are in the
+    /// ranges of their keys, as they are in each question that
+    /// [`read_question`](crate::read_question) returns.
     pub fn new(question: &'a Question) -> ValidQuestion<'a>
         requires { AreInRange question.now }
         ensures { result ≡ question.now }
@@ -37,7 +38,7 @@ impl<'a> ValidQuestion<'a> {
         ValidQuestion { question }
     }
 
-    /// Borrows the question that is proved to be valid.
+    /// Borrows the question. Its span, mark and step are in the ranges of their keys.
     pub fn get(&self) -> &'a Question
         ensures exact { result.now ≡ self.now }
         ensures valid { AreInRange self.now }

@@ -1,4 +1,4 @@
-//! The values of texts, by the form of each key's values.
+//! Parsing texts as the values of keys.
 
 ghost use Rattle.std.specs.Prelude.{◌≡◌, ◌<◌, ◌≤◌, ◌^◌, nat_lt, true, if◌then◌else◌, length, IfOk, Some, None};
 ghost use Rattle.std.specs.Option.{ForSome};
@@ -10,10 +10,10 @@ ghost use Rattle.question.specs.Forms.{some_text, parse_number, seed_of, port_of
 use decimal_text::{Text, are_digits, read};
 use std::alloc::{AllocError, Global};
 
-/// The most decimal places of a mark, which is held in millionths.
+/// The decimal places of a mark that can be other than 0: a mark is a whole number of millionths.
 const MARK_PLACES: u32 = 6;
 
-/// The size of the greatest mark, in millionths of the station's unit.
+/// The greatest mark, in millionths of the station's unit; the least is its negative.
 const GREATEST_MARK: u128 = 10_000_000_000;
 
 /// Returns `text`, or `None` if it is empty.
@@ -30,7 +30,8 @@ pub fn some_text(alloc: Global, text: &str) -> Result<Option<Text>, AllocError>
     Ok(Some(Text::from_str(alloc, text)?))
 }
 
-/// Returns the decimal number that `digits` write, or `None` if it is greater than 2^64 - 1.
+/// Returns the number that `digits`, one or more, write in base 10, or `None` if it is greater than
+/// 2^64 - 1.
 fn value(digits: &str) -> Option<u64>
     requires some { 0 < length digits.now }
     requires digits { list_all is_ascii_digit digits.now ≡ true }
@@ -39,8 +40,8 @@ fn value(digits: &str) -> Option<u64>
     digits.parse().ok()
 }
 
-/// Returns the number that `text` writes in 1 to `digits` digits, or `None` unless it is from `least` to
-/// `most`, both included.
+/// Returns the number that `text`, from 1 to `digits` decimal digits, writes. Returns `None` if the
+/// text isn't so many digits, or if the number isn't from `least` to `most`, both included.
 #[tactic(auto, unfolding(crate::specs::Forms::parse_number))]
 pub fn number(text: &str, digits: usize, least: u64, most: u64) -> Option<u64>
     ensures value { result ≡ parse_number digits least most text.now }
@@ -57,14 +58,16 @@ pub fn number(text: &str, digits: usize, least: u64, most: u64) -> Option<u64>
     }
 }
 
-/// Parses `text` as the seed of a sample file, from 0 to 2^64 - 1, or returns `None`.
+/// Parses `text`, 1 to 20 digits, as the seed of a sample file. Returns `None` unless it is a
+/// number from 0 to 2^64 - 1.
 pub fn seed(text: &str) -> Option<u64>
     ensures { result ≡ seed_of text.now }
 {
     number(text, 20, 0, u64::MAX)
 }
 
-/// Parses `text` as the port of the web server, from 1 to 65,535, or returns `None`.
+/// Parses `text`, 1 to 5 digits, as the port of the web server. Returns `None` unless it is a
+/// number from 1 to 65,535.
 pub fn port(text: &str) -> Option<u16>
     ensures { result ≡ port_of text.now }
 {
@@ -72,8 +75,8 @@ pub fn port(text: &str) -> Option<u16>
     Some(number as u16)
 }
 
-/// Parses `text` as the number of minutes from one height to the next, from 1 to 44,640, or returns
-/// `None`.
+/// Parses `text`, 1 to 6 digits, as the minutes from one height to the next. Returns `None` unless
+/// it is a number from 1 to 44,640.
 pub fn step(text: &str) -> Option<i64>
     ensures { result ≡ step_of text.now }
 {
@@ -81,8 +84,10 @@ pub fn step(text: &str) -> Option<i64>
     Some(number as i64)
 }
 
-/// Parses `text` as a mark, a decimal with at most six places, and returns it in millionths of the
-/// station's unit, from -10,000,000,000 to 10,000,000,000; else returns `None`.
+/// Parses `text`, a decimal such as `-0.5`, as a mark (a level or a speed), and returns it in
+/// millionths of the station's unit. Returns `None` unless it is a whole number of millionths from
+/// -10,000,000,000 to 10,000,000,000. Only zeros can follow the sixth decimal place, and at most 18
+/// digits can precede the point.
 #[tactic(auto, unfolding(crate::specs::Forms::mark_of))]
 pub fn mark(text: &str) -> Option<i64>
     ensures { result ≡ mark_of text.now }

@@ -9,8 +9,9 @@ use crate::pairs::{Item, Items, Pairs};
 use decimal_text::{Text, Words};
 use std::alloc::{AllocError, Global};
 
-/// Returns the arguments of a command line as pairs: the first is the command, and each other one is
-/// split at its first `=`. An argument without `=` is a key without a value.
+/// Returns the arguments of a command line as a command with items: the first argument is the
+/// command, and each other one is split at its first `=` into a key and a value. An argument
+/// without `=` is a key without a value.
 ///
 /// # Errors
 /// [`AllocError`] if memory runs out.
@@ -31,7 +32,8 @@ pub fn pairs_of_words(alloc: Global, words: &Words) -> Result<Pairs, AllocError>
     })
 }
 
-/// Returns true if the first argument is the command of the web server. It doesn't allocate.
+/// Returns true if the first argument is `serve`, the command of the web server. It doesn't
+/// allocate.
 pub fn asks_to_serve(words: &Words) -> bool
     ensures { result ≡ asks_to_serve words.now }
 {

@@ -1,4 +1,4 @@
-//! Questions that were computed by hand.
+//! Computed examples of questions and of values.
 
 ghost use Rattle.std.specs.Prelude.{◌≡◌, [], ◌∷◌, codes, pos, negsuc, Some, None, Ok, Err};
 ghost use Rattle.question.specs.declared.command.Command.{Command};
@@ -12,7 +12,8 @@ ghost use Rattle.question.specs.Words.{item_of, pairs_of};
 ghost use Rattle.question.specs.Worked.{of_line, of_query, bare};
 ghost use Rattle.question.specs.declared.origin.Origin.{Origin};
 
-/// Proves examples of questions that command lines make, with the defaults of keys that aren't given.
+/// Proves computed examples of the questions that command lines and web queries make. A key that
+/// isn't given has its default, or no value.
 #[tactic(auto, unfolding(crate::specs::Questions::question_of, crate::specs::Questions::with_items, crate::specs::Questions::with_item, crate::specs::Forms::some_text, crate::specs::Forms::parse_number, crate::specs::Forms::mark_of, crate::specs::Layouts::layout_of, crate::specs::Forms::clock_of, crate::specs::Forms::offset_of, crate::specs::Forms::zone_of, crate::specs::Forms::sheets_of, zone_time::specs::Moments::moment_of, zone_time::specs::Moments::has_form, decimal_text::specs::Decimal::read_of, decimal_text::specs::Decimal::decimal_of, decimal_text::specs::Decimal::after_point, decimal_text::specs::Decimal::made_of, decimal_text::specs::Decimal::scaled_or_bad, decimal_text::specs::Decimal::scaled))]
 pub fn worked_questions()
     ensures predict { of_line (codes "predict file=pier.txt station=Pier begin=2000-01-10T00:00Z end=2000-01-11T00:00Z")
@@ -57,7 +58,7 @@ pub fn worked_questions()
     ensures check_asked { of_query (codes "check") [] ≡ Ok (bare Command.Check) }
 {}
 
-/// Proves examples of command lines that aren't requests, with the fault of each.
+/// Proves computed examples of command lines that make no question, with the fault of each.
 #[tactic(auto, unfolding(crate::specs::Questions::question_of, crate::specs::Questions::with_items, crate::specs::Questions::with_item, crate::specs::Forms::some_text, crate::specs::Forms::parse_number, crate::specs::Forms::mark_of, crate::specs::Layouts::layout_of, crate::specs::Forms::clock_of, crate::specs::Forms::offset_of, crate::specs::Forms::zone_of, crate::specs::Forms::sheets_of, zone_time::specs::Moments::moment_of, zone_time::specs::Moments::has_form, jiff_core::specs::Calendar::days_from_civil, jiff_core::specs::Calendar::day_count, jiff_core::specs::Calendar::days_of_years, jiff_core::specs::Calendar::days_of_months, decimal_text::specs::Decimal::read_of, decimal_text::specs::Decimal::decimal_of, decimal_text::specs::Decimal::after_point, decimal_text::specs::Decimal::made_of, decimal_text::specs::Decimal::scaled_or_bad, decimal_text::specs::Decimal::scaled))]
 pub fn worked_faults()
     ensures no_words { question_of (pairs_of []) ≡ Err AskFault.NoCommand }
@@ -74,8 +75,8 @@ pub fn worked_faults()
         ≡ Err (AskFault.MissingKey Key.Sheets) }
 {}
 
-/// Proves examples of web queries that aren't requests, with the fault of each; a query can't name
-/// files.
+/// Proves computed examples of web queries that make no question, with the fault of each. A query
+/// can't name files.
 #[tactic(auto, unfolding(crate::specs::Questions::question_of, crate::specs::Questions::with_items, crate::specs::Questions::with_item, crate::specs::Forms::some_text, crate::specs::Forms::parse_number, crate::specs::Forms::mark_of, crate::specs::Layouts::layout_of, crate::specs::Forms::clock_of, crate::specs::Forms::offset_of, crate::specs::Forms::zone_of, crate::specs::Forms::sheets_of, zone_time::specs::Moments::moment_of, zone_time::specs::Moments::has_form, jiff_core::specs::Calendar::days_from_civil, jiff_core::specs::Calendar::day_count, jiff_core::specs::Calendar::days_of_years, jiff_core::specs::Calendar::days_of_months, decimal_text::specs::Decimal::read_of, decimal_text::specs::Decimal::decimal_of, decimal_text::specs::Decimal::after_point, decimal_text::specs::Decimal::made_of, decimal_text::specs::Decimal::scaled_or_bad, decimal_text::specs::Decimal::scaled))]
 pub fn worked_query_faults()
     ensures no_path { of_query (codes "serve") [] ≡ Err AskFault.UnknownCommand }
@@ -84,8 +85,8 @@ pub fn worked_query_faults()
     ensures missing { of_query (codes "clock") (codes "zone=UTC" ∷ []) ≡ Err (AskFault.MissingKey Key.Station) }
 {}
 
-/// Proves examples of texts that are values of keys, and of texts that aren't, at the ends of the keys'
-/// ranges.
+/// Proves computed examples of texts that are values of keys, and of texts that aren't, near the
+/// ends of the keys' ranges.
 #[tactic(auto, unfolding(crate::specs::Questions::question_of, crate::specs::Questions::with_items, crate::specs::Questions::with_item, crate::specs::Forms::some_text, crate::specs::Forms::parse_number, crate::specs::Forms::mark_of, crate::specs::Layouts::layout_of, crate::specs::Forms::clock_of, crate::specs::Forms::offset_of, crate::specs::Forms::zone_of, crate::specs::Forms::sheets_of, decimal_text::specs::Decimal::read_of, decimal_text::specs::Decimal::decimal_of, decimal_text::specs::Decimal::after_point, decimal_text::specs::Decimal::made_of, decimal_text::specs::Decimal::scaled_or_bad, decimal_text::specs::Decimal::scaled))]
 pub fn worked_values()
     ensures seed_too_large { parse_number 20 0 18446744073709551615 (codes "18446744073709551616") ≡ None }
@@ -106,7 +107,7 @@ pub fn worked_values()
     ensures no_sheet { sheets_of (codes "a,,b") ≡ None }
 {}
 
-/// Proves examples of arguments that are split into keys and values.
+/// Proves computed examples of arguments that are split into a key and a value at the first `=`.
 pub fn worked_words()
     ensures first_sign { item_of (codes "file=a=b") ≡ record { key = codes "file"; value = Some (codes "a=b") } }
     ensures no_value { item_of (codes "file=") ≡ record { key = codes "file"; value = Some [] } }

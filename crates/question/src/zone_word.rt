@@ -1,4 +1,4 @@
-//! Reading the zone in which times are shown.
+//! Parsing the zone in which times are shown.
 
 ghost use Rattle.std.specs.Prelude.{◌≡◌, ◌<◌, ◌≤◌, IfOk, pos};
 ghost use Rattle.std.specs.Option.{ForSome, option_copied, option_map};
@@ -9,7 +9,8 @@ use crate::question::ZoneWord;
 use crate::values::{number, some_text};
 use std::alloc::{AllocError, Global};
 
-/// Returns the rest of `text` after `first`, an ASCII character, or `None` unless `text` begins with it.
+/// Returns the text after `first`, an ASCII character, or `None` if `text` doesn't begin with
+/// `first`.
 fn after(text: &str, first: char) -> Option<&str>
     requires { first < 128 }
     ensures { option_copied result ≡ after first text.now }
@@ -27,8 +28,8 @@ fn two_digits(text: &str, most: u64) -> Option<u64>
     number(text, 2, 0, most)
 }
 
-/// Returns the minutes that a time such as `05:30` has, from 00:00 to 15:59, or `None` if `text` isn't
-/// such a time.
+/// Returns the number of minutes in a time such as `05:30`: two digits for hours, from 00 to 15,
+/// and two for minutes, from 00 to 59. Returns `None` if `text` isn't such a time.
 #[tactic(auto, unfolding(crate::specs::Forms::clock_of))]
 fn clock(text: &str) -> Option<i32>
     ensures value { result ≡ option_map pos (clock_of text.now) }
@@ -39,8 +40,9 @@ fn clock(text: &str) -> Option<i32>
     Some((60 * hours + minutes) as i32)
 }
 
-/// Returns the minutes of an offset from universal time, such as `+05:30` or `-05:30`, or `None` if
-/// `text` isn't such an offset.
+/// Returns the minutes of an offset such as `+05:30` or `-05:30`, by which clocks are ahead of
+/// universal time (negative if they are behind it), from -959 to 959, or `None` if `text` isn't
+/// such an offset.
 #[tactic(auto, unfolding(crate::specs::Forms::offset_of))]
 fn offset(text: &str) -> Option<i32>
     ensures { result ≡ offset_of text.now }
@@ -61,8 +63,8 @@ fn file_zone(alloc: Global, origin: Origin, name: &str) -> Result<Option<ZoneWor
     Ok(some_text(alloc, name)?.map(|name| ZoneWord::Named(name)))
 }
 
-/// Parses `text` as a zone: `UTC`, an offset such as `+05:30`, or, on a command line, `@` and the name
-/// of a zone file. Returns `None` if it isn't a zone.
+/// Parses `text` as a zone: `UTC`, an offset from universal time such as `+05:30`, or, on a command
+/// line, `@` and the name of a zone file, which isn't empty. Returns `None` if it is none of these.
 ///
 /// # Errors
 /// [`AllocError`] if memory runs out.
